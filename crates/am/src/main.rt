@@ -1,0 +1,26 @@
+//! The activity manager of a simulated Android device, as a program.
+#![tactic(auto)]
+
+use am_shell::host::{ReaderSource, SystemClock, SystemFiles, WriterSink, read_words};
+use am_shell::{run, tell_want};
+use std::process::ExitCode;
+
+fn main(rt: HostRuntime) -> ExitCode {
+    let mut files = SystemFiles::new(rt);
+    let mut input = ReaderSource::new(rt.stdin());
+    let mut output = WriterSink::new(rt.stdout());
+    let mut errors = WriterSink::new(rt.stderr());
+    let mut clock = SystemClock::new(rt);
+    ExitCode::from(match read_words(&rt) {
+        Err(_) => tell_want(&mut errors),
+        Ok(words) => run(
+            rt.alloc(),
+            words.as_slice(),
+            &mut files,
+            &mut input,
+            &mut output,
+            &mut errors,
+            &mut clock,
+        ),
+    })
+}

@@ -1,0 +1,12 @@
+pub mod ExchangeLemmas
+pub mod FieldLemmas
+pub mod FillLemmas
+pub mod FramingLemmas
+pub mod Literals
+pub mod NextLemmas
+pub mod SendLemmas
+pub mod SessionLemmas
+pub mod TurnLemmas
+pub mod WaitLemmas
+pub mod Wants
+pub mod WindowLemmas

@@ -1,0 +1,179 @@
+-- One turn of a connection.
+use Rattle.std.proofs.Common.{◌≡◌, ℕ, true, false, List, [], ◌++◌, drop, Option, Some, None, refl, sym, ap, ◌∙◌, subst, inl, inr, append-nil}
+use Rattle.std.specs.Prelude.{IfSome, Result, Ok, Err, is_err}
+use Rattle.std.specs.Io.KnownBytes.{Appends, Keeps, prepend_known}
+use Rattle.std.proofs.lemmas.List.{drop-append-le}
+use Rattle.am_types.specs.declared.call.Entry.{Entry}
+use Rattle.am_types.specs.declared.failure.Failed.{Failed}
+use Rattle.am_model.specs.State.{State}
+use Rattle.am_model.specs.History.{entries_of}
+use Rattle.am_http.specs.declared.frame.Defect.{Defect}
+use Rattle.am_http.specs.declared.frame.FrameSpans.{FrameSpans}
+use Rattle.am_http.specs.declared.frame.Found.{Found}
+use Rattle.am_http.specs.declared.frame.Found.TheVariants as Spans
+use Rattle.am_http.specs.declared.answer.Answer.{Answer}
+use Rattle.am_http.specs.declared.answer.Answer.TheVariants.{Refused, Shown as Reply, Want}
+use Rattle.am_http.specs.Answering.{AnswersFrame, Says}
+use Rattle.am_http.specs.Exchanges.{Exchange, Answered, refused_at_once, replied, wanted, wanted_late}
+use Rattle.am_http.specs.FrameSpans.{outcome_at, frame_at}
+use Rattle.am_http.specs.Frames.{Drops}
+use Rattle.am_http.specs.Framing.{IsFraming}
+use Rattle.am_http.specs.Head.{Frame, empty, whole, refused, cut}
+use Rattle.am_http.specs.Sending.{WritesPart, Sends}
+use Rattle.am_http.specs.Sessions.{Went, Closes, FailsAt, HasDefect}
+use Rattle.am_http.specs.Windows.{Finds}
+use Rattle.am_http.proofs.FramingLemmas.{empty_only, whole_stays, whole_fits}
+
+-- what holds of the told rest now held of it before
+pub keeps_if : (a b : Option (List ℕ)) (P : List ℕ → Type 0) → Keeps a b → IfSome b P → IfSome a P
+keeps_if None b P keeps h = tt
+keeps_if (Some a) None P keeps h = absurd keeps
+keeps_if (Some a) (Some b) P keeps h = subst P keeps h
+
+map_if : (a : Option (List ℕ)) (P Q : List ℕ → Type 0) → ((xs : List ℕ) → P xs → Q xs) → IfSome a P → IfSome a Q
+map_if None P Q f h = tt
+map_if (Some a) P Q f h = f a h
+
+-- what was found is the first step over the told rest
+told_as : (w : List ℕ) (left : Option (List ℕ)) (found seen : Found) → Finds w left found → found ≡ seen
+    → IfSome (prepend_known w left) (λ input. IsFraming input (outcome_at w seen))
+told_as w left found seen finds is =
+    subst (λ (f : Found). IfSome (prepend_known w left) (λ input. IsFraming input (outcome_at w f))) is finds.told
+
+pub ends_input : (rest : Option (List ℕ)) (w : List ℕ) (left : Option (List ℕ)) (found : Found) → Keeps rest (prepend_known w left)
+    → Finds w left found → found ≡ Spans.Empty → IfSome rest (λ bytes. bytes ≡ [])
+ends_input rest w left found keeps finds is =
+    keeps_if rest (prepend_known w left) (λ bytes. bytes ≡ []) keeps
+    (map_if (prepend_known w left) (λ input. IsFraming input empty) (λ bytes. bytes ≡ []) empty_only (told_as w left found Spans.Empty finds is))
+
+pub ends_cut : (rest : Option (List ℕ)) (w : List ℕ) (left : Option (List ℕ)) (found : Found) → Keeps rest (prepend_known w left)
+    → Finds w left found → found ≡ Spans.Cut → IfSome rest (λ bytes. IsFraming bytes cut)
+ends_cut rest w left found keeps finds is =
+    keeps_if rest (prepend_known w left) (λ input. IsFraming input cut) keeps (told_as w left found Spans.Cut finds is)
+
+pub ends_refused : (rest : Option (List ℕ)) (w : List ℕ) (left : Option (List ℕ)) (found : Found) (defect : Defect) → Keeps rest (prepend_known w left)
+    → Finds w left found → found ≡ Spans.Refused defect → HasDefect rest defect
+ends_refused rest w left found defect keeps finds is =
+    keeps_if rest (prepend_known w left) (λ input. IsFraming input (refused defect)) keeps (told_as w left found (Spans.Refused defect) finds is)
+
+-- the frame that was found
+pub found_frame : (w : List ℕ) (left : Option (List ℕ)) (found : Found) (spans : FrameSpans) → Finds w left found → found ≡ Spans.Whole spans
+    → IsFraming w (whole (frame_at w spans))
+found_frame w left found spans finds is =
+    subst (λ (f : Found). IsFraming w (outcome_at w f)) is finds.here
+
+-- behind a frame of the window the rest goes on
+drops_of : (rest : Option (List ℕ)) (w : List ℕ) (left : Option (List ℕ)) (f : Frame) → Keeps rest (prepend_known w left)
+    → IsFraming w (whole f) → Drops rest f (prepend_known (drop f.length w) left)
+drops_of None w left f keeps framed = tt
+drops_of (Some input) w None f keeps framed = absurd keeps
+drops_of (Some input) w (Some left) f keeps framed = (
+  subst (λ (xs : List ℕ). IsFraming xs (whole f)) keeps (whole_stays w left f framed),
+  sym (drop-append-le f.length w left (whole_fits w f framed).1) ∙ ap (drop f.length) keeps,
+)
+
+told_frame : (rest : Option (List ℕ)) (w : List ℕ) (left : Option (List ℕ)) (f : Frame) → Keeps rest (prepend_known w left)
+    → IsFraming w (whole f) → IfSome rest (λ input. IsFraming input (whole f))
+told_frame None w left f keeps framed = tt
+told_frame (Some input) w None f keeps framed = absurd keeps
+told_frame (Some input) w (Some left) f keeps framed =
+    subst (λ (xs : List ℕ). IsFraming xs (whole f)) keeps (whole_stays w left f framed)
+
+-- an answer with its text is an exchange
+exchange_of : (start : State) (desk : ℕ) (old new : List Entry) (f : Frame) (answer : Answer) (bytes : List ℕ)
+    → AnswersFrame start desk old new f answer → Says answer bytes
+    → (e : Exchange) × Answered start desk old new e × (e.frame ≡ f) × (e.bytes ≡ bytes)
+exchange_of start desk old new f (Refused refusal) bytes answers (inl said) =
+    (record { frame = f; now = 0; point = None; bytes = bytes }, refused_at_once refusal answers.0 refl said answers.1, refl, refl)
+exchange_of start desk old new f (Refused refusal) bytes answers (inr said) = (
+  record { frame = f; now = 0; point = None; bytes = bytes },
+  wanted (record { grows = ([], answers.1 ∙ sym (append-nil old)); others = ap (entries_of desk) answers.1 }) refl said,
+  refl,
+  refl,
+)
+exchange_of start desk old new f (Reply shown) bytes answers (inl said) = (
+  record { frame = f; now = answers.0; point = Some (record { at = shown.at; stored = shown.stored }); bytes = bytes },
+  replied answers.1 shown answers.2 answers.3 refl said,
+  refl,
+  refl,
+)
+exchange_of start desk old new f (Reply shown) bytes answers (inr said) = (
+  record { frame = f; now = answers.0; point = Some (record { at = shown.at; stored = shown.stored }); bytes = bytes },
+  wanted_late answers.1 shown answers.2 answers.3 refl said,
+  refl,
+  refl,
+)
+exchange_of start desk old new f Want bytes answers said =
+    (record { frame = f; now = 0; point = None; bytes = bytes }, wanted answers refl said, refl, refl)
+
+-- the frame was answered, and the connection goes on
+pub turn_went : (start : State) (desk : ℕ) (old new : List Entry) (rest : Option (List ℕ)) (w : List ℕ) (left : Option (List ℕ))
+    (f : Frame) (answer : Answer) (bytes : List ℕ) (t t' : Option (List ℕ))
+    → Keeps rest (prepend_known w left) → IsFraming w (whole f) → AnswersFrame start desk old new f answer → Says answer bytes
+    → Appends t t' bytes → f.close ≡ false → Went start desk old new rest (prepend_known (drop f.length w) left) t t'
+turn_went start desk old new rest w left f answer bytes t t' keeps framed answers said sent stays =
+    let made = exchange_of start desk old new f answer bytes answers said in
+    record {
+      exchange = made.0;
+      answer = made.1;
+      frame = subst (λ (x : Frame). Drops rest x (prepend_known (drop f.length w) left)) (sym made.2) (drops_of rest w left f keeps framed);
+      stays = ap (λ (x : Frame). x.close) made.2 ∙ stays;
+      output = subst (λ (bs : List ℕ). Appends t t' bs) (sym made.3) sent;
+    }
+
+pub turn_closed : (start : State) (desk : ℕ) (old new : List Entry) (rest : Option (List ℕ)) (w : List ℕ) (left : Option (List ℕ))
+    (f : Frame) (answer : Answer) (bytes : List ℕ) (t t' : Option (List ℕ))
+    → Keeps rest (prepend_known w left) → IsFraming w (whole f) → AnswersFrame start desk old new f answer → Says answer bytes
+    → Appends t t' bytes → f.close ≡ true → Closes start desk old new rest (prepend_known (drop f.length w) left) t t'
+turn_closed start desk old new rest w left f answer bytes t t' keeps framed answers said sent closes =
+    let made = exchange_of start desk old new f answer bytes answers said in
+    record {
+      exchange = made.0;
+      answer = made.1;
+      frame = subst (λ (x : Frame). Drops rest x (prepend_known (drop f.length w) left)) (sym made.2) (drops_of rest w left f keeps framed);
+      closes = ap (λ (x : Frame). x.close) made.2 ∙ closes;
+      output = subst (λ (bs : List ℕ). Appends t t' bs) (sym made.3) sent;
+    }
+
+-- the response wasn't written whole
+pub turn_failed : (start : State) (desk : ℕ) (old new : List Entry) (rest : Option (List ℕ)) (w : List ℕ) (left : Option (List ℕ))
+    (f : Frame) (answer : Answer) (bytes : List ℕ) (t t' : Option (List ℕ))
+    → Keeps rest (prepend_known w left) → IsFraming w (whole f) → AnswersFrame start desk old new f answer → Says answer bytes
+    → WritesPart t t' bytes → FailsAt start desk old new rest t t'
+turn_failed start desk old new rest w left f answer bytes t t' keeps framed answers said part =
+    let made = exchange_of start desk old new f answer bytes answers said in
+    inl (
+      bytes,
+      record {
+        exchange = made.0;
+        answer = made.1;
+        frame = subst (λ (x : Frame). IfSome rest (λ input. IsFraming input (whole x))) (sym made.2) (told_frame rest w left f keeps framed);
+        said = made.3;
+      },
+      part,
+    )
+
+-- the frame that slices of the window hold
+pub held_frame : (w bytes : List ℕ) (left : Option (List ℕ)) (found : Found) (spans : FrameSpans) (f : Frame)
+    → Finds w left found → found ≡ Spans.Whole spans → bytes ≡ w → f ≡ frame_at bytes spans → IsFraming w (whole f)
+held_frame w bytes left found spans f finds is same held =
+    subst (λ (x : Frame). IsFraming w (whole x))
+    (ap (λ (xs : List ℕ). frame_at xs spans) (sym same) ∙ sym held) (found_frame w left found spans finds is)
+
+-- how a write went
+pub sends_err : (old new : Option (List ℕ)) (text : List ℕ) (r : Result (Unit {0}) Failed) → true ≡ is_err r → Sends old new text r → WritesPart old new text
+sends_err old new text (Ok done) failed sent = absurd cc
+sends_err old new text (Err e) failed sent = sent
+
+pub sends_ok : (old new : Option (List ℕ)) (text : List ℕ) (r : Result (Unit {0}) Failed) → false ≡ is_err r → Sends old new text r → Appends old new text
+sends_ok old new text (Ok done) fine sent = sent
+sends_ok old new text (Err e) fine sent = absurd cc
+
+-- a fact of two values, at their equals
+pub at_both : {A B : Type 0} (P : A → B → Type 0) (a a' : A) (b b' : B) → a ≡ a' → b ≡ b' → P a b → P a' b'
+at_both P a a' b b' p q h = subst (λ y. P a' y) q (subst (λ x. P x b) p h)
+
+-- an empty window leaves what the source tells
+pub nothing_before : (w : List ℕ) (left : Option (List ℕ)) → w ≡ [] → left ≡ prepend_known w left
+nothing_before w None empty_now = refl
+nothing_before w (Some left) empty_now = ap Some (ap (λ xs. xs ++ left) (sym empty_now))

@@ -1,0 +1,13 @@
+pub mod Answering
+pub mod Exchanges
+pub mod Fields
+pub mod FrameSpans
+pub mod Frames
+pub mod Framing
+pub mod Head
+pub mod Requests
+pub mod Responses
+pub mod Sending
+pub mod Sessions
+pub mod Turns
+pub mod Windows

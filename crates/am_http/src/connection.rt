@@ -1,0 +1,164 @@
+//! One connection, from its first frame to its end.
+ghost use Rattle.std.specs.Prelude.{◌≡◌, ◌≤◌, vec_capacity};
+ghost use Rattle.std.specs.Io.KnownBytes.{prepend_known};
+ghost use Rattle.am_model.specs.Desks.{opening_of};
+ghost use Rattle.am_model.specs.History.{IsLegal};
+ghost use Rattle.am_http.specs.Sessions.{Session, HasFault};
+ghost use Rattle.am_http.specs.Turns.{Turns, HasFaultAt};
+
+use crate::answer::answer_frame;
+use crate::buffers::Buffers;
+use crate::end::{End, Served};
+use crate::frame::Found;
+use crate::reader::next_frame;
+use crate::send::{write_answer, write_defect};
+use crate::window::Window;
+use am_machine::Desk;
+use am_types::{Clock, Sink, Source};
+use std::alloc::Global;
+
+/// How many frames of a connection are answered.
+pub const MAX_FRAMES: u32 = 65_536;
+
+/// What became of the next frame.
+#[derive(Clone, Copy, Debug, PartialEq, Eq)]
+pub enum Turn {
+    /// It was answered, and the connection goes on.
+    Went,
+    /// It was answered, and asked to close.
+    Closed,
+    /// The connection ended without a further answer that was written whole.
+    Stopped(End),
+}
+
+// Reads the next frame and answers it.
+fn serve_frame<D: Desk, S: Source, W: Sink, C: Clock>(
+    alloc: Global,
+    desk: &mut D,
+    source: &mut S,
+    sink: &mut W,
+    clock: &mut C,
+    window: &mut Window,
+    room: &mut Vec<u8>,
+) -> Turn
+    requires { 192 ≤ vec_capacity room.old }
+    ensures turn { Turns result (opening_of (D.origin desk.old)) (D.number desk.old) (D.seen desk.old) (D.seen desk.new)
+        (prepend_known window.old (S.left source.old)) (prepend_known window.new (S.left source.new)) (S.left source.new)
+        (W.taken sink.old) (W.taken sink.new) }
+    ensures fault { HasFaultAt result (S.faults source.old) (S.faults source.new) (W.faults sink.old) (W.faults sink.new) }
+    ensures reads { S.faults source.old ≤ S.faults source.new }
+    ensures writes { W.faults sink.old ≤ W.faults sink.new }
+    ensures legal { IsLegal (opening_of (D.origin desk.old)) (D.seen desk.old) → IsLegal (opening_of (D.origin desk.old)) (D.seen desk.new) }
+    ensures origin { D.origin desk.new ≡ D.origin desk.old }
+    ensures number { D.number desk.new ≡ D.number desk.old }
+    ensures sharing { D.sharing desk.new ≡ D.sharing desk.old }
+    ensures source_mark { S.mark source.new ≡ S.mark source.old }
+    ensures sink_mark { W.mark sink.new ≡ W.mark sink.old }
+    ensures capacity { vec_capacity room.new ≡ vec_capacity room.old }
+{
+    let Ok(found) = next_frame(source, window) else {
+        return Turn::Stopped(End::ReadFault);
+    };
+    let spans = match found {
+        Found::Whole(spans) => spans,
+        Found::Empty => return Turn::Stopped(End::Input),
+        Found::Cut => return Turn::Stopped(End::Cut),
+        Found::Refused(defect) => {
+            return match write_defect(sink, defect) {
+                Ok(()) => Turn::Stopped(End::Refused),
+                Err(_) => Turn::Stopped(End::WriteFault),
+            };
+        }
+    };
+    let answer = answer_frame(alloc, desk, clock, &spans.of(window.bytes()));
+    if write_answer(alloc, sink, room, &answer).is_err() {
+        return Turn::Stopped(End::WriteFault);
+    }
+    window.consume(spans.length);
+    if spans.close {
+        Turn::Closed
+    } else {
+        Turn::Went
+    }
+}
+
+// Serves a connection with this window and this room.
+fn serve<D: Desk, S: Source, W: Sink, C: Clock>(
+    alloc: Global,
+    desk: &mut D,
+    source: &mut S,
+    sink: &mut W,
+    clock: &mut C,
+    window: &mut Window,
+    room: &mut Vec<u8>,
+) -> Served
+    requires { 192 ≤ vec_capacity room.old }
+    ensures session { Session (opening_of (D.origin desk.old)) (D.number desk.old) (D.seen desk.old) (D.seen desk.new)
+        (S.left source.old) (S.left source.new) (W.taken sink.old) (W.taken sink.new) result }
+    ensures fault { HasFault result.end (S.faults source.old) (S.faults source.new) (W.faults sink.old) (W.faults sink.new) }
+    ensures reads { S.faults source.old ≤ S.faults source.new }
+    ensures writes { W.faults sink.old ≤ W.faults sink.new }
+    ensures legal { IsLegal (opening_of (D.origin desk.old)) (D.seen desk.old) → IsLegal (opening_of (D.origin desk.old)) (D.seen desk.new) }
+    ensures origin { D.origin desk.new ≡ D.origin desk.old }
+    ensures number { D.number desk.new ≡ D.number desk.old }
+    ensures sharing { D.sharing desk.new ≡ D.sharing desk.old }
+    ensures source_mark { S.mark source.new ≡ S.mark source.old }
+    ensures sink_mark { W.mark sink.new ≡ W.mark sink.old }
+    ensures capacity { vec_capacity room.new ≡ vec_capacity room.old }
+{
+    window.clear();
+    for answered in 0..MAX_FRAMES {
+        match serve_frame(alloc, desk, source, sink, clock, window, room) {
+            Turn::Went => {}
+            Turn::Closed => {
+                return Served {
+                    end: End::Close,
+                    answered: answered + 1,
+                };
+            }
+            Turn::Stopped(end) => return Served { end, answered },
+        }
+    }
+    Served {
+        end: End::Limit,
+        answered: MAX_FRAMES,
+    }
+}
+
+/// Serves a connection: it reads frames from the source, makes their calls on the desk, and
+/// writes the responses to the sink, one frame after the other, until the input ends, a frame
+/// asks to close, a frame has a defect, as many frames as a connection may have were answered, or
+/// the source or the sink fails. The clock is asked once per call, just before it. What the
+/// buffers held before doesn't matter.
+///
+/// It never wants memory itself: a frame for which memory is wanting is answered by a 507.
+pub fn serve_connection<D: Desk, S: Source, W: Sink, C: Clock>(
+    alloc: Global,
+    desk: &mut D,
+    source: &mut S,
+    sink: &mut W,
+    clock: &mut C,
+    buffers: &mut Buffers,
+) -> Served
+    ensures session { Session (opening_of (D.origin desk.old)) (D.number desk.old) (D.seen desk.old) (D.seen desk.new)
+        (S.left source.old) (S.left source.new) (W.taken sink.old) (W.taken sink.new) result }
+    ensures fault { HasFault result.end (S.faults source.old) (S.faults source.new) (W.faults sink.old) (W.faults sink.new) }
+    ensures reads { S.faults source.old ≤ S.faults source.new }
+    ensures writes { W.faults sink.old ≤ W.faults sink.new }
+    ensures legal { IsLegal (opening_of (D.origin desk.old)) (D.seen desk.old) → IsLegal (opening_of (D.origin desk.old)) (D.seen desk.new) }
+    ensures origin { D.origin desk.new ≡ D.origin desk.old }
+    ensures number { D.number desk.new ≡ D.number desk.old }
+    ensures sharing { D.sharing desk.new ≡ D.sharing desk.old }
+    ensures source_mark { S.mark source.new ≡ S.mark source.old }
+    ensures sink_mark { W.mark sink.new ≡ W.mark sink.old }
+{
+    serve(
+        alloc,
+        desk,
+        source,
+        sink,
+        clock,
+        &mut buffers.window,
+        &mut buffers.room,
+    )
+}

@@ -1,0 +1,28 @@
+//! How a connection ends.
+
+/// Why a connection ended.
+#[derive(Clone, Copy, Debug, PartialEq, Eq)]
+pub enum End {
+    /// The input ended between frames.
+    Input,
+    /// The last frame asked to close.
+    Close,
+    /// The next frame has a defect, and the text for it was written.
+    Refused,
+    /// The input ended inside a frame.
+    Cut,
+    /// As many frames as a connection may have were answered.
+    Limit,
+    /// The source failed.
+    ReadFault,
+    /// The sink failed.
+    WriteFault,
+}
+
+/// How a connection went.
+#[derive(Clone, Copy, Debug, PartialEq, Eq)]
+pub struct Served {
+    pub end: End,
+    /// The responses to frames that were written whole.
+    pub answered: u32,
+}

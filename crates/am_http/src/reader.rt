@@ -1,0 +1,56 @@
+//! Reading frames from a source.
+ghost use Rattle.std.specs.Prelude.{◌≡◌, ◌<◌, ◌≤◌, length, IfOk, IfSome, OnErr, IsNone};
+ghost use Rattle.std.specs.Io.KnownBytes.{Keeps, prepend_known};
+ghost use Rattle.am_types.specs.Counts.{HasRisen};
+ghost use Rattle.am_http.specs.Sessions.{IsPartial};
+ghost use Rattle.am_http.specs.Windows.{Finds, is_open};
+
+use crate::frame::{Found, find_frame};
+use crate::window::Window;
+use am_types::{Failed, Source};
+
+// Whether more bytes are wanted to know the first frame.
+fn wants_more(found: &Found) -> bool
+    ensures { result ≡ is_open found.now }
+{
+    match found {
+        Found::Whole(_) | Found::Refused(_) => false,
+        Found::Empty | Found::Cut => true,
+    }
+}
+
+// Looks for a frame in the window. Where more bytes are wanted it reads once, and answers none
+// where some came.
+fn look<S: Source>(source: &mut S, window: &mut Window) -> Result<Option<Found>, Failed>
+    ensures kept { Keeps (prepend_known window.old (S.left source.old)) (prepend_known window.new (S.left source.new)) }
+    ensures found { IfOk result (λ answer. IfSome answer (Finds window.new (S.left source.new))) }
+    ensures more { IfOk result (λ answer. IsNone answer → length window.old < length window.new) }
+    ensures fits { length window.new ≤ 73728 }
+    ensures partial { OnErr result (IsPartial window.new) }
+    ensures never_falls { S.faults source.old ≤ S.faults source.new }
+    ensures failed { OnErr result (HasRisen (S.faults source.old) (S.faults source.new)) }
+    ensures mark { S.mark source.new ≡ S.mark source.old }
+{
+    let found = find_frame(window.bytes());
+    if !wants_more(&found) {
+        return Ok(Some(found));
+    }
+    let count = window.fill(source)?;
+    Ok(if count == 0 { Some(found) } else { None })
+}
+
+/// Reads until the first frame of what is left is known.
+pub fn next_frame<S: Source>(source: &mut S, window: &mut Window) -> Result<Found, Failed>
+    ensures kept { Keeps (prepend_known window.old (S.left source.old)) (prepend_known window.new (S.left source.new)) }
+    ensures found { IfOk result (Finds window.new (S.left source.new)) }
+    ensures partial { OnErr result (IsPartial window.new) }
+    ensures never_falls { S.faults source.old ≤ S.faults source.new }
+    ensures failed { OnErr result (HasRisen (S.faults source.old) (S.faults source.new)) }
+    ensures mark { S.mark source.new ≡ S.mark source.old }
+{
+    loop {
+        if let Some(found) = look(source, window)? {
+            return Ok(found);
+        }
+    }
+}

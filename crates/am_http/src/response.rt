@@ -1,0 +1,324 @@
+//! The bytes of responses.
+ghost use Rattle.std.specs.Prelude.{◌≡◌, ◌+◌, ◌≤◌, ◌++◌, None, IfOk, codes, length, string_bytes, option_map, vec_len, vec_capacity};
+ghost use Rattle.serde_json.specs.View.{view};
+ghost use Rattle.am_http.specs.Responses.{HasPhrase, phrase, head, digit, place_lines, message, response, refusal_data, refusal, want_before, want_after};
+
+use am_types::{NoMemory, Shown, Text};
+use am_wire::{error_value, named_error_value, reply_status, reply_text};
+use itoa::Buffer;
+use serde_json::Value;
+use std::alloc::{AllocError, Global};
+
+/// The room that the response takes where memory ran out after the call was made, in bytes.
+pub const WANT_ROOM: usize = 192;
+
+/// The response that shows a reply and its place in the history.
+#[tactic(auto, unfolding(crate::specs::Responses::response))]
+pub fn response_bytes(alloc: Global, shown: &Shown) -> Result<Vec<u8>, NoMemory>
+    ensures { IfOk result (λ bytes. bytes.items ≡ response shown.now.at shown.now.stored shown.now.reply) }
+{
+    let body = reply_text(alloc, &shown.reply)?;
+    let lines = place_lines(alloc, shown.at, shown.stored)?;
+    Ok(message(
+        alloc,
+        reply_status(&shown.reply),
+        lines.as_str(),
+        body.as_str(),
+    )?
+    .into_bytes())
+}
+
+/// The response that refuses a request before the manager is asked, for one of the statuses that
+/// have a phrase. It says the error and, if there is one, the name of what is at fault.
+#[tactic(auto, unfolding(crate::specs::Responses::refusal))]
+pub fn refusal_bytes(
+    alloc: Global,
+    status: u16,
+    error: &Text,
+    name: Option<&Text>,
+) -> Result<Vec<u8>, NoMemory>
+    requires { HasPhrase status }
+    ensures { IfOk result (λ bytes.
+        bytes.items ≡ refusal status error.now (option_map (λ text. text.now) name.entry)) }
+{
+    let body = refusal_value(alloc, error, name)?.to_string(alloc)?;
+    Ok(message(alloc, status, "", body.as_str())?.into_bytes())
+}
+
+fn refusal_value(alloc: Global, error: &Text, name: Option<&Text>) -> Result<Value, AllocError>
+    ensures { IfOk result (λ value.
+        view value ≡ refusal_data error.now (option_map (λ text. text.now) name.entry)) }
+{
+    match name {
+        None => error_value(alloc, error.as_str()),
+        Some(name) => named_error_value(alloc, error.as_str(), name.as_str()),
+    }
+}
+
+#[tactic(auto, unfolding(crate::specs::Responses::message))]
+fn message(alloc: Global, status: u16, lines: &str, body: &str) -> Result<String, AllocError>
+    requires { HasPhrase status }
+    ensures { IfOk result (λ text. string_bytes text ≡ message status lines.now body.now) }
+{
+    let head = head(alloc, status, body.len())?;
+    format!(in alloc; "{head}{lines}\r\n{body}")
+}
+
+#[tactic(auto, unfolding(crate::specs::Responses::head))]
+fn head(alloc: Global, status: u16, body_length: usize) -> Result<String, AllocError>
+    requires { HasPhrase status }
+    ensures { IfOk result (λ text. string_bytes text ≡ head status body_length) }
+{
+    let phrase = phrase(status);
+    format!(in alloc;
+        "HTTP/1.1 {status} {phrase}\r\nContent-Type: application/json\r\nContent-Length: {body_length}\r\n"
+    )
+}
+
+#[tactic(auto, unfolding(crate::specs::Responses::place_lines))]
+fn place_lines(alloc: Global, at: u64, stored: bool) -> Result<String, AllocError>
+    ensures { IfOk result (λ text. string_bytes text ≡ place_lines at stored) }
+{
+    let stored = digit(stored);
+    format!(in alloc; "AM-At: {at}\r\nAM-Stored: {stored}\r\n")
+}
+
+#[tactic(auto, unfolding(crate::specs::Responses::digit))]
+fn digit(truth: bool) -> &'static str
+    ensures text { result.now ≡ digit truth }
+    ensures one { length result.now ≡ 1 }
+{
+    if truth { "1" } else { "0" }
+}
+
+#[tactic(auto, unfolding(crate::specs::Responses::phrase))]
+fn phrase(status: u16) -> &'static str
+    requires { HasPhrase status }
+    ensures { result.now ≡ phrase status }
+{
+    match status {
+        200 => "OK",
+        300 => "Multiple Choices",
+        400 => "Bad Request",
+        401 => "Unauthorized",
+        403 => "Forbidden",
+        404 => "Not Found",
+        405 => "Method Not Allowed",
+        409 => "Conflict",
+        410 => "Gone",
+        411 => "Length Required",
+        413 => "Payload Too Large",
+        422 => "Unprocessable Entity",
+        429 => "Too Many Requests",
+        431 => "Request Header Fields Too Large",
+        501 => "Not Implemented",
+        503 => "Service Unavailable",
+        507 => "Insufficient Storage",
+        _ => unreachable!(),
+    }
+}
+
+/// The refusal of a head that can't be read. Takes no memory.
+#[tactic(auto, unfolding(crate::proofs::Literals::responses_on_literals))]
+pub fn bad_head() -> &'static [u8]
+    ensures { result.now ≡ refusal 400 (codes "bad_head") None }
+{
+    b"HTTP/1.1 400 Bad Request\r\nContent-Type: application/json\r\nContent-Length: 20\r\n\r\n{\"error\":\"bad_head\"}"
+}
+
+/// The refusal of a head of more than 8,192 bytes. Takes no memory.
+#[tactic(auto, unfolding(crate::proofs::Literals::responses_on_literals))]
+pub fn head_too_large() -> &'static [u8]
+    ensures { result.now ≡ refusal 431 (codes "head_too_large") None }
+{
+    b"HTTP/1.1 431 Request Header Fields Too Large\r\nContent-Type: application/json\r\nContent-Length: 26\r\n\r\n{\"error\":\"head_too_large\"}"
+}
+
+/// The refusal of a body whose length isn't said beforehand. Takes no memory.
+#[tactic(auto, unfolding(crate::proofs::Literals::responses_on_literals))]
+pub fn transfer_encoding() -> &'static [u8]
+    ensures { result.now ≡ refusal 501 (codes "transfer_encoding") None }
+{
+    b"HTTP/1.1 501 Not Implemented\r\nContent-Type: application/json\r\nContent-Length: 29\r\n\r\n{\"error\":\"transfer_encoding\"}"
+}
+
+/// The refusal of a POST without a length. Takes no memory.
+#[tactic(auto, unfolding(crate::proofs::Literals::responses_on_literals))]
+pub fn length_required() -> &'static [u8]
+    ensures { result.now ≡ refusal 411 (codes "length_required") None }
+{
+    b"HTTP/1.1 411 Length Required\r\nContent-Type: application/json\r\nContent-Length: 27\r\n\r\n{\"error\":\"length_required\"}"
+}
+
+/// The refusal of a body of more than 65,536 bytes. Takes no memory.
+#[tactic(auto, unfolding(crate::proofs::Literals::responses_on_literals))]
+pub fn body_too_large() -> &'static [u8]
+    ensures { result.now ≡ refusal 413 (codes "body_too_large") None }
+{
+    b"HTTP/1.1 413 Payload Too Large\r\nContent-Type: application/json\r\nContent-Length: 26\r\n\r\n{\"error\":\"body_too_large\"}"
+}
+
+/// The response where memory ran out before the call was made. Takes no memory.
+#[tactic(auto, unfolding(crate::proofs::Literals::responses_on_literals))]
+pub fn want_before() -> &'static [u8]
+    ensures { result.now ≡ want_before }
+{
+    b"HTTP/1.1 507 Insufficient Storage\r\nContent-Type: application/json\r\nContent-Length: 21\r\nAM-Stored: 0\r\n\r\n{\"error\":\"no_memory\"}"
+}
+
+/// Puts the response where memory ran out after the call was made in the place of what the vector
+/// holds. Takes no memory.
+pub fn put_want_after(into: &mut Vec<u8>, at: u64, stored: bool)
+    requires { WANT_ROOM ≤ vec_capacity into.old }
+    ensures text { into.new.items ≡ want_after at stored }
+    ensures capacity { vec_capacity into.new ≡ vec_capacity into.old }
+{
+    into.clear();
+    put(
+        into,
+        b"HTTP/1.1 507 Insufficient Storage\r\nContent-Type: application/json\r\nContent-Length: 21\r\nAM-At: ",
+    );
+    let mut buffer = Buffer::new();
+    put(into, buffer.format(at).as_bytes());
+    put(into, b"\r\nAM-Stored: ");
+    put(into, digit(stored).as_bytes());
+    put(into, b"\r\n\r\n{\"error\":\"no_memory\"}");
+}
+
+// Adds the bytes to a vector that has room for them.
+fn put(into: &mut Vec<u8>, bytes: &[u8])
+    requires { vec_len into.old + length bytes.now ≤ vec_capacity into.old }
+    ensures items { into.new.items ≡ into.old.items ++ bytes.now }
+    ensures len { vec_len into.new ≡ vec_len into.old + length bytes.now }
+    ensures capacity { vec_capacity into.new ≡ vec_capacity into.old }
+{
+    for byte in bytes {
+        into.push_reserved(*byte);
+    }
+}
+
+#[cfg(test)]
+mod tests {
+    use super::{
+        WANT_ROOM, bad_head, body_too_large, head_too_large, length_required, put_want_after,
+        refusal_bytes, response_bytes, transfer_encoding, want_before,
+    };
+    use am_types::{Component, List, Reply, Rule, Shown, Text};
+    use std::alloc::{AllocError, Global};
+    use std::test::Fail;
+
+    fn text(alloc: Global, from: &str) -> Result<Text, AllocError> {
+        Ok(Text::new(String::from_str(alloc, from)?))
+    }
+
+    fn found(alloc: Global, names: &[(&str, &str)]) -> Result<Reply, AllocError> {
+        let mut components = Vec::new(alloc);
+        for (package, class) in names {
+            components.push(Component {
+                package: text(alloc, package)?,
+                class: text(alloc, class)?,
+            })?;
+        }
+        Ok(Reply::Components(List::new(components)))
+    }
+
+    #[test]
+    fn shows_replies(rt: HostRuntime) -> Result<(), Fail> {
+        let alloc = rt.alloc();
+        let none: [(&str, &str); 0] = [];
+        let cases = [
+            (
+                0,
+                false,
+                found(alloc, &none)?,
+                "HTTP/1.1 200 OK\r\nContent-Type: application/json\r\nContent-Length: 17\r\nAM-At: 0\r\nAM-Stored: 0\r\n\r\n{\"components\":[]}",
+            ),
+            (
+                2,
+                false,
+                Reply::Refused(Rule::UnknownKey),
+                "HTTP/1.1 401 Unauthorized\r\nContent-Type: application/json\r\nContent-Length: 23\r\nAM-At: 2\r\nAM-Stored: 0\r\n\r\n{\"error\":\"unknown_key\"}",
+            ),
+            (
+                65536,
+                false,
+                Reply::Refused(Rule::HistoryFull),
+                "HTTP/1.1 429 Too Many Requests\r\nContent-Type: application/json\r\nContent-Length: 24\r\nAM-At: 65536\r\nAM-Stored: 0\r\n\r\n{\"error\":\"history_full\"}",
+            ),
+            (
+                7,
+                true,
+                found(alloc, &[("com.a", "com.a.\"M"), ("com.b", "com.b.N")])?,
+                "HTTP/1.1 200 OK\r\nContent-Type: application/json\r\nContent-Length: 50\r\nAM-At: 7\r\nAM-Stored: 1\r\n\r\n{\"components\":[\"com.a/com.a.\\\"M\",\"com.b/com.b.N\"]}",
+            ),
+        ];
+        for (at, stored, reply, expected) in cases {
+            let bytes = response_bytes(alloc, &Shown { at, stored, reply })?;
+            assert_eq!(rt; bytes.as_slice(), expected.as_bytes(), "{expected}");
+        }
+        Ok(())
+    }
+
+    #[test]
+    fn refuses(rt: HostRuntime) -> Result<(), Fail> {
+        let alloc = rt.alloc();
+        let cases = [
+            (
+                bad_head(),
+                refusal_bytes(alloc, 400, &text(alloc, "bad_head")?, None)?,
+            ),
+            (
+                head_too_large(),
+                refusal_bytes(alloc, 431, &text(alloc, "head_too_large")?, None)?,
+            ),
+            (
+                transfer_encoding(),
+                refusal_bytes(alloc, 501, &text(alloc, "transfer_encoding")?, None)?,
+            ),
+            (
+                length_required(),
+                refusal_bytes(alloc, 411, &text(alloc, "length_required")?, None)?,
+            ),
+            (
+                body_too_large(),
+                refusal_bytes(alloc, 413, &text(alloc, "body_too_large")?, None)?,
+            ),
+        ];
+        for (expected, bytes) in cases {
+            assert_eq!(rt; bytes.as_slice(), expected);
+        }
+        let fault = text(alloc, "unknown_field a\"b")?;
+        let bytes = refusal_bytes(alloc, 400, &text(alloc, "bad_request")?, Some(&fault))?;
+        assert_eq!(rt;
+            bytes.as_slice(),
+            b"HTTP/1.1 400 Bad Request\r\nContent-Type: application/json\r\nContent-Length: 51\r\n\r\n{\"error\":\"bad_request\",\"name\":\"unknown_field a\\\"b\"}".as_slice()
+        );
+        Ok(())
+    }
+
+    #[test]
+    fn puts_wants(rt: HostRuntime) -> Result<(), Fail> {
+        let mut into = Vec::with_capacity(rt.alloc(), WANT_ROOM)?;
+        let cases = [
+            (
+                0,
+                false,
+                "HTTP/1.1 507 Insufficient Storage\r\nContent-Type: application/json\r\nContent-Length: 21\r\nAM-At: 0\r\nAM-Stored: 0\r\n\r\n{\"error\":\"no_memory\"}",
+            ),
+            (
+                u64::MAX,
+                true,
+                "HTTP/1.1 507 Insufficient Storage\r\nContent-Type: application/json\r\nContent-Length: 21\r\nAM-At: 18446744073709551615\r\nAM-Stored: 1\r\n\r\n{\"error\":\"no_memory\"}",
+            ),
+        ];
+        for (at, stored, expected) in cases {
+            put_want_after(&mut into, at, stored);
+            assert_eq!(rt; into.as_slice(), expected.as_bytes());
+        }
+        assert_eq!(rt;
+            want_before(),
+            b"HTTP/1.1 507 Insufficient Storage\r\nContent-Type: application/json\r\nContent-Length: 21\r\nAM-Stored: 0\r\n\r\n{\"error\":\"no_memory\"}".as_slice()
+        );
+        Ok(())
+    }
+}

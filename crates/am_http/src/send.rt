@@ -1,0 +1,114 @@
+//! Writing to a sink.
+ghost use Rattle.std.specs.Prelude.{◌≡◌, ℕ, ◌<◌, ◌≤◌, List, length, vec_capacity, IfOk, OnErr};
+ghost use Rattle.am_types.specs.Counts.{HasRisen};
+ghost use Rattle.am_http.specs.Answering.{Says};
+ghost use Rattle.am_http.specs.Requests.{refusal_text};
+ghost use Rattle.am_http.specs.Sending.{Sends, SendsFrom};
+ghost use Rattle.am_http.specs.Sessions.{defect_text};
+
+use crate::answer::{Answer, Refusal};
+use crate::frame::Defect;
+use crate::response::{
+    bad_head, body_too_large, head_too_large, length_required, put_want_after, refusal_bytes,
+    response_bytes, transfer_encoding, want_before,
+};
+use am_types::{Failed, NoMemory, Sink, Text};
+use std::alloc::Global;
+
+// Writes once, from a place of the bytes on, and answers the place behind what was taken.
+fn write_from<W: Sink>(sink: &mut W, bytes: &[u8], at: usize) -> Result<usize, Failed>
+    requires { at < length bytes.now }
+    ensures sent { SendsFrom (W.taken sink.old) (W.taken sink.new) bytes.now at result }
+    ensures never_falls { W.faults sink.old ≤ W.faults sink.new }
+    ensures failed { OnErr result (HasRisen (W.faults sink.old) (W.faults sink.new)) }
+    ensures mark { W.mark sink.new ≡ W.mark sink.old }
+{
+    let count = sink.write(&bytes[at..])?;
+    Ok(at + count)
+}
+
+/// Writes all the bytes, in as many pieces as the sink wants.
+pub fn write_all<W: Sink>(sink: &mut W, bytes: &[u8]) -> Result<(), Failed>
+    ensures sent { Sends (W.taken sink.old) (W.taken sink.new) bytes.now result }
+    ensures never_falls { W.faults sink.old ≤ W.faults sink.new }
+    ensures failed { OnErr result (HasRisen (W.faults sink.old) (W.faults sink.new)) }
+    ensures mark { W.mark sink.new ≡ W.mark sink.old }
+{
+    let mut at = 0;
+    while at < bytes.len() {
+        at = write_from(sink, bytes, at)?;
+    }
+    Ok(())
+}
+
+// The response to a frame that makes no request.
+fn refusal_text(alloc: Global, refusal: Refusal) -> Result<Vec<u8>, NoMemory>
+    ensures { IfOk result (λ bytes. bytes.items ≡ refusal_text refusal) }
+{
+    match refusal {
+        Refusal::NoRoute => refusal_bytes(alloc, 404, &text(alloc, "no_route")?, None),
+        Refusal::NotBuilt => {
+            let name = text(alloc, "not_built")?;
+            refusal_bytes(alloc, 400, &text(alloc, "bad_request")?, Some(&name))
+        }
+    }
+}
+
+fn text(alloc: Global, words: &str) -> Result<Text, NoMemory>
+    ensures { IfOk result (λ text. text ≡ words.now) }
+{
+    Ok(Text::new(String::from_str(alloc, words)?))
+}
+
+/// Writes the response that says an answer, or that memory ran out where there is none to print
+/// it. `room` has room for the text of the latter.
+pub fn write_answer<W: Sink>(
+    alloc: Global,
+    sink: &mut W,
+    room: &mut Vec<u8>,
+    answer: &Answer,
+) -> Result<(), Failed>
+    requires { 192 ≤ vec_capacity room.old }
+    ensures sent { (bytes : List ℕ) × Says answer.now bytes × Sends (W.taken sink.old) (W.taken sink.new) bytes result }
+    ensures never_falls { W.faults sink.old ≤ W.faults sink.new }
+    ensures failed { OnErr result (HasRisen (W.faults sink.old) (W.faults sink.new)) }
+    ensures mark { W.mark sink.new ≡ W.mark sink.old }
+    ensures capacity { vec_capacity room.new ≡ vec_capacity room.old }
+{
+    match answer {
+        Answer::Refused(refusal) => match refusal_text(alloc, *refusal) {
+            Ok(bytes) => write_all(sink, bytes.as_slice()),
+            Err(NoMemory) => write_all(sink, want_before()),
+        },
+        Answer::Shown(shown) => match response_bytes(alloc, shown) {
+            Ok(bytes) => write_all(sink, bytes.as_slice()),
+            Err(NoMemory) => {
+                put_want_after(room, shown.at, shown.stored);
+                write_all(sink, room.as_slice())
+            }
+        },
+        Answer::Want => write_all(sink, want_before()),
+    }
+}
+
+/// Writes the text for a defect, which ends the connection.
+pub fn write_defect<W: Sink>(sink: &mut W, defect: Defect) -> Result<(), Failed>
+    ensures sent { Sends (W.taken sink.old) (W.taken sink.new) (defect_text defect) result }
+    ensures never_falls { W.faults sink.old ≤ W.faults sink.new }
+    ensures failed { OnErr result (HasRisen (W.faults sink.old) (W.faults sink.new)) }
+    ensures mark { W.mark sink.new ≡ W.mark sink.old }
+{
+    write_all(sink, text_for(defect))
+}
+
+fn text_for(defect: Defect) -> &'static [u8]
+    ensures { result.now ≡ defect_text defect }
+{
+    match defect {
+        Defect::BadHead => bad_head(),
+        Defect::HeadTooLarge => head_too_large(),
+        Defect::TransferEncoding => transfer_encoding(),
+        Defect::LengthRequired => length_required(),
+        Defect::BodyTooLarge => body_too_large(),
+    }
+}

@@ -1,0 +1,4 @@
+pub mod Order
+pub mod Priorities
+pub mod Shown
+pub mod Queries

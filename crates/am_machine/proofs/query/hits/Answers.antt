@@ -1,0 +1,12 @@
+use Rattle.std.proofs.Common.{ap, ◌∙◌, rules}
+use Rattle.std.proofs.lemmas.List.Sorted.{answers_always}
+use Rattle.am_model.specs.Candidates.{by_priority}
+use Rattle.am_machine.proofs.Priorities.{sort_key, sorted_is_by_priority}
+use Rattle.am_machine.proofs.query.hits.Goals as goal
+
+pub returns : goal.returns
+returns c =
+    sorted_is_by_priority _ _
+    (c.in_ok-sort_by_key.ensures.sorted sort_key (answers_always _ _ _ (λ f a r g h. search rules)))
+    (c.sort_by_key.ensures.stable sort_key (answers_always _ _ _ (λ f a r g h. search rules)))
+    ∙ ap by_priority c.in_ok-found.ensures

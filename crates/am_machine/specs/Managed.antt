@@ -1,0 +1,22 @@
+-- What a manager and the desk over it are, as contracts see them.
+use Rattle.std.specs.Prelude.{◌≡◌, List}
+use Rattle.am_types.specs.declared.device.Device.{Device}
+use Rattle.am_types.specs.declared.call.Entry.{Entry}
+use Rattle.am_model.specs.State.{opening}
+use Rattle.am_model.specs.History.{replay, IsLegal}
+use Rattle.am_model.specs.Desks.{Origin}
+
+-- a manager: where it comes from, and the calls that it stored since
+pub record Managed : Type 0 where
+  pub origin : Origin
+  pub history : List Entry
+
+-- a manager behind one desk, and the history that it had when it was handed over
+pub record Served : Type 0 where
+  pub managed : Managed
+  pub handed : List Entry
+
+-- the state that the history leaves is the one that the manager holds, and the history could have been made
+pub record IsLive (device : Device) (history : List Entry) : Type 0 where
+  pub live : replay (opening device) history ≡ opening device
+  pub legal : IsLegal (opening device) history

@@ -1,0 +1,17 @@
+//! The activity manager of one device for one thread, and the desks on which it is called.
+#![tactic(auto)]
+
+mod callers;
+mod candidates;
+mod desk;
+mod filter;
+mod manager;
+mod query;
+mod sole;
+
+pub use desk::Desk;
+pub use manager::{Manager, begin};
+pub use sole::SoleDesk;
+
+#[cfg(test)]
+mod tests;

@@ -1,0 +1,65 @@
+//! A desk over a manager of its own.
+ghost use Rattle.std.specs.Prelude.{◌≡◌};
+ghost use Rattle.am_model.specs.Desks.{opening_of};
+ghost use Rattle.am_model.specs.History.{IsLegal};
+
+use crate::{Desk, Manager};
+use am_types::{NoMemory, Request, Shown, Text};
+use std::marker::Model;
+
+/// The only desk of a manager. Its number is 0, and it has seen the manager's whole history.
+#[derive(Debug, Drop)]
+pub struct SoleDesk {
+    manager: Manager,
+    // How many entries the manager had when it was handed over. Contracts alone read it.
+    handed: u64,
+}
+
+impl Model for SoleDesk {
+    ghost use Rattle.std.specs.Prelude.{◌≤◌, length, take};
+    ghost use Rattle.am_machine.specs.Managed.{Served};
+
+    ghost Value = { Served };
+
+    ghost view = { λ d. record { managed = d.manager; handed = take d.handed d.manager.history } };
+
+    ghost invariant = { λ d. d.handed ≤ length d.manager.history };
+}
+
+impl SoleDesk {
+    /// The desk of that manager. Takes no memory.
+    pub fn new(manager: Manager) -> SoleDesk
+        ensures made { result ≡ record { managed = manager; handed = manager.history } }
+        ensures legal { IsLegal (opening_of manager.origin) manager.history }
+    {
+        let handed = manager.length();
+        SoleDesk { manager, handed }
+    }
+
+    /// Hands the manager out. Its history is what the desk has seen. Takes no memory.
+    pub fn into_manager(self) -> Manager
+        ensures { result ≡ self.managed }
+    {
+        self.manager
+    }
+}
+
+impl Desk for SoleDesk {
+    ghost number = { λ d. 0 };
+
+    ghost origin = { λ d. d.managed.origin };
+
+    ghost sharing = { λ d. record { id = 0; handed = d.handed } };
+
+    ghost seen = { λ d. d.managed.history };
+
+    fn call(
+        &mut self,
+        key: &Text,
+        now: u64,
+        weight: u32,
+        request: Request,
+    ) -> Result<Shown, NoMemory> {
+        self.manager.step(0, key, now, weight, request)
+    }
+}

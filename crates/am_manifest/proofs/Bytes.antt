@@ -1,0 +1,11 @@
+-- Bytes that are no UTF-8.
+use Rattle.std.proofs.Common.{◌≡◌, ℕ, Bool, true, false, List, refl}
+use Rattle.std.specs.Str.{IsUtf8, is_utf8}
+use Rattle.std.proofs.lemmas.Str.{IsUtf8-from_is_utf8}
+
+false_unless : (b : Bool) → ¬ (b ≡ true) → b ≡ false
+false_unless true h = absurd (h refl)
+false_unless false h = refl
+
+pub is_utf8-none : (bytes : List ℕ) → ¬ (IsUtf8 bytes) → is_utf8 bytes ≡ false
+is_utf8-none bytes h = false_unless (is_utf8 bytes) (λ e. h (IsUtf8-from_is_utf8 bytes e))

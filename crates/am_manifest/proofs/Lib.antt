@@ -1,0 +1,4 @@
+pub mod Each
+pub mod Repeats
+pub mod Bytes
+pub mod Taken

@@ -1,0 +1,11 @@
+use Rattle.std.proofs.Common.{◌≡◌, drop, map}
+use Rattle.toml.specs.View.{view}
+use Rattle.am_manifest.specs.Tables.{each}
+use Rattle.am_manifest.specs.Devices.{package_entry}
+use Rattle.am_manifest.proofs.Each.{front_then}
+use Rattle.am_manifest.proofs.device.each_package.Given as goal
+
+abbrev pub invariant-loop-i : goal.invariant-loop-i
+invariant-loop-i l =
+    let read = package_entry in
+    front_then l.packages.items (each read l.i (map view (drop l.i l.values))) ≡ each read 0 (map view l.values)

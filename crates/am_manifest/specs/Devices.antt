@@ -1,0 +1,124 @@
+-- The device that a file describes.
+use Rattle.std.specs.Prelude.{ℕ, ◌+◌, Bool, true, false, codes, List, [], ◌∷◌, length, is_some, if◌then◌else◌, Option, Some, None, Result, Ok, Err}
+use Rattle.std.specs.Str.{is_utf8}
+use Rattle.toml.specs.Data.{Data, get, as_table}
+use Rattle.toml.specs.Parse.{parse_document}
+use Rattle.am_types.specs.declared.device.Device.{Device}
+use Rattle.am_types.specs.declared.device.Package.{Package}
+use Rattle.am_types.specs.declared.manifest.Manifest.{Manifest}
+use Rattle.am_types.specs.declared.manifest.ManifestFault.{ManifestFault}
+use Rattle.am_types.specs.declared.manifest.ManifestFault.TheVariants.{NotToml, Missing, WrongKind, Duplicate}
+use Rattle.am_manifest.specs.declared.device.Owners.{Owners}
+use Rattle.am_manifest.specs.declared.device.Actions.{Actions}
+use Rattle.am_manifest.specs.declared.device.Rights.{Rights}
+use Rattle.am_manifest.specs.declared.text.Form.TheVariants.{AccessKey}
+use Rattle.am_manifest.specs.Reading.{◌>>=◌}
+use Rattle.am_manifest.specs.Texts.{key_place, within_key, is_among, with_text}
+use Rattle.am_manifest.specs.Tables.{required_text, optional_values, at_most, each, entry_table, unread}
+use Rattle.am_manifest.specs.Manifests.{root_of, manifest_in}
+
+-- the manifest of a package
+unfoldable pub manifest_found : List ℕ → Option Data → Result Manifest ManifestFault
+manifest_found at None = Err (Missing (key_place at (codes "manifest")))
+manifest_found at (Some value) =
+    if is_some (as_table value) then manifest_in (within_key at (codes "manifest")) value
+    else Err (WrongKind (key_place at (codes "manifest")))
+
+-- the manifest at its key in a package's table
+unfoldable pub manifest_at : List ℕ → Data → Result Manifest ManifestFault
+manifest_at at value = manifest_found at (get (codes "manifest") value)
+
+-- a package that gets this uid
+unfoldable pub package_of : ℕ → List ℕ → Data → Result Package ManifestFault
+package_of uid at value = do
+  key ← required_text AccessKey at (codes "key") value
+  manifest ← manifest_at at value
+  Ok (record { uid = uid; name = manifest.«package»; key = key; stopped = false; decls = manifest.decls })
+
+-- an entry of the packages: the first gets uid 10,000, each other one more than the one before it
+unfoldable pub package_entry : ℕ → Data → Result Package ManifestFault
+package_entry i value = do
+  within ← entry_table [] (codes "package") i value
+  package_of (10000 + i) within value
+
+-- the packages of a device
+unfoldable pub packages_in : Data → Result (List Package) ManifestFault
+packages_in value = do
+  values ← optional_values [] (codes "package") value
+  few ← at_most 256 (codes "packages") (length values)
+  each package_entry 0 values
+
+-- the name or the key of a package is among these
+abbrev pub is_taken : List (List ℕ) → List (List ℕ) → Package → Bool
+is_taken names keys p = if is_among p.name names then true else is_among p.key keys
+
+-- the name of the first package whose name or key stood before
+abbrev pub first_taken : List (List ℕ) → List (List ℕ) → List Package → Option (List ℕ)
+first_taken names keys [] = None
+first_taken names keys (p ∷ packages) =
+    if is_taken names keys p then Some p.name
+    else first_taken (with_text names p.name) (with_text keys p.key) packages
+
+-- the packages, unless this is the name of one that is taken
+unfoldable pub unless_taken : List Package → Option (List ℕ) → Result (List Package) ManifestFault
+unless_taken packages None = Ok packages
+unless_taken packages (Some name) = Err (Duplicate name)
+
+-- the packages, whose names and keys are apart, and apart from those of the system and of the root
+unfoldable pub apart : Owners → List Package → Result (List Package) ManifestFault
+apart owners packages =
+    unless_taken packages (first_taken (codes "android" ∷ []) (with_text [] owners.system_key) packages)
+
+-- the keys of the system and of the root, and the browser
+unfoldable pub owners_in : Data → Result Owners ManifestFault
+owners_in value = do
+  system_key ← required_text AccessKey [] (codes "system_key") value
+  root_key ← unread [] (codes "root_key") value
+  browser ← unread [] (codes "browser") value
+  Ok (record { system_key = system_key; root_key = None; browser = None })
+
+-- the actions that are protected, and those that are exempt
+unfoldable pub actions_in : Data → Result Actions ManifestFault
+actions_in value = do
+  «protected» ← unread [] (codes "protected") value
+  exempt ← unread [] (codes "exempt") value
+  Ok (record { «protected» = []; exempt = [] })
+
+-- what is granted to the packages, and the hosts for which they are approved
+unfoldable pub rights_in : List Package → Data → Result Rights ManifestFault
+rights_in packages value = do
+  grants ← unread [] (codes "grant") value
+  links ← unread [] (codes "link") value
+  Ok (record { grants = []; links = [] })
+
+-- a device of these parts
+abbrev pub device_made : Owners → Actions → List Package → Rights → Device
+device_made owners actions packages rights =
+    record { system_key = owners.system_key; root_key = owners.root_key; browser = owners.browser; «protected» = actions.«protected»; exempt = actions.exempt; packages = packages; grants = rights.grants; links = rights.links }
+
+-- the packages of a device, apart
+unfoldable pub packages_apart : Owners → Data → Result (List Package) ManifestFault
+packages_apart owners value = do
+  packages ← packages_in value
+  apart owners packages
+
+-- the device in a table
+unfoldable pub device_in : Data → Result Device ManifestFault
+device_in value = do
+  owners ← owners_in value
+  actions ← actions_in value
+  packages ← packages_apart owners value
+  rights ← rights_in packages value
+  Ok (device_made owners actions packages rights)
+
+-- the bytes, if they are UTF-8
+unfoldable pub text_of : List ℕ → Result (List ℕ) ManifestFault
+text_of bytes = if is_utf8 bytes then Ok bytes else Err NotToml
+
+-- the device that the bytes of a file describe, or the first fault
+unfoldable pub device_of : List ℕ → Result Device ManifestFault
+device_of bytes = do
+  small ← at_most 16777216 (codes "device") (length bytes)
+  text ← text_of bytes
+  root ← root_of (parse_document text)
+  device_in root

@@ -1,0 +1,190 @@
+//! The components that a package declares.
+ghost use Rattle.std.specs.Prelude.{◌≡◌, IfOk, map};
+ghost use Rattle.toml.specs.View.{view};
+ghost use Rattle.am_manifest.specs.Reading.{Gives, GivesBy};
+ghost use Rattle.am_manifest.specs.Tables.{each};
+ghost use Rattle.am_manifest.specs.Components.{has_dot, full_class, heading_of, launch_of, exported_of, declared, component_of, component_entry, components_at};
+
+use crate::ReadFault;
+use crate::filters::{Filters, filters_at};
+use crate::tables::{entry_table, optional_truth, optional_values, required_text, unread};
+use crate::text::{Form, starts_with_dot};
+use am_types::{Decl, Kind, ManifestFault, Mode, Text};
+use std::alloc::{AllocError, Global};
+use toml::Value;
+
+/// What a component's table says first.
+#[derive(Drop)]
+pub struct Heading {
+    /// The full class.
+    pub class: Text,
+    /// Whether others may reach it, where that is stated.
+    pub exported: Option<bool>,
+    pub enabled: bool,
+}
+
+/// How a component is launched, and by whom.
+#[derive(Drop)]
+pub struct Launch {
+    pub permission: Option<Text>,
+    pub mode: Mode,
+    pub affinity: Text,
+}
+
+fn has_dot(text: &str) -> bool
+    ensures { result ≡ has_dot text.now }
+{
+    text.as_bytes().iter().any(|b| *b == b'.')
+}
+
+/// The full name of a class: in its package, unless it has a dot of its own.
+fn full_class(alloc: Global, package: &str, class: Text) -> Result<Text, AllocError>
+    ensures { IfOk result (λ full. full ≡ full_class «package».now class) }
+{
+    let name = class.as_str();
+    if starts_with_dot(name) {
+        return Ok(Text::new(format!(in alloc; "{package}{name}")?));
+    }
+    if !has_dot(name) {
+        return Ok(Text::new(format!(in alloc; "{package}.{name}")?));
+    }
+    Ok(class)
+}
+
+/// What a component's table says before its filters.
+#[tactic(auto, unfolding(crate::specs::Components::heading_of))]
+fn heading_of(alloc: Global, package: &Text, at: &str, table: &Value) -> Result<Heading, ReadFault>
+    ensures { Gives result (heading_of «package».now at.now (view table.now)) }
+{
+    let class = required_text(alloc, Form::Class, at, "name", table)?;
+    let exported = optional_truth(alloc, at, "exported", table)?;
+    let enabled = optional_truth(alloc, at, "enabled", table)?;
+    let class = full_class(alloc, package.as_str(), class)?;
+    Ok(Heading {
+        class,
+        exported,
+        enabled: enabled.unwrap_or(true),
+    })
+}
+
+/// How a component is launched, and by whom.
+#[tactic(auto, unfolding(crate::specs::Components::launch_of))]
+fn launch_of(alloc: Global, package: &Text, at: &str, table: &Value) -> Result<Launch, ReadFault>
+    ensures { Gives result (launch_of «package».now at.now (view table.now)) }
+{
+    unread(alloc, at, "permission", table)?;
+    unread(alloc, at, "launchMode", table)?;
+    unread(alloc, at, "taskAffinity", table)?;
+    Ok(Launch {
+        permission: None,
+        mode: Mode::Standard,
+        affinity: package.clone()?,
+    })
+}
+
+/// Whether others may reach a component: stated, or else no where no filter is written.
+#[tactic(auto, unfolding(crate::specs::Components::exported_of))]
+fn exported_of(class: &Text, written: bool, stated: Option<bool>) -> Result<bool, ReadFault>
+    ensures { Gives result (exported_of class.now written stated) }
+{
+    match stated {
+        Some(exported) => Ok(exported),
+        None if written => {
+            let class = class.clone()?;
+            Err(ReadFault::Manifest(ManifestFault::ExportedUnstated(class)))
+        }
+        None => Ok(false),
+    }
+}
+
+/// The component of these parts.
+#[tactic(auto, unfolding(crate::specs::Components::declared))]
+fn declared(
+    kind: Kind,
+    heading: Heading,
+    launch: Launch,
+    filters: Filters,
+) -> Result<Decl, ReadFault>
+    ensures { Gives result (declared kind heading launch filters) }
+{
+    let exported = exported_of(&heading.class, filters.written, heading.exported)?;
+    Ok(Decl {
+        kind,
+        class: heading.class,
+        exported,
+        enabled: heading.enabled,
+        permission: launch.permission,
+        mode: launch.mode,
+        affinity: launch.affinity,
+        filters: filters.kept,
+    })
+}
+
+/// The component in a table.
+#[tactic(auto, unfolding(crate::specs::Components::component_of))]
+fn component_of(
+    alloc: Global,
+    kind: Kind,
+    package: &Text,
+    at: &str,
+    table: &Value,
+) -> Result<Decl, ReadFault>
+    ensures { Gives result (component_of kind «package».now at.now (view table.now)) }
+{
+    let heading = heading_of(alloc, package, at, table)?;
+    let launch = launch_of(alloc, package, at, table)?;
+    let filters = filters_at(alloc, at, table)?;
+    declared(kind, heading, launch, filters)
+}
+
+/// An entry of the components at a key.
+#[tactic(auto, unfolding(crate::specs::Components::component_entry))]
+fn component_entry(
+    alloc: Global,
+    kind: Kind,
+    package: &Text,
+    at: &str,
+    key: &str,
+    i: usize,
+    value: &Value,
+) -> Result<Decl, ReadFault>
+    ensures { Gives result (component_entry kind «package».now at.now key.now i (view value.now)) }
+{
+    let within = entry_table(alloc, at, key, i, value)?;
+    component_of(alloc, kind, package, within.as_str(), value)
+}
+
+/// Each value as a component.
+fn each_component(
+    alloc: Global,
+    kind: Kind,
+    package: &Text,
+    at: &str,
+    key: &str,
+    values: &[Value],
+) -> Result<Vec<Decl>, ReadFault>
+    ensures { GivesBy (λ decls. decls.items) result (each (component_entry kind «package».now at.now key.now) 0 (map view values.now)) }
+{
+    let mut decls = Vec::new(alloc);
+    for (i, value) in values.iter().enumerate() {
+        let decl = component_entry(alloc, kind, package, at, key, i, value)?;
+        decls.push(decl)?;
+    }
+    Ok(decls)
+}
+
+/// The components at a key.
+#[tactic(auto, unfolding(crate::specs::Components::components_at))]
+pub fn components_at(
+    alloc: Global,
+    kind: Kind,
+    package: &Text,
+    at: &str,
+    key: &str,
+    table: &Value,
+) -> Result<Vec<Decl>, ReadFault>
+    ensures { GivesBy (λ decls. decls.items) result (components_at kind «package».now at.now key.now (view table.now)) }
+{
+    let values = optional_values(alloc, at, key, table)?;
+    each_component(alloc, kind, package, at, key, values)
+}

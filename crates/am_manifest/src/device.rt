@@ -1,0 +1,264 @@
+//! The device that a file describes.
+ghost use Rattle.std.specs.Prelude.{◌≡◌, ◌≤◌, IfOk, codes, length, map, [], ◌∷◌};
+ghost use Rattle.toml.specs.View.{view};
+ghost use Rattle.am_manifest.specs.Reading.{Gives, GivesBy};
+ghost use Rattle.am_manifest.specs.Tables.{each};
+ghost use Rattle.am_manifest.specs.Texts.{with_text};
+ghost use Rattle.am_manifest.specs.Devices.{actions_in, apart, device_in, device_of, first_taken, is_taken, manifest_at, owners_in, package_entry, package_of, packages_apart, packages_in, rights_in, text_of};
+
+use crate::ReadFault;
+use crate::manifest::{manifest_in, root_of};
+use crate::place::{Spot, missing, within_key, wrong_kind};
+use crate::tables::{at_most, entry_table, optional_values, required_text, unread};
+use crate::text::Form;
+use am_types::{Device, Grant, Link, List, Manifest, ManifestFault, Package, Text};
+use std::alloc::{AllocError, Global};
+use std::collections::BTreeSet;
+use toml::Value;
+
+/// The keys of the system and of the root, and the browser.
+#[derive(Drop)]
+pub struct Owners {
+    pub system_key: Text,
+    pub root_key: Option<Text>,
+    pub browser: Option<Text>,
+}
+
+/// The actions that a device treats in a way of their own.
+#[derive(Drop)]
+pub struct Actions {
+    pub protected: List<Text>,
+    pub exempt: List<Text>,
+}
+
+/// What the packages of a device may do.
+#[derive(Drop)]
+pub struct Rights {
+    pub grants: List<Grant>,
+    pub links: List<Link>,
+}
+
+/// The manifest of a package.
+#[tactic(auto, unfolding(crate::specs::Devices::manifest_at, crate::specs::Devices::manifest_found))]
+fn manifest_at(alloc: Global, at: &str, table: &Value) -> Result<Manifest, ReadFault>
+    ensures { Gives result (manifest_at at.now (view table.now)) }
+{
+    let spot = Spot {
+        at,
+        key: "manifest",
+        index: None,
+    };
+    let Some(value) = table.get("manifest") else {
+        return Err(missing(alloc, &spot));
+    };
+    if !value.is_table() {
+        return Err(wrong_kind(alloc, &spot));
+    }
+    let within = within_key(alloc, at, "manifest")?;
+    manifest_in(alloc, within.as_str(), value)
+}
+
+/// The package in a table.
+#[tactic(auto, unfolding(crate::specs::Devices::package_of))]
+fn package_of(alloc: Global, uid: u32, at: &str, table: &Value) -> Result<Package, ReadFault>
+    ensures { Gives result (package_of uid at.now (view table.now)) }
+{
+    let key = required_text(alloc, Form::AccessKey, at, "key", table)?;
+    let manifest = manifest_at(alloc, at, table)?;
+    Ok(Package {
+        uid,
+        name: manifest.package,
+        key,
+        stopped: false,
+        decls: manifest.decls,
+    })
+}
+
+/// An entry of the packages.
+#[tactic(auto, unfolding(crate::specs::Devices::package_entry))]
+fn package_entry(alloc: Global, i: usize, value: &Value) -> Result<Package, ReadFault>
+    requires { i ≤ 256 }
+    ensures { Gives result (package_entry i (view value.now)) }
+{
+    let within = entry_table(alloc, "", "package", i, value)?;
+    package_of(alloc, 10_000 + i as u32, within.as_str(), value)
+}
+
+/// Each value as a package.
+fn each_package(alloc: Global, values: &[Value]) -> Result<Vec<Package>, ReadFault>
+    requires { length values.now ≤ 256 }
+    ensures { GivesBy (λ packages. packages.items) result (each package_entry 0 (map view values.now)) }
+{
+    let mut packages = Vec::new(alloc);
+    for (i, value) in values.iter().enumerate() {
+        let package = package_entry(alloc, i, value)?;
+        packages.push(package)?;
+    }
+    Ok(packages)
+}
+
+/// The packages of a device.
+#[tactic(auto, unfolding(crate::specs::Devices::packages_in, crate::specs::Tables::at_most))]
+fn packages_in(alloc: Global, table: &Value) -> Result<Vec<Package>, ReadFault>
+    ensures { GivesBy (λ packages. packages.items) result (packages_in (view table.now)) }
+{
+    let values = optional_values(alloc, "", "package", table)?;
+    at_most(alloc, 256, "packages", values.len())?;
+    each_package(alloc, values)
+}
+
+/// Whether the name or the key of the package is among these.
+fn is_taken(package: &Package, names: &BTreeSet<Text>, keys: &BTreeSet<Text>) -> bool
+    ensures { result ≡ is_taken names.now.keys keys.now.keys «package».now }
+{
+    if names.contains(&package.name) {
+        return true;
+    }
+    keys.contains(&package.key)
+}
+
+/// The name of the first package whose name or key is known, or stood before.
+fn first_taken(
+    alloc: Global,
+    names: BTreeSet<Text>,
+    keys: BTreeSet<Text>,
+    packages: &[Package],
+) -> Result<Option<Text>, AllocError>
+    ensures { IfOk result (λ name. name ≡ first_taken names.keys keys.keys packages.now) }
+{
+    let mut names = names;
+    let mut keys = keys;
+    for package in packages {
+        if is_taken(package, &names, &keys) {
+            return Ok(Some(package.name.clone()?));
+        }
+        names.insert(package.name.clone()?)?;
+        keys.insert(package.key.clone()?)?;
+    }
+    Ok(None)
+}
+
+/// The names that no package may bear.
+fn known_names(alloc: Global) -> Result<BTreeSet<Text>, AllocError>
+    ensures { IfOk result (λ names. names.keys ≡ codes "android" ∷ []) }
+{
+    let mut names = BTreeSet::new(alloc);
+    names.insert(Text::new(String::from_str(alloc, "android")?))?;
+    Ok(names)
+}
+
+/// The keys that no package may have.
+fn known_keys(alloc: Global, owners: &Owners) -> Result<BTreeSet<Text>, AllocError>
+    ensures { IfOk result (λ keys. keys.keys ≡ with_text [] owners.now.system_key) }
+{
+    let mut keys = BTreeSet::new(alloc);
+    keys.insert(owners.system_key.clone()?)?;
+    Ok(keys)
+}
+
+/// The packages, if their names and keys are apart, and apart from those of the system and the root.
+#[tactic(auto, unfolding(crate::specs::Devices::apart, crate::specs::Devices::unless_taken))]
+fn apart(alloc: Global, owners: &Owners, packages: Vec<Package>) -> Result<Vec<Package>, ReadFault>
+    ensures { GivesBy (λ packages. packages.items) result (apart owners.now packages.items) }
+{
+    let names = known_names(alloc)?;
+    let keys = known_keys(alloc, owners)?;
+    if let Some(name) = first_taken(alloc, names, keys, &packages)? {
+        return Err(ReadFault::Manifest(ManifestFault::Duplicate(name)));
+    }
+    Ok(packages)
+}
+
+/// The packages of a device, apart.
+#[tactic(auto, unfolding(crate::specs::Devices::packages_apart))]
+fn packages_apart(alloc: Global, owners: &Owners, table: &Value) -> Result<Vec<Package>, ReadFault>
+    ensures { GivesBy (λ packages. packages.items) result (packages_apart owners.now (view table.now)) }
+{
+    let packages = packages_in(alloc, table)?;
+    apart(alloc, owners, packages)
+}
+
+/// The keys of the system and of the root, and the browser.
+#[tactic(auto, unfolding(crate::specs::Devices::owners_in))]
+fn owners_in(alloc: Global, table: &Value) -> Result<Owners, ReadFault>
+    ensures { Gives result (owners_in (view table.now)) }
+{
+    let system_key = required_text(alloc, Form::AccessKey, "", "system_key", table)?;
+    unread(alloc, "", "root_key", table)?;
+    unread(alloc, "", "browser", table)?;
+    Ok(Owners {
+        system_key,
+        root_key: None,
+        browser: None,
+    })
+}
+
+/// The actions that are protected, and those that are exempt.
+#[tactic(auto, unfolding(crate::specs::Devices::actions_in))]
+fn actions_in(alloc: Global, table: &Value) -> Result<Actions, ReadFault>
+    ensures { Gives result (actions_in (view table.now)) }
+{
+    unread(alloc, "", "protected", table)?;
+    unread(alloc, "", "exempt", table)?;
+    Ok(Actions {
+        protected: List::new(Vec::new(alloc)),
+        exempt: List::new(Vec::new(alloc)),
+    })
+}
+
+/// What is granted to the packages, and the hosts for which they are approved.
+#[tactic(auto, unfolding(crate::specs::Devices::rights_in))]
+fn rights_in(alloc: Global, packages: &[Package], table: &Value) -> Result<Rights, ReadFault>
+    ensures { Gives result (rights_in packages.now (view table.now)) }
+{
+    unread(alloc, "", "grant", table)?;
+    unread(alloc, "", "link", table)?;
+    Ok(Rights {
+        grants: List::new(Vec::new(alloc)),
+        links: List::new(Vec::new(alloc)),
+    })
+}
+
+/// The device in a table.
+#[tactic(auto, unfolding(crate::specs::Devices::device_in))]
+fn device_in(alloc: Global, table: &Value) -> Result<Device, ReadFault>
+    ensures { Gives result (device_in (view table.now)) }
+{
+    let owners = owners_in(alloc, table)?;
+    let actions = actions_in(alloc, table)?;
+    let packages = packages_apart(alloc, &owners, table)?;
+    let rights = rights_in(alloc, &packages, table)?;
+    Ok(Device {
+        system_key: owners.system_key,
+        root_key: owners.root_key,
+        browser: owners.browser,
+        protected: actions.protected,
+        exempt: actions.exempt,
+        packages: List::new(packages),
+        grants: rights.grants,
+        links: rights.links,
+    })
+}
+
+/// The bytes as a text, if they are UTF-8.
+#[tactic(auto, unfolding(crate::specs::Devices::text_of))]
+fn text_of(bytes: &[u8]) -> Result<&str, ReadFault>
+    ensures { GivesBy (λ text. text.now) result (text_of bytes.now) }
+{
+    match std::str::from_utf8(bytes) {
+        Ok(text) => Ok(text),
+        Err(_) => Err(ReadFault::Manifest(ManifestFault::NotToml)),
+    }
+}
+
+/// Reads a device file of at most 16,777,216 bytes of TOML. The answer is the device, or the first fault
+/// that is met; only want of memory may come at any place.
+#[tactic(auto, unfolding(crate::specs::Devices::device_of))]
+pub fn read_device(alloc: Global, bytes: &[u8]) -> Result<Device, ReadFault>
+    ensures { Gives result (device_of bytes.now) }
+{
+    at_most(alloc, 16_777_216, "device", bytes.len())?;
+    let text = text_of(bytes)?;
+    let root = root_of(alloc, text)?;
+    device_in(alloc, &root)
+}

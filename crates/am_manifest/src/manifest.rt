@@ -1,0 +1,114 @@
+//! The manifest of a package.
+ghost use Rattle.std.specs.Prelude.{◌≡◌, IfOk, Some, if◌then◌else◌};
+ghost use Rattle.toml.specs.Parse.{parse_document};
+ghost use Rattle.toml.specs.View.{view};
+ghost use Rattle.am_manifest.specs.Reading.{Gives, GivesBy};
+ghost use Rattle.am_manifest.specs.Manifests.{classes, decls_in, first_repeated, manifest_alone, manifest_in, manifest_made, manifest_of, root_of};
+
+use crate::ReadFault;
+use crate::components::components_at;
+use crate::tables::{at_most, required_text, unread};
+use crate::text::Form;
+use am_types::{Decl, Kind, List, Manifest, ManifestFault, Text};
+use std::alloc::{AllocError, Global};
+use std::collections::BTreeSet;
+use toml::Value;
+
+/// The class, if it stands again, or else the other one.
+fn class_or(class: &Text, again: bool, other: Option<Text>) -> Result<Option<Text>, AllocError>
+    ensures { IfOk result (λ first. first ≡ (if again then Some class.now else other)) }
+{
+    if again {
+        return Ok(Some(class.clone()?));
+    }
+    Ok(other)
+}
+
+/// The first class that stands again after itself.
+fn first_repeated(alloc: Global, decls: &[Decl]) -> Result<Option<Text>, AllocError>
+    ensures { IfOk result (λ class. class ≡ first_repeated (classes decls.now)) }
+{
+    let mut later = BTreeSet::new(alloc);
+    let mut repeated = None;
+    let mut i = decls.len();
+    while i > 0 {
+        i -= 1;
+        let class = &decls[i].class;
+        repeated = class_or(class, later.contains(class), repeated)?;
+        later.insert(class.clone()?)?;
+    }
+    Ok(repeated)
+}
+
+/// The manifest of these components, of which there may be 256, of distinct classes.
+#[tactic(auto, unfolding(crate::specs::Manifests::manifest_made, crate::specs::Manifests::unless_repeated))]
+fn manifest_made(alloc: Global, package: Text, decls: Vec<Decl>) -> Result<Manifest, ReadFault>
+    ensures { Gives result (manifest_made «package» decls.items) }
+{
+    at_most(alloc, 256, "components", decls.len())?;
+    if let Some(class) = first_repeated(alloc, &decls)? {
+        return Err(ReadFault::Manifest(ManifestFault::Duplicate(class)));
+    }
+    Ok(Manifest {
+        package,
+        decls: List::new(decls),
+    })
+}
+
+/// The components of a package: activities, then services, then receivers.
+#[tactic(auto, unfolding(crate::specs::Manifests::decls_in))]
+fn decls_in(alloc: Global, package: &Text, at: &str, table: &Value) -> Result<Vec<Decl>, ReadFault>
+    ensures { GivesBy (λ decls. decls.items) result (decls_in «package».now at.now (view table.now)) }
+{
+    let activities = components_at(alloc, Kind::Activity, package, at, "activity", table)?;
+    unread(alloc, at, "service", table)?;
+    unread(alloc, at, "receiver", table)?;
+    Ok(activities)
+}
+
+/// The manifest in a table, the places of whose keys begin with `at`.
+#[tactic(auto, unfolding(crate::specs::Manifests::manifest_in))]
+pub fn manifest_in(alloc: Global, at: &str, table: &Value) -> Result<Manifest, ReadFault>
+    ensures { Gives result (manifest_in at.now (view table.now)) }
+{
+    let name = required_text(alloc, Form::PackageName, at, "package", table)?;
+    let decls = decls_in(alloc, &name, at, table)?;
+    manifest_made(alloc, name, decls)
+}
+
+/// A manifest that is read by itself, which may not be that of the system's package.
+#[tactic(auto, unfolding(crate::specs::Manifests::manifest_alone))]
+fn manifest_alone(alloc: Global, table: &Value) -> Result<Manifest, ReadFault>
+    ensures { Gives result (manifest_alone (view table.now)) }
+{
+    let manifest = manifest_in(alloc, "", table)?;
+    if manifest.package.as_str() == "android" {
+        let name = String::from_str(alloc, "android")?;
+        return Err(ReadFault::Manifest(ManifestFault::Duplicate(Text::new(name))));
+    }
+    Ok(manifest)
+}
+
+/// The table that a text is, as a TOML document.
+#[tactic(auto, unfolding(crate::specs::Manifests::root_of))]
+pub fn root_of(alloc: Global, text: &str) -> Result<Value, ReadFault>
+    ensures { GivesBy (λ root. view root) result (root_of (parse_document text.now)) }
+{
+    match toml::table_from_str(alloc, text) {
+        Ok(table) => Ok(Value::Table(table)),
+        Err(error) if error.is_memory() => Err(ReadFault::NoMemory),
+        Err(_) => Err(ReadFault::Manifest(ManifestFault::NotToml)),
+    }
+}
+
+/// Reads a manifest of at most 65,536 bytes of TOML. The answer is the manifest, or the first fault
+/// that is met; only want of memory may come at any place.
+#[tactic(auto, unfolding(crate::specs::Manifests::manifest_of))]
+pub fn read_package(alloc: Global, text: &Text) -> Result<Manifest, ReadFault>
+    ensures { Gives result (manifest_of text.now) }
+{
+    let text = text.as_str();
+    at_most(alloc, 65_536, "text", text.len())?;
+    let root = root_of(alloc, text)?;
+    manifest_alone(alloc, &root)
+}

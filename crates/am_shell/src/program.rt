@@ -1,0 +1,102 @@
+//! The top call.
+ghost use Rattle.std.specs.Prelude.{◌≡◌, ◌≤◌};
+ghost use Rattle.am_shell.specs.Outcomes.{Happens};
+ghost use Rattle.am_shell.specs.Runs.{Runs, Tells};
+
+use crate::device::open_device;
+use crate::outcome::Outcome;
+use crate::session::serve_session;
+use crate::words::device_file;
+use am_http::write_all;
+use am_types::{Clock, Failed, Files, NoMemory, Sink, Source, Text};
+use std::alloc::Global;
+
+/// Runs the program: the words, the device file, then one session from the input to the output.
+/// Its status is 0 where the session ended well, 1 where it ended at a refused or a cut frame or at
+/// the limit, 2 for other words, 3 for a refused device file, 4, 5 and 6 for a fault of the files,
+/// of the input and of the output or the errors, and 8 for want of memory before the first frame.
+/// Each but 0 has its line on the errors.
+pub fn run<F: Files, S: Source, W: Sink, E: Sink, C: Clock>(
+    alloc: Global,
+    words: &[Text],
+    files: &mut F,
+    input: &mut S,
+    output: &mut W,
+    errors: &mut E,
+    clock: &mut C,
+) -> u8
+    ensures { Runs words.now
+        (record {
+          files = record { files = F.files files.old; faults = F.faults files.old };
+          input = record { bytes = S.left input.old; faults = S.faults input.old };
+          output = record { bytes = W.taken output.old; faults = W.faults output.old };
+        })
+        (record {
+          files = record { files = F.files files.new; faults = F.faults files.new };
+          input = record { bytes = S.left input.new; faults = S.faults input.new };
+          output = record { bytes = W.taken output.new; faults = W.faults output.new };
+        })
+        (record { bytes = E.taken errors.old; faults = E.faults errors.old })
+        (record { bytes = E.taken errors.new; faults = E.faults errors.new })
+        result }
+{
+    let outcome = work(alloc, words, files, input, output, clock);
+    tell(&outcome, errors)
+}
+
+// All but the line on the errors.
+fn work<F: Files, S: Source, W: Sink, C: Clock>(
+    alloc: Global,
+    words: &[Text],
+    files: &mut F,
+    input: &mut S,
+    output: &mut W,
+    clock: &mut C,
+) -> Outcome
+    ensures { Happens result words.now
+        (record {
+          files = record { files = F.files files.old; faults = F.faults files.old };
+          input = record { bytes = S.left input.old; faults = S.faults input.old };
+          output = record { bytes = W.taken output.old; faults = W.faults output.old };
+        })
+        (record {
+          files = record { files = F.files files.new; faults = F.faults files.new };
+          input = record { bytes = S.left input.new; faults = S.faults input.new };
+          output = record { bytes = W.taken output.new; faults = W.faults output.new };
+        }) }
+{
+    let Some(name) = device_file(words) else {
+        return Outcome::Usage;
+    };
+    match open_device(alloc, files, name) {
+        Err(outcome) => outcome,
+        Ok(device) => match serve_session(alloc, device, input, output, clock) {
+            Ok(end) => Outcome::Ended(end),
+            Err(NoMemory) => Outcome::NoMemory,
+        },
+    }
+}
+
+// Writes the outcome's line on the errors, and answers the status.
+fn tell<E: Sink>(outcome: &Outcome, errors: &mut E) -> u8
+    ensures { Tells outcome.now
+        (record { bytes = E.taken errors.old; faults = E.faults errors.old })
+        (record { bytes = E.taken errors.new; faults = E.faults errors.new })
+        result }
+{
+    match write_all(errors, outcome.line().as_bytes()) {
+        Ok(()) => outcome.status(),
+        Err(Failed) => 6,
+    }
+}
+
+/// Writes on the errors that memory ran out before the words were read, and answers the status: 8,
+/// or 6 where the line couldn't be written.
+pub fn tell_want<E: Sink>(errors: &mut E) -> u8
+    ensures { Tells Outcome.NoMemory
+        (record { bytes = E.taken errors.old; faults = E.faults errors.old })
+        (record { bytes = E.taken errors.new; faults = E.faults errors.new })
+        result }
+{
+    tell(&Outcome::NoMemory, errors)
+}

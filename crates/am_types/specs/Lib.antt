@@ -1,0 +1,5 @@
+pub mod Clock
+pub mod Counts
+pub mod Files
+pub mod Memory
+pub mod Stored

@@ -1,0 +1,162 @@
+ghost use Rattle.std.specs.Prelude.{◌≡◌};
+
+use crate::{Component, Intent, List, Named, Rule, Text, copies};
+use std::alloc::AllocError;
+
+/// The result of an ordered broadcast so far.
+#[derive(Debug, Drop, PartialEq, Eq)]
+pub struct Outcome {
+    pub code: i64,
+    pub text: Option<Text>,
+    pub extras: List<Named>,
+}
+
+impl Clone for Outcome {
+    ghost is_clone = { λ x y. y ≡ x };
+
+    fn clone(&self) -> Result<Outcome, AllocError> {
+        Ok(Outcome {
+            code: self.code,
+            text: copies::text(&self.text)?,
+            extras: copies::extras(&self.extras)?,
+        })
+    }
+}
+
+/// How an ordered broadcast starts, and whether its sender wants the result.
+#[derive(Debug, Drop, PartialEq, Eq)]
+pub struct Ordered {
+    pub initial: Outcome,
+    pub wanted: bool,
+}
+
+impl Clone for Ordered {
+    ghost is_clone = { λ x y. y ≡ x };
+
+    fn clone(&self) -> Result<Ordered, AllocError> {
+        Ok(Ordered {
+            initial: self.initial.clone()?,
+            wanted: self.wanted,
+        })
+    }
+}
+
+/// What a receiver answers when it finishes a delivery.
+#[derive(Debug, Drop, PartialEq, Eq)]
+pub struct Answer {
+    /// The outcome that replaces the one so far.
+    pub set: Option<Outcome>,
+    pub abort: bool,
+}
+
+impl Clone for Answer {
+    ghost is_clone = { λ x y. y ≡ x };
+
+    fn clone(&self) -> Result<Answer, AllocError> {
+        Ok(Answer {
+            set: copies::outcome(&self.set)?,
+            abort: self.abort,
+        })
+    }
+}
+
+/// Which receiver: one of a manifest, or a registered one by its number.
+#[derive(Debug, Drop, PartialEq, Eq, PartialOrd, Ord, Hash)]
+pub enum Aim {
+    Declared(Component),
+    Registered(u64),
+}
+
+impl Clone for Aim {
+    ghost is_clone = { λ x y. y ≡ x };
+
+    fn clone(&self) -> Result<Aim, AllocError> {
+        match self {
+            Aim::Declared(value) => Ok(Aim::Declared(value.clone()?)),
+            Aim::Registered(value) => Ok(Aim::Registered(*value)),
+        }
+    }
+}
+
+/// A receiver that a broadcast was offered to.
+#[derive(Debug, Drop, PartialEq, Eq)]
+pub struct Receiving {
+    pub uid: u32,
+    pub aim: Aim,
+    /// Why it was left out; none where it was admitted.
+    pub skip: Option<Rule>,
+}
+
+impl Clone for Receiving {
+    ghost is_clone = { λ x y. y ≡ x };
+
+    fn clone(&self) -> Result<Receiving, AllocError> {
+        Ok(Receiving {
+            uid: self.uid,
+            aim: self.aim.clone()?,
+            skip: copies::rule(&self.skip)?,
+        })
+    }
+}
+
+/// What waits in an inbox.
+#[derive(Debug, Drop, PartialEq, Eq)]
+pub struct Item {
+    pub delivery: u64,
+    pub broadcast: u64,
+    pub what: ItemKind,
+}
+
+impl Clone for Item {
+    ghost is_clone = { λ x y. y ≡ x };
+
+    fn clone(&self) -> Result<Item, AllocError> {
+        Ok(Item {
+            delivery: self.delivery,
+            broadcast: self.broadcast,
+            what: self.what.clone()?,
+        })
+    }
+}
+
+/// A delivery of a normal or an ordered broadcast, or the result for its sender.
+#[derive(Debug, Drop, PartialEq, Eq)]
+pub enum ItemKind {
+    Normal {
+        aim: Aim,
+        intent: Intent,
+    },
+    InOrder {
+        aim: Aim,
+        intent: Intent,
+        outcome: Outcome,
+    },
+    Final {
+        outcome: Outcome,
+    },
+}
+
+impl Clone for ItemKind {
+    ghost is_clone = { λ x y. y ≡ x };
+
+    fn clone(&self) -> Result<ItemKind, AllocError> {
+        match self {
+            ItemKind::Normal { aim, intent } => Ok(ItemKind::Normal {
+                aim: aim.clone()?,
+                intent: intent.clone()?,
+            }),
+            ItemKind::InOrder {
+                aim,
+                intent,
+                outcome,
+            } => Ok(ItemKind::InOrder {
+                aim: aim.clone()?,
+                intent: intent.clone()?,
+                outcome: outcome.clone()?,
+            }),
+            ItemKind::Final { outcome } => Ok(ItemKind::Final {
+                outcome: outcome.clone()?,
+            }),
+        }
+    }
+}

@@ -1,0 +1,135 @@
+//! Clones of the parts of larger values: each is the value that it was made from.
+ghost use Rattle.std.specs.Prelude.{◌≡◌, IfOk};
+
+use crate::{
+    Authority, Component, Decl, Filter, Grant, InstanceView, Link, List, Mime, Named, Outcome,
+    Package, PathRule, Rule, Signature, Text, Uri,
+};
+use std::alloc::AllocError;
+
+pub fn text(from: &Option<Text>) -> Result<Option<Text>, AllocError>
+    ensures { IfOk result (λ copy. copy ≡ from.now) }
+{
+    from.clone()
+}
+
+pub fn uri(from: &Option<Uri>) -> Result<Option<Uri>, AllocError>
+    ensures { IfOk result (λ copy. copy ≡ from.now) }
+{
+    from.clone()
+}
+
+pub fn mime(from: &Option<Mime>) -> Result<Option<Mime>, AllocError>
+    ensures { IfOk result (λ copy. copy ≡ from.now) }
+{
+    from.clone()
+}
+
+pub fn component(from: &Option<Component>) -> Result<Option<Component>, AllocError>
+    ensures { IfOk result (λ copy. copy ≡ from.now) }
+{
+    from.clone()
+}
+
+pub fn outcome(from: &Option<Outcome>) -> Result<Option<Outcome>, AllocError>
+    ensures { IfOk result (λ copy. copy ≡ from.now) }
+{
+    from.clone()
+}
+
+pub fn rule(from: &Option<Rule>) -> Result<Option<Rule>, AllocError>
+    ensures { IfOk result (λ copy. copy ≡ from.now) }
+{
+    from.clone()
+}
+
+#[tactic(auto, using(crate::proofs::Clones::same_list))]
+pub fn texts(from: &List<Text>) -> Result<List<Text>, AllocError>
+    ensures { IfOk result (λ copy. copy ≡ from.now) }
+{
+    from.clone()
+}
+
+#[tactic(auto, using(crate::proofs::Clones::same_list))]
+pub fn extras(from: &List<Named>) -> Result<List<Named>, AllocError>
+    ensures { IfOk result (λ copy. copy ≡ from.now) }
+{
+    from.clone()
+}
+
+#[tactic(auto, using(crate::proofs::Clones::same_list))]
+pub fn authorities(from: &List<Authority>) -> Result<List<Authority>, AllocError>
+    ensures { IfOk result (λ copy. copy ≡ from.now) }
+{
+    from.clone()
+}
+
+#[tactic(auto, using(crate::proofs::Clones::same_list))]
+pub fn paths(from: &List<PathRule>) -> Result<List<PathRule>, AllocError>
+    ensures { IfOk result (λ copy. copy ≡ from.now) }
+{
+    from.clone()
+}
+
+#[tactic(auto, using(crate::proofs::Clones::same_list))]
+pub fn mimes(from: &List<Mime>) -> Result<List<Mime>, AllocError>
+    ensures { IfOk result (λ copy. copy ≡ from.now) }
+{
+    from.clone()
+}
+
+#[tactic(auto, using(crate::proofs::Clones::same_list))]
+pub fn filters(from: &List<Filter>) -> Result<List<Filter>, AllocError>
+    ensures { IfOk result (λ copy. copy ≡ from.now) }
+{
+    from.clone()
+}
+
+#[tactic(auto, using(crate::proofs::Clones::same_list))]
+pub fn decls(from: &List<Decl>) -> Result<List<Decl>, AllocError>
+    ensures { IfOk result (λ copy. copy ≡ from.now) }
+{
+    from.clone()
+}
+
+#[tactic(auto, using(crate::proofs::Clones::same_list))]
+pub fn packages(from: &List<Package>) -> Result<List<Package>, AllocError>
+    ensures { IfOk result (λ copy. copy ≡ from.now) }
+{
+    from.clone()
+}
+
+#[tactic(auto, using(crate::proofs::Clones::same_list))]
+pub fn grants(from: &List<Grant>) -> Result<List<Grant>, AllocError>
+    ensures { IfOk result (λ copy. copy ≡ from.now) }
+{
+    from.clone()
+}
+
+#[tactic(auto, using(crate::proofs::Clones::same_list))]
+pub fn links(from: &List<Link>) -> Result<List<Link>, AllocError>
+    ensures { IfOk result (λ copy. copy ≡ from.now) }
+{
+    from.clone()
+}
+
+#[tactic(auto, using(crate::proofs::Clones::same_list))]
+pub fn instances(from: &List<InstanceView>) -> Result<List<InstanceView>, AllocError>
+    ensures { IfOk result (λ copy. copy ≡ from.now) }
+{
+    from.clone()
+}
+
+#[tactic(auto, using(crate::proofs::Clones::same_list))]
+pub fn signatures(from: &List<Signature>) -> Result<List<Signature>, AllocError>
+    ensures { IfOk result (λ copy. copy ≡ from.now) }
+{
+    from.clone()
+}
+
+#[tactic(auto, using(crate::proofs::Clones::same_list))]
+pub fn components(from: &List<Component>) -> Result<List<Component>, AllocError>
+    ensures { IfOk result (λ copy. copy ≡ from.now) }
+{
+    from.clone()
+}

@@ -1,0 +1,83 @@
+ghost use Rattle.std.specs.Prelude.{◌≡◌};
+
+use crate::{Glob, List, Mime, Text, copies};
+use std::alloc::AllocError;
+
+/// A host, and the port that goes with it, as a filter lists them.
+#[derive(Debug, Drop, PartialEq, Eq, PartialOrd, Ord, Hash)]
+pub struct Authority {
+    pub host: Text,
+    /// From 0 to 99,999.
+    pub port: Option<u32>,
+}
+
+impl Clone for Authority {
+    ghost is_clone = { λ x y. y ≡ x };
+
+    fn clone(&self) -> Result<Authority, AllocError> {
+        Ok(Authority {
+            host: self.host.clone()?,
+            port: self.port,
+        })
+    }
+}
+
+/// A rule on the decoded path of a URI.
+#[derive(Debug, Drop, PartialEq, Eq, PartialOrd, Ord, Hash)]
+pub enum PathRule {
+    /// The path is this text.
+    Literal(Text),
+    /// The path starts with this text.
+    Prefix(Text),
+    /// The path ends with this text.
+    Suffix(Text),
+    /// The path matches this pattern.
+    Pattern(Glob),
+}
+
+impl Clone for PathRule {
+    ghost is_clone = { λ x y. y ≡ x };
+
+    fn clone(&self) -> Result<PathRule, AllocError> {
+        match self {
+            PathRule::Literal(value) => Ok(PathRule::Literal(value.clone()?)),
+            PathRule::Prefix(value) => Ok(PathRule::Prefix(value.clone()?)),
+            PathRule::Suffix(value) => Ok(PathRule::Suffix(value.clone()?)),
+            PathRule::Pattern(value) => Ok(PathRule::Pattern(value.clone()?)),
+        }
+    }
+}
+
+/// An intent filter: what a component, or a registered receiver, is willing to get.
+#[derive(Debug, Drop, PartialEq, Eq)]
+pub struct Filter {
+    /// Sorted by bytes, each once.
+    pub actions: List<Text>,
+    /// Sorted by bytes, each once.
+    pub categories: List<Text>,
+    /// Sorted by bytes, each once.
+    pub schemes: List<Text>,
+    /// In the order read, repeats included.
+    pub authorities: List<Authority>,
+    /// In the order read, repeats included.
+    pub paths: List<PathRule>,
+    /// In the order read, repeats included.
+    pub types: List<Mime>,
+    pub priority: i32,
+}
+
+impl Clone for Filter {
+    ghost is_clone = { λ x y. y ≡ x };
+
+    fn clone(&self) -> Result<Filter, AllocError> {
+        Ok(Filter {
+            actions: copies::texts(&self.actions)?,
+            categories: copies::texts(&self.categories)?,
+            schemes: copies::texts(&self.schemes)?,
+            authorities: copies::authorities(&self.authorities)?,
+            paths: copies::paths(&self.paths)?,
+            types: copies::mimes(&self.types)?,
+            priority: self.priority,
+        })
+    }
+}

@@ -1,0 +1,113 @@
+ghost use Rattle.std.specs.Prelude.{◌≡◌};
+
+use crate::{List, Mime, Text, Uri, copies};
+use std::alloc::AllocError;
+
+/// The name of an app component.
+#[derive(Debug, Drop, PartialEq, Eq, PartialOrd, Ord, Hash)]
+pub struct Component {
+    /// The package that declares it.
+    pub package: Text,
+    /// The full class, with its package.
+    pub class: Text,
+}
+
+impl Clone for Component {
+    ghost is_clone = { λ x y. y ≡ x };
+
+    fn clone(&self) -> Result<Component, AllocError> {
+        Ok(Component {
+            package: self.package.clone()?,
+            class: self.class.clone()?,
+        })
+    }
+}
+
+/// The value of an extra.
+#[derive(Debug, Drop, PartialEq, Eq, PartialOrd, Ord, Hash)]
+pub enum Extra {
+    Word(Text),
+    Whole(i64),
+    Truth(bool),
+}
+
+impl Clone for Extra {
+    ghost is_clone = { λ x y. y ≡ x };
+
+    fn clone(&self) -> Result<Extra, AllocError> {
+        match self {
+            Extra::Word(value) => Ok(Extra::Word(value.clone()?)),
+            Extra::Whole(value) => Ok(Extra::Whole(*value)),
+            Extra::Truth(value) => Ok(Extra::Truth(*value)),
+        }
+    }
+}
+
+/// An extra under its key.
+#[derive(Debug, Drop, PartialEq, Eq, PartialOrd, Ord, Hash)]
+pub struct Named {
+    pub key: Text,
+    pub value: Extra,
+}
+
+impl Clone for Named {
+    ghost is_clone = { λ x y. y ≡ x };
+
+    fn clone(&self) -> Result<Named, AllocError> {
+        Ok(Named {
+            key: self.key.clone()?,
+            value: self.value.clone()?,
+        })
+    }
+}
+
+/// The flags of an intent.
+#[derive(Clone, Copy, Debug, Default, PartialEq, Eq, PartialOrd, Ord, Hash)]
+pub struct Flags {
+    pub new_task: bool,
+    pub multiple_task: bool,
+    pub clear_task: bool,
+    pub clear_top: bool,
+    pub single_top: bool,
+    pub reorder_to_front: bool,
+    pub registered_only: bool,
+    pub foreground: bool,
+    pub no_abort: bool,
+    pub include_stopped: bool,
+}
+
+/// What an app asks for: an action, data, and who may get it.
+#[derive(Debug, Drop, PartialEq, Eq, PartialOrd, Ord, Hash)]
+pub struct Intent {
+    pub action: Option<Text>,
+    pub uri: Option<Uri>,
+    pub mime: Option<Mime>,
+    pub identifier: Option<Text>,
+    /// Sorted by bytes, each once.
+    pub categories: List<Text>,
+    /// Only this package may get it.
+    pub package: Option<Text>,
+    /// Only this component may get it, and no filter is asked.
+    pub component: Option<Component>,
+    pub flags: Flags,
+    /// Sorted by key, each key once.
+    pub extras: List<Named>,
+}
+
+impl Clone for Intent {
+    ghost is_clone = { λ x y. y ≡ x };
+
+    fn clone(&self) -> Result<Intent, AllocError> {
+        Ok(Intent {
+            action: copies::text(&self.action)?,
+            uri: copies::uri(&self.uri)?,
+            mime: copies::mime(&self.mime)?,
+            identifier: copies::text(&self.identifier)?,
+            categories: copies::texts(&self.categories)?,
+            package: copies::text(&self.package)?,
+            component: copies::component(&self.component)?,
+            flags: self.flags,
+            extras: copies::extras(&self.extras)?,
+        })
+    }
+}

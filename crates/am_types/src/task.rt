@@ -1,0 +1,79 @@
+ghost use Rattle.std.specs.Prelude.{◌≡◌};
+
+use crate::{Component, Intent, List, copies};
+use std::alloc::AllocError;
+
+/// What a start did: a fresh instance, a new intent to one that was there, or a task brought to the front.
+#[derive(Clone, Copy, Debug, PartialEq, Eq, PartialOrd, Ord, Hash)]
+pub enum Placed {
+    Fresh,
+    NewIntent,
+    Fronted,
+}
+
+/// Where a start landed.
+#[derive(Clone, Copy, Debug, PartialEq, Eq, PartialOrd, Ord, Hash)]
+pub struct Landed {
+    pub how: Placed,
+    pub task: u64,
+    pub instance: u64,
+}
+
+/// An activity instance as a caller sees it.
+#[derive(Debug, Drop, PartialEq, Eq)]
+pub struct InstanceView {
+    pub instance: u64,
+    pub component: Component,
+    pub intent: Intent,
+}
+
+impl Clone for InstanceView {
+    ghost is_clone = { λ x y. y ≡ x };
+
+    fn clone(&self) -> Result<InstanceView, AllocError> {
+        Ok(InstanceView {
+            instance: self.instance,
+            component: self.component.clone()?,
+            intent: self.intent.clone()?,
+        })
+    }
+}
+
+/// A task as a caller sees it.
+#[derive(Debug, Drop, PartialEq, Eq)]
+pub struct TaskView {
+    pub task: u64,
+    /// From the root to the top.
+    pub instances: List<InstanceView>,
+}
+
+impl Clone for TaskView {
+    ghost is_clone = { λ x y. y ≡ x };
+
+    fn clone(&self) -> Result<TaskView, AllocError> {
+        Ok(TaskView {
+            task: self.task,
+            instances: copies::instances(&self.instances)?,
+        })
+    }
+}
+
+/// A running service as a caller sees it.
+#[derive(Debug, Drop, PartialEq, Eq)]
+pub struct ServiceView {
+    pub component: Component,
+    pub intent: Intent,
+    pub starts: u64,
+}
+
+impl Clone for ServiceView {
+    ghost is_clone = { λ x y. y ≡ x };
+
+    fn clone(&self) -> Result<ServiceView, AllocError> {
+        Ok(ServiceView {
+            component: self.component.clone()?,
+            intent: self.intent.clone()?,
+            starts: self.starts,
+        })
+    }
+}
