@@ -1,0 +1,4 @@
+pub mod Puts
+pub mod InOrder
+pub mod Replays
+pub mod Slots

@@ -1,0 +1,5 @@
+pub mod Rows
+pub mod Places
+pub mod Keeping
+pub mod Memory
+pub mod Shelf

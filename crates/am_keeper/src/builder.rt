@@ -1,0 +1,110 @@
+//! Rows that are put together one at a time.
+ghost use Rattle.std.specs.Prelude.{◌≡◌, IfOk, OnOk, OnErr};
+ghost use Rattle.am_keeper.specs.Rows.{IsInOrder, no_rows, with_row};
+
+use crate::rank::put_in;
+use crate::{GrantRow, LinkRow, PackageRow, Row, Rows};
+use am_types::List;
+use std::alloc::{AllocError, Global};
+use std::marker::Model;
+use std::vec::VecCloneMethods;
+
+/// Rows to which further ones are put. Contracts see it as these rows.
+#[derive(Debug, Drop)]
+pub struct RowsBuilder {
+    packages: Vec<PackageRow>,
+    grants: Vec<GrantRow>,
+    links: Vec<LinkRow>,
+}
+
+impl Model for RowsBuilder {
+    ghost use Rattle.am_keeper.specs.declared.rows.Rows.{Rows};
+    ghost use Rattle.am_keeper.specs.Rows.{IsInOrder};
+
+    ghost Value = { Rows };
+
+    ghost view = { λ b. record { packages = b.packages.items; grants = b.grants.items; links = b.links.items } };
+
+    ghost invariant = { λ b. IsInOrder (record { packages = b.packages.items; grants = b.grants.items; links = b.links.items }) };
+}
+
+#[tactic(auto, using(am_types::proofs::Clones::same_list))]
+fn packages(alloc: Global, rows: &[PackageRow]) -> Result<Vec<PackageRow>, AllocError>
+    ensures { IfOk result (λ copy. copy.items ≡ rows.now) }
+{
+    let mut copy = Vec::new(alloc);
+    VecCloneMethods::extend_from_slice(&mut copy, rows)?;
+    Ok(copy)
+}
+
+#[tactic(auto, using(am_types::proofs::Clones::same_list))]
+fn grants(alloc: Global, rows: &[GrantRow]) -> Result<Vec<GrantRow>, AllocError>
+    ensures { IfOk result (λ copy. copy.items ≡ rows.now) }
+{
+    let mut copy = Vec::new(alloc);
+    VecCloneMethods::extend_from_slice(&mut copy, rows)?;
+    Ok(copy)
+}
+
+#[tactic(auto, using(am_types::proofs::Clones::same_list))]
+fn links(alloc: Global, rows: &[LinkRow]) -> Result<Vec<LinkRow>, AllocError>
+    ensures { IfOk result (λ copy. copy.items ≡ rows.now) }
+{
+    let mut copy = Vec::new(alloc);
+    VecCloneMethods::extend_from_slice(&mut copy, rows)?;
+    Ok(copy)
+}
+
+impl RowsBuilder {
+    /// No rows. Takes no memory.
+    pub fn new(alloc: Global) -> Self
+        ensures { result ≡ no_rows }
+    {
+        RowsBuilder {
+            packages: Vec::new(alloc),
+            grants: Vec::new(alloc),
+            links: Vec::new(alloc),
+        }
+    }
+
+    /// A copy of these rows.
+    pub fn from_rows(alloc: Global, rows: &Rows) -> Result<Self, AllocError>
+        requires { IsInOrder rows.now }
+        ensures { IfOk result (λ copy. copy ≡ rows.now) }
+    {
+        Ok(RowsBuilder {
+            packages: packages(alloc, rows.packages.as_slice())?,
+            grants: grants(alloc, rows.grants.as_slice())?,
+            links: links(alloc, rows.links.as_slice())?,
+        })
+    }
+
+    /// Puts the row in the place of the one with its key, or adds it. Without memory all stays.
+    pub fn put(&mut self, row: Row) -> Result<(), AllocError>
+        ensures ok { OnOk result (self.new ≡ with_row self.old row) }
+        ensures err { OnErr result (self.new ≡ self.old) }
+    {
+        match row {
+            Row::Package(row) => put_in(&mut self.packages, row),
+            Row::Grant(row) => put_in(&mut self.grants, row),
+            Row::Link(row) => put_in(&mut self.links, row),
+        }
+    }
+
+    /// The rows. Takes no memory.
+    pub fn finish(self) -> Rows
+        ensures rows { result ≡ self }
+        ensures in_order { IsInOrder result }
+    {
+        let RowsBuilder {
+            packages,
+            grants,
+            links,
+        } = self;
+        Rows {
+            packages: List::new(packages),
+            grants: List::new(grants),
+            links: List::new(links),
+        }
+    }
+}

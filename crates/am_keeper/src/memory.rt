@@ -1,0 +1,148 @@
+//! A keeper in memory, whose calls fail where it is told to.
+ghost use Rattle.std.specs.Prelude.{◌≡◌, ◌↔◌, ◌≤◌, [], None, Err, IsTrue, IfOk};
+ghost use Rattle.am_keeper.specs.Rows.{IsInOrder, with_package, with_grant, with_link};
+ghost use Rattle.am_keeper.specs.Memory.{fails_at, one_more, fresh_keeper, after_put};
+
+use crate::logged::Logged;
+use crate::{GrantRow, KeepFail, Keeper, LinkRow, PackageRow, Row, Rows};
+use am_types::{List, NoMemory, Text};
+use std::alloc::Global;
+use std::marker::Model;
+
+/// A keeper in memory. The calls with the numbers that it was given fail, and no others.
+#[derive(Debug, Drop)]
+pub struct MemoryKeeper {
+    rows: Logged,
+    place: Option<Text>,
+    failing: List<u32>,
+    calls: u64,
+    faults: u64,
+}
+
+impl Model for MemoryKeeper {
+    ghost use Rattle.am_keeper.specs.Memory.{InMemory};
+
+    ghost Value = { InMemory };
+
+    ghost view = { λ k. record { told = k.rows; place = k.place; failing = k.failing; calls = k.calls; faults = k.faults } };
+}
+
+impl MemoryKeeper {
+    /// A keeper of these rows without a place. Its calls with the numbers in `failing`, counted
+    /// from 1, fail. Takes no memory.
+    pub fn new(alloc: Global, rows: Rows, failing: List<u32>) -> Self
+        requires { IsInOrder rows }
+        ensures { result ≡ fresh_keeper rows None failing }
+    {
+        MemoryKeeper {
+            rows: Logged::new(alloc, rows),
+            place: None,
+            failing,
+            calls: 0,
+            faults: 0,
+        }
+    }
+
+    /// A keeper of these rows at a place, none of whose calls fails.
+    pub(crate) fn at(alloc: Global, rows: Rows, place: Option<Text>) -> Self
+        requires { IsInOrder rows }
+        ensures { result ≡ fresh_keeper rows place [] }
+    {
+        MemoryKeeper {
+            rows: Logged::new(alloc, rows),
+            place,
+            failing: List::new(Vec::new(alloc)),
+            calls: 0,
+            faults: 0,
+        }
+    }
+
+    /// The rows now.
+    pub fn rows(&self) -> Result<Rows, NoMemory>
+        ensures rows { IfOk result (λ rows. rows ≡ self.now.told) }
+        ensures in_order { IfOk result IsInOrder }
+    {
+        Ok(self.rows.rows()?)
+    }
+
+    /// What it holds, its place and its count of faults.
+    pub(crate) fn into_parts(self) -> (Logged, Option<Text>, u64)
+        ensures { result ≡ (self.told, self.place, self.faults) }
+    {
+        let MemoryKeeper {
+            rows,
+            place,
+            failing: _,
+            calls: _,
+            faults,
+        } = self;
+        (rows, place, faults)
+    }
+
+    /// Counts a call, and tells whether it is to fail.
+    fn count_call(&mut self) -> Result<(), KeepFail>
+        ensures exact { self.new ≡ after_put self.old self.old.told result }
+        ensures fails { (result ≡ Err KeepFail.Failed) ↔ IsTrue (fails_at self.old.failing (one_more self.old.calls)) }
+        ensures never_falls { self.old.faults ≤ self.new.faults }
+    {
+        self.calls = self.calls.saturating_add(1);
+        if is_listed(&self.failing, self.calls) {
+            self.faults = self.faults.saturating_add(1);
+            return Err(KeepFail::Failed);
+        }
+        Ok(())
+    }
+}
+
+/// Whether a list of numbers has this one.
+pub(crate) fn is_listed(numbers: &List<u32>, number: u64) -> bool
+    ensures { result ≡ fails_at numbers.now number }
+{
+    numbers.as_slice().iter().any(|n| u64::from(*n) == number)
+}
+
+impl Keeper for MemoryKeeper {
+    ghost use Rattle.std.specs.Prelude.{Some};
+
+    ghost rows = { λ k. Some k.told };
+
+    ghost place = { λ k. k.place };
+
+    ghost is_honest = { λ _. Unit {0} };
+
+    ghost stays_honest = { λ _. Unit {0} };
+
+    ghost faults = { λ k. k.faults };
+
+    ghost honest_by_nature = { λ k h. h };
+
+    fn put_package(&mut self, row: &PackageRow) -> Result<(), KeepFail>
+        ensures exact { self.new ≡ after_put self.old (with_package self.old.told row.now) result }
+        ensures fails { (result ≡ Err KeepFail.Failed) ↔ IsTrue (fails_at self.old.failing (one_more self.old.calls)) }
+        ensures never_falls { self.old.faults ≤ self.new.faults }
+    {
+        self.count_call()?;
+        self.rows.put(Row::Package(row.clone()?))?;
+        Ok(())
+    }
+
+    fn put_grant(&mut self, row: &GrantRow) -> Result<(), KeepFail>
+        ensures exact { self.new ≡ after_put self.old (with_grant self.old.told row.now) result }
+        ensures fails { (result ≡ Err KeepFail.Failed) ↔ IsTrue (fails_at self.old.failing (one_more self.old.calls)) }
+        ensures never_falls { self.old.faults ≤ self.new.faults }
+    {
+        self.count_call()?;
+        self.rows.put(Row::Grant(row.clone()?))?;
+        Ok(())
+    }
+
+    fn put_link(&mut self, row: &LinkRow) -> Result<(), KeepFail>
+        ensures exact { self.new ≡ after_put self.old (with_link self.old.told row.now) result }
+        ensures fails { (result ≡ Err KeepFail.Failed) ↔ IsTrue (fails_at self.old.failing (one_more self.old.calls)) }
+        ensures never_falls { self.old.faults ≤ self.new.faults }
+    {
+        self.count_call()?;
+        self.rows.put(Row::Link(row.clone()?))?;
+        Ok(())
+    }
+}

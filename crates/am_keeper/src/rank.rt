@@ -1,0 +1,91 @@
+//! The order in which rows of a kind stand, and where one goes among the others.
+ghost use Rattle.std.specs.Prelude.{◌≡◌, ◌≤◌, ◌<◌, length, IsTrue, IfOk, IfErr, OnOk, OnErr};
+ghost use Rattle.am_keeper.specs.Rows.{rises, put_in};
+ghost use Rattle.am_keeper.specs.Places.{IsPlaceOf, IsGapFor};
+
+use crate::{GrantRow, LinkRow, PackageRow};
+use std::alloc::AllocError;
+use std::cmp::Ordering;
+
+/// Rows of one kind, which stand in an order.
+pub(crate) trait Ranked: Drop {
+    ghost use Rattle.std.specs.Prelude.{◌≡◌};
+    ghost use Rattle.std.specs.declared.cmp.Ordering.{Ordering as Order};
+    ghost use Rattle.std.specs.Cmp.{IsTotalOrder};
+
+    ghost order: { Self → Self → Order };
+
+    /// How this row stands to another one.
+    fn rank(&self, other: &Self) -> Ordering
+        ensures { result ≡ order self.now other.now };
+
+    ghost total: { IsTotalOrder order };
+}
+
+impl Ranked for PackageRow {
+    ghost use Rattle.std.specs.Cmp.{on_total, nat_cmp_total};
+    ghost use Rattle.am_keeper.specs.Rows.{by_uid};
+
+    ghost order = { by_uid };
+
+    ghost total = { on_total (λ row. row.uid) nat_cmp_total };
+
+    fn rank(&self, other: &Self) -> Ordering {
+        self.uid.cmp(&other.uid)
+    }
+}
+
+impl Ranked for GrantRow {
+    ghost use Rattle.std.specs.Cmp.{on_total, then_total, nat_cmp_total};
+    ghost use Rattle.std.specs.Cmp.Lexicographic.{nat_list_cmp_total};
+    ghost use Rattle.am_keeper.specs.Rows.{by_permission};
+
+    ghost order = { by_permission };
+
+    ghost total = { then_total (on_total (λ row. row.uid) nat_cmp_total) (on_total (λ row. row.permission) nat_list_cmp_total) };
+
+    fn rank(&self, other: &Self) -> Ordering {
+        let by_uid = self.uid.cmp(&other.uid);
+        by_uid.then(self.permission.cmp(&other.permission))
+    }
+}
+
+impl Ranked for LinkRow {
+    ghost use Rattle.std.specs.Cmp.{on_total, then_total, nat_cmp_total};
+    ghost use Rattle.std.specs.Cmp.Lexicographic.{nat_list_cmp_total};
+    ghost use Rattle.am_keeper.specs.Rows.{by_host};
+
+    ghost order = { by_host };
+
+    ghost total = { then_total (on_total (λ row. row.uid) nat_cmp_total) (on_total (λ row. row.host) nat_list_cmp_total) };
+
+    fn rank(&self, other: &Self) -> Ordering {
+        let by_uid = self.uid.cmp(&other.uid);
+        by_uid.then(self.host.cmp(&other.host))
+    }
+}
+
+/// Where the row that ties with this one stands, or where this one would go.
+fn place_of<T: Ranked>(rows: &[T], row: &T) -> Result<usize, usize>
+    requires { IsTrue (rises T.order rows.now) }
+    ensures found { IfOk result (IsPlaceOf T.order row.now rows.now) }
+    ensures absent { IfErr result (IsGapFor T.order row.now rows.now) }
+{
+    rows.binary_search_by(|kept| kept.rank(row))
+}
+
+/// Puts a row in the place of the one that ties with it, or adds it. Without memory all stays.
+pub(crate) fn put_in<T: Ranked>(rows: &mut Vec<T>, row: T) -> Result<(), AllocError>
+    requires { IsTrue (rises T.order rows.old.items) }
+    ensures ok { OnOk result (rows.new.items ≡ put_in T.order row rows.old.items) }
+    ensures err { OnErr result (rows.new.items ≡ rows.old.items) }
+    ensures rises { IsTrue (rises T.order rows.new.items) }
+{
+    match place_of(rows, &row) {
+        Ok(at) => {
+            rows[at] = row;
+            Ok(())
+        }
+        Err(at) => Ok(rows.insert(at, row)?),
+    }
+}
