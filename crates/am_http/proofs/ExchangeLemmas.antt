@@ -10,12 +10,12 @@ use Rattle.std.proofs.Math.Seq.{get_or-append_seam, take-append_seam}
 use Rattle.std.proofs.lemmas.List.Elements.{filter-append}
 use Rattle.std.proofs.lemmas.Grind.{flat_map-append}
 use Rattle.std.proofs.lemmas.Option.{slice_get_within, slice_get-get_or, get_or_from_slice_get}
-use Rattle.am_types.specs.declared.call.Entry.{Entry}
-use Rattle.am_types.specs.declared.call.Shown.{Shown}
-use Rattle.am_model.specs.State.{State}
-use Rattle.am_model.specs.Steps.{Call}
-use Rattle.am_model.specs.History.{replay, is_stored, reply_after, IsEntryOf, entries_of, Extends}
-use Rattle.am_model.specs.Desks.{ShowsAt, Follows}
+use Rattle.am_types.specs.declared.history.Entry.{Entry}
+use Rattle.am_types.specs.declared.history.Shown.{Shown}
+use Rattle.am_steps.specs.State.{State}
+use Rattle.am_steps.specs.Steps.{Call}
+use Rattle.am_steps.specs.History.{replay, is_stored, reply_after, IsEntryOf, entries_of, Extends}
+use Rattle.am_steps.specs.Desks.{ShowsAt, Follows}
 use Rattle.am_http.specs.Responses.{response, want_after}
 use Rattle.am_http.specs.Requests.{call_of}
 use Rattle.am_http.specs.Exchanges.{Point, Exchange, IsMarked, IsAnswer, by_refusal, by_reply, by_want, by_late_want, floor_after, IsAbove, AreInOrder, floor_of, entry_at, stored_entries, AreAnswered, Answered, refused_at_once, replied, wanted, wanted_late}
@@ -44,11 +44,11 @@ entry_behind before entry =
     slice_get-get_or (before ++ entry ∷ []) (length before) entry within ∙ ap Some (get_or-append_seam before entry [] entry)
 
 -- a mark stays in a longer history
-pub marked_stays : (start : State) (history added : List Entry) (call : Call) (point : Point)
-    → IsMarked start history call point → IsMarked start (history ++ added) call point
-marked_stays start history added call point marked =
+pub marked_stays : (start : State) (history added : List Entry) (call : Call) (kept : Bool) (point : Point)
+    → IsMarked start history call kept point → IsMarked start (history ++ added) call kept point
+marked_stays start history added call kept point marked =
     let front : take point.at (history ++ added) ≡ take point.at history = take_stays history added point.at marked.within in
-    let P : List Entry → Bool → Type 0 = λ (h : List Entry) b. OnTrue b ((entry : Entry) × (slice_get (history ++ added) point.at ≡ Some entry) × IsEntryOf (replay start h) call entry) in
+    let P : List Entry → Bool → Type 0 = λ (h : List Entry) b. OnTrue b ((entry : Entry) × (slice_get (history ++ added) point.at ≡ Some entry) × IsEntryOf (replay start h) call kept entry) in
     record {
       within = omega (arith, marked.within, length-append history added);
       stored = marked.stored ∙ ap (λ h. is_stored (replay start h) h call) (sym front);
@@ -60,13 +60,13 @@ marked_stays start history added call point marked =
 pub answer_stays : (start : State) (desk : ℕ) (history added : List Entry) (e : Exchange)
     → IsAnswer start desk history e → IsAnswer start desk (history ++ added) e
 answer_stays start desk history added e (by_refusal refused asks point bytes) = by_refusal refused asks point bytes
-answer_stays start desk history added e (by_reply request point asks is_point marked bytes) =
-    by_reply request point asks is_point (marked_stays start history added (call_of desk e.frame e.now request) point marked)
-    (bytes ∙ ap (λ h. response point.at point.stored (reply_after start h (call_of desk e.frame e.now request)))
+answer_stays start desk history added e (by_reply request kept point asks is_point marked bytes) =
+    by_reply request kept point asks is_point (marked_stays start history added (call_of desk e.frame e.now request) kept point marked)
+    (bytes ∙ ap (λ h. response point.at point.stored (reply_after start h (call_of desk e.frame e.now request) kept))
     (sym (take_stays history added point.at marked.within)))
 answer_stays start desk history added e (by_want point bytes) = by_want point bytes
-answer_stays start desk history added e (by_late_want request point asks is_point marked bytes) =
-    by_late_want request point asks is_point (marked_stays start history added (call_of desk e.frame e.now request) point marked) bytes
+answer_stays start desk history added e (by_late_want request kept point asks is_point marked bytes) =
+    by_late_want request kept point asks is_point (marked_stays start history added (call_of desk e.frame e.now request) kept point marked) bytes
 
 pub answers_stay : (start : State) (desk : ℕ) (history added : List Entry) (es : List Exchange)
     → AllByRecursion (IsAnswer start desk history) es → AllByRecursion (IsAnswer start desk (history ++ added)) es
@@ -82,21 +82,21 @@ entry_kept history added at true X found =
     ap option_to_list (entry_stays history added at found.0 found.1 ∙ sym found.1)
 entry_kept history added at false X found = refl
 
-marked_entry : (start : State) (history added : List Entry) (call : Call) (point : Point) → IsMarked start history call point
+marked_entry : (start : State) (history added : List Entry) (call : Call) (kept : Bool) (point : Point) → IsMarked start history call kept point
     → entry_at (history ++ added) (Some point) ≡ entry_at history (Some point)
-marked_entry start history added call point marked =
-    entry_kept history added point.at point.stored (λ entry. IsEntryOf (replay start (take point.at history)) call entry) marked.entry
+marked_entry start history added call kept point marked =
+    entry_kept history added point.at point.stored (λ entry. IsEntryOf (replay start (take point.at history)) call kept entry) marked.entry
 
 entry_at_stays : (start : State) (desk : ℕ) (history added : List Entry) (e : Exchange) → IsAnswer start desk history e
     → entry_at (history ++ added) e.point ≡ entry_at history e.point
 entry_at_stays start desk history added e (by_refusal refused asks point bytes) =
     ap (entry_at (history ++ added)) point ∙ ap (entry_at history) (sym point)
-entry_at_stays start desk history added e (by_reply request point asks is_point marked bytes) =
-    ap (entry_at (history ++ added)) is_point ∙ marked_entry start history added (call_of desk e.frame e.now request) point marked ∙ ap (entry_at history) (sym is_point)
+entry_at_stays start desk history added e (by_reply request kept point asks is_point marked bytes) =
+    ap (entry_at (history ++ added)) is_point ∙ marked_entry start history added (call_of desk e.frame e.now request) kept point marked ∙ ap (entry_at history) (sym is_point)
 entry_at_stays start desk history added e (by_want point bytes) =
     ap (entry_at (history ++ added)) point ∙ ap (entry_at history) (sym point)
-entry_at_stays start desk history added e (by_late_want request point asks is_point marked bytes) =
-    ap (entry_at (history ++ added)) is_point ∙ marked_entry start history added (call_of desk e.frame e.now request) point marked ∙ ap (entry_at history) (sym is_point)
+entry_at_stays start desk history added e (by_late_want request kept point asks is_point marked bytes) =
+    ap (entry_at (history ++ added)) is_point ∙ marked_entry start history added (call_of desk e.frame e.now request) kept point marked ∙ ap (entry_at history) (sym is_point)
 
 pub stored_entries_stay : (start : State) (desk : ℕ) (history added : List Entry) (es : List Exchange)
     → AllByRecursion (IsAnswer start desk history) es → stored_entries (history ++ added) es ≡ stored_entries history es
@@ -125,9 +125,9 @@ extends_trans xs ys zs a b =
     (a.0 ++ b.0, b.1 ∙ ap (λ l. l ++ b.0) a.1 ∙ append_assoc xs a.0 b.0)
 
 -- a call that was made at the end of `before`
-follows_grows : (start : State) (before new : List Entry) (call : Call) (stored : Bool) → Follows start before call stored new → Extends before new
-follows_grows start before new call true follows = (follows.0 ∷ [], follows.2)
-follows_grows start before new call false follows = ([], follows ∙ sym (append-nil before))
+follows_grows : (start : State) (before new : List Entry) (call : Call) (kept stored : Bool) → Follows start before call kept stored new → Extends before new
+follows_grows start before new call kept true follows = (follows.0 ∷ [], follows.2)
+follows_grows start before new call kept false follows = ([], follows ∙ sym (append-nil before))
 
 extends_longer : (xs ys : List Entry) → Extends xs ys → length xs ≤ length ys
 extends_longer xs ys h = omega (arith, ap length h.1, length-append xs h.0)
@@ -135,23 +135,23 @@ extends_longer xs ys h = omega (arith, ap length h.1, length-append xs h.0)
 front_of : (before new : List Entry) → Extends before new → take (length before) new ≡ before
 front_of before new h = ap (take (length before)) h.1 ∙ take-append_seam before h.0
 
-follows_entry : (start : State) (before new : List Entry) (call : Call) (stored : Bool) → Follows start before call stored new
-    → OnTrue stored ((entry : Entry) × (slice_get new (length before) ≡ Some entry) × IsEntryOf (replay start before) call entry)
-follows_entry start before new call true follows =
+follows_entry : (start : State) (before new : List Entry) (call : Call) (kept stored : Bool) → Follows start before call kept stored new
+    → OnTrue stored ((entry : Entry) × (slice_get new (length before) ≡ Some entry) × IsEntryOf (replay start before) call kept entry)
+follows_entry start before new call kept true follows =
     (follows.0, ap (λ h. slice_get h (length before)) follows.2 ∙ entry_behind before follows.0, follows.1)
-follows_entry start before new call false follows = tt
+follows_entry start before new call kept false follows = tt
 
-follows_marked : (start : State) (before new : List Entry) (call : Call) (stored : Bool)
-    → stored ≡ is_stored (replay start before) before call → Follows start before call stored new
-    → IsMarked start new call (record { at = length before; stored = stored })
-follows_marked start before new call stored is_stored_there follows =
-    let grows = follows_grows start before new call stored follows in
+follows_marked : (start : State) (before new : List Entry) (call : Call) (kept stored : Bool)
+    → stored ≡ is_stored (replay start before) before call → Follows start before call kept stored new
+    → IsMarked start new call kept (record { at = length before; stored = stored })
+follows_marked start before new call kept stored is_stored_there follows =
+    let grows = follows_grows start before new call kept stored follows in
     let front : take (length before) new ≡ before = front_of before new grows in
-    let P : List Entry → Type 0 = λ (h : List Entry). OnTrue stored ((entry : Entry) × (slice_get new (length before) ≡ Some entry) × IsEntryOf (replay start h) call entry) in
+    let P : List Entry → Type 0 = λ (h : List Entry). OnTrue stored ((entry : Entry) × (slice_get new (length before) ≡ Some entry) × IsEntryOf (replay start h) call kept entry) in
     record {
       within = extends_longer before new grows;
       stored = is_stored_there ∙ ap (λ h. is_stored (replay start h) h call) (sym front);
-      entry = subst P (sym front) (follows_entry start before new call stored follows);
+      entry = subst P (sym front) (follows_entry start before new call kept stored follows);
     }
 
 same_number : (n : ℕ) → (n == n) ≡ true
@@ -160,22 +160,22 @@ same_number n = eq-eqb n n refl
 own_entry : (desk : ℕ) (entry : Entry) → entry.desk ≡ desk → entries_of desk (entry ∷ []) ≡ entry ∷ []
 own_entry desk entry h = ap (λ b. cond b (entry ∷ []) []) (eq-eqb entry.desk desk h)
 
-follows_own : (start : State) (before new : List Entry) (call : Call) (stored : Bool) → Follows start before call stored new
+follows_own : (start : State) (before new : List Entry) (call : Call) (kept stored : Bool) → Follows start before call kept stored new
     → entries_of call.desk new ≡ entries_of call.desk before ++ (if stored then option_to_list (slice_get new (length before)) else [])
-follows_own start before new call true follows =
+follows_own start before new call kept true follows =
     ap (entries_of call.desk) follows.2
     ∙ entries_of-append call.desk before (follows.0 ∷ [])
     ∙ ap (λ xs. entries_of call.desk before ++ xs)
     (own_entry call.desk follows.0 follows.1.desk
     ∙ ap option_to_list (sym (ap (λ h. slice_get h (length before)) follows.2 ∙ entry_behind before follows.0)))
-follows_own start before new call false follows =
+follows_own start before new call kept false follows =
     ap (entries_of call.desk) follows ∙ sym (append-nil (entries_of call.desk before))
 
-follows_floor : (start : State) (before new : List Entry) (call : Call) (stored : Bool) → Follows start before call stored new
+follows_floor : (start : State) (before new : List Entry) (call : Call) (kept stored : Bool) → Follows start before call kept stored new
     → (floor : ℕ) → floor_after floor (Some (record { at = length before; stored = stored })) ≤ length new
-follows_floor start before new call true follows floor =
+follows_floor start before new call kept true follows floor =
     omega (arith, ap length follows.2, length-append before (follows.0 ∷ []))
-follows_floor start before new call false follows floor = omega (arith, ap length follows)
+follows_floor start before new call kept false follows floor = omega (arith, ap length follows)
 
 -- nothing was stored where there is no place
 none_stands : (start : State) (desk : ℕ) (old new : List Entry) (e : Exchange)
@@ -207,20 +207,20 @@ some_stands start desk old new before call shown e same shows point answer =
     let longer : length old ≤ length before = extends_longer old before shows.grows in
     let Q : ℕ → Type 0 = λ (d : ℕ). entries_of d new ≡ entries_of d old ++ entry_at new e.point in
     record {
-      grows = extends_trans old before new shows.grows (follows_grows start before new call shown.stored shows.follows);
+      grows = extends_trans old before new shows.grows (follows_grows start before new call shows.kept shown.stored shows.follows);
       answer = answer;
       above = λ floor low. subst (P floor) (sym point)
-          (omega (arith, low, longer), follows_floor start before new call shown.stored shows.follows floor);
+          (omega (arith, low, longer), follows_floor start before new call shows.kept shown.stored shows.follows floor);
       own = subst Q same
-          (follows_own start before new call shown.stored shows.follows
+          (follows_own start before new call shows.kept shown.stored shows.follows
           ∙ ap (λ xs. xs ++ entry_at new (Some (record { at = length before; stored = shown.stored }))) shows.others
           ∙ ap (λ p. entries_of call.desk old ++ entry_at new p) (sym point));
     }
 
 -- the reply at the place of the call, read in the history after it
-reply_there : (start : State) (before new : List Entry) (call : Call) (grows : Extends before new)
-    → reply_after start before call ≡ reply_after start (take (length before) new) call
-reply_there start before new call grows = ap (λ h. reply_after start h call) (sym (front_of before new grows))
+reply_there : (start : State) (before new : List Entry) (call : Call) (kept : Bool) (grows : Extends before new)
+    → reply_after start before call kept ≡ reply_after start (take (length before) new) call kept
+reply_there start before new call kept grows = ap (λ h. reply_after start h call kept) (sym (front_of before new grows))
 
 pub stands : (start : State) (desk : ℕ) (old new : List Entry) (e : Exchange) → Answered start desk old new e → Stands start desk old new e
 stands start desk old new e (refused_at_once refused asks point bytes same) =
@@ -230,13 +230,13 @@ stands start desk old new e (replied request shown asks shows point bytes) =
     let call = call_of desk e.frame e.now request in
     let at : shown.at ≡ length shows.0 = shows.1.at in
     let there = shown_point shown shows.0 e at point in
-    let grows = follows_grows start shows.0 new call shown.stored shows.1.follows in
+    let grows = follows_grows start shows.0 new call shows.1.kept shown.stored shows.1.follows in
     some_stands start desk old new shows.0 call shown e refl shows.1 there
-    (by_reply request (record { at = length shows.0; stored = shown.stored }) asks there
-    (follows_marked start shows.0 new call shown.stored shows.1.stored shows.1.follows)
+    (by_reply request shows.1.kept (record { at = length shows.0; stored = shown.stored }) asks there
+    (follows_marked start shows.0 new call shows.1.kept shown.stored shows.1.stored shows.1.follows)
     (bytes
     ∙ ap (λ n. response n shown.stored shown.reply) at
-    ∙ ap (λ r. response (length shows.0) shown.stored r) (shows.1.reply ∙ reply_there start shows.0 new call grows)))
+    ∙ ap (λ r. response (length shows.0) shown.stored r) (shows.1.reply ∙ reply_there start shows.0 new call shows.1.kept grows)))
 stands start desk old new e (wanted sees point bytes) =
     none_stands start desk old new e point sees.grows sees.others (by_want point bytes)
 stands start desk old new e (wanted_late request shown asks shows point bytes) =
@@ -244,8 +244,8 @@ stands start desk old new e (wanted_late request shown asks shows point bytes) =
     let at : shown.at ≡ length shows.0 = shows.1.at in
     let there = shown_point shown shows.0 e at point in
     some_stands start desk old new shows.0 call shown e refl shows.1 there
-    (by_late_want request (record { at = length shows.0; stored = shown.stored }) asks there
-    (follows_marked start shows.0 new call shown.stored shows.1.stored shows.1.follows)
+    (by_late_want request shows.1.kept (record { at = length shows.0; stored = shown.stored }) asks there
+    (follows_marked start shows.0 new call shows.1.kept shown.stored shows.1.stored shows.1.follows)
     (bytes ∙ ap (λ n. want_after n shown.stored) at))
 
 -- one more at the end

@@ -4,7 +4,9 @@ pub mod FillLemmas
 pub mod FramingLemmas
 pub mod Literals
 pub mod NextLemmas
+pub mod Printed
 pub mod SendLemmas
+pub mod ServedLemmas
 pub mod SessionLemmas
 pub mod TurnLemmas
 pub mod WaitLemmas

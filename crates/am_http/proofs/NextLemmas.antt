@@ -1,5 +1,5 @@
 -- What is left of the input, as more of it is read.
-use Rattle.std.proofs.Common.{◌≡◌, ℕ, ◌<◌, List, [], ◌∷◌, ◌++◌, length, true, false, Option, Some, None, Ok, Err, refl, sym, ap, ◌∙◌, subst, inl, inr, arith, append_assoc, append-nil}
+use Rattle.std.proofs.Common.{◌≡◌, ℕ, ◌+◌, ◌<◌, ◌≤◌, List, [], ◌∷◌, ◌++◌, length, true, false, Option, Some, None, Ok, Err, refl, sym, ap, ◌∙◌, subst, inl, inr, arith, append_assoc, append-nil, length-append}
 use Rattle.std.specs.Prelude.{IfSome, OnErr, Result}
 use Rattle.std.specs.Io.KnownBytes.{Keeps, Consumes, IsAtEnd, prepend_known}
 use Rattle.am_http.specs.Head.{Frame, Outcome, whole, refused}
@@ -7,8 +7,8 @@ use Rattle.am_http.specs.Framing.{IsFraming}
 use Rattle.am_http.specs.declared.frame.Found.{Found}
 use Rattle.am_http.specs.declared.frame.Found.TheVariants as Spans
 use Rattle.am_http.specs.FrameSpans.{outcome_at, frame_at, IsFoundWithin}
-use Rattle.am_http.specs.Sessions.{IsPartial}
-use Rattle.am_http.specs.Windows.{Finds, is_open}
+use Rattle.am_http.specs.Sessions.{IsPartial, GivesAtMost}
+use Rattle.am_http.specs.Windows.{Finds, Reads, is_open}
 use Rattle.am_http.proofs.FramingLemmas.{whole_stays, refused_stays, empty_only, cut_fits}
 
 pub keeps_refl : (a : Option (List ℕ)) → Keeps a a
@@ -20,6 +20,37 @@ keeps_trans None b c h k = tt
 keeps_trans (Some a) None c h k = absurd h
 keeps_trans (Some a) (Some b) None h k = absurd k
 keeps_trans (Some a) (Some b) (Some c) h k = k ∙ h
+
+-- what the source gives
+consumes_more : (a b c : Option (List ℕ)) (got more : List ℕ) → Consumes a b got → Consumes b c more → Consumes a c (got ++ more)
+consumes_more None b c got more h k = tt
+consumes_more (Some a) None c got more h k = absurd h
+consumes_more (Some a) (Some b) None got more h k = absurd k
+consumes_more (Some a) (Some b) (Some c) got more h k =
+    h ∙ ap (λ xs. got ++ xs) k ∙ sym (append_assoc got more c)
+
+pub reads_more : (old mid new : List ℕ) (a b c : Option (List ℕ)) → Reads old mid a b → Reads mid new b c → Reads old new a c
+reads_more old mid new a b c h k = (
+  h.0 ++ k.0,
+  k.1 ∙ ap (λ xs. xs ++ k.0) h.1 ∙ append_assoc old h.0 k.0,
+  consumes_more a b c h.0 k.0 h.2 k.2,
+)
+
+pub gives_window : (old new : List ℕ) (left left' : Option (List ℕ)) → Reads old new left left' → length new ≤ 73728
+    → GivesAtMost 73728 left left'
+gives_window old new left left' reads fits =
+    (reads.0, reads.2, omega (arith, ap length reads.1, length-append old reads.0, fits))
+
+pub gives_none : (left : Option (List ℕ)) → GivesAtMost 0 left left
+gives_none None = ([], tt, omega arith)
+gives_none (Some left) = ([], refl, omega arith)
+
+pub gives_more : (n m k : ℕ) (a b c : Option (List ℕ)) → n + m ≤ k → GivesAtMost n a b → GivesAtMost m b c → GivesAtMost k a c
+gives_more n m k a b c fits h g = (
+  h.0 ++ g.0,
+  consumes_more a b c h.0 g.0 h.1 g.1,
+  omega (arith, fits, length-append h.0 g.0, h.2, g.2),
+)
 
 -- bytes that go from the source into the window are still left
 pub kept_read : (old new got : List ℕ) (left left' : Option (List ℕ)) → new ≡ old ++ got → Consumes left left' got

@@ -4,7 +4,7 @@ use Rattle.std.specs.Prelude.{Result, IsErr}
 use Rattle.std.specs.Io.KnownBytes.{Appends, Keeps}
 use Rattle.std.proofs.Math.Seq.{take-add}
 use Rattle.std.proofs.lemmas.List.{take-append-drop}
-use Rattle.am_types.specs.declared.failure.Failed.{Failed}
+use Rattle.am_outside.specs.declared.failure.Failed.{Failed}
 use Rattle.am_http.specs.Sending.{WritesPart, Sends}
 
 pub appends_trans : (a b c : Option (List ℕ)) (xs ys : List ℕ) → Appends a b xs → Appends b c ys → Appends a c (xs ++ ys)

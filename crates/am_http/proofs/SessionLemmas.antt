@@ -4,15 +4,15 @@ use Rattle.std.specs.Prelude.{IfSome}
 use Rattle.std.specs.Option.{option_map}
 use Rattle.std.specs.Io.KnownBytes.{Appends, Keeps}
 use Rattle.std.proofs.lemmas.Grind.{flat_map-append}
-use Rattle.am_types.specs.declared.call.Entry.{Entry}
-use Rattle.am_model.specs.State.{State}
+use Rattle.am_types.specs.declared.history.Entry.{Entry}
+use Rattle.am_steps.specs.State.{State}
 use Rattle.am_http.specs.declared.end.End.{End}
 use Rattle.am_http.specs.declared.end.End.TheVariants.{Input, Close, Refused, Cut, Limit, ReadFault, WriteFault}
 use Rattle.am_http.specs.Head.{Frame, whole}
 use Rattle.am_http.specs.Framing.{IsFraming}
 use Rattle.am_http.specs.Frames.{Splits, Leaves, Drops}
 use Rattle.am_http.specs.Exchanges.{Exchange, AreAnswered, frames_of, bytes_of}
-use Rattle.am_http.specs.Sessions.{most_frames, defect_text, Session, Going, Went, Closes, Stops}
+use Rattle.am_http.specs.Sessions.{most_frames, most_bytes, GivesAtMost, defect_text, Session, Going, Went, Closes, Stops}
 use Rattle.am_http.specs.Sending.{WritesPart}
 use Rattle.am_http.proofs.SendLemmas.{appends_trans, appends_none, appends_self}
 use Rattle.am_http.proofs.ExchangeLemmas.{stands, one_more, none_yet, all_more}
@@ -90,10 +90,10 @@ going_more start desk seen mid new input rest after old half now count so_far ne
 
 -- a connection that the peer closes
 pub session_close : (start : State) (desk : ℕ) (seen mid new : List Entry) (input rest after left old half now : Option (List ℕ)) (count : ℕ)
-    → count < most_frames
+    → count < most_frames → GivesAtMost most_bytes input left
     → Going start desk seen mid input rest old half count → Closes start desk mid new rest after half now
     → Session start desk seen new input left old now (record { end = Close; answered = count + 1 })
-session_close start desk seen mid new input rest after left old half now count below so_far next =
+session_close start desk seen mid new input rest after left old half now count below gives so_far next =
     record {
       exchanges = so_far.exchanges ++ next.exchange ∷ [];
       rest = after;
@@ -101,6 +101,7 @@ session_close start desk seen mid new input rest after left old half now count b
       answers = one_more start desk seen mid new so_far.exchanges next.exchange so_far.answers (stands start desk mid new next.exchange next.answer);
       frames = more_frames input rest after so_far.exchanges next.exchange so_far.frames next.frame;
       most = omega (arith, below, more_count so_far.exchanges next.exchange count so_far.counted);
+      taken = gives;
       end = ((so_far.exchanges, next.exchange, refl, so_far.stays, next.closes), refl);
       output = subst (λ bs. Appends old now bs) (sym (append-nil (bytes_of (so_far.exchanges ++ next.exchange ∷ []))))
           (more_output old half now so_far.exchanges next.exchange so_far.output next.output);
@@ -109,9 +110,9 @@ session_close start desk seen mid new input rest after left old half now count b
 
 -- a connection that has had as many frames as it may
 pub session_limit : (start : State) (desk : ℕ) (seen new : List Entry) (input rest left old now : Option (List ℕ))
-    → Going start desk seen new input rest old now 65536
+    → GivesAtMost most_bytes input left → Going start desk seen new input rest old now 65536
     → Session start desk seen new input left old now (record { end = Limit; answered = 65536 })
-session_limit start desk seen new input rest left old now so_far =
+session_limit start desk seen new input rest left old now gives so_far =
     record {
       exchanges = so_far.exchanges;
       rest = rest;
@@ -119,6 +120,7 @@ session_limit start desk seen new input rest left old now so_far =
       answers = so_far.answers;
       frames = so_far.frames;
       most = omega (arith, so_far.counted);
+      taken = gives;
       end = (so_far.stays, so_far.counted, refl);
       output = subst (λ bs. Appends old now bs) (sym (append-nil (bytes_of so_far.exchanges))) so_far.output;
       answered = sym so_far.counted;
@@ -152,10 +154,10 @@ same_seen start desk seen mid new es same so_far = subst (λ h. AreAnswered star
 
 -- a connection that ends before a further frame is answered
 pub session_stop : (start : State) (desk : ℕ) (seen mid new : List Entry) (input rest left old half now : Option (List ℕ)) (count : ℕ) (end : End)
-    → count < most_frames
+    → count < most_frames → GivesAtMost most_bytes input left
     → Going start desk seen mid input rest old half count → Stops end start desk mid new rest left half now
     → Session start desk seen new input left old now (record { end = end; answered = count })
-session_stop start desk seen mid new input rest left old half now count Input below so_far stop =
+session_stop start desk seen mid new input rest left old half now count Input below gives so_far stop =
     record {
       exchanges = so_far.exchanges;
       rest = rest;
@@ -163,12 +165,13 @@ session_stop start desk seen mid new input rest left old half now count Input be
       answers = same_seen start desk seen mid new so_far.exchanges stop.0 so_far.answers;
       frames = so_far.frames;
       most = omega (arith, below, so_far.counted);
+      taken = gives;
       end = (so_far.stays, stop.1, refl);
       output = kept_output old half now (bytes_of so_far.exchanges) so_far.output stop.2;
       answered = sym so_far.counted;
     }
-session_stop start desk seen mid new input rest left old half now count Close below so_far stop = absurd stop
-session_stop start desk seen mid new input rest left old half now count Refused below so_far stop =
+session_stop start desk seen mid new input rest left old half now count Close below gives so_far stop = absurd stop
+session_stop start desk seen mid new input rest left old half now count Refused below gives so_far stop =
     record {
       exchanges = so_far.exchanges;
       rest = rest;
@@ -176,11 +179,12 @@ session_stop start desk seen mid new input rest left old half now count Refused 
       answers = same_seen start desk seen mid new so_far.exchanges stop.0 so_far.answers;
       frames = so_far.frames;
       most = omega (arith, below, so_far.counted);
+      taken = gives;
       end = (so_far.stays, (stop.1.0, stop.1.1, refl));
       output = appends_trans old half now (bytes_of so_far.exchanges) (defect_text stop.1.0) so_far.output stop.1.2;
       answered = sym so_far.counted;
     }
-session_stop start desk seen mid new input rest left old half now count Cut below so_far stop =
+session_stop start desk seen mid new input rest left old half now count Cut below gives so_far stop =
     record {
       exchanges = so_far.exchanges;
       rest = rest;
@@ -188,12 +192,13 @@ session_stop start desk seen mid new input rest left old half now count Cut belo
       answers = same_seen start desk seen mid new so_far.exchanges stop.0 so_far.answers;
       frames = so_far.frames;
       most = omega (arith, below, so_far.counted);
+      taken = gives;
       end = (so_far.stays, stop.1, refl);
       output = kept_output old half now (bytes_of so_far.exchanges) so_far.output stop.2;
       answered = sym so_far.counted;
     }
-session_stop start desk seen mid new input rest left old half now count Limit below so_far stop = absurd stop
-session_stop start desk seen mid new input rest left old half now count ReadFault below so_far stop =
+session_stop start desk seen mid new input rest left old half now count Limit below gives so_far stop = absurd stop
+session_stop start desk seen mid new input rest left old half now count ReadFault below gives so_far stop =
     record {
       exchanges = so_far.exchanges;
       rest = rest;
@@ -201,11 +206,12 @@ session_stop start desk seen mid new input rest left old half now count ReadFaul
       answers = same_seen start desk seen mid new so_far.exchanges stop.0 so_far.answers;
       frames = so_far.frames;
       most = omega (arith, below, so_far.counted);
+      taken = gives;
       end = (so_far.stays, stop.1, refl);
       output = kept_output old half now (bytes_of so_far.exchanges) so_far.output stop.2;
       answered = sym so_far.counted;
     }
-session_stop start desk seen mid new input rest left old half now count WriteFault below so_far (inl (bytes, next, part)) =
+session_stop start desk seen mid new input rest left old half now count WriteFault below gives so_far (inl (bytes, next, part)) =
     let es = so_far.exchanges ++ next.exchange ∷ [] in
     let text : WritesPart old now (bytes_of so_far.exchanges ++ next.exchange.bytes) =
     part_more old half now (bytes_of so_far.exchanges) next.exchange.bytes so_far.output
@@ -218,12 +224,13 @@ session_stop start desk seen mid new input rest left old half now count WriteFau
       frames = more_frames input rest (rest_after rest next.exchange.frame) so_far.exchanges next.exchange so_far.frames
           (drops_after rest next.exchange.frame next.frame);
       most = omega (arith, below, more_count so_far.exchanges next.exchange count so_far.counted);
+      taken = gives;
       end = inl ((so_far.exchanges, next.exchange, refl, so_far.stays), refl);
       output = subst (λ bs. WritesPart old now bs)
           (sym (append-nil (bytes_of es) ∙ bytes_more so_far.exchanges next.exchange)) text;
       answered = inr (sym (more_count so_far.exchanges next.exchange count so_far.counted));
     }
-session_stop start desk seen mid new input rest left old half now count WriteFault below so_far (inr (same, (defect, has, part))) =
+session_stop start desk seen mid new input rest left old half now count WriteFault below gives so_far (inr (same, (defect, has, part))) =
     record {
       exchanges = so_far.exchanges;
       rest = rest;
@@ -231,6 +238,7 @@ session_stop start desk seen mid new input rest left old half now count WriteFau
       answers = same_seen start desk seen mid new so_far.exchanges same so_far.answers;
       frames = so_far.frames;
       most = omega (arith, below, so_far.counted);
+      taken = gives;
       end = inr (so_far.stays, (defect, has, refl));
       output = part_more old half now (bytes_of so_far.exchanges) (defect_text defect) so_far.output part;
       answered = inl (sym so_far.counted);

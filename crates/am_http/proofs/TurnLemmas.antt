@@ -3,10 +3,10 @@ use Rattle.std.proofs.Common.{◌≡◌, ℕ, true, false, List, [], ◌++◌, d
 use Rattle.std.specs.Prelude.{IfSome, Result, Ok, Err, is_err}
 use Rattle.std.specs.Io.KnownBytes.{Appends, Keeps, prepend_known}
 use Rattle.std.proofs.lemmas.List.{drop-append-le}
-use Rattle.am_types.specs.declared.call.Entry.{Entry}
-use Rattle.am_types.specs.declared.failure.Failed.{Failed}
-use Rattle.am_model.specs.State.{State}
-use Rattle.am_model.specs.History.{entries_of}
+use Rattle.am_types.specs.declared.history.Entry.{Entry}
+use Rattle.am_outside.specs.declared.failure.Failed.{Failed}
+use Rattle.am_steps.specs.State.{State}
+use Rattle.am_steps.specs.History.{entries_of}
 use Rattle.am_http.specs.declared.frame.Defect.{Defect}
 use Rattle.am_http.specs.declared.frame.FrameSpans.{FrameSpans}
 use Rattle.am_http.specs.declared.frame.Found.{Found}

@@ -3,13 +3,13 @@ use Rattle.std.specs.Prelude.{◌≡◌, ℕ, ◌+◌, ◌≤◌, Bool, if◌the
 use Rattle.std.specs.Bool.{OnTrue}
 use Rattle.std.specs.List.{flat_map, AllByRecursion}
 use Rattle.std.specs.Option.{option_to_list}
-use Rattle.am_types.specs.declared.call.Request.{Request}
-use Rattle.am_types.specs.declared.call.Entry.{Entry}
-use Rattle.am_types.specs.declared.call.Shown.{Shown}
-use Rattle.am_model.specs.State.{State}
-use Rattle.am_model.specs.Steps.{Call}
-use Rattle.am_model.specs.History.{replay, is_stored, reply_after, IsEntryOf, entries_of, Extends}
-use Rattle.am_model.specs.Desks.{Shows, SeesOthers}
+use Rattle.am_types.specs.declared.request.Request.{Request}
+use Rattle.am_types.specs.declared.history.Entry.{Entry}
+use Rattle.am_types.specs.declared.history.Shown.{Shown}
+use Rattle.am_steps.specs.State.{State}
+use Rattle.am_steps.specs.Steps.{Call}
+use Rattle.am_steps.specs.History.{replay, is_stored, reply_after, IsEntryOf, entries_of, Extends}
+use Rattle.am_steps.specs.Desks.{Shows, SeesOthers}
 use Rattle.am_http.specs.declared.answer.Refusal.{Refusal}
 use Rattle.am_http.specs.Head.{Frame}
 use Rattle.am_http.specs.Requests.{request_of, refusal_text, call_of}
@@ -27,25 +27,25 @@ pub record Exchange : Type 0 where
   pub point : Option Point
   pub bytes : List ℕ
 
--- the call was made at that place of the history, and is stored there where that is so
-pub record IsMarked (start : State) (history : List Entry) (call : Call) (point : Point) : Type 0 where
+-- the call was made at that place of the history, and is stored there where that is so, kept or not
+pub record IsMarked (start : State) (history : List Entry) (call : Call) (kept : Bool) (point : Point) : Type 0 where
   pub within : point.at ≤ length history
   pub stored : point.stored ≡ is_stored (replay start (take point.at history)) (take point.at history) call
   pub entry : OnTrue point.stored
-      ((entry : Entry) × (slice_get history point.at ≡ Some entry) × IsEntryOf (replay start (take point.at history)) call entry)
+      ((entry : Entry) × (slice_get history point.at ≡ Some entry) × IsEntryOf (replay start (take point.at history)) call kept entry)
 
 -- the response to a frame on a desk: the refusal of a frame that makes no request; the reply at the marked
 -- place of the history; or want of memory, before the call or after it
 pub data IsAnswer (start : State) (desk : ℕ) (history : List Entry) (e : Exchange) : Type 0 where
   by_refusal : (refused : Refusal) → request_of e.frame ≡ Err refused → e.point ≡ None
       → e.bytes ≡ refusal_text refused → IsAnswer start desk history e
-  by_reply : (request : Request) (point : Point) → request_of e.frame ≡ Ok request → e.point ≡ Some point
-      → IsMarked start history (call_of desk e.frame e.now request) point
-      → e.bytes ≡ response point.at point.stored (reply_after start (take point.at history) (call_of desk e.frame e.now request))
+  by_reply : (request : Request) (kept : Bool) (point : Point) → request_of e.frame ≡ Ok request → e.point ≡ Some point
+      → IsMarked start history (call_of desk e.frame e.now request) kept point
+      → e.bytes ≡ response point.at point.stored (reply_after start (take point.at history) (call_of desk e.frame e.now request) kept)
       → IsAnswer start desk history e
   by_want : e.point ≡ None → e.bytes ≡ want_before → IsAnswer start desk history e
-  by_late_want : (request : Request) (point : Point) → request_of e.frame ≡ Ok request → e.point ≡ Some point
-      → IsMarked start history (call_of desk e.frame e.now request) point
+  by_late_want : (request : Request) (kept : Bool) (point : Point) → request_of e.frame ≡ Ok request → e.point ≡ Some point
+      → IsMarked start history (call_of desk e.frame e.now request) kept point
       → e.bytes ≡ want_after point.at point.stored
       → IsAnswer start desk history e
 

@@ -1,7 +1,7 @@
 -- What a frame asks of the manager, or why it doesn't reach it.
 use Rattle.std.specs.Prelude.{ℕ, Bool, ◌==◌, not, ◌&&◌, List, length, take_while, Option, Some, None, Result, Ok, Err, codes, bytes_eq, if◌then◌else◌}
-use Rattle.am_types.specs.declared.call.Request.{Request}
-use Rattle.am_model.specs.Steps.{Call}
+use Rattle.am_types.specs.declared.request.Request.{Request}
+use Rattle.am_steps.specs.Steps.{Call}
 use Rattle.am_http.specs.declared.answer.Refusal.{Refusal}
 use Rattle.am_http.specs.declared.answer.Refusal.TheVariants.{NoRoute, NotBuilt}
 use Rattle.am_http.specs.Head.{Frame}

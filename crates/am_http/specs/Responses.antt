@@ -2,7 +2,7 @@
 use Rattle.std.specs.Prelude.{ℕ, Bool, ◌==◌, List, [], ◌∷◌, ◌++◌, length, Option, Some, None, IsSome, unwrap_or, codes, decimal, if◌then◌else◌}
 use Rattle.serde_json.specs.Data.{Data}
 use Rattle.serde_json.specs.Written.{compact_text}
-use Rattle.am_types.specs.declared.call.Reply.{Reply}
+use Rattle.am_types.specs.declared.reply.Reply.{Reply}
 use Rattle.am_wire.specs.Replies.{reply_data, status_of, error_data, named_error_data}
 
 -- the statuses, each with its phrase

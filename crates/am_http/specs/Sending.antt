@@ -1,7 +1,7 @@
 -- What writing to a sink does.
 use Rattle.std.specs.Prelude.{◌≡◌, ℕ, ◌-◌, ◌<◌, ◌≤◌, List, ◌++◌, length, take, drop, Option, Result, Ok, Err}
 use Rattle.std.specs.Io.KnownBytes.{Appends, Keeps}
-use Rattle.am_types.specs.declared.failure.Failed.{Failed}
+use Rattle.am_outside.specs.declared.failure.Failed.{Failed}
 
 -- a part of the text was written, and some of it wasn't
 abbrev pub WritesPart : Option (List ℕ) → Option (List ℕ) → List ℕ → Type 0

@@ -1,10 +1,10 @@
 -- A whole connection: its frames, their responses, and how it ends.
-use Rattle.std.specs.Prelude.{◌≡◌, ℕ, ◌+◌, ◌≤◌, ◌⊎◌, true, false, List, [], ◌∷◌, ◌++◌, length, Option, None, IfSome, ⊤, codes}
+use Rattle.std.specs.Prelude.{◌≡◌, ℕ, ◌+◌, ◌*◌, ◌≤◌, ◌⊎◌, true, false, List, [], ◌∷◌, ◌++◌, length, Option, None, IfSome, ⊤, codes}
 use Rattle.std.specs.List.{AllByRecursion}
-use Rattle.std.specs.Io.KnownBytes.{Appends, Keeps, prepend_known}
-use Rattle.am_types.specs.Counts.{HasRisen}
-use Rattle.am_types.specs.declared.call.Entry.{Entry}
-use Rattle.am_model.specs.State.{State}
+use Rattle.std.specs.Io.KnownBytes.{Appends, Consumes, Keeps, prepend_known}
+use Rattle.am_outside.specs.Counts.{HasRisen}
+use Rattle.am_types.specs.declared.history.Entry.{Entry}
+use Rattle.am_steps.specs.State.{State}
 use Rattle.am_http.specs.declared.frame.Defect.{Defect}
 use Rattle.am_http.specs.declared.frame.Defect.TheVariants.{BadHead, HeadTooLarge, TransferEncoding, LengthRequired, BodyTooLarge}
 use Rattle.am_http.specs.declared.end.End.{End}
@@ -20,6 +20,14 @@ use Rattle.am_http.specs.Sending.{WritesPart}
 -- how many frames a connection may have
 abbrev pub most_frames : ℕ
 most_frames = 65536
+
+-- how many bytes it takes from its source at most: what a window holds, for each of its frames and once more
+abbrev pub most_bytes : ℕ
+most_bytes = 65537 * 73728
+
+-- a source that tells what is left gave at most n bytes
+abbrev pub GivesAtMost : ℕ → Option (List ℕ) → Option (List ℕ) → Type 0
+GivesAtMost n left left' = (given : List ℕ) × Consumes left left' given × (length given ≤ n)
 
 -- the text for a defect of a frame, which ends the connection
 abbrev pub defect_text : Defect → List ℕ
@@ -107,6 +115,7 @@ pub record Session
   pub answers : AreAnswered start desk seen history exchanges
   pub frames : Leaves input (frames_of exchanges) rest
   pub most : length exchanges ≤ most_frames
+  pub taken : GivesAtMost most_bytes input left
   pub end : EndsBy served.end exchanges rest left last
   pub output : Writes served.end old new (bytes_of exchanges ++ last)
   pub answered : Counts served.end exchanges last served.answered

@@ -1,7 +1,7 @@
 -- One turn of a connection: what became of its next frame.
 use Rattle.std.specs.Prelude.{ℕ, List, Option, ⊤}
-use Rattle.am_types.specs.declared.call.Entry.{Entry}
-use Rattle.am_model.specs.State.{State}
+use Rattle.am_types.specs.declared.history.Entry.{Entry}
+use Rattle.am_steps.specs.State.{State}
 use Rattle.am_http.specs.declared.connection.Turn.{Turn}
 use Rattle.am_http.specs.declared.connection.Turn.TheVariants as turn
 use Rattle.am_http.specs.Sessions.{Went, Closes, Stops, HasFault}

@@ -5,7 +5,7 @@ use Rattle.am_http.specs.declared.frame.Found.{Found}
 use Rattle.am_http.specs.declared.frame.Found.TheVariants as Spans
 use Rattle.am_http.specs.Framing.{IsFraming}
 use Rattle.am_http.specs.FrameSpans.{outcome_at, IsFoundWithin}
-use Rattle.am_types.specs.declared.failure.Failed.{Failed}
+use Rattle.am_outside.specs.declared.failure.Failed.{Failed}
 
 -- the bytes that were read stand behind those that were there, and the source gave them: none only at its end.
 -- Where it failed all stays
@@ -13,6 +13,10 @@ abbrev pub Fills : List ℕ → List ℕ → Option (List ℕ) → Option (List 
 Fills old new left left' (Ok count) =
     (got : List ℕ) × (length got ≡ count) × (new ≡ old ++ got) × Consumes left left' got × (count ≡ 0 → IsAtEnd left')
 Fills old new left left' (Err e) = (new ≡ old) × Keeps left left'
+
+-- the bytes that the source gave stand behind those that were there
+abbrev pub Reads : List ℕ → List ℕ → Option (List ℕ) → Option (List ℕ) → Type 0
+Reads old new left left' = (got : List ℕ) × (new ≡ old ++ got) × Consumes left left' got
 
 -- what was found is the first step over the window's bytes, and over all that is left where the source tells it
 pub record Finds (w : List ℕ) (left : Option (List ℕ)) (found : Found) : Type 0 where

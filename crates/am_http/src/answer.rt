@@ -1,14 +1,15 @@
 //! What a frame is answered.
 ghost use Rattle.std.specs.Prelude.{◌≡◌, ◌≤◌, ◌&&◌, codes, bytes_eq, length, IfOk, IsUtf8};
-ghost use Rattle.am_model.specs.Desks.{opening_of};
-ghost use Rattle.am_model.specs.History.{IsLegal};
+ghost use Rattle.am_steps.specs.Desks.{opening_of};
+ghost use Rattle.am_steps.specs.History.{IsLegal};
 ghost use Rattle.am_http.specs.FrameSpans.{frame_held};
 ghost use Rattle.am_http.specs.Requests.{route_of, request_of};
-ghost use Rattle.am_http.specs.Answering.{AnswersFrame};
+ghost use Rattle.am_http.specs.Answering.{AnswersFrame, HasText};
 
 use crate::frame::WholeFrame;
 use am_machine::Desk;
-use am_types::{Clock, NoMemory, Request, Shown, Text};
+use am_outside::Clock;
+use am_types::{NoMemory, Request, Shown, Text};
 use am_wire::read_query;
 use std::alloc::Global;
 use std::str;
@@ -88,12 +89,14 @@ fn call<D: Desk>(
     requires body { length (frame_held frame.now).body ≤ 65536 }
     requires request { request_of (frame_held frame.now) ≡ Ok request }
     ensures answer { AnswersFrame (opening_of (D.origin desk.old)) (D.number desk.old) (D.seen desk.old) (D.seen desk.new) (frame_held frame.now) result }
+    ensures text { HasText result }
     ensures legal { IsLegal (opening_of (D.origin desk.old)) (D.seen desk.old) → IsLegal (opening_of (D.origin desk.old)) (D.seen desk.new) }
     ensures origin { D.origin desk.new ≡ D.origin desk.old }
     ensures number { D.number desk.new ≡ D.number desk.old }
     ensures sharing { D.sharing desk.new ≡ D.sharing desk.old }
 {
     let Ok(key) = key_text(alloc, frame.key) else {
+        drop(request);
         return Answer::Want;
     };
     match desk.call(&key, now, frame.body.len() as u32, request) {
@@ -112,6 +115,7 @@ pub fn answer_frame<D: Desk, C: Clock>(
     requires key { IsUtf8 (frame_held frame.now).key }
     requires body { length (frame_held frame.now).body ≤ 65536 }
     ensures answer { AnswersFrame (opening_of (D.origin desk.old)) (D.number desk.old) (D.seen desk.old) (D.seen desk.new) (frame_held frame.now) result }
+    ensures text { HasText result }
     ensures legal { IsLegal (opening_of (D.origin desk.old)) (D.seen desk.old) → IsLegal (opening_of (D.origin desk.old)) (D.seen desk.new) }
     ensures origin { D.origin desk.new ≡ D.origin desk.old }
     ensures number { D.number desk.new ≡ D.number desk.old }

@@ -1,9 +1,9 @@
 //! One connection, from its first frame to its end.
 ghost use Rattle.std.specs.Prelude.{◌≡◌, ◌≤◌, vec_capacity};
 ghost use Rattle.std.specs.Io.KnownBytes.{prepend_known};
-ghost use Rattle.am_model.specs.Desks.{opening_of};
-ghost use Rattle.am_model.specs.History.{IsLegal};
-ghost use Rattle.am_http.specs.Sessions.{Session, HasFault};
+ghost use Rattle.am_steps.specs.Desks.{opening_of};
+ghost use Rattle.am_steps.specs.History.{IsLegal};
+ghost use Rattle.am_http.specs.Sessions.{Session, HasFault, GivesAtMost};
 ghost use Rattle.am_http.specs.Turns.{Turns, HasFaultAt};
 
 use crate::answer::answer_frame;
@@ -14,7 +14,7 @@ use crate::reader::next_frame;
 use crate::send::{write_answer, write_defect};
 use crate::window::Window;
 use am_machine::Desk;
-use am_types::{Clock, Sink, Source};
+use am_outside::{Clock, Sink, Source};
 use std::alloc::Global;
 
 /// How many frames of a connection are answered.
@@ -45,6 +45,7 @@ fn serve_frame<D: Desk, S: Source, W: Sink, C: Clock>(
     ensures turn { Turns result (opening_of (D.origin desk.old)) (D.number desk.old) (D.seen desk.old) (D.seen desk.new)
         (prepend_known window.old (S.left source.old)) (prepend_known window.new (S.left source.new)) (S.left source.new)
         (W.taken sink.old) (W.taken sink.new) }
+    ensures gives { GivesAtMost 73728 (S.left source.old) (S.left source.new) }
     ensures fault { HasFaultAt result (S.faults source.old) (S.faults source.new) (W.faults sink.old) (W.faults sink.new) }
     ensures reads { S.faults source.old ≤ S.faults source.new }
     ensures writes { W.faults sink.old ≤ W.faults sink.new }
@@ -71,7 +72,9 @@ fn serve_frame<D: Desk, S: Source, W: Sink, C: Clock>(
         }
     };
     let answer = answer_frame(alloc, desk, clock, &spans.of(window.bytes()));
-    if write_answer(alloc, sink, room, &answer).is_err() {
+    let written = write_answer(alloc, sink, room, &answer);
+    drop(answer);
+    if written.is_err() {
         return Turn::Stopped(End::WriteFault);
     }
     window.consume(spans.length);

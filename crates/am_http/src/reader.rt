@@ -1,13 +1,13 @@
 //! Reading frames from a source.
 ghost use Rattle.std.specs.Prelude.{◌≡◌, ◌<◌, ◌≤◌, length, IfOk, IfSome, OnErr, IsNone};
 ghost use Rattle.std.specs.Io.KnownBytes.{Keeps, prepend_known};
-ghost use Rattle.am_types.specs.Counts.{HasRisen};
-ghost use Rattle.am_http.specs.Sessions.{IsPartial};
-ghost use Rattle.am_http.specs.Windows.{Finds, is_open};
+ghost use Rattle.am_outside.specs.Counts.{HasRisen};
+ghost use Rattle.am_http.specs.Sessions.{IsPartial, GivesAtMost};
+ghost use Rattle.am_http.specs.Windows.{Finds, Reads, is_open};
 
 use crate::frame::{Found, find_frame};
 use crate::window::Window;
-use am_types::{Failed, Source};
+use am_outside::{Failed, Source};
 
 // Whether more bytes are wanted to know the first frame.
 fn wants_more(found: &Found) -> bool
@@ -23,6 +23,7 @@ fn wants_more(found: &Found) -> bool
 // where some came.
 fn look<S: Source>(source: &mut S, window: &mut Window) -> Result<Option<Found>, Failed>
     ensures kept { Keeps (prepend_known window.old (S.left source.old)) (prepend_known window.new (S.left source.new)) }
+    ensures reads { Reads window.old window.new (S.left source.old) (S.left source.new) }
     ensures found { IfOk result (λ answer. IfSome answer (Finds window.new (S.left source.new))) }
     ensures more { IfOk result (λ answer. IsNone answer → length window.old < length window.new) }
     ensures fits { length window.new ≤ 73728 }
@@ -42,6 +43,7 @@ fn look<S: Source>(source: &mut S, window: &mut Window) -> Result<Option<Found>,
 /// Reads until the first frame of what is left is known.
 pub fn next_frame<S: Source>(source: &mut S, window: &mut Window) -> Result<Found, Failed>
     ensures kept { Keeps (prepend_known window.old (S.left source.old)) (prepend_known window.new (S.left source.new)) }
+    ensures gives { GivesAtMost 73728 (S.left source.old) (S.left source.new) }
     ensures found { IfOk result (Finds window.new (S.left source.new)) }
     ensures partial { OnErr result (IsPartial window.new) }
     ensures never_falls { S.faults source.old ≤ S.faults source.new }

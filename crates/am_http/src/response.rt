@@ -1,6 +1,7 @@
 //! The bytes of responses.
-ghost use Rattle.std.specs.Prelude.{◌≡◌, ◌+◌, ◌≤◌, ◌++◌, None, IfOk, codes, length, string_bytes, option_map, vec_len, vec_capacity};
+ghost use Rattle.std.specs.Prelude.{◌≡◌, ◌+◌, ◌≤◌, ◌++◌, None, IfOk, IsTrue, codes, length, string_bytes, option_map, vec_len, vec_capacity};
 ghost use Rattle.serde_json.specs.View.{view};
+ghost use Rattle.am_wire.specs.Replies.{is_printed};
 ghost use Rattle.am_http.specs.Responses.{HasPhrase, phrase, head, digit, place_lines, message, response, refusal_data, refusal, want_before, want_after};
 
 use am_types::{NoMemory, Shown, Text};
@@ -12,9 +13,10 @@ use std::alloc::{AllocError, Global};
 /// The room that the response takes where memory ran out after the call was made, in bytes.
 pub const WANT_ROOM: usize = 192;
 
-/// The response that shows a reply and its place in the history.
-#[tactic(auto, unfolding(crate::specs::Responses::response))]
+/// The response that shows a reply and its place in the history. The reply is one that is printed.
+#[tactic(auto, using(crate::proofs::Printed::every_status_has_a_phrase), unfolding(crate::specs::Responses::response))]
 pub fn response_bytes(alloc: Global, shown: &Shown) -> Result<Vec<u8>, NoMemory>
+    requires printed { IsTrue (is_printed shown.now.reply) }
     ensures { IfOk result (λ bytes. bytes.items ≡ response shown.now.at shown.now.stored shown.now.reply) }
 {
     let body = reply_text(alloc, &shown.reply)?;
@@ -205,13 +207,16 @@ mod tests {
     };
     use am_types::{Component, List, Reply, Rule, Shown, Text};
     use std::alloc::{AllocError, Global};
+    use std::process::Abort;
     use std::test::Fail;
 
     fn text(alloc: Global, from: &str) -> Result<Text, AllocError> {
         Ok(Text::new(String::from_str(alloc, from)?))
     }
 
-    fn found(alloc: Global, names: &[(&str, &str)]) -> Result<Reply, AllocError> {
+    fn found(alloc: Global, names: &[(&str, &str)]) -> Result<Reply, AllocError>
+        ensures { IfOk result (λ reply. IsTrue (is_printed reply)) }
+    {
         let mut components = Vec::new(alloc);
         for (package, class) in names {
             components.push(Component {
@@ -222,41 +227,60 @@ mod tests {
         Ok(Reply::Components(List::new(components)))
     }
 
+    // The response to that reply at that place is these bytes.
+    fn shows(
+        rt: &impl Abort,
+        alloc: Global,
+        at: u64,
+        stored: bool,
+        reply: Reply,
+        expected: &str,
+    ) -> Result<(), Fail>
+        requires { IsTrue (is_printed reply) }
+    {
+        let shown = Shown { at, stored, reply };
+        let bytes = response_bytes(alloc, &shown);
+        drop(shown);
+        assert_eq!(rt; bytes?.as_slice(), expected.as_bytes(), "{expected}");
+        Ok(())
+    }
+
     #[test]
     fn shows_replies(rt: HostRuntime) -> Result<(), Fail> {
         let alloc = rt.alloc();
         let none: [(&str, &str); 0] = [];
-        let cases = [
-            (
-                0,
-                false,
-                found(alloc, &none)?,
-                "HTTP/1.1 200 OK\r\nContent-Type: application/json\r\nContent-Length: 17\r\nAM-At: 0\r\nAM-Stored: 0\r\n\r\n{\"components\":[]}",
-            ),
-            (
-                2,
-                false,
-                Reply::Refused(Rule::UnknownKey),
-                "HTTP/1.1 401 Unauthorized\r\nContent-Type: application/json\r\nContent-Length: 23\r\nAM-At: 2\r\nAM-Stored: 0\r\n\r\n{\"error\":\"unknown_key\"}",
-            ),
-            (
-                65536,
-                false,
-                Reply::Refused(Rule::HistoryFull),
-                "HTTP/1.1 429 Too Many Requests\r\nContent-Type: application/json\r\nContent-Length: 24\r\nAM-At: 65536\r\nAM-Stored: 0\r\n\r\n{\"error\":\"history_full\"}",
-            ),
-            (
-                7,
-                true,
-                found(alloc, &[("com.a", "com.a.\"M"), ("com.b", "com.b.N")])?,
-                "HTTP/1.1 200 OK\r\nContent-Type: application/json\r\nContent-Length: 50\r\nAM-At: 7\r\nAM-Stored: 1\r\n\r\n{\"components\":[\"com.a/com.a.\\\"M\",\"com.b/com.b.N\"]}",
-            ),
-        ];
-        for (at, stored, reply, expected) in cases {
-            let bytes = response_bytes(alloc, &Shown { at, stored, reply })?;
-            assert_eq!(rt; bytes.as_slice(), expected.as_bytes(), "{expected}");
-        }
-        Ok(())
+        shows(
+            &rt,
+            alloc,
+            0,
+            false,
+            found(alloc, &none)?,
+            "HTTP/1.1 200 OK\r\nContent-Type: application/json\r\nContent-Length: 17\r\nAM-At: 0\r\nAM-Stored: 0\r\n\r\n{\"components\":[]}",
+        )?;
+        shows(
+            &rt,
+            alloc,
+            2,
+            false,
+            Reply::Refused(Rule::UnknownKey),
+            "HTTP/1.1 401 Unauthorized\r\nContent-Type: application/json\r\nContent-Length: 23\r\nAM-At: 2\r\nAM-Stored: 0\r\n\r\n{\"error\":\"unknown_key\"}",
+        )?;
+        shows(
+            &rt,
+            alloc,
+            65536,
+            false,
+            Reply::Refused(Rule::HistoryFull),
+            "HTTP/1.1 429 Too Many Requests\r\nContent-Type: application/json\r\nContent-Length: 24\r\nAM-At: 65536\r\nAM-Stored: 0\r\n\r\n{\"error\":\"history_full\"}",
+        )?;
+        shows(
+            &rt,
+            alloc,
+            7,
+            true,
+            found(alloc, &[("com.a", "com.a.\"M"), ("com.b", "com.b.N")])?,
+            "HTTP/1.1 200 OK\r\nContent-Type: application/json\r\nContent-Length: 50\r\nAM-At: 7\r\nAM-Stored: 1\r\n\r\n{\"components\":[\"com.a/com.a.\\\"M\",\"com.b/com.b.N\"]}",
+        )
     }
 
     #[test]

@@ -1,7 +1,7 @@
 //! Writing to a sink.
 ghost use Rattle.std.specs.Prelude.{◌≡◌, ℕ, ◌<◌, ◌≤◌, List, length, vec_capacity, IfOk, OnErr};
-ghost use Rattle.am_types.specs.Counts.{HasRisen};
-ghost use Rattle.am_http.specs.Answering.{Says};
+ghost use Rattle.am_outside.specs.Counts.{HasRisen};
+ghost use Rattle.am_http.specs.Answering.{HasText, Says};
 ghost use Rattle.am_http.specs.Requests.{refusal_text};
 ghost use Rattle.am_http.specs.Sending.{Sends, SendsFrom};
 ghost use Rattle.am_http.specs.Sessions.{defect_text};
@@ -12,7 +12,8 @@ use crate::response::{
     bad_head, body_too_large, head_too_large, length_required, put_want_after, refusal_bytes,
     response_bytes, transfer_encoding, want_before,
 };
-use am_types::{Failed, NoMemory, Sink, Text};
+use am_outside::{Failed, Sink};
+use am_types::{NoMemory, Text};
 use std::alloc::Global;
 
 // Writes once, from a place of the bytes on, and answers the place behind what was taken.
@@ -68,7 +69,8 @@ pub fn write_answer<W: Sink>(
     room: &mut Vec<u8>,
     answer: &Answer,
 ) -> Result<(), Failed>
-    requires { 192 ≤ vec_capacity room.old }
+    requires room { 192 ≤ vec_capacity room.old }
+    requires text { HasText answer.now }
     ensures sent { (bytes : List ℕ) × Says answer.now bytes × Sends (W.taken sink.old) (W.taken sink.new) bytes result }
     ensures never_falls { W.faults sink.old ≤ W.faults sink.new }
     ensures failed { OnErr result (HasRisen (W.faults sink.old) (W.faults sink.new)) }

@@ -2,10 +2,11 @@
 ghost use Rattle.std.specs.Prelude.{◌≡◌, ℕ, ◌+◌, ◌-◌, ◌<◌, ◌≤◌, [], IfOk, OnErr, length, take, drop};
 ghost use Rattle.std.specs.Io.{ReadsAtMost};
 ghost use Rattle.std.specs.Io.KnownBytes.{ReadConsumes};
-ghost use Rattle.am_types.specs.Counts.{HasRisen};
+ghost use Rattle.am_outside.specs.Counts.{HasRisen};
 ghost use Rattle.am_http.specs.Windows.{Fills};
 
-use am_types::{Failed, NoMemory, Source};
+use am_outside::{Failed, Source};
+use am_types::NoMemory;
 use std::alloc::Global;
 use std::marker::Model;
 

@@ -1,7 +1,7 @@
 //! A keeper, which puts rows, and a store, which hands keepers out and takes them back.
 ghost use Rattle.std.specs.Prelude.{◌≡◌, ◌↔◌, ◌⊎◌, ℕ, ◌≤◌, List as Items, Bool, Option, Some, None, IsTrue, IsNone, IfOk, OnErr, Err, OnOk};
 ghost use Rattle.std.specs.Option.{option_copied};
-ghost use Rattle.am_types.specs.Counts.{HasRisen};
+ghost use Rattle.am_outside.specs.Counts.{HasRisen};
 ghost use Rattle.am_keeper.specs.declared.rows.Rows.{Rows as Told};
 ghost use Rattle.am_keeper.specs.Rows.{IsInOrder, no_rows, with_package, with_grant, with_link};
 ghost use Rattle.am_keeper.specs.Keeping.{Puts, TellsAsBefore, raised_by, rows_after};

@@ -1,4 +1,4 @@
-//! Worked rows of a keeper and a store in memory.
+//! What the clauses leave to be tried: answers with ample memory, of a keeper and a store in memory.
 ghost use Rattle.std.specs.Prelude.{◌≡◌, IfOk};
 ghost use Rattle.am_keeper.specs.Rows.{IsInOrder};
 

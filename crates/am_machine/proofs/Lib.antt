@@ -1,4 +1,4 @@
 pub mod Order
+pub mod Passing
 pub mod Priorities
 pub mod Shown
-pub mod Queries

@@ -10,7 +10,7 @@ use Rattle.std.proofs.lemmas.Int.{ints, clamps}
 use Rattle.std.proofs.lemmas.Cmp.{back_total, int_cmp_total}
 use Rattle.std.proofs.lemmas.List.Sorted.{ranks_by}
 use Rattle.std.specs.declared.cmp.Reverse.{Reverse}
-use Rattle.am_types.specs.declared.call.Hit.{Hit}
+use Rattle.am_types.specs.declared.resolve.Hit.{Hit}
 use Rattle.am_model.specs.Candidates.{greatest, place_hit, by_priority}
 use Rattle.am_machine.proofs.Order.{place, insertion, sorted_is_insertion}
 

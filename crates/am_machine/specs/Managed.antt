@@ -1,10 +1,10 @@
 -- What a manager and the desk over it are, as contracts see them.
 use Rattle.std.specs.Prelude.{◌≡◌, List}
 use Rattle.am_types.specs.declared.device.Device.{Device}
-use Rattle.am_types.specs.declared.call.Entry.{Entry}
-use Rattle.am_model.specs.State.{opening}
-use Rattle.am_model.specs.History.{replay, IsLegal}
-use Rattle.am_model.specs.Desks.{Origin}
+use Rattle.am_types.specs.declared.history.Entry.{Entry}
+use Rattle.am_steps.specs.State.{opening}
+use Rattle.am_steps.specs.History.{replay, IsLegal}
+use Rattle.am_steps.specs.Desks.{Origin}
 
 -- a manager: where it comes from, and the calls that it stored since
 pub record Managed : Type 0 where

@@ -1,6 +1,6 @@
 //! Which caller a key stands for.
 ghost use Rattle.std.specs.Prelude.{◌≡◌};
-ghost use Rattle.am_model.specs.State.{opening, uid_of, uid_of_package, root_or};
+ghost use Rattle.am_steps.specs.State.{opening, uid_of, uid_of_package, root_or};
 
 use am_types::{Device, List, Package, Text};
 
@@ -11,6 +11,7 @@ pub const SYSTEM: u32 = 1000;
 pub const ROOT: u32 = 0;
 
 /// The uid that has the key, if there is one. Takes no memory.
+#[tactic(auto, using(am_steps::proofs::Opening::a_key_at_opening))]
 pub fn uid_of(device: &Device, key: &Text) -> Option<u32>
     ensures { result ≡ uid_of (opening device.now) key.now }
 {

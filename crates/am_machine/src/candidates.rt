@@ -1,8 +1,9 @@
 //! The plain walk over all components for those that an intent finds.
 ghost use Rattle.std.specs.Prelude.{◌≡◌, ℕ, ◌++◌, Some, IfOk, OnOk};
+ghost use Rattle.am_model.specs.Filters.{passes};
 ghost use Rattle.am_model.specs.Candidates.{is_kind, counted_priority, greatest, priority_of, is_named, hit_at, implicit_hit, enabled_hit, hits_from, candidates};
 
-use crate::filter::passes;
+use am_filter::passes;
 use am_types::{Component, Decl, Filter, Hit, Intent, Kind, List, NoMemory, Package};
 use std::alloc::Global;
 
@@ -128,11 +129,18 @@ fn priority_of(
 {
     let mut best = None;
     for filter in filters.as_slice() {
-        if passes(filter, intent, need_default) {
+        if is_passed(filter, intent, need_default) {
             best = Some(greatest(counted_priority(kind, filter.priority), best));
         }
     }
     best
+}
+
+/// The intent passes the filter.
+fn is_passed(filter: &Filter, intent: &Intent, need_default: bool) -> bool
+    ensures { result ≡ passes filter.now intent.now need_default }
+{
+    passes(filter, intent, need_default).is_ok()
 }
 
 /// The greater of a priority and of another, if there is one.

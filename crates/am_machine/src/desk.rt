@@ -1,8 +1,9 @@
 //! What a desk is.
-ghost use Rattle.std.specs.Prelude.{◌≡◌, ℕ, List as Items, IfOk, OnErr};
-ghost use Rattle.am_types.specs.declared.call.Entry.{Entry};
-ghost use Rattle.am_model.specs.Desks.{Origin, Sharing, opening_of, Shows, SeesOthers};
-ghost use Rattle.am_model.specs.History.{IsLegal};
+ghost use Rattle.std.specs.Prelude.{◌≡◌, ℕ, List as Items, IfOk, OnErr, IsTrue};
+ghost use Rattle.am_types.specs.declared.history.Entry.{Entry};
+ghost use Rattle.am_steps.specs.Desks.{Origin, Sharing, opening_of, Shows, SeesOthers};
+ghost use Rattle.am_steps.specs.History.{IsLegal};
+ghost use Rattle.am_steps.specs.Steps.{is_served};
 
 use am_types::{NoMemory, Request, Shown, Text};
 
@@ -20,9 +21,9 @@ pub trait Desk {
     /// The entries of the history that the desk has seen.
     ghost seen: { Self → Items Entry };
 
-    /// Makes one call at the moment `now`, in milliseconds. `weight` is the length of the
-    /// request's body, in bytes. After `NoMemory` the call itself changed nothing, but the desk
-    /// may have seen more calls of others.
+    /// Makes one call at the moment `now`, in milliseconds, of a request that the manager serves.
+    /// `weight` is the length of the request's body, in bytes. After `NoMemory` the call itself
+    /// changed nothing, but the desk may have seen more calls of others.
     fn call(
         &mut self,
         key: &Text,
@@ -30,6 +31,7 @@ pub trait Desk {
         weight: u32,
         request: Request,
     ) -> Result<Shown, NoMemory>
+        requires served { IsTrue (is_served request) }
         ensures shown { IfOk result
             (λ shown. Shows (opening_of (origin self.old)) (seen self.old) (seen self.new)
             (record { desk = number self.old; key = key.now; now = now; weight = weight; request = request })

@@ -4,7 +4,6 @@
 mod callers;
 mod candidates;
 mod desk;
-mod filter;
 mod manager;
 mod query;
 mod sole;

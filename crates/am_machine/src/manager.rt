@@ -1,10 +1,10 @@
 //! The manager: the live state of a device, and the history of the calls that made it.
-ghost use Rattle.std.specs.Prelude.{◌≡◌, List as Items, [], length, IfOk, OnErr};
-ghost use Rattle.am_types.specs.declared.call.Entry.{Entry};
-ghost use Rattle.am_model.specs.Desks.{opening_of, ShowsAt};
-ghost use Rattle.am_model.specs.History.{IsLegal, reply_to};
-ghost use Rattle.am_model.specs.State.{opening, uid_of};
-ghost use Rattle.am_model.specs.Steps.{Call, act};
+ghost use Rattle.std.specs.Prelude.{◌≡◌, ℕ, Bool, List as Items, [], length, IfOk, OnErr, IsTrue};
+ghost use Rattle.am_types.specs.declared.history.Entry.{Entry};
+ghost use Rattle.am_steps.specs.Desks.{opening_of, ShowsAt};
+ghost use Rattle.am_steps.specs.History.{IsLegal, reply_to};
+ghost use Rattle.am_steps.specs.State.{opening, uid_of};
+ghost use Rattle.am_steps.specs.Steps.{Call, act, is_served};
 ghost use Rattle.am_machine.specs.Managed.{Managed};
 
 use crate::callers::uid_of;
@@ -46,7 +46,8 @@ pub fn begin(alloc: Global, device: Device) -> Result<Manager, NoMemory>
 
 impl Manager {
     /// One call: `desk` is the number of the desk that it is made on, `key` the caller's, `now`
-    /// the moment in milliseconds, and `weight` the length of the request's body in bytes.
+    /// the moment in milliseconds, and `weight` the length of the request's body in bytes. The
+    /// request is one that the manager serves.
     /// After `NoMemory` the manager is as before.
     pub fn step(
         &mut self,
@@ -56,6 +57,7 @@ impl Manager {
         weight: u32,
         request: Request,
     ) -> Result<Shown, NoMemory>
+        requires served { IsTrue (is_served request) }
         ensures shown { IfOk result
             (λ shown. ShowsAt (opening_of self.old.origin) self.old.history self.new.history
             (record { desk = desk; key = key.now; now = now; weight = weight; request = request })
@@ -64,10 +66,23 @@ impl Manager {
         ensures legal { IsLegal (opening_of self.new.origin) self.new.history }
         ensures refused { OnErr result (self.new ≡ self.old) }
     {
+        // No served request changes the state, so none is stored. A stored call's entry has the
+        // desk, the moment and the weight too.
+        let shown = self.show(key, &request);
+        drop(request);
+        shown
+    }
+
+    // What is shown of a served request at the end of the history.
+    fn show(&self, key: &Text, request: &Request) -> Result<Shown, NoMemory>
+        requires served { IsTrue (is_served request.now) }
+        ensures legal { IsLegal (opening_of self.now.origin) self.now.history }
+        ensures shown { IfOk result (λ shown. (call : Call) →
+            call.key ≡ key.now → call.request ≡ request.now →
+            ShowsAt (opening_of self.now.origin) self.now.history self.now.history call shown self.now.history) }
+    {
         let at = self.length();
-        let reply = reply_to(self.alloc, &self.device, key, &request)?;
-        // No request changes the state, so none is stored. A stored call's entry has the desk, the
-        // moment and the weight too.
+        let reply = reply_to(self.alloc, &self.device, key, request)?;
         Ok(Shown {
             at,
             stored: false,
@@ -91,19 +106,23 @@ fn reply_to(
     key: &Text,
     request: &Request,
 ) -> Result<Reply, NoMemory>
-    ensures { IfOk result (λ reply. (call : Call) (history : Items Entry) →
+    requires served { IsTrue (is_served request.now) }
+    ensures { IfOk result (λ reply. (call : Call) (history : Items Entry) (kept : Bool) →
         call.key ≡ key.now → call.request ≡ request.now →
-        reply ≡ reply_to (opening device.now) history call (uid_of (opening device.now) key.now)) }
+        reply ≡ reply_to (opening device.now) history call kept (uid_of (opening device.now) key.now)) }
 {
     match uid_of(device, key) {
         None => Ok(Reply::Refused(Rule::UnknownKey)),
-        Some(uid) => answer(alloc, device, uid, request),
+        Some(_) => answer(alloc, device, request),
     }
 }
 
-/// What the request of the caller with that uid is answered.
-fn answer(alloc: Global, device: &Device, uid: u32, request: &Request) -> Result<Reply, NoMemory>
-    ensures { IfOk result (λ reply. reply ≡ (act (opening device.now) uid request.now).0) }
+/// What a served request of whatever caller is answered.
+#[tactic(auto, using(am_steps::proofs::Opening::a_query_is_answered))]
+fn answer(alloc: Global, device: &Device, request: &Request) -> Result<Reply, NoMemory>
+    requires served { IsTrue (is_served request.now) }
+    ensures { IfOk result (λ reply. (history : Items Entry) (uid : ℕ) →
+        reply ≡ (act (opening device.now) history uid request.now).0) }
 {
     match request {
         Request::Query {
@@ -114,5 +133,6 @@ fn answer(alloc: Global, device: &Device, uid: u32, request: &Request) -> Result
             let found = query(alloc, &device.packages, *kind, intent, *default_only)?;
             Ok(Reply::Components(found))
         }
+        _ => unreachable!(),
     }
 }

@@ -1,7 +1,7 @@
 //! The answer to a query.
 ghost use Rattle.std.specs.Prelude.{◌≡◌, IfOk};
 ghost use Rattle.am_model.specs.Candidates.{hits};
-ghost use Rattle.am_model.specs.Steps.{components_of};
+ghost use Rattle.am_steps.specs.Activities.{components_of};
 
 use crate::candidates::candidates;
 use am_types::{Component, Hit, Intent, Kind, List, NoMemory, Package};

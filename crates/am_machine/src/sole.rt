@@ -1,7 +1,7 @@
 //! A desk over a manager of its own.
 ghost use Rattle.std.specs.Prelude.{◌≡◌};
-ghost use Rattle.am_model.specs.Desks.{opening_of};
-ghost use Rattle.am_model.specs.History.{IsLegal};
+ghost use Rattle.am_steps.specs.Desks.{opening_of};
+ghost use Rattle.am_steps.specs.History.{IsLegal};
 
 use crate::{Desk, Manager};
 use am_types::{NoMemory, Request, Shown, Text};

@@ -1,3 +1,6 @@
+ghost use Rattle.std.specs.Prelude.{IfOk, IsTrue};
+ghost use Rattle.am_steps.specs.Steps.{is_served};
+
 use crate::{Desk, SoleDesk, begin};
 use am_types::{
     Component, Decl, Device, Filter, Flags, Intent, Kind, List, Mode, NoMemory, Package, Reply,
@@ -303,7 +306,9 @@ fn intent(alloc: Global, query: &str) -> Result<Intent, Fail> {
     })
 }
 
-fn request(alloc: Global, row: &Row) -> Result<Request, Fail> {
+fn request(alloc: Global, row: &Row) -> Result<Request, Fail>
+    ensures { IfOk result (λ request. IsTrue (is_served request)) }
+{
     let intent = intent(alloc, row.query)?;
     Ok(Request::Query {
         kind: kind(part(row.query, 0)),
@@ -329,11 +334,14 @@ fn written(alloc: Global, reply: &Reply) -> Result<String, Fail> {
         Reply::Components(names) => joined(alloc, names),
         Reply::Refused(Rule::UnknownKey) => Ok(String::from_str(alloc, "unknown_key")?),
         Reply::Refused(Rule::HistoryFull) => Ok(String::from_str(alloc, "history_full")?),
+        _ => Ok(String::from_str(alloc, "another reply")?),
     }
 }
 
 /// A call on any desk.
-fn call<D: Desk>(desk: &mut D, key: &Text, request: Request) -> Result<Shown, NoMemory> {
+fn call<D: Desk>(desk: &mut D, key: &Text, request: Request) -> Result<Shown, NoMemory>
+    requires { IsTrue (is_served request) }
+{
     desk.call(key, 5, 45, request)
 }
 
@@ -348,19 +356,21 @@ fn ask(alloc: Global, desk: &mut SoleDesk, row: &Row) -> Result<Shown, Fail> {
     Ok(call(desk, &key, request)?)
 }
 
-/// What is shown of the row's query, and how many entries the history has then.
-fn shown(alloc: Global, row: &Row) -> Result<(Shown, u64), Fail> {
+/// What the row's query is answered, its place, whether it is stored, and how many entries the history has then.
+fn answer(alloc: Global, row: &Row) -> Result<(String, u64, bool, u64), Fail> {
     let mut desk = desk(alloc, row)?;
     let shown = ask(alloc, &mut desk, row)?;
-    Ok((shown, desk.into_manager().length()))
+    let answer = written(alloc, &shown.reply);
+    let (at, stored) = (shown.at, shown.stored);
+    drop(shown);
+    Ok((answer?, at, stored, desk.into_manager().length()))
 }
 
 fn try_row(rt: &impl Abort, alloc: Global, row: &Row) -> Result<(), Fail> {
-    let (shown, length) = shown(alloc, row)?;
-    let answer = written(alloc, &shown.reply)?;
+    let (answer, at, stored, length) = answer(alloc, row)?;
     let query = row.query;
     assert_eq!(rt; answer.as_str().trim(), row.answer, "{query}");
-    assert_eq!(rt; (shown.at, shown.stored, length), (0, false, 0));
+    assert_eq!(rt; (at, stored, length), (0, false, 0));
     Ok(())
 }
 

@@ -1,4 +1,8 @@
-pub mod Each
 pub mod Repeats
 pub mod Bytes
 pub mod Taken
+pub mod Holders
+pub mod Held
+pub mod Apart
+pub mod FewFilters
+pub mod Soundness

@@ -5,11 +5,11 @@ use Rattle.std.specs.Cmp.{eq_by_cmp_equiv}
 use Rattle.std.specs.Cmp.Lexicographic.{slice_cmp, nat_list_cmp_total}
 use Rattle.std.proofs.lemmas.List.{drop_more}
 use Rattle.am_types.specs.declared.manifest.Decl.{Decl}
-use Rattle.am_manifest.specs.Texts.{is_among}
+use Rattle.am_filter_tables.specs.Texts.{is_among}
 use Rattle.am_manifest.specs.Manifests.{classes, first_repeated}
 
 -- the same texts are the same from either side
-flipped : (a b : List ℕ) → is_eq (slice_cmp nat_cmp a b) ≡ is_eq (slice_cmp nat_cmp b a)
+pub flipped : (a b : List ℕ) → is_eq (slice_cmp nat_cmp a b) ≡ is_eq (slice_cmp nat_cmp b a)
 flipped a b = (eq_by_cmp_equiv nat_list_cmp_total).symm a b
 
 or_cond : (b c : Bool) → cond b true c ≡ (b || c)

@@ -1,21 +1,25 @@
 -- The components that a package declares.
-use Rattle.std.specs.Prelude.{ℕ, Bool, true, false, ◌==◌, codes, List, ◌++◌, if◌then◌else◌, Option, Some, None, Result, Ok, Err}
+use Rattle.std.specs.Prelude.{ℕ, Bool, true, false, ◌==◌, codes, List, ◌++◌, if◌then◌else◌, Option, Some, None, option_and_then, Result, Ok, Err}
 use Rattle.std.specs.List.{list_any}
 use Rattle.std.specs.Option.{unwrap_or}
-use Rattle.toml.specs.Data.{Data}
+use Rattle.std.specs.Str.{bytes_eq}
+use Rattle.toml.specs.Data.{Data, get, as_str}
 use Rattle.am_types.specs.declared.manifest.Decl.{Decl}
 use Rattle.am_types.specs.declared.manifest.Kind.{Kind}
-use Rattle.am_types.specs.declared.manifest.Mode.TheVariants.{Standard}
+use Rattle.am_types.specs.declared.manifest.Kind.TheVariants.{Activity, Service, Receiver}
+use Rattle.am_types.specs.declared.manifest.Mode.{Mode}
+use Rattle.am_types.specs.declared.manifest.Mode.TheVariants.{Standard, SingleTop, SingleTask, SingleInstance, SingleInstancePerTask}
 use Rattle.am_types.specs.declared.manifest.ManifestFault.{ManifestFault}
-use Rattle.am_types.specs.declared.manifest.ManifestFault.TheVariants.{ExportedUnstated}
+use Rattle.am_types.specs.declared.manifest.ManifestFault.TheVariants.{WrongKind, ExportedUnstated}
 use Rattle.am_manifest.specs.declared.components.Heading.{Heading}
 use Rattle.am_manifest.specs.declared.components.Launch.{Launch}
-use Rattle.am_manifest.specs.declared.filters.Filters.{Filters}
-use Rattle.am_manifest.specs.declared.text.Form.TheVariants.{Class}
-use Rattle.am_manifest.specs.Reading.{◌>>=◌}
-use Rattle.am_manifest.specs.Texts.{starts_with_dot}
-use Rattle.am_manifest.specs.Tables.{required_text, optional_truth, optional_values, each, entry_table, unread}
-use Rattle.am_manifest.specs.Filters.{filters_at}
+use Rattle.am_filter_tables.specs.declared.filters.Filters.{Filters}
+use Rattle.am_filter_tables.specs.declared.text.Form.TheVariants.{Any, Filled, Class}
+use Rattle.am_filter_tables.specs.Reading.{◌>>=◌}
+use Rattle.am_model.specs.Sound.{starts_with_dot}
+use Rattle.am_filter_tables.specs.Texts.{key_place}
+use Rattle.am_filter_tables.specs.Tables.{required_text, optional_text, optional_truth, optional_values, each, entry_table}
+use Rattle.am_filter_tables.specs.Filters.{filters_at}
 
 -- some byte is a dot
 abbrev pub has_dot : List ℕ → Bool
@@ -36,13 +40,54 @@ heading_of «package» at value = do
   enabled ← optional_truth at (codes "enabled") value
   Ok (record { class = full_class «package» class; exported = exported; enabled = unwrap_or enabled true })
 
+-- only activities have a launch mode and an affinity of their own
+abbrev pub is_activity : Kind → Bool
+is_activity Activity = true
+is_activity Service = false
+is_activity Receiver = false
+
+-- the launch mode of this name
+abbrev pub mode_named : List ℕ → Option Mode
+mode_named word =
+    if bytes_eq word (codes "standard") then Some Standard
+    else if bytes_eq word (codes "singleTop") then Some SingleTop
+    else if bytes_eq word (codes "singleTask") then Some SingleTask
+    else if bytes_eq word (codes "singleInstance") then Some SingleInstance
+    else if bytes_eq word (codes "singleInstancePerTask") then Some SingleInstancePerTask
+    else None
+
+-- a launch mode; none stands for a value that is no text, and for a word that is no mode
+unfoldable pub mode_or : List ℕ → Option Mode → Result Mode ManifestFault
+mode_or place None = Err (WrongKind place)
+mode_or place (Some mode) = Ok mode
+
+-- a launch mode that need not be there
+unfoldable pub mode_in : List ℕ → Option Data → Result Mode ManifestFault
+mode_in place None = Ok Standard
+mode_in place (Some value) = mode_or place (option_and_then mode_named (as_str value))
+
+-- the launch mode of an activity
+unfoldable pub mode_at : List ℕ → Data → Result Mode ManifestFault
+mode_at at value = mode_in (key_place at (codes "launchMode")) (get (codes "launchMode") value)
+
+-- how an activity is launched: its affinity is its package where none is stated
+unfoldable pub activity_launch : Option (List ℕ) → List ℕ → List ℕ → Data → Result Launch ManifestFault
+activity_launch permission «package» at value = do
+  mode ← mode_at at value
+  affinity ← optional_text Any at (codes "taskAffinity") value
+  Ok (record { permission = permission; mode = mode; affinity = unwrap_or affinity «package» })
+
+-- how a component of any kind is launched
+unfoldable pub launch_with : Kind → Option (List ℕ) → List ℕ → List ℕ → Data → Result Launch ManifestFault
+launch_with kind permission «package» at value =
+    if is_activity kind then activity_launch permission «package» at value
+    else Ok (record { permission = permission; mode = Standard; affinity = «package» })
+
 -- the permission that a component asks for, its launch mode and its affinity
-unfoldable pub launch_of : List ℕ → List ℕ → Data → Result Launch ManifestFault
-launch_of «package» at value = do
-  permission ← unread at (codes "permission") value
-  mode ← unread at (codes "launchMode") value
-  affinity ← unread at (codes "taskAffinity") value
-  Ok (record { permission = None; mode = Standard; affinity = «package» })
+unfoldable pub launch_of : Kind → List ℕ → List ℕ → Data → Result Launch ManifestFault
+launch_of kind «package» at value = do
+  permission ← optional_text Filled at (codes "permission") value
+  launch_with kind permission «package» at value
 
 -- whether others may reach a component: stated, or else no where no filter is written
 unfoldable pub exported_of : List ℕ → Bool → Option Bool → Result Bool ManifestFault
@@ -60,7 +105,7 @@ declared kind heading launch filters = do
 unfoldable pub component_of : Kind → List ℕ → List ℕ → Data → Result Decl ManifestFault
 component_of kind «package» at value = do
   heading ← heading_of «package» at value
-  launch ← launch_of «package» at value
+  launch ← launch_of kind «package» at value
   filters ← filters_at at value
   declared kind heading launch filters
 

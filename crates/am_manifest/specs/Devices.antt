@@ -1,6 +1,6 @@
 -- The device that a file describes.
 use Rattle.std.specs.Prelude.{ℕ, ◌+◌, Bool, true, false, codes, List, [], ◌∷◌, length, is_some, if◌then◌else◌, Option, Some, None, Result, Ok, Err}
-use Rattle.std.specs.Str.{is_utf8}
+use Rattle.std.specs.Str.{bytes_eq, is_utf8}
 use Rattle.toml.specs.Data.{Data, get, as_table}
 use Rattle.toml.specs.Parse.{parse_document}
 use Rattle.am_types.specs.declared.device.Device.{Device}
@@ -10,11 +10,12 @@ use Rattle.am_types.specs.declared.manifest.ManifestFault.{ManifestFault}
 use Rattle.am_types.specs.declared.manifest.ManifestFault.TheVariants.{NotToml, Missing, WrongKind, Duplicate}
 use Rattle.am_manifest.specs.declared.device.Owners.{Owners}
 use Rattle.am_manifest.specs.declared.device.Actions.{Actions}
-use Rattle.am_manifest.specs.declared.device.Rights.{Rights}
-use Rattle.am_manifest.specs.declared.text.Form.TheVariants.{AccessKey}
-use Rattle.am_manifest.specs.Reading.{◌>>=◌}
-use Rattle.am_manifest.specs.Texts.{key_place, within_key, is_among, with_text}
-use Rattle.am_manifest.specs.Tables.{required_text, optional_values, at_most, each, entry_table, unread}
+use Rattle.am_manifest.specs.declared.rights.Rights.{Rights}
+use Rattle.am_filter_tables.specs.declared.text.Form.TheVariants.{AccessKey, PackageName}
+use Rattle.am_filter_tables.specs.Reading.{◌>>=◌}
+use Rattle.am_filter_tables.specs.Texts.{key_place, within_key, is_among, with_text, with_optional}
+use Rattle.am_filter_tables.specs.Tables.{required_text, optional_text, optional_values, texts_at, at_most, each, entry_table}
+use Rattle.am_manifest.specs.Rights.{rights_in}
 use Rattle.am_manifest.specs.Manifests.{root_of, manifest_in}
 
 -- the manifest of a package
@@ -64,32 +65,39 @@ unfoldable pub unless_taken : List Package → Option (List ℕ) → Result (Lis
 unless_taken packages None = Ok packages
 unless_taken packages (Some name) = Err (Duplicate name)
 
+-- the root has the key of the system
+abbrev pub shares_key : Owners → Option (List ℕ) → Bool
+shares_key owners None = false
+shares_key owners (Some key) = bytes_eq key owners.system_key
+
+-- the root has a key of its own
+unfoldable pub roots_apart : Owners → Result (Unit {0}) ManifestFault
+roots_apart owners = if shares_key owners owners.root_key then Err (Duplicate (codes "root_key")) else Ok tt
+
+-- the keys of the system and of the root
+abbrev pub known_keys : Owners → List (List ℕ)
+known_keys owners = with_optional (with_text [] owners.system_key) owners.root_key
+
 -- the packages, whose names and keys are apart, and apart from those of the system and of the root
 unfoldable pub apart : Owners → List Package → Result (List Package) ManifestFault
-apart owners packages =
-    unless_taken packages (first_taken (codes "android" ∷ []) (with_text [] owners.system_key) packages)
+apart owners packages = do
+  root ← roots_apart owners
+  unless_taken packages (first_taken (codes "android" ∷ []) (known_keys owners) packages)
 
 -- the keys of the system and of the root, and the browser
 unfoldable pub owners_in : Data → Result Owners ManifestFault
 owners_in value = do
   system_key ← required_text AccessKey [] (codes "system_key") value
-  root_key ← unread [] (codes "root_key") value
-  browser ← unread [] (codes "browser") value
-  Ok (record { system_key = system_key; root_key = None; browser = None })
+  root_key ← optional_text AccessKey [] (codes "root_key") value
+  browser ← optional_text PackageName [] (codes "browser") value
+  Ok (record { system_key = system_key; root_key = root_key; browser = browser })
 
 -- the actions that are protected, and those that are exempt
 unfoldable pub actions_in : Data → Result Actions ManifestFault
 actions_in value = do
-  «protected» ← unread [] (codes "protected") value
-  exempt ← unread [] (codes "exempt") value
-  Ok (record { «protected» = []; exempt = [] })
-
--- what is granted to the packages, and the hosts for which they are approved
-unfoldable pub rights_in : List Package → Data → Result Rights ManifestFault
-rights_in packages value = do
-  grants ← unread [] (codes "grant") value
-  links ← unread [] (codes "link") value
-  Ok (record { grants = []; links = [] })
+  «protected» ← texts_at [] (codes "protected") 1024 value
+  exempt ← texts_at [] (codes "exempt") 1024 value
+  Ok (record { «protected» = «protected»; exempt = exempt })
 
 -- a device of these parts
 abbrev pub device_made : Owners → Actions → List Package → Rights → Device

@@ -1,8 +1,6 @@
-pub mod Reading
-pub mod Texts
-pub mod Tables
-pub mod Filters
 pub mod Components
 pub mod Manifests
+pub mod Rights
+pub mod RightsHeld
 pub mod Devices
 pub mod Printing

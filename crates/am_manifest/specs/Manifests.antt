@@ -1,17 +1,17 @@
 -- The manifest of a package.
-use Rattle.std.specs.Prelude.{ℕ, codes, List, [], ◌∷◌, length, map, if◌then◌else◌, Option, Some, None, Result, Ok, Err}
+use Rattle.std.specs.Prelude.{ℕ, codes, List, [], ◌∷◌, length, map, if◌then◌else◌, Option, Some, None, Result, Ok, Err, ◌++◌}
 use Rattle.std.specs.Str.{bytes_eq}
 use Rattle.toml.specs.Data.{Data, Members, table}
 use Rattle.toml.specs.Parse.{parse_document}
 use Rattle.am_types.specs.declared.manifest.Decl.{Decl}
-use Rattle.am_types.specs.declared.manifest.Kind.TheVariants.{Activity}
+use Rattle.am_types.specs.declared.manifest.Kind.TheVariants.{Activity, Service, Receiver}
 use Rattle.am_types.specs.declared.manifest.Manifest.{Manifest}
 use Rattle.am_types.specs.declared.manifest.ManifestFault.{ManifestFault}
 use Rattle.am_types.specs.declared.manifest.ManifestFault.TheVariants.{NotToml, Duplicate}
-use Rattle.am_manifest.specs.declared.text.Form.TheVariants.{PackageName}
-use Rattle.am_manifest.specs.Reading.{◌>>=◌}
-use Rattle.am_manifest.specs.Texts.{is_among}
-use Rattle.am_manifest.specs.Tables.{required_text, at_most, unread}
+use Rattle.am_filter_tables.specs.declared.text.Form.TheVariants.{PackageName}
+use Rattle.am_filter_tables.specs.Reading.{◌>>=◌}
+use Rattle.am_filter_tables.specs.Texts.{is_among}
+use Rattle.am_filter_tables.specs.Tables.{required_text, at_most}
 use Rattle.am_manifest.specs.Components.{components_at}
 
 -- the first text that stands again after itself
@@ -38,9 +38,9 @@ manifest_made «package» decls = do
 unfoldable pub decls_in : List ℕ → List ℕ → Data → Result (List Decl) ManifestFault
 decls_in «package» at value = do
   activities ← components_at Activity «package» at (codes "activity") value
-  services ← unread at (codes "service") value
-  receivers ← unread at (codes "receiver") value
-  Ok activities
+  services ← components_at Service «package» at (codes "service") value
+  receivers ← components_at Receiver «package» at (codes "receiver") value
+  Ok (activities ++ services ++ receivers)
 
 -- the manifest in a table
 unfoldable pub manifest_in : List ℕ → Data → Result Manifest ManifestFault

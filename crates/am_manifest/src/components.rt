@@ -1,14 +1,15 @@
 //! The components that a package declares.
-ghost use Rattle.std.specs.Prelude.{◌≡◌, IfOk, map};
+ghost use Rattle.std.specs.Prelude.{◌≡◌, IfOk, map, option_and_then, unwrap_or};
+ghost use Rattle.toml.specs.Data.{as_str};
 ghost use Rattle.toml.specs.View.{view};
-ghost use Rattle.am_manifest.specs.Reading.{Gives, GivesBy};
-ghost use Rattle.am_manifest.specs.Tables.{each};
-ghost use Rattle.am_manifest.specs.Components.{has_dot, full_class, heading_of, launch_of, exported_of, declared, component_of, component_entry, components_at};
+ghost use Rattle.am_filter_tables.specs.Reading.{Gives, GivesBy};
+ghost use Rattle.am_filter_tables.specs.Tables.{each};
+ghost use Rattle.am_manifest.specs.Components.{has_dot, full_class, heading_of, is_activity, mode_named, mode_at, activity_launch, launch_of, exported_of, declared, component_of, component_entry, components_at};
 
-use crate::ReadFault;
-use crate::filters::{Filters, filters_at};
-use crate::tables::{entry_table, optional_truth, optional_values, required_text, unread};
-use crate::text::{Form, starts_with_dot};
+use am_filter_tables::{
+    Filters, Form, ReadFault, Spot, entry_table, filters_at, optional_text, optional_truth,
+    optional_values, required_text, starts_with_dot, wrong_kind,
+};
 use am_types::{Decl, Kind, ManifestFault, Mode, Text};
 use std::alloc::{AllocError, Global};
 use toml::Value;
@@ -67,16 +68,116 @@ fn heading_of(alloc: Global, package: &Text, at: &str, table: &Value) -> Result<
     })
 }
 
-/// How a component is launched, and by whom.
-#[tactic(auto, unfolding(crate::specs::Components::launch_of))]
-fn launch_of(alloc: Global, package: &Text, at: &str, table: &Value) -> Result<Launch, ReadFault>
-    ensures { Gives result (launch_of «package».now at.now (view table.now)) }
+/// Only activities have a launch mode and an affinity of their own.
+fn is_activity(kind: Kind) -> bool
+    ensures { result ≡ is_activity kind }
 {
-    unread(alloc, at, "permission", table)?;
-    unread(alloc, at, "launchMode", table)?;
-    unread(alloc, at, "taskAffinity", table)?;
+    match kind {
+        Kind::Activity => true,
+        Kind::Service => false,
+        Kind::Receiver => false,
+    }
+}
+
+/// The launch mode of this name.
+fn mode_named(word: &str) -> Option<Mode>
+    ensures { result ≡ mode_named word.now }
+{
+    if word == "standard" {
+        return Some(Mode::Standard);
+    }
+    if word == "singleTop" {
+        return Some(Mode::SingleTop);
+    }
+    if word == "singleTask" {
+        return Some(Mode::SingleTask);
+    }
+    if word == "singleInstance" {
+        return Some(Mode::SingleInstance);
+    }
+    if word == "singleInstancePerTask" {
+        return Some(Mode::SingleInstancePerTask);
+    }
+    None
+}
+
+/// The launch mode that a value names.
+fn mode_of(value: &Value) -> Option<Mode>
+    ensures { result ≡ option_and_then mode_named (as_str (view value.now)) }
+{
+    match value.as_str() {
+        None => None,
+        Some(word) => mode_named(word),
+    }
+}
+
+/// The launch mode of an activity.
+#[tactic(auto, unfolding(crate::specs::Components::mode_at, crate::specs::Components::mode_in, crate::specs::Components::mode_or))]
+fn mode_at(alloc: Global, at: &str, table: &Value) -> Result<Mode, ReadFault>
+    ensures { Gives result (mode_at at.now (view table.now)) }
+{
+    let Some(value) = table.get("launchMode") else {
+        return Ok(Mode::Standard);
+    };
+    let spot = Spot {
+        at,
+        key: "launchMode",
+        index: None,
+    };
+    match mode_of(value) {
+        None => Err(wrong_kind(alloc, &spot)),
+        Some(mode) => Ok(mode),
+    }
+}
+
+/// A text, or else the other one.
+fn text_or(text: Option<Text>, other: &Text) -> Result<Text, AllocError>
+    ensures { IfOk result (λ chosen. chosen ≡ unwrap_or text other.now) }
+{
+    match text {
+        Some(text) => Ok(text),
+        None => other.clone(),
+    }
+}
+
+/// How an activity is launched.
+#[tactic(auto, unfolding(crate::specs::Components::activity_launch))]
+fn activity_launch(
+    alloc: Global,
+    permission: Option<Text>,
+    package: &Text,
+    at: &str,
+    table: &Value,
+) -> Result<Launch, ReadFault>
+    ensures { Gives result (activity_launch permission «package».now at.now (view table.now)) }
+{
+    let mode = mode_at(alloc, at, table)?;
+    let affinity = optional_text(alloc, Form::Any, at, "taskAffinity", table)?;
+    let affinity = text_or(affinity, package)?;
     Ok(Launch {
-        permission: None,
+        permission,
+        mode,
+        affinity,
+    })
+}
+
+/// How a component is launched, and by whom.
+#[tactic(auto, unfolding(crate::specs::Components::launch_of, crate::specs::Components::launch_with))]
+fn launch_of(
+    alloc: Global,
+    kind: Kind,
+    package: &Text,
+    at: &str,
+    table: &Value,
+) -> Result<Launch, ReadFault>
+    ensures { Gives result (launch_of kind «package».now at.now (view table.now)) }
+{
+    let permission = optional_text(alloc, Form::Filled, at, "permission", table)?;
+    if is_activity(kind) {
+        return activity_launch(alloc, permission, package, at, table);
+    }
+    Ok(Launch {
+        permission,
         mode: Mode::Standard,
         affinity: package.clone()?,
     })
@@ -132,7 +233,7 @@ fn component_of(
     ensures { Gives result (component_of kind «package».now at.now (view table.now)) }
 {
     let heading = heading_of(alloc, package, at, table)?;
-    let launch = launch_of(alloc, package, at, table)?;
+    let launch = launch_of(alloc, kind, package, at, table)?;
     let filters = filters_at(alloc, at, table)?;
     declared(kind, heading, launch, filters)
 }

@@ -1,17 +1,19 @@
 //! The device that a file describes.
 ghost use Rattle.std.specs.Prelude.{◌≡◌, ◌≤◌, IfOk, codes, length, map, [], ◌∷◌};
 ghost use Rattle.toml.specs.View.{view};
-ghost use Rattle.am_manifest.specs.Reading.{Gives, GivesBy};
-ghost use Rattle.am_manifest.specs.Tables.{each};
-ghost use Rattle.am_manifest.specs.Texts.{with_text};
-ghost use Rattle.am_manifest.specs.Devices.{actions_in, apart, device_in, device_of, first_taken, is_taken, manifest_at, owners_in, package_entry, package_of, packages_apart, packages_in, rights_in, text_of};
+ghost use Rattle.am_filter_tables.specs.Reading.{Gives, GivesBy};
+ghost use Rattle.am_filter_tables.specs.Tables.{each};
+ghost use Rattle.am_filter_tables.specs.Texts.{with_text};
+ghost use Rattle.am_model.specs.Sound.{IsSound};
+ghost use Rattle.am_manifest.specs.Devices.{actions_in, apart, device_in, device_of, first_taken, is_taken, manifest_at, owners_in, package_entry, package_of, packages_apart, packages_in, known_keys, roots_apart, shares_key, text_of};
 
-use crate::ReadFault;
 use crate::manifest::{manifest_in, root_of};
-use crate::place::{Spot, missing, within_key, wrong_kind};
-use crate::tables::{at_most, entry_table, optional_values, required_text, unread};
-use crate::text::Form;
-use am_types::{Device, Grant, Link, List, Manifest, ManifestFault, Package, Text};
+use crate::rights::rights_in;
+use am_filter_tables::{
+    Form, ReadFault, Spot, at_most, entry_table, missing, optional_text, optional_values,
+    required_text, texts_at, within_key, wrong_kind,
+};
+use am_types::{Device, List, Manifest, ManifestFault, Package, Text};
 use std::alloc::{AllocError, Global};
 use std::collections::BTreeSet;
 use toml::Value;
@@ -29,13 +31,6 @@ pub struct Owners {
 pub struct Actions {
     pub protected: List<Text>,
     pub exempt: List<Text>,
-}
-
-/// What the packages of a device may do.
-#[derive(Drop)]
-pub struct Rights {
-    pub grants: List<Grant>,
-    pub links: List<Link>,
 }
 
 /// The manifest of a package.
@@ -98,7 +93,7 @@ fn each_package(alloc: Global, values: &[Value]) -> Result<Vec<Package>, ReadFau
 }
 
 /// The packages of a device.
-#[tactic(auto, unfolding(crate::specs::Devices::packages_in, crate::specs::Tables::at_most))]
+#[tactic(auto, unfolding(crate::specs::Devices::packages_in, am_filter_tables::specs::Tables::at_most))]
 fn packages_in(alloc: Global, table: &Value) -> Result<Vec<Package>, ReadFault>
     ensures { GivesBy (λ packages. packages.items) result (packages_in (view table.now)) }
 {
@@ -149,11 +144,36 @@ fn known_names(alloc: Global) -> Result<BTreeSet<Text>, AllocError>
 
 /// The keys that no package may have.
 fn known_keys(alloc: Global, owners: &Owners) -> Result<BTreeSet<Text>, AllocError>
-    ensures { IfOk result (λ keys. keys.keys ≡ with_text [] owners.now.system_key) }
+    ensures { IfOk result (λ keys. keys.keys ≡ known_keys owners.now) }
 {
     let mut keys = BTreeSet::new(alloc);
     keys.insert(owners.system_key.clone()?)?;
+    if let Some(root_key) = &owners.root_key {
+        keys.insert(root_key.clone()?)?;
+    }
     Ok(keys)
+}
+
+/// Whether the root has the key of the system.
+fn shares_key(owners: &Owners) -> bool
+    ensures { result ≡ shares_key owners.now owners.now.root_key }
+{
+    match &owners.root_key {
+        None => false,
+        Some(key) => key.as_str() == owners.system_key.as_str(),
+    }
+}
+
+/// Refuses a root with the key of the system.
+#[tactic(auto, unfolding(crate::specs::Devices::roots_apart))]
+fn roots_apart(alloc: Global, owners: &Owners) -> Result<(), ReadFault>
+    ensures { Gives result (roots_apart owners.now) }
+{
+    if shares_key(owners) {
+        let name = String::from_str(alloc, "root_key")?;
+        return Err(ReadFault::Manifest(ManifestFault::Duplicate(Text::new(name))));
+    }
+    Ok(())
 }
 
 /// The packages, if their names and keys are apart, and apart from those of the system and the root.
@@ -161,6 +181,7 @@ fn known_keys(alloc: Global, owners: &Owners) -> Result<BTreeSet<Text>, AllocErr
 fn apart(alloc: Global, owners: &Owners, packages: Vec<Package>) -> Result<Vec<Package>, ReadFault>
     ensures { GivesBy (λ packages. packages.items) result (apart owners.now packages.items) }
 {
+    roots_apart(alloc, owners)?;
     let names = known_names(alloc)?;
     let keys = known_keys(alloc, owners)?;
     if let Some(name) = first_taken(alloc, names, keys, &packages)? {
@@ -184,12 +205,12 @@ fn owners_in(alloc: Global, table: &Value) -> Result<Owners, ReadFault>
     ensures { Gives result (owners_in (view table.now)) }
 {
     let system_key = required_text(alloc, Form::AccessKey, "", "system_key", table)?;
-    unread(alloc, "", "root_key", table)?;
-    unread(alloc, "", "browser", table)?;
+    let root_key = optional_text(alloc, Form::AccessKey, "", "root_key", table)?;
+    let browser = optional_text(alloc, Form::PackageName, "", "browser", table)?;
     Ok(Owners {
         system_key,
-        root_key: None,
-        browser: None,
+        root_key,
+        browser,
     })
 }
 
@@ -198,24 +219,11 @@ fn owners_in(alloc: Global, table: &Value) -> Result<Owners, ReadFault>
 fn actions_in(alloc: Global, table: &Value) -> Result<Actions, ReadFault>
     ensures { Gives result (actions_in (view table.now)) }
 {
-    unread(alloc, "", "protected", table)?;
-    unread(alloc, "", "exempt", table)?;
+    let protected = texts_at(alloc, "", "protected", 1024, table)?;
+    let exempt = texts_at(alloc, "", "exempt", 1024, table)?;
     Ok(Actions {
-        protected: List::new(Vec::new(alloc)),
-        exempt: List::new(Vec::new(alloc)),
-    })
-}
-
-/// What is granted to the packages, and the hosts for which they are approved.
-#[tactic(auto, unfolding(crate::specs::Devices::rights_in))]
-fn rights_in(alloc: Global, packages: &[Package], table: &Value) -> Result<Rights, ReadFault>
-    ensures { Gives result (rights_in packages.now (view table.now)) }
-{
-    unread(alloc, "", "grant", table)?;
-    unread(alloc, "", "link", table)?;
-    Ok(Rights {
-        grants: List::new(Vec::new(alloc)),
-        links: List::new(Vec::new(alloc)),
+        protected: List::new(protected),
+        exempt: List::new(exempt),
     })
 }
 
@@ -251,11 +259,20 @@ fn text_of(bytes: &[u8]) -> Result<&str, ReadFault>
     }
 }
 
-/// Reads a device file of at most 16,777,216 bytes of TOML. The answer is the device, or the first fault
-/// that is met; only want of memory may come at any place.
+/// Reads a device file: at most 16,777,216 bytes of TOML in UTF-8.
+///
+/// The packages get the uids from 10,000 on, in the order of the file; an absent list is empty. A device that is
+/// read is sound: the names and keys of its packages are distinct, and so are the classes of each; grants and links
+/// are of its packages, in order, each once; all stays within the limits.
+///
+/// # Errors
+///
+/// `ReadFault::Manifest` has the first fault that is met, with its place; `ReadFault::NoMemory` may come at any
+/// place.
 #[tactic(auto, unfolding(crate::specs::Devices::device_of))]
 pub fn read_device(alloc: Global, bytes: &[u8]) -> Result<Device, ReadFault>
-    ensures { Gives result (device_of bytes.now) }
+    ensures reads { Gives result (device_of bytes.now) }
+    ensures sound { IfOk result (λ device. IsSound device) }
 {
     at_most(alloc, 16_777_216, "device", bytes.len())?;
     let text = text_of(bytes)?;

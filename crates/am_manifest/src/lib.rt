@@ -3,16 +3,12 @@
 
 mod components;
 mod device;
-mod fault;
-mod filters;
 mod manifest;
-mod place;
 mod print;
-mod tables;
-mod text;
+mod rights;
 
+pub use am_filter_tables::ReadFault;
 pub use device::read_device;
-pub use fault::ReadFault;
 pub use manifest::read_package;
 pub use print::print_fault;
 

@@ -1,14 +1,12 @@
 //! The manifest of a package.
-ghost use Rattle.std.specs.Prelude.{◌≡◌, IfOk, Some, if◌then◌else◌};
+ghost use Rattle.std.specs.Prelude.{◌≡◌, IfOk, Some, if◌then◌else◌, ◌++◌};
 ghost use Rattle.toml.specs.Parse.{parse_document};
 ghost use Rattle.toml.specs.View.{view};
-ghost use Rattle.am_manifest.specs.Reading.{Gives, GivesBy};
+ghost use Rattle.am_filter_tables.specs.Reading.{Gives, GivesBy};
 ghost use Rattle.am_manifest.specs.Manifests.{classes, decls_in, first_repeated, manifest_alone, manifest_in, manifest_made, manifest_of, root_of};
 
-use crate::ReadFault;
 use crate::components::components_at;
-use crate::tables::{at_most, required_text, unread};
-use crate::text::Form;
+use am_filter_tables::{Form, ReadFault, at_most, required_text};
 use am_types::{Decl, Kind, List, Manifest, ManifestFault, Text};
 use std::alloc::{AllocError, Global};
 use std::collections::BTreeSet;
@@ -55,15 +53,26 @@ fn manifest_made(alloc: Global, package: Text, decls: Vec<Decl>) -> Result<Manif
     })
 }
 
+/// The first components, then the others.
+fn joined(first: Vec<Decl>, others: Vec<Decl>) -> Result<Vec<Decl>, AllocError>
+    ensures { IfOk result (λ all. all.items ≡ first.items ++ others.items) }
+{
+    let mut all = first;
+    let mut others = others;
+    all.append(&mut others)?;
+    Ok(all)
+}
+
 /// The components of a package: activities, then services, then receivers.
 #[tactic(auto, unfolding(crate::specs::Manifests::decls_in))]
 fn decls_in(alloc: Global, package: &Text, at: &str, table: &Value) -> Result<Vec<Decl>, ReadFault>
     ensures { GivesBy (λ decls. decls.items) result (decls_in «package».now at.now (view table.now)) }
 {
     let activities = components_at(alloc, Kind::Activity, package, at, "activity", table)?;
-    unread(alloc, at, "service", table)?;
-    unread(alloc, at, "receiver", table)?;
-    Ok(activities)
+    let services = components_at(alloc, Kind::Service, package, at, "service", table)?;
+    let receivers = components_at(alloc, Kind::Receiver, package, at, "receiver", table)?;
+    let decls = joined(activities, services)?;
+    Ok(joined(decls, receivers)?)
 }
 
 /// The manifest in a table, the places of whose keys begin with `at`.
@@ -101,8 +110,12 @@ pub fn root_of(alloc: Global, text: &str) -> Result<Value, ReadFault>
     }
 }
 
-/// Reads a manifest of at most 65,536 bytes of TOML. The answer is the manifest, or the first fault
-/// that is met; only want of memory may come at any place.
+/// Reads a manifest by itself: at most 65,536 bytes of TOML. Its package may not be `android`.
+///
+/// # Errors
+///
+/// `ReadFault::Manifest` has the first fault that is met, with its place; `ReadFault::NoMemory` may come at any
+/// place.
 #[tactic(auto, unfolding(crate::specs::Manifests::manifest_of))]
 pub fn read_package(alloc: Global, text: &Text) -> Result<Manifest, ReadFault>
     ensures { Gives result (manifest_of text.now) }

@@ -1,5 +1,8 @@
+mod documents;
+
 use super::*;
-use am_types::{Device, Kind, Mode, Text};
+use am_types::{Device, Kind, Manifest, Mode, NoMemory, PathRule, Text};
+use documents::{DEVICES, MANIFESTS};
 use std::alloc::{AllocError, Global};
 use std::test::Fail;
 
@@ -7,24 +10,16 @@ use std::test::Fail;
 fn device_outcome(alloc: Global, bytes: &[u8]) -> Result<Text, AllocError> {
     match read_device(alloc, bytes) {
         Ok(_) => text(alloc, "read"),
-        Err(fault) => outcome(alloc, &fault),
+        Err(fault) => Ok(Text::new(fault.to_string(alloc)?)),
     }
 }
 
-fn package_outcome(alloc: Global, manifest: &str) -> Result<Text, AllocError> {
+/// The printed fault, or `read`.
+fn package_outcome(alloc: Global, manifest: &str) -> Result<Text, NoMemory> {
     match read_package(alloc, &text(alloc, manifest)?) {
-        Ok(_) => text(alloc, "read"),
-        Err(fault) => outcome(alloc, &fault),
-    }
-}
-
-fn outcome(alloc: Global, fault: &ReadFault) -> Result<Text, AllocError> {
-    match fault {
-        ReadFault::NoMemory => text(alloc, "no memory"),
-        ReadFault::Manifest(fault) => match print_fault(alloc, fault) {
-            Ok(printed) => Ok(printed),
-            Err(_) => text(alloc, "no memory"),
-        },
+        Ok(_) => Ok(text(alloc, "read")?),
+        Err(ReadFault::Manifest(fault)) => print_fault(alloc, &fault),
+        Err(ReadFault::NoMemory) => Err(NoMemory),
     }
 }
 
@@ -32,299 +27,58 @@ fn text(alloc: Global, words: &str) -> Result<Text, AllocError> {
     Ok(Text::new(String::from_str(alloc, words)?))
 }
 
-/// The front, then the part `count` times, then the back.
-fn repeated(
-    alloc: Global,
-    front: &str,
-    part: &str,
-    count: usize,
-    back: &str,
-) -> Result<String, AllocError> {
-    let mut all = String::from_str(alloc, front)?;
+/// The line, with `<3:x>` spelled out.
+fn spelled_out(alloc: Global, line: &str) -> Result<String, Fail> {
+    let mut all = String::new(alloc);
+    let Some((front, behind)) = line.split_once('<') else {
+        all.push_str(line)?;
+        return Ok(all);
+    };
+    let (count, behind) = behind.split_once(':').ok_or("a count")?;
+    let (part, behind) = behind.split_once('>').ok_or("a part")?;
+    let count = count.parse::<usize>().ok().ok_or("a number")?;
+    all.push_str(front)?;
     for _ in 0..count {
         all.push_str(part)?;
     }
-    all.push_str(back)?;
+    all.push_str(behind)?;
     Ok(all)
 }
 
 #[test]
 fn devices(rt: HostRuntime) -> Result<(), Fail> {
     let alloc = rt.alloc();
-    for (document, want) in [
-        ("", "missing system_key"),
-        ("package = 1", "missing system_key"),
-        ("system_key = \"s\"", "read"),
-        ("\u{feff}system_key = \"s\"\r\nbrowse = []\r\n", "read"),
-        ("system_key = ", "not_toml"),
-        ("system_key = \"s\"\nsystem_key = \"s\"", "not_toml"),
-        ("system_key = \"s\"\nx = 9223372036854775808", "not_toml"),
-        ("system_key = 9223372036854775807", "wrong_kind system_key"),
-        ("system_key = \"\"", "wrong_kind system_key"),
-        ("system_key = \"a b\"", "wrong_kind system_key"),
-        ("system_key = \"\u{e9}\"", "wrong_kind system_key"),
-        ("system_key = 1979-05-27", "wrong_kind system_key"),
-        ("system_key = \"!~\"\npackage = {}", "wrong_kind package"),
-        ("system_key = \"s\"\npackage = []", "read"),
-        (
-            "system_key = \"s\"\npackage = [[]]",
-            "wrong_kind package[0]",
-        ),
-        ("system_key = \"s\"\n[[package]]", "missing package[0].key"),
-        (
-            "system_key = \"s\"\n[[package]]\nkey = true",
-            "wrong_kind package[0].key",
-        ),
-        (
-            "system_key = \"s\"\n[[package]]\nkey = \"k\"",
-            "missing package[0].manifest",
-        ),
-        (
-            "system_key = \"s\"\n[[package]]\nkey = \"k\"\nmanifest = \"\"",
-            "wrong_kind package[0].manifest",
-        ),
-        (
-            "system_key = \"s\"\n[[package]]\nkey = \"k\"\n[package.manifest]",
-            "missing package[0].manifest.package",
-        ),
-        (
-            "system_key = \"s\"\npackage = [{ key = \"k\", manifest = { package = \"a\" } }, { key = \"l\", manifest = { package = \"b\", activity = [{ name = \"A\" }, {}] } }]",
-            "missing package[1].manifest.activity[1].name",
-        ),
-        (
-            "system_key = \"s\"\npackage = [{ key = \"k\", manifest = { package = \"a\" } }, { key = \"l\", manifest = { package = \"a\" } }]",
-            "duplicate a",
-        ),
-        (
-            "system_key = \"s\"\npackage = [{ key = \"k\", manifest = { package = \"a\" } }, { key = \"k\", manifest = { package = \"b\" } }]",
-            "duplicate b",
-        ),
-        (
-            "system_key = \"s\"\npackage = [{ key = \"s\", manifest = { package = \"a\" } }]",
-            "duplicate a",
-        ),
-        (
-            "system_key = \"s\"\npackage = [{ key = \"k\", manifest = { package = \"android\" } }]",
-            "duplicate android",
-        ),
-        (
-            "system_key = \"s\"\npackage = [{ key = \"k\", manifest = { package = \"android\" } }, { key = \"l\" }]",
-            "missing package[1].manifest",
-        ),
-    ] {
-        assert_eq!(rt;
-            device_outcome(alloc, document.as_bytes())?.as_str(),
-            want,
-            "{document}"
-        );
+    let mut document = String::new(alloc);
+    for line in DEVICES.lines() {
+        if let Some(want) = line.strip_prefix("= ") {
+            let outcome = device_outcome(alloc, document.as_bytes())?;
+            assert_eq!(rt; outcome.as_str(), want, "{document}");
+            document = String::new(alloc);
+        } else {
+            document.push_str(spelled_out(alloc, line)?.as_str())?;
+            document.push_str("\r\n")?;
+        }
     }
-    assert_eq!(rt;
-        device_outcome(alloc, b"system_key = \"s\" # \xff")?.as_str(),
-        "not_toml"
-    );
+    let marked = device_outcome(alloc, "\u{feff}system_key = \"s\"".as_bytes())?;
+    assert_eq!(rt; marked.as_str(), "read");
+    let other = device_outcome(alloc, b"system_key = \"s\" # \xff")?;
+    assert_eq!(rt; other.as_str(), "not_toml");
     Ok(())
 }
 
 #[test]
 fn manifests(rt: HostRuntime) -> Result<(), Fail> {
     let alloc = rt.alloc();
-    for (manifest, want) in [
-        ("", "missing package"),
-        ("package = 1", "wrong_kind package"),
-        ("package = \"\"", "wrong_kind package"),
-        ("package = \".a\"", "wrong_kind package"),
-        ("package = \"a/b\"", "wrong_kind package"),
-        ("package = \"a\"", "read"),
-        ("package = \"a\"\nunknown = 1.5", "read"),
-        ("package = \"android\"", "duplicate android"),
-        ("package = \"android\"\nactivity = 1", "wrong_kind activity"),
-        ("package = \"a\"\nactivity = {}", "wrong_kind activity"),
-        ("package = \"a\"\nactivity = [1]", "wrong_kind activity[0]"),
-        (
-            "package = \"a\"\nactivity = [{}]",
-            "missing activity[0].name",
-        ),
-        (
-            "package = \"a\"\nactivity = [{ name = \"\" }]",
-            "wrong_kind activity[0].name",
-        ),
-        (
-            "package = \"a\"\nactivity = [{ name = \"a/b\", exported = 1 }]",
-            "wrong_kind activity[0].name",
-        ),
-        (
-            "package = \"a\"\nactivity = [{ name = \"A\", exported = \"true\" }]",
-            "wrong_kind activity[0].exported",
-        ),
-        (
-            "package = \"a\"\nactivity = [{ name = \"A\", enabled = 0, intent-filter = 1 }]",
-            "wrong_kind activity[0].enabled",
-        ),
-        (
-            "package = \"a\"\nactivity = [{ name = \"A\", intent-filter = 1 }]",
-            "wrong_kind activity[0].intent-filter",
-        ),
-        (
-            "package = \"a\"\nactivity = [{ name = \"A\", intent-filter = [\"x\"] }]",
-            "wrong_kind activity[0].intent-filter[0]",
-        ),
-        (
-            "package = \"a\"\nactivity = [{ name = \"A\", intent-filter = [{}, { action = \"x\" }] }]",
-            "wrong_kind activity[0].intent-filter[1].action",
-        ),
-        (
-            "package = \"a\"\nactivity = [{ name = \"A\", intent-filter = [{ action = [\"x\", \"\"] }] }]",
-            "wrong_kind activity[0].intent-filter[0].action[1]",
-        ),
-        (
-            "package = \"a\"\nactivity = [{ name = \"A\", intent-filter = [{ category = [12:00:00] }] }]",
-            "wrong_kind activity[0].intent-filter[0].category[0]",
-        ),
-        (
-            "package = \"a\"\nactivity = [{ name = \"A\", intent-filter = [{ priority = 1.0 }] }]",
-            "wrong_kind activity[0].intent-filter[0].priority",
-        ),
-        (
-            "package = \"a\"\nactivity = [{ name = \"A\", intent-filter = [{ priority = 2147483648 }] }]",
-            "bad_priority",
-        ),
-        (
-            "package = \"a\"\nactivity = [{ name = \"A\", intent-filter = [{ priority = -2147483649 }] }]",
-            "bad_priority",
-        ),
-        (
-            "package = \"a\"\nactivity = [{ name = \"A\", exported = true, intent-filter = [{ priority = 2147483647 }, { priority = -2147483648 }] }]",
-            "read",
-        ),
-        (
-            "package = \"com.a\"\nactivity = [{ name = \".M\", intent-filter = [{ action = [\"x\"] }] }]",
-            "exported_unstated com.a.M",
-        ),
-        (
-            "package = \"com.a\"\nactivity = [{ name = \"M\", intent-filter = [{}] }, { name = \"\" }]",
-            "exported_unstated com.a.M",
-        ),
-        (
-            "package = \"com.a\"\nactivity = [{ name = \"M\", intent-filter = [] }]",
-            "read",
-        ),
-        (
-            "package = \"com.a\"\nactivity = [{ name = \".M\" }, { name = \"com.a.M\" }]",
-            "duplicate com.a.M",
-        ),
-        (
-            "package = \"a\"\nactivity = [{ name = \"A\" }, { name = \"B\" }, { name = \"B\" }, { name = \"A\" }]",
-            "duplicate a.A",
-        ),
-    ] {
-        assert_eq!(rt;
-            package_outcome(alloc, manifest)?.as_str(),
-            want,
-            "{manifest}"
-        );
-    }
-    Ok(())
-}
-
-#[test]
-fn limits(rt: HostRuntime) -> Result<(), Fail> {
-    let alloc = rt.alloc();
-    let filter = "package = \"a\"\nactivity = [{ name = \"A\", exported = true, intent-filter = [";
-    for (front, part, most, back, want) in [
-        ("package = \"", "a", 1024, "\"", "over_limit text"),
-        (
-            "package = \"a\"\nactivity = [{ name = \"",
-            "a",
-            1024,
-            "\" }]",
-            "over_limit text",
-        ),
-        (
-            "package = \"a\"\nactivity = [{ name = \"A\", exported = true, intent-filter = [{ action = [\"",
-            "x",
-            1024,
-            "\"] }] }]",
-            "over_limit text",
-        ),
-        (
-            "package = \"a\"\nactivity = [{ name = \"A\", exported = true, intent-filter = [{ action = [",
-            "\"x\",",
-            64,
-            "] }] }]",
-            "over_limit list",
-        ),
-        (
-            "package = \"a\"\nactivity = [{ name = \"A\", exported = true, intent-filter = [{ category = [",
-            "\"x\",",
-            64,
-            "] }] }]",
-            "over_limit list",
-        ),
-        (filter, "{},", 32, "] }]", "over_limit filters"),
-        ("package = \"a\"\n#", "x", 65521, "", "over_limit text"),
-    ] {
-        if want != "not_toml" {
-            let all = repeated(alloc, front, part, most, back)?;
-            assert_eq!(rt;
-                package_outcome(alloc, all.as_str())?.as_str(),
-                "read",
-                "{front} {most}"
-            );
+    let mut manifest = String::new(alloc);
+    for line in MANIFESTS.lines() {
+        if let Some(want) = line.strip_prefix("= ") {
+            let outcome = package_outcome(alloc, manifest.as_str())?;
+            assert_eq!(rt; outcome.as_str(), want, "{manifest}");
+            manifest = String::new(alloc);
+        } else {
+            manifest.push_str(spelled_out(alloc, line)?.as_str())?;
+            manifest.push_str("\n")?;
         }
-        let more = repeated(alloc, front, part, most + 1, back)?;
-        assert_eq!(rt;
-            package_outcome(alloc, more.as_str())?.as_str(),
-            want,
-            "{front} {most}"
-        );
-    }
-    for (depth, want) in [(80, "read"), (81, "not_toml")] {
-        let opened = repeated(alloc, "package = \"a\"\nx = ", "[", depth, "")?;
-        let nested = repeated(alloc, opened.as_str(), "]", depth, "")?;
-        assert_eq!(rt;
-            package_outcome(alloc, nested.as_str())?.as_str(),
-            want,
-            "{depth}"
-        );
-    }
-    for (front, part, count, back, want) in [
-        ("system_key = \"", "k", 255, "\"", "read"),
-        ("system_key = \"", "k", 256, "\"", "wrong_kind system_key"),
-        (
-            "system_key = \"s\"\npackage = [",
-            "{},",
-            256,
-            "]",
-            "missing package[0].key",
-        ),
-        (
-            "system_key = \"s\"\npackage = [",
-            "{},",
-            257,
-            "]",
-            "over_limit packages",
-        ),
-        (
-            "system_key = \"s\"\npackage = [{ key = \"k\", manifest = { package = \"a\", activity = [",
-            "{ name = \"A\" },",
-            256,
-            "] } }]",
-            "duplicate a.A",
-        ),
-        (
-            "system_key = \"s\"\npackage = [{ key = \"k\", manifest = { package = \"a\", activity = [",
-            "{ name = \"A\" },",
-            257,
-            "] } }]",
-            "over_limit components",
-        ),
-    ] {
-        let document = repeated(alloc, front, part, count, back)?;
-        assert_eq!(rt;
-            device_outcome(alloc, document.as_bytes())?.as_str(),
-            want,
-            "{front} {count}"
-        );
     }
     Ok(())
 }
@@ -390,40 +144,113 @@ fn values(rt: HostRuntime) -> Result<(), Fail> {
     Ok(())
 }
 
-#[test]
-fn unread_keys(rt: HostRuntime) -> Result<(), Fail> {
-    let alloc = rt.alloc();
-    for (manifest, want) in [
-        ("package = \"a\"\nservice = []", "left_out service"),
-        ("package = \"a\"\nreceiver = 1", "left_out receiver"),
-        (
-            "package = \"a\"\nactivity = [{ name = \"A\", permission = \"p\" }]",
-            "left_out activity[0].permission",
-        ),
-        (
-            "package = \"a\"\nactivity = [{ name = \"A\", exported = true, intent-filter = [{ data = [] }] }]",
-            "left_out activity[0].intent-filter[0].data",
-        ),
-    ] {
-        assert_eq!(rt;
-            package_outcome(alloc, manifest)?.as_str(),
-            want,
-            "{manifest}"
-        );
+/// The grants and the links of a device.
+fn rights(alloc: Global, device: &Device) -> Result<String, AllocError> {
+    let mut all = String::new(alloc);
+    for grant in device.grants.as_slice() {
+        let uid = grant.uid;
+        let permission = grant.permission.as_str();
+        all.push_str(format!(in alloc; "{uid} {permission} ")?.as_str())?;
     }
-    for (document, want) in [
-        ("system_key = \"s\"\nroot_key = \"r\"", "left_out root_key"),
-        (
-            "system_key = \"s\"\nlink = []\npackage = [{ key = \"k\", manifest = { package = \"a\", service = [] } }]",
-            "left_out package[0].manifest.service",
-        ),
-        ("system_key = \"s\"\ngrant = []", "left_out grant"),
+    all.push_str("|")?;
+    for link in device.links.as_slice() {
+        let uid = link.uid;
+        let host = link.host.as_str();
+        all.push_str(format!(in alloc; " {uid} {host}")?.as_str())?;
+    }
+    Ok(all)
+}
+
+/// A device of the package `p` with rights to `count` different things.
+fn with_rights(alloc: Global, key: &str, word: &str, count: usize) -> Result<String, AllocError> {
+    let mut all = format!(in alloc;
+        "system_key = \"s\"\npackage = [{{ key = \"k\", manifest = {{ package = \"p\" }} }}]\n{key} = ["
+    )?;
+    for i in 0..count {
+        let right = format!(in alloc; "{{ package = \"p\", {word} = \"{i}\" }},")?;
+        all.push_str(right.as_str())?;
+        all.push_str(right.as_str())?;
+    }
+    all.push_str("]")?;
+    Ok(all)
+}
+
+#[test]
+fn held_rights(rt: HostRuntime) -> Result<(), Fail> {
+    let alloc = rt.alloc();
+    let document =
+        "system_key = \"s\"\npackage = [{ key = \"k\", manifest = { package = \"p\" } }, { key = \"l\", manifest = { package = \"q\" } }]\ngrant = [{ package = \"q\", permission = \"z\" }, { package = \"p\", permission = \"b\" }, { package = \"p\", permission = \"A\" }, { package = \"p\", permission = \"b\" }]\nlink = [{ package = \"q\", host = \"H.Org\" }, { package = \"q\", host = \"h.org\" }, { package = \"p\", host = \"X\" }]";
+    let device = read_device(alloc, document.as_bytes())
+        .ok()
+        .ok_or("the device is read")?;
+    assert_eq!(rt;
+        rights(alloc, &device)?.as_str(),
+        "10000 A 10000 b 10001 z | 10000 x 10001 h.org"
+    );
+    for (key, word, count, want) in [
+        ("grant", "permission", 256, "read"),
+        ("grant", "permission", 257, "over_limit grants"),
+        ("link", "host", 256, "read"),
+        ("link", "host", 257, "over_limit links"),
     ] {
+        let document = with_rights(alloc, key, word, count)?;
         assert_eq!(rt;
             device_outcome(alloc, document.as_bytes())?.as_str(),
             want,
-            "{document}"
+            "{key} {count}"
         );
     }
+    Ok(())
+}
+
+/// The data of the first filter of the first component.
+fn data_of(alloc: Global, manifest: &Manifest) -> Result<String, AllocError> {
+    let mut all = String::new(alloc);
+    for decl in manifest.decls.as_slice() {
+        for filter in decl.filters.as_slice() {
+            for scheme in filter.schemes.as_slice() {
+                all.push_str(scheme.as_str())?;
+                all.push_str(" ")?;
+            }
+            for authority in filter.authorities.as_slice() {
+                let host = authority.host.as_str();
+                let port = authority.port.unwrap_or(0);
+                all.push_str(format!(in alloc; "| {host} {port} ")?.as_str())?;
+            }
+            for path in filter.paths.as_slice() {
+                let (rule, text) = match path {
+                    PathRule::Literal(text) => ("is", text),
+                    PathRule::Prefix(text) => ("starts", text),
+                    PathRule::Suffix(text) => ("ends", text),
+                    PathRule::Pattern(glob) => ("matches", glob.text()),
+                };
+                let text = text.as_str();
+                all.push_str(format!(in alloc; "| {rule} {text} ")?.as_str())?;
+            }
+            for mime in filter.types.as_slice() {
+                let main = mime.main.as_str();
+                let sub = mime.sub.as_str();
+                all.push_str(format!(in alloc; "| {main} {sub} ")?.as_str())?;
+            }
+        }
+    }
+    Ok(all)
+}
+
+#[test]
+fn data_rows(rt: HostRuntime) -> Result<(), Fail> {
+    let alloc = rt.alloc();
+    let rows =
+        "{ scheme = \"http\", host = \"b\", port = 80, pathPattern = \"/.*\", path = \"/a\" }, { port = 1 }, { host = \"B\", pathSuffix = \"z\", pathPrefix = \"/\", mimeType = \"a/*\" }, { scheme = \"ftp\", host = \"b\", port = 80, mimeType = \"a/*\" }, { scheme = \"http\" }";
+    let manifest = format!(in alloc;
+        "package = \"a\"\nactivity = [{{ name = \"A\", exported = true, intent-filter = [{{ action = [\"x\"], data = [{rows}] }}] }}]"
+    )?;
+    let manifest = read_package(alloc, &Text::new(manifest))
+        .ok()
+        .ok_or("the manifest is read")?;
+    assert_eq!(rt;
+        data_of(alloc, &manifest)?.as_str(),
+        "ftp http | b 80 | B 0 | b 80 | is /a | matches /.* | starts / | ends z | a * | a * "
+    );
     Ok(())
 }

@@ -8,8 +8,9 @@ use Rattle.am_types.specs.declared.manifest.Kind.{Kind}
 use Rattle.am_types.specs.declared.manifest.Kind.TheVariants.{Activity, Service, Receiver}
 use Rattle.am_types.specs.declared.manifest.Decl.{Decl}
 use Rattle.am_types.specs.declared.device.Package.{Package}
-use Rattle.am_types.specs.declared.call.Hit.{Hit}
-use Rattle.am_model.specs.Filters.{is_same, passes}
+use Rattle.am_types.specs.declared.resolve.Hit.{Hit}
+use Rattle.am_model.specs.Texts.{is_same}
+use Rattle.am_model.specs.Filters.{passes}
 
 -- two kinds are the same
 abbrev pub is_kind : Kind → Kind → Bool

@@ -1,21 +1,35 @@
--- The filter test: whether an intent passes an intent filter.
-use Rattle.std.specs.Prelude.{ℕ, Bool, true, false, ◌&&◌, ◌||◌, not, List, [], ◌∷◌, Option, Some, None, codes, nat_eq}
+-- The filter test: whether an intent passes an intent filter, and the first reason why not.
+use Rattle.std.specs.Prelude.{ℕ, Bool, true, false, not, ◌&&◌, ◌||◌, ◌==◌, codes, List, [], ◌∷◌, if◌then◌else◌, Option, Some, None, is_none}
 use Rattle.std.specs.List.{list_any, list_all}
-use Rattle.std.specs.Cmp.Lexicographic.{pointwise}
 use Rattle.am_types.specs.declared.intent.Intent.{Intent}
+use Rattle.am_types.specs.declared.uri.Uri.{Uri}
+use Rattle.am_types.specs.declared.uri.Mime.{Mime}
+use Rattle.am_types.specs.declared.filter.Authority.{Authority}
 use Rattle.am_types.specs.declared.filter.Filter.{Filter}
+use Rattle.am_types.specs.declared.filter.Why.{Why}
+use Rattle.am_types.specs.declared.filter.Why.TheVariants.{Action, Scheme, Host, Path, Type_, Category}
+use Rattle.am_model.specs.Texts.{is_same, lists, ends_with, lowered}
+use Rattle.am_model.specs.MimeTypes.{passes_type}
+use Rattle.am_model.specs.Paths.{passes_path}
 
 -- the category that an implicit start needs
 abbrev pub default_category : List ℕ
 default_category = codes "android.intent.category.DEFAULT"
 
--- two texts are the same
-abbrev pub is_same : List ℕ → List ℕ → Bool
-is_same = pointwise nat_eq
+-- nothing is listed
+abbrev pub is_empty : {X : Type 0} → List X → Bool
+is_empty [] = true
+is_empty (first ∷ others) = false
 
--- the text is listed
-abbrev pub lists : List (List ℕ) → List ℕ → Bool
-lists texts text = list_any (λ listed. is_same listed text) texts
+-- the reason, unless the test holds
+abbrev pub unless : Bool → Why → Option Why
+unless true reason = None
+unless false reason = Some reason
+
+-- the first of two reasons
+abbrev pub or_else : Option Why → Option Why → Option Why
+or_else (Some reason) other = Some reason
+or_else None other = other
 
 -- the filter lists some action, and the intent's, if it has one
 abbrev pub passes_action : List (List ℕ) → Option (List ℕ) → Bool
@@ -23,13 +37,69 @@ passes_action [] action = false
 passes_action (first ∷ others) None = true
 passes_action (first ∷ others) (Some action) = lists (first ∷ others) action
 
--- the filter lists each category of the intent
-abbrev pub passes_categories : List (List ℕ) → List (List ℕ) → Bool
-passes_categories listed categories = list_all (λ category. lists listed category) categories
+-- a filter's host that begins with a star stands for each host with that end
+abbrev pub has_host : List ℕ → List ℕ → Bool
+has_host [] host = is_empty host
+has_host (first ∷ end) host = if first == 42 then ends_with host end else is_same (first ∷ end) host
 
--- the intent passes the filter, which must list the default category where that is needed
+-- the authority has no port, or the URI's
+abbrev pub has_port : Option ℕ → Option ℕ → Bool
+has_port None port = true
+has_port (Some listed) None = false
+has_port (Some listed) (Some port) = listed == port
+
+-- the URI has a host, and it is the authority's, with ASCII case ignored; and so is the port
+abbrev pub passes_authority : Authority → Option (List ℕ) → Option ℕ → Bool
+passes_authority authority None port = false
+passes_authority authority (Some host) port =
+    has_host (lowered authority.host) (lowered host) && has_port authority.port port
+
+-- some authority passes, where one is listed
+abbrev pub passes_authorities : List Authority → Uri → Bool
+passes_authorities authorities uri =
+    is_empty authorities || list_any (λ (a : Authority). passes_authority a uri.host uri.port) authorities
+
+-- some path rule passes, where one counts: paths count only beside an authority
+abbrev pub passes_paths : Filter → Uri → Bool
+passes_paths filter uri =
+    (is_empty filter.authorities || is_empty filter.paths) || list_any (λ rule. passes_path rule uri.path) filter.paths
+
+-- why the URI doesn't pass: the scheme, then the host, then the path
+abbrev pub uri_why : Filter → Uri → Option Why
+uri_why filter uri =
+    or_else (unless (lists filter.schemes uri.scheme) Scheme)
+    (or_else (unless (passes_authorities filter.authorities uri) Host)
+    (unless (passes_paths filter uri) Path))
+
+-- a URI of content on the device itself
+abbrev pub is_local : Uri → Bool
+is_local uri = is_same uri.scheme (codes "content") || is_same uri.scheme (codes "file")
+
+-- why the URI of an intent with a type doesn't pass: a filter without schemes takes local content
+abbrev pub typed_uri_why : Filter → Uri → Option Why
+typed_uri_why filter uri = if is_empty filter.schemes && is_local uri then None else uri_why filter uri
+
+-- why the data of an intent, its URI and its type, doesn't pass
+abbrev pub data_why : Filter → Option Uri → Option Mime → Option Why
+data_why filter None None = or_else (unless (is_empty filter.schemes) Scheme) (unless (is_empty filter.types) Type_)
+data_why filter (Some uri) None = or_else (uri_why filter uri) (unless (is_empty filter.types) Type_)
+data_why filter None (Some mime) =
+    or_else (unless (is_empty filter.schemes) Scheme) (unless (passes_type filter.types mime) Type_)
+data_why filter (Some uri) (Some mime) =
+    or_else (typed_uri_why filter uri) (unless (passes_type filter.types mime) Type_)
+
+-- the filter lists each category of the intent, and the default one where that is needed
+abbrev pub passes_categories : List (List ℕ) → List (List ℕ) → Bool → Bool
+passes_categories listed categories need_default =
+    list_all (λ category. lists listed category) categories && (not need_default || lists listed default_category)
+
+-- why the intent doesn't pass the filter: the first of the tests on its action, data and categories that fails
+abbrev pub why : Filter → Intent → Bool → Option Why
+why filter intent need_default =
+    or_else (unless (passes_action filter.actions intent.action) Action)
+    (or_else (data_why filter intent.uri intent.mime)
+    (unless (passes_categories filter.categories intent.categories need_default) Category))
+
+-- the intent passes the filter
 abbrev pub passes : Filter → Intent → Bool → Bool
-passes filter intent need_default =
-    passes_action filter.actions intent.action
-    && passes_categories filter.categories intent.categories
-    && (not need_default || lists filter.categories default_category)
+passes filter intent need_default = is_none (why filter intent need_default)

@@ -1,4 +1,4 @@
-//! Worked rows.
+//! What the clauses leave to be tried: that rows are read and written with ample memory.
 
 use crate::{Cell, Row, RowFault, row_cells, row_of};
 use am_types::{List, Text};

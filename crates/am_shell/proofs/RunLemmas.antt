@@ -1,10 +1,10 @@
 -- What follows from a whole run: the cause of its status, and that good words and a good device file give the work.
 use Rattle.std.proofs.Common.{◌≡◌, ℕ, ◌⊎◌, inl, inr, List, Option, Some, None, Result, Ok, Err, refl, sym, ap, ◌∙◌, subst, arith}
 use Rattle.std.specs.Io.KnownBytes.{Appends}
-use Rattle.am_types.specs.Counts.{HasRisen}
-use Rattle.am_types.specs.Files.{bytes_of}
+use Rattle.am_outside.specs.Counts.{HasRisen}
+use Rattle.am_outside.specs.Files.{bytes_of}
 use Rattle.am_types.specs.declared.device.Device.{Device}
-use Rattle.am_types.specs.declared.files.FileBytes.{FileBytes}
+use Rattle.am_outside.specs.declared.files.FileBytes.{FileBytes}
 use Rattle.am_types.specs.declared.manifest.ManifestFault.{ManifestFault}
 use Rattle.am_manifest.specs.Devices.{device_of}
 use Rattle.am_http.specs.declared.end.End.{End}

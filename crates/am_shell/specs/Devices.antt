@@ -1,8 +1,8 @@
 -- Reading the device file.
 use Rattle.std.specs.Prelude.{◌≡◌, ℕ, ◌⊎◌, List, Option, Result, Ok, Err, ⊤}
-use Rattle.am_types.specs.Counts.{HasRisen}
+use Rattle.am_outside.specs.Counts.{HasRisen}
 use Rattle.am_types.specs.declared.device.Device.{Device}
-use Rattle.am_types.specs.declared.files.FileBytes.{FileBytes}
+use Rattle.am_outside.specs.declared.files.FileBytes.{FileBytes}
 use Rattle.am_types.specs.declared.manifest.ManifestFault.{ManifestFault}
 use Rattle.am_manifest.specs.Devices.{device_of}
 use Rattle.am_shell.specs.declared.outcome.Outcome.{Outcome}

@@ -1,6 +1,6 @@
 -- What a file that wasn't read makes of a run.
-use Rattle.am_types.specs.declared.files.FileFail.{FileFail}
-use Rattle.am_types.specs.declared.files.FileFail.TheVariants as fails
+use Rattle.am_outside.specs.declared.files.FileFail.{FileFail}
+use Rattle.am_outside.specs.declared.files.FileFail.TheVariants as fails
 use Rattle.am_shell.specs.declared.outcome.Outcome.{Outcome}
 use Rattle.am_shell.specs.declared.outcome.Outcome.TheVariants.{FileFault, NoMemory}
 

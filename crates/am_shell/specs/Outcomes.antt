@@ -1,9 +1,9 @@
 -- What each outcome of a run means.
 use Rattle.std.specs.Prelude.{◌≡◌, ℕ, List, [], Some, None, Ok}
 use Rattle.am_types.specs.declared.device.Device.{Device}
-use Rattle.am_types.specs.declared.call.Entry.{Entry}
-use Rattle.am_model.specs.State.{opening}
-use Rattle.am_model.specs.History.{IsLegal}
+use Rattle.am_types.specs.declared.history.Entry.{Entry}
+use Rattle.am_steps.specs.State.{opening}
+use Rattle.am_steps.specs.History.{IsLegal}
 use Rattle.am_http.specs.declared.end.End.{End}
 use Rattle.am_http.specs.declared.end.Served.{Served}
 use Rattle.am_http.specs.Sessions.{Session, HasFault}

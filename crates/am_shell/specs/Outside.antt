@@ -1,7 +1,7 @@
 -- What the outside tells at a moment.
 use Rattle.std.specs.Prelude.{◌≡◌, ℕ, List, Option, Some, None, ⊤}
-use Rattle.am_types.specs.Files.{bytes_of}
-use Rattle.am_types.specs.declared.files.FileBytes.{FileBytes}
+use Rattle.am_outside.specs.Files.{bytes_of}
+use Rattle.am_outside.specs.declared.files.FileBytes.{FileBytes}
 
 -- of a source the bytes that are left, of a sink those that it took, where it tells them, and its count of faults
 pub record Stream : Type 0 where

@@ -1,10 +1,10 @@
 -- A run of the program, as its status, its files, its streams and its errors show it.
 use Rattle.std.specs.Prelude.{◌≡◌, ℕ, ◌⊎◌, List, Some, None, Ok}
 use Rattle.std.specs.Io.KnownBytes.{Appends}
-use Rattle.am_types.specs.Counts.{HasRisen}
-use Rattle.am_types.specs.Files.{bytes_of}
+use Rattle.am_outside.specs.Counts.{HasRisen}
+use Rattle.am_outside.specs.Files.{bytes_of}
 use Rattle.am_types.specs.declared.device.Device.{Device}
-use Rattle.am_types.specs.declared.files.FileBytes.{FileBytes}
+use Rattle.am_outside.specs.declared.files.FileBytes.{FileBytes}
 use Rattle.am_manifest.specs.Devices.{device_of}
 use Rattle.am_http.specs.declared.end.End.{End}
 use Rattle.am_http.specs.declared.end.End.TheVariants.{Input, Close, Refused, Cut, Limit}

@@ -6,7 +6,8 @@ ghost use Rattle.am_shell.specs.Lines.{refusal_line};
 
 use crate::outcome::Outcome;
 use am_manifest::{ReadFault, print_fault, read_device};
-use am_types::{Device, Files, ManifestFault, NoMemory, Text};
+use am_outside::Files;
+use am_types::{Device, ManifestFault, NoMemory, Text};
 use std::alloc::Global;
 
 /// Reads the device file of that name.

@@ -3,7 +3,8 @@
 ghost use Rattle.std.specs.Prelude.{◌≡◌, None, ◌<◌, ◌≤◌, length};
 ghost use Rattle.std.specs.Io.{ReadsAtMost, WritesAtMost};
 
-use am_types::{Clock, Failed, FileFail, Files, NoMemory, Sink, Source, Text};
+use am_outside::{Clock, Failed, FileFail, Files, Sink, Source};
+use am_types::{NoMemory, Text};
 use std::io::{ErrorKind, Read, Write};
 use std::marker::{Copy, Send};
 use std::rt::{Clock as Time, Env, Files as Storage};

@@ -11,4 +11,6 @@ mod words;
 pub use program::{run, tell_want};
 
 #[cfg(test)]
+mod data_tests;
+#[cfg(test)]
 mod tests;

@@ -3,7 +3,8 @@ ghost use Rattle.std.specs.Prelude.{◌≡◌};
 ghost use Rattle.am_shell.specs.Lines.{end_line, end_status, line_of, status_of};
 
 use am_http::End;
-use am_types::{FileFail, Text};
+use am_outside::FileFail;
+use am_types::Text;
 
 /// How a run went.
 #[derive(Debug, Drop)]

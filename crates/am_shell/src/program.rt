@@ -8,7 +8,8 @@ use crate::outcome::Outcome;
 use crate::session::serve_session;
 use crate::words::device_file;
 use am_http::write_all;
-use am_types::{Clock, Failed, Files, NoMemory, Sink, Source, Text};
+use am_outside::{Clock, Failed, Files, Sink, Source};
+use am_types::{NoMemory, Text};
 use std::alloc::Global;
 
 /// Runs the program: the words, the device file, then one session from the input to the output.

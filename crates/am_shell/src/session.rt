@@ -4,7 +4,8 @@ ghost use Rattle.am_shell.specs.Outcomes.{Serves};
 
 use am_http::{Buffers, End, serve_connection};
 use am_machine::{SoleDesk, begin};
-use am_types::{Clock, Device, NoMemory, Sink, Source};
+use am_outside::{Clock, Sink, Source};
+use am_types::{Device, NoMemory};
 use std::alloc::Global;
 
 /// Serves one session from the device's opening state, and answers how it ended. After `NoMemory`

@@ -1,9 +1,10 @@
 use crate::host::{ReaderSource, SystemClock, SystemFiles, WriterSink};
 use crate::run;
-use am_types::{
-    Clock, Failed, FileBytes, FileFail, Files, List, MemoryFiles, MemorySink, MemorySource, Sink,
-    Source, StepClock, Text,
+use am_outside::{
+    Clock, Failed, FileBytes, FileFail, Files, MemoryFiles, MemorySink, MemorySource, Sink, Source,
+    StepClock,
 };
+use am_types::{List, Text};
 use std::alloc::Global;
 use std::io::{self, ErrorKind, Read};
 use std::process::Abort;
@@ -366,6 +367,40 @@ fn try_exchange(rt: &impl Abort, alloc: Global, row: &Exchange) -> Result<(), Fa
     assert_eq!(rt; status, 0, "{body}");
     assert_eq!(rt; output.taken(), wanted.as_str().as_bytes(), "{body}");
     assert!(rt; errors.taken().is_empty(), "{body}");
+    Ok(())
+}
+
+/// A query with that body over the device is answered by that body.
+pub fn try_query(
+    rt: &impl Abort,
+    alloc: Global,
+    device: &str,
+    body: &str,
+    answer: &str,
+) -> Result<(), Fail> {
+    let asked = body.len();
+    let input = format!(in alloc;
+        "POST /v1/query HTTP/1.1\r\nAM-Key: k1\r\nContent-Length: {asked}\r\n\r\n{body}"
+    )?;
+    let told = answer.len();
+    let mut wanted = String::from_str(
+        alloc,
+        "HTTP/1.1 200 OK\r\nContent-Type: application/json\r\n",
+    )?;
+    write!(
+        wanted,
+        "Content-Length: {told}\r\nAM-At: 0\r\nAM-Stored: 0\r\n\r\n{answer}"
+    )?;
+    let (status, output, errors) = try_run(
+        alloc,
+        "session --device d",
+        device,
+        input.as_str(),
+        "",
+    )?;
+    assert_eq!(rt; output.taken(), wanted.as_str().as_bytes(), "{body}");
+    assert!(rt; errors.taken().is_empty(), "{body}");
+    assert_eq!(rt; status, 0, "{body}");
     Ok(())
 }
 

@@ -160,3 +160,75 @@ impl Clone for ItemKind {
         }
     }
 }
+
+/// A receiver that a broadcast is to reach.
+#[derive(Debug, Drop, PartialEq, Eq, PartialOrd, Ord, Hash)]
+pub struct Spot {
+    pub uid: u32,
+    pub aim: Aim,
+}
+
+impl Clone for Spot {
+    ghost is_clone = { λ x y. y ≡ x };
+
+    fn clone(&self) -> Result<Spot, AllocError> {
+        Ok(Spot {
+            uid: self.uid,
+            aim: self.aim.clone()?,
+        })
+    }
+}
+
+/// A broadcast that is to be sent.
+#[derive(Debug, Drop, PartialEq, Eq)]
+pub struct Sending {
+    pub sender: u32,
+    /// The moment of the sending, in milliseconds.
+    pub now: u64,
+    /// Whether it stands in the foreground queue and has the short deadlines.
+    pub foreground: bool,
+    /// Whether aborts count for nothing.
+    pub no_abort: bool,
+    pub intent: Intent,
+    /// The admitted receivers, in order.
+    pub to: List<Spot>,
+    /// None for a normal broadcast.
+    pub ordered: Option<Ordered>,
+}
+
+impl Clone for Sending {
+    ghost is_clone = { λ x y. y ≡ x };
+
+    fn clone(&self) -> Result<Sending, AllocError> {
+        Ok(Sending {
+            sender: self.sender,
+            now: self.now,
+            foreground: self.foreground,
+            no_abort: self.no_abort,
+            intent: self.intent.clone()?,
+            to: copies::spots(&self.to)?,
+            ordered: copies::ordered(&self.ordered)?,
+        })
+    }
+}
+
+/// Why a broadcast isn't sent.
+#[derive(Clone, Copy, Debug, PartialEq, Eq)]
+pub enum SendFault {
+    /// The sender has 64 live broadcasts.
+    Full,
+    /// It would go to more than 1,024 receivers.
+    TooMany,
+    NoMemory,
+}
+
+/// Why a delivery isn't finished.
+#[derive(Clone, Copy, Debug, PartialEq, Eq)]
+pub enum FinishFault {
+    /// No such delivery or result stands.
+    NoDelivery,
+    /// It is another uid's.
+    NotYours,
+    /// A result or an abort for what isn't an ordered delivery.
+    NotOrdered,
+}

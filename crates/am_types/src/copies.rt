@@ -2,8 +2,9 @@
 ghost use Rattle.std.specs.Prelude.{◌≡◌, IfOk};
 
 use crate::{
-    Authority, Component, Decl, Filter, Grant, InstanceView, Link, List, Mime, Named, Outcome,
-    Package, PathRule, Rule, Signature, Text, Uri,
+    Authority, Component, Decl, Entry, Filter, Grant, Hit, InstanceView, Intent, Item, Link, List,
+    Mime, Named, Ordered, Outcome, Package, PathRule, Receiving, Rule, ServiceView, Signature,
+    Spot, TaskView, Text, Uri,
 };
 use std::alloc::AllocError;
 
@@ -129,6 +130,67 @@ pub fn signatures(from: &List<Signature>) -> Result<List<Signature>, AllocError>
 
 #[tactic(auto, using(crate::proofs::Clones::same_list))]
 pub fn components(from: &List<Component>) -> Result<List<Component>, AllocError>
+    ensures { IfOk result (λ copy. copy ≡ from.now) }
+{
+    from.clone()
+}
+
+pub fn ordered(from: &Option<Ordered>) -> Result<Option<Ordered>, AllocError>
+    ensures { IfOk result (λ copy. copy ≡ from.now) }
+{
+    from.clone()
+}
+
+pub fn intent(from: &Option<Intent>) -> Result<Option<Intent>, AllocError>
+    ensures { IfOk result (λ copy. copy ≡ from.now) }
+{
+    from.clone()
+}
+
+#[tactic(auto, using(crate::proofs::Clones::same_list))]
+pub fn hits(from: &List<Hit>) -> Result<List<Hit>, AllocError>
+    ensures { IfOk result (λ copy. copy ≡ from.now) }
+{
+    from.clone()
+}
+
+#[tactic(auto, using(crate::proofs::Clones::same_list))]
+pub fn tasks(from: &List<TaskView>) -> Result<List<TaskView>, AllocError>
+    ensures { IfOk result (λ copy. copy ≡ from.now) }
+{
+    from.clone()
+}
+
+#[tactic(auto, using(crate::proofs::Clones::same_list))]
+pub fn services(from: &List<ServiceView>) -> Result<List<ServiceView>, AllocError>
+    ensures { IfOk result (λ copy. copy ≡ from.now) }
+{
+    from.clone()
+}
+
+#[tactic(auto, using(crate::proofs::Clones::same_list))]
+pub fn items(from: &List<Item>) -> Result<List<Item>, AllocError>
+    ensures { IfOk result (λ copy. copy ≡ from.now) }
+{
+    from.clone()
+}
+
+#[tactic(auto, using(crate::proofs::Clones::same_list))]
+pub fn receivings(from: &List<Receiving>) -> Result<List<Receiving>, AllocError>
+    ensures { IfOk result (λ copy. copy ≡ from.now) }
+{
+    from.clone()
+}
+
+#[tactic(auto, using(crate::proofs::Clones::same_list))]
+pub fn entries(from: &List<Entry>) -> Result<List<Entry>, AllocError>
+    ensures { IfOk result (λ copy. copy ≡ from.now) }
+{
+    from.clone()
+}
+
+#[tactic(auto, using(crate::proofs::Clones::same_list))]
+pub fn spots(from: &List<Spot>) -> Result<List<Spot>, AllocError>
     ensures { IfOk result (λ copy. copy ≡ from.now) }
 {
     from.clone()

@@ -81,3 +81,23 @@ impl Clone for Filter {
         })
     }
 }
+
+/// Why an intent doesn't pass a filter: the first test that fails, in this order.
+#[derive(Clone, Copy, Debug, PartialEq, Eq, PartialOrd, Ord, Hash)]
+pub enum Why {
+    Action,
+    Scheme,
+    Host,
+    Path,
+    /// The MIME type.
+    Type_,
+    Category,
+}
+
+/// Why an intent isn't filled in.
+#[derive(Clone, Copy, Debug, PartialEq, Eq)]
+pub enum FillFault {
+    /// There would be more than 64 extras.
+    ExtrasFull,
+    NoMemory,
+}

@@ -38,7 +38,8 @@ impl Glob {
 
     /// The text as it was written. Takes no memory.
     pub fn text(&self) -> &Text
-        ensures { result.now ≡ self.now }
+        ensures text { result.now ≡ self.now }
+        ensures within { length self.now ≤ 1024 }
     {
         &self.text
     }

@@ -1,22 +1,21 @@
-//! The values that the activity manager speaks of, and the traits of the outside.
+//! The values that the activity manager speaks of.
 #![tactic(auto)]
 
 mod broadcast;
-mod call;
-mod clock;
 mod copies;
 mod device;
 mod failure;
-mod files;
 mod filter;
 mod glob;
+mod history;
 mod intent;
 mod list;
 mod manifest;
-mod memory;
-mod memory_files;
-mod outside;
 mod pending;
+mod reply;
+mod request;
+mod resolve;
+mod rule;
 mod task;
 #[cfg(test)]
 mod tests;
@@ -24,22 +23,25 @@ mod text;
 mod uri;
 mod visible;
 
-pub use broadcast::{Aim, Answer, Item, ItemKind, Ordered, Outcome, Receiving};
-pub use call::{Entry, Hit, Limit, Reply, Request, Rule, Shown};
-pub use clock::{Clock, StepClock};
+pub use broadcast::{
+    Aim, Answer, FinishFault, Item, ItemKind, Ordered, Outcome, Receiving, SendFault, Sending, Spot,
+};
 pub use device::{Device, Grant, Link, Package};
-pub use failure::{Failed, NoMemory};
-pub use files::{FileBytes, FileFail, Files};
-pub use filter::{Authority, Filter, PathRule};
+pub use failure::NoMemory;
+pub use filter::{Authority, FillFault, Filter, PathRule, Why};
 pub use glob::Glob;
+pub use history::{Entry, Shown};
 pub use intent::{Component, Extra, Flags, Intent, Named};
 pub use list::List;
 pub use manifest::{Decl, Kind, Manifest, ManifestFault, Mode};
-pub use memory::{MemorySink, MemorySource};
-pub use memory_files::MemoryFiles;
-pub use outside::{Sink, Source};
-pub use pending::PendingFlags;
-pub use task::{InstanceView, Landed, Placed, ServiceView, TaskView};
+pub use pending::{PendingFault, PendingFlags, Used};
+pub use reply::Reply;
+pub use request::Request;
+pub use resolve::{Hit, Registration, Target};
+pub use rule::{Limit, Rule};
+pub use task::{
+    InstanceView, Landed, PlaceFault, Placed, ServiceView, StartCall, TaskFault, TaskView,
+};
 pub use text::Text;
-pub use uri::{Mime, Uri};
+pub use uri::{Mime, MimeFault, Uri, UriFault};
 pub use visible::{Queries, Signature};

@@ -1,3 +1,8 @@
+ghost use Rattle.std.specs.Prelude.{◌≡◌};
+
+use crate::{Intent, Kind};
+use std::alloc::AllocError;
+
 /// The flags with which a pending intent is asked for.
 #[derive(Clone, Copy, Debug, Default, PartialEq, Eq, PartialOrd, Ord, Hash)]
 pub struct PendingFlags {
@@ -7,4 +12,49 @@ pub struct PendingFlags {
     pub update_current: bool,
     pub immutable: bool,
     pub mutable: bool,
+}
+
+/// What a token stands for, with what a sender filled in.
+#[derive(Debug, Drop, PartialEq, Eq)]
+pub struct Used {
+    pub creator: u32,
+    pub kind: Kind,
+    pub intent: Intent,
+    /// Whether this use ends the token.
+    pub one_shot: bool,
+}
+
+impl Clone for Used {
+    ghost is_clone = { λ x y. y ≡ x };
+
+    fn clone(&self) -> Result<Used, AllocError> {
+        Ok(Used {
+            creator: self.creator,
+            kind: self.kind,
+            intent: self.intent.clone()?,
+            one_shot: self.one_shot,
+        })
+    }
+}
+
+/// Why a call on a pending intent is refused.
+#[derive(Clone, Copy, Debug, PartialEq, Eq)]
+pub enum PendingFault {
+    /// Not exactly one of mutable and immutable is given.
+    Mutability,
+    /// The creator has 1,024 live records.
+    Full,
+    /// No such token was ever given, or it isn't live.
+    NoToken,
+    /// Another uid made it.
+    NotCreator,
+    /// The caller neither made it nor was given it.
+    NotHolder,
+    /// It isn't live any more.
+    Canceled,
+    /// More than 64 extras after the fill-in.
+    ExtrasFull,
+    /// It has 64 holders beside its creator.
+    HoldersFull,
+    NoMemory,
 }

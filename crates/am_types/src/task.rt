@@ -1,6 +1,6 @@
 ghost use Rattle.std.specs.Prelude.{◌≡◌};
 
-use crate::{Component, Intent, List, copies};
+use crate::{Component, Flags, Intent, List, Mode, Text, copies};
 use std::alloc::AllocError;
 
 /// What a start did: a fresh instance, a new intent to one that was there, or a task brought to the front.
@@ -76,4 +76,62 @@ impl Clone for ServiceView {
             starts: self.starts,
         })
     }
+}
+
+/// A start of an activity that is to be placed.
+#[derive(Debug, Drop, PartialEq, Eq)]
+pub struct StartCall {
+    pub target: Component,
+    /// The uid of the target's package.
+    pub owner: u32,
+    pub caller: u32,
+    pub mode: Mode,
+    /// The target's affinity; empty for none.
+    pub affinity: Text,
+    pub flags: Flags,
+    /// The activity instance that starts it.
+    pub source: Option<u64>,
+    pub intent: Intent,
+}
+
+impl Clone for StartCall {
+    ghost is_clone = { λ x y. y ≡ x };
+
+    fn clone(&self) -> Result<StartCall, AllocError> {
+        Ok(StartCall {
+            target: self.target.clone()?,
+            owner: self.owner,
+            caller: self.caller,
+            mode: self.mode,
+            affinity: self.affinity.clone()?,
+            flags: self.flags,
+            source: self.source,
+            intent: self.intent.clone()?,
+        })
+    }
+}
+
+/// Why a start isn't placed.
+#[derive(Clone, Copy, Debug, PartialEq, Eq)]
+pub enum PlaceFault {
+    /// There is no such source instance.
+    NoSource,
+    /// The source instance is another uid's.
+    NotYours,
+    /// A start without a source must ask for a new task.
+    NeedsNewTask,
+    /// There are 64 tasks.
+    TasksFull,
+    /// The task has 64 instances.
+    TaskFull,
+    NoMemory,
+}
+
+/// Why an activity instance isn't ended.
+#[derive(Clone, Copy, Debug, PartialEq, Eq)]
+pub enum TaskFault {
+    /// There is no such instance.
+    NoSource,
+    /// It is another uid's.
+    NotYours,
 }

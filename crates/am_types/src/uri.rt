@@ -51,3 +51,31 @@ impl Clone for Mime {
         })
     }
 }
+
+/// Why a text is no URI, the first that applies: over its length first, then from left to right.
+#[derive(Clone, Copy, Debug, PartialEq, Eq)]
+pub enum UriFault {
+    /// It doesn't begin with a scheme and a colon.
+    NoScheme,
+    /// What follows the host isn't a port of at most five digits.
+    BadPort,
+    /// A percent sign in the path isn't followed by two hexadecimal digits.
+    BadEscape,
+    /// The decoded path isn't UTF-8.
+    NotUtf8,
+    /// It has more than 1,024 bytes.
+    TooLong,
+    NoMemory,
+}
+
+/// Why a text is no MIME type.
+#[derive(Clone, Copy, Debug, PartialEq, Eq)]
+pub enum MimeFault {
+    /// It has no slash.
+    NoSlash,
+    /// A part is empty.
+    EmptyPart,
+    /// A blank, a control character or a second slash.
+    BadCharacter,
+    NoMemory,
+}

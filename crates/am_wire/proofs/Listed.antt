@@ -3,7 +3,7 @@ use Rattle.std.proofs.Common.{◌≡◌, ℕ, Bool, ◌&&◌, ◌||◌, List, []
 use Rattle.std.specs.List.{list_any, list_all}
 use Rattle.serde_json.specs.View.{members_view}
 use Rattle.serde_json.specs.declared.value.Value.{Value}
-use Rattle.am_model.specs.Filters.{lists}
+use Rattle.am_model.specs.Texts.{lists}
 use Rattle.am_wire.specs.Bodies.{all_listed}
 
 -- a test of some element of a mapped list

@@ -6,8 +6,8 @@ use Rattle.serde_json.specs.Written.{has_float, items_have_float}
 use Rattle.serde_json.specs.declared.value.Value.{Value}
 use Rattle.serde_json.proofs.Views.{items_len-items_view}
 use Rattle.am_types.specs.declared.intent.Component.{Component}
-use Rattle.am_types.specs.declared.call.Reply.{Reply}
-use Rattle.am_types.specs.declared.call.Reply.TheVariants.{Components, Refused}
+use Rattle.am_types.specs.declared.reply.Reply.{Reply}
+use Rattle.am_types.specs.declared.reply.Reply.TheVariants as says
 use Rattle.am_wire.specs.Replies.{component_data, reply_data}
 
 -- no component has a float
@@ -23,8 +23,22 @@ or_false false h = refl
 -- no reply has a float
 pub reply_has_no_float : (reply : Reply) → has_float (reply_data reply) ≡ false
 unfolding reply_data
-reply_has_no_float (Components found) = or_false _ (components_have_no_float found)
-reply_has_no_float (Refused rule) = refl
+reply_has_no_float (says.Components found) = or_false _ (components_have_no_float found)
+reply_has_no_float (says.Choose found) = refl
+reply_has_no_float (says.Placed landed) = refl
+reply_has_no_float (says.Finished instance) = refl
+reply_has_no_float (says.Tasks tasks) = refl
+reply_has_no_float (says.Services services) = refl
+reply_has_no_float (says.Registered number) = refl
+reply_has_no_float (says.Items items) = refl
+reply_has_no_float (says.Token token) = refl
+reply_has_no_float (says.Installed uid) = refl
+reply_has_no_float (says.Refused rule) = refl
+reply_has_no_float (says.Started component starts) = refl
+reply_has_no_float (says.Sent broadcast receivers) = refl
+reply_has_no_float (says.Entries from entries) = refl
+reply_has_no_float (says.Status history moment packages) = refl
+reply_has_no_float says.Plain = refl
 
 -- the value of an array has as many items as the array
 pub items_counted : (values : List Value) → items_len (items_view values) ≡ length values

@@ -3,6 +3,7 @@ use Rattle.std.specs.Prelude.{ℕ, Bool, true, false, ◌&&◌, List, [], ◌∷
 use Rattle.std.specs.Ordering.{nat_cmp}
 use Rattle.std.specs.Cmp.Lexicographic.{slice_cmp}
 use Rattle.std.specs.Str.{is_utf8}
+use Rattle.std.specs.Result.{result_ok}
 use Rattle.std.specs.BTreeSet.{insert_key}
 use Rattle.serde_json.specs.Data.{Data, null, boolean, number, string, array, object, Items, no_items, item, Members, no_members, member}
 use Rattle.serde_json.specs.Events.{items_len}
@@ -10,13 +11,17 @@ use Rattle.serde_json.specs.Find.{get, as_bool, as_str, as_array, as_object}
 use Rattle.serde_json.specs.Read.{read}
 use Rattle.am_types.specs.declared.intent.Flags.{Flags}
 use Rattle.am_types.specs.declared.intent.Intent.{Intent}
+use Rattle.am_types.specs.declared.uri.Uri.{Uri}
+use Rattle.am_types.specs.declared.uri.Mime.{Mime}
 use Rattle.am_types.specs.declared.manifest.Kind.{Kind}
 use Rattle.am_types.specs.declared.manifest.Kind.TheVariants.{Activity}
-use Rattle.am_types.specs.declared.call.Request.{Request}
-use Rattle.am_types.specs.declared.call.Request.TheVariants.{Query}
+use Rattle.am_types.specs.declared.request.Request.{Request}
+use Rattle.am_types.specs.declared.request.Request.TheVariants.{Query}
 use Rattle.am_wire.specs.declared.query.Unread.{Unread}
 use Rattle.am_wire.specs.declared.query.Unread.TheVariants.{NoQuery, NoRoom}
-use Rattle.am_model.specs.Filters.{is_same, lists}
+use Rattle.am_model.specs.Texts.{is_same, lists}
+use Rattle.am_model.specs.Uris.{uri_of}
+use Rattle.am_model.specs.MimeTypes.{mime_of}
 
 -- what is read after this, where this is read
 infixl 10 ◌>>=◌
@@ -96,6 +101,26 @@ action_of intent = optional text_in (field (codes "action") intent)
 unfoldable pub categories_of : Data → Option (List (List ℕ))
 categories_of intent = or_default [] categories_in (field (codes "categories") intent)
 
+-- a text that is a URI
+unfoldable pub uri_in : Data → Option Uri
+uri_in value = do
+  text ← text_in value
+  result_ok (uri_of text)
+
+-- a text that is a MIME type
+unfoldable pub mime_in : Data → Option Mime
+mime_in value = do
+  text ← text_in value
+  result_ok (mime_of text)
+
+-- the URI of an intent, if it has one
+unfoldable pub data_of : Data → Option (Option Uri)
+data_of intent = optional uri_in (field (codes "data") intent)
+
+-- the MIME type of an intent, if it has one
+unfoldable pub type_of : Data → Option (Option Mime)
+type_of intent = optional mime_in (field (codes "type") intent)
+
 -- no flag is set
 abbrev pub no_flags : Flags
 no_flags = record {
@@ -111,12 +136,12 @@ no_flags = record {
   include_stopped = false;
 }
 
--- an intent that asks for an action and for categories, and for nothing else
-abbrev pub intent_with : Option (List ℕ) → List (List ℕ) → Intent
-intent_with action categories = record {
+-- an intent that has an action, categories, a URI and a MIME type, and nothing else
+abbrev pub intent_with : Option (List ℕ) → List (List ℕ) → Option Uri → Option Mime → Intent
+intent_with action categories uri mime = record {
   action = action;
-  uri = None;
-  mime = None;
+  uri = uri;
+  mime = mime;
   identifier = None;
   categories = categories;
   «package» = None;
@@ -127,7 +152,7 @@ intent_with action categories = record {
 
 -- the fields of an intent
 abbrev pub intent_fields : List (List ℕ)
-intent_fields = codes "action" ∷ codes "categories" ∷ []
+intent_fields = codes "action" ∷ codes "categories" ∷ codes "data" ∷ codes "type" ∷ []
 
 -- the intent that a value says
 unfoldable pub intent_in : Data → Option Intent
@@ -135,7 +160,9 @@ intent_in value = do
   intent ← object_with intent_fields value
   action ← action_of intent
   categories ← categories_of intent
-  Some (intent_with action categories)
+  uri ← data_of intent
+  mime ← type_of intent
+  Some (intent_with action categories uri mime)
 
 -- the kind that a value says
 unfoldable pub kind_in : Data → Option Kind

@@ -1,10 +1,13 @@
 //! Reading the body of a query.
 ghost use Rattle.std.specs.Prelude.{◌≡◌, List, IfOk, map, option_map};
 ghost use Rattle.serde_json.specs.View.{view, items_view, members_view};
-ghost use Rattle.am_model.specs.Filters.{lists};
-ghost use Rattle.am_wire.specs.Bodies.{Gives, all_listed, field, text_in, texts_in, sorted_once, categories_in, action_of, categories_of, object_with, intent_in, intent_of, kind_of, default_only_of, query_in, query_of, value_of};
+ghost use Rattle.am_model.specs.Texts.{lists};
+ghost use Rattle.am_wire.specs.Bodies.{Gives, all_listed, field, text_in, texts_in, sorted_once, categories_in, action_of, categories_of, uri_in, mime_in, data_of, type_of, object_with, intent_in, intent_of, kind_of, default_only_of, query_in, query_of, value_of};
 
-use am_types::{Flags, Intent, Kind, List, NoMemory, Request, Text};
+use am_types::{
+    Flags, Intent, Kind, List, Mime, MimeFault, NoMemory, Request, Text, Uri, UriFault,
+};
+use am_uri::{parse_mime, parse_uri};
 use serde_json::{Map, Value};
 use std::alloc::{AllocError, AllocFailed, Global};
 use std::collections::BTreeSet;
@@ -47,8 +50,9 @@ impl<T: Drop> From<AllocFailed<T>> for Unread {
 }
 
 /// Reads the body of a query: a JSON object with the `kind` `activity`, an `intent` and perhaps the
-/// truth `defaultOnly`. The intent has at most the text `action` and the texts `categories`, 64 at
-/// most. A text has at most 1,024 bytes, and a `null` counts as absent. Any other body is None.
+/// truth `defaultOnly`. The intent has at most the text `action`, the texts `categories`, 64 at
+/// most, the URI `data` and the MIME type `type`. A text has at most 1,024 bytes, and a `null`
+/// counts as absent. Any other body is None.
 pub fn read_query(alloc: Global, body: &[u8]) -> Result<Option<Request>, NoMemory>
     ensures { IfOk result (λ read. read ≡ query_of body.now) }
 {
@@ -164,13 +168,15 @@ fn intent_of(alloc: Global, query: &Value) -> Result<Intent, Unread>
 fn intent_in(alloc: Global, value: &Value) -> Result<Intent, Unread>
     ensures { Gives (λ intent. intent) result (intent_in (view value.now)) }
 {
-    expect_object(value, &["action", "categories"])?;
+    expect_object(value, &["action", "categories", "data", "type"])?;
     let action = action_of(alloc, value)?;
     let categories = categories_of(alloc, value)?;
+    let uri = data_of(alloc, value)?;
+    let mime = type_of(alloc, value)?;
     Ok(Intent {
         action,
-        uri: None,
-        mime: None,
+        uri,
+        mime,
         identifier: None,
         categories,
         package: None,
@@ -197,6 +203,50 @@ fn categories_of(alloc: Global, intent: &Value) -> Result<List<Text>, Unread>
     match field(intent, "categories") {
         None => Ok(List::new(Vec::new(alloc))),
         Some(value) => categories_in(alloc, value),
+    }
+}
+
+#[tactic(auto, unfolding(crate::specs::Bodies::data_of))]
+fn data_of(alloc: Global, intent: &Value) -> Result<Option<Uri>, Unread>
+    ensures { Gives (λ uri. uri) result (data_of (view intent.now)) }
+{
+    match field(intent, "data") {
+        None => Ok(None),
+        Some(value) => Ok(Some(uri_in(alloc, value)?)),
+    }
+}
+
+#[tactic(auto, unfolding(crate::specs::Bodies::type_of))]
+fn type_of(alloc: Global, intent: &Value) -> Result<Option<Mime>, Unread>
+    ensures { Gives (λ mime. mime) result (type_of (view intent.now)) }
+{
+    match field(intent, "type") {
+        None => Ok(None),
+        Some(value) => Ok(Some(mime_in(alloc, value)?)),
+    }
+}
+
+#[tactic(auto, unfolding(crate::specs::Bodies::uri_in))]
+fn uri_in(alloc: Global, value: &Value) -> Result<Uri, Unread>
+    ensures { Gives (λ uri. uri) result (uri_in (view value.now)) }
+{
+    let text = text_in(alloc, value)?;
+    match parse_uri(alloc, &text) {
+        Ok(uri) => Ok(uri),
+        Err(UriFault::NoMemory) => Err(Unread::NoRoom),
+        Err(_) => Err(Unread::NoQuery),
+    }
+}
+
+#[tactic(auto, unfolding(crate::specs::Bodies::mime_in))]
+fn mime_in(alloc: Global, value: &Value) -> Result<Mime, Unread>
+    ensures { Gives (λ mime. mime) result (mime_in (view value.now)) }
+{
+    let text = text_in(alloc, value)?;
+    match parse_mime(alloc, &text) {
+        Ok(mime) => Ok(mime),
+        Err(MimeFault::NoMemory) => Err(Unread::NoRoom),
+        Err(_) => Err(Unread::NoQuery),
     }
 }
 
@@ -244,43 +294,146 @@ fn text_in(alloc: Global, value: &Value) -> Result<Text, Unread>
 #[cfg(test)]
 mod tests {
     use super::read_query;
-    use am_types::{Flags, Intent, Kind, List, Request, Text};
+    use am_types::{Intent, Kind, Request};
     use std::alloc::{AllocError, Global};
     use std::test::Fail;
 
-    fn text(alloc: Global, from: &str) -> Result<Text, AllocError> {
-        Ok(Text::new(String::from_str(alloc, from)?))
+    // What a body asks for: the kind, the action, the categories and `default` where that is asked
+    // for, then the URI with its path and the MIME type's parts; `none` where it is no query.
+    fn said(alloc: Global, body: &[u8]) -> Result<String, Fail> {
+        match read_query(alloc, body)? {
+            None => Ok(String::from_str(alloc, "none")?),
+            Some(request) => {
+                let told = told(alloc, &request);
+                drop(request);
+                Ok(told?)
+            }
+        }
     }
 
-    fn query(
-        alloc: Global,
-        action: Option<&str>,
-        categories: &[&str],
-        default_only: bool,
-    ) -> Result<Request, AllocError> {
-        let mut texts = Vec::new(alloc);
-        for category in categories {
-            texts.push(text(alloc, category)?)?;
+    fn told(alloc: Global, request: &Request) -> Result<String, AllocError> {
+        match request {
+            Request::Query {
+                kind: Kind::Activity,
+                intent,
+                default_only,
+            } => {
+                let mut text = String::from_str(alloc, "activity")?;
+                tell_action(&mut text, intent)?;
+                text.push_str(if *default_only { " default" } else { "" })?;
+                tell_data(&mut text, intent)?;
+                Ok(text)
+            }
+            _ => String::from_str(alloc, "another request"),
         }
-        let action = match action {
-            None => None,
-            Some(action) => Some(text(alloc, action)?),
-        };
-        Ok(Request::Query {
-            kind: Kind::Activity,
-            intent: Intent {
-                action,
-                uri: None,
-                mime: None,
-                identifier: None,
-                categories: List::new(texts),
-                package: None,
-                component: None,
-                flags: Flags::default(),
-                extras: List::new(Vec::new(alloc)),
-            },
-            default_only,
-        })
+    }
+
+    fn tell_action(text: &mut String, intent: &Intent) -> Result<(), AllocError> {
+        if let Some(action) = &intent.action {
+            text.push_str(" action=")?;
+            text.push_str(action.as_str())?;
+        }
+        for category in intent.categories.as_slice() {
+            text.push_str(" category=")?;
+            text.push_str(category.as_str())?;
+        }
+        Ok(())
+    }
+
+    fn tell_data(text: &mut String, intent: &Intent) -> Result<(), AllocError> {
+        if let Some(uri) = &intent.uri {
+            write!(
+                text,
+                " uri={} path={}",
+                uri.text.as_str(),
+                uri.path.as_str()
+            )?;
+        }
+        if let Some(mime) = &intent.mime {
+            write!(text, " type={} {}", mime.main.as_str(), mime.sub.as_str())?;
+        }
+        Ok(())
+    }
+
+    // Bodies, and what they ask for.
+    const READ: &str = r#"{"intent":{"action":"a.X"},"kind":"activity"} -> activity action=a.X
+ {"kind" : "activity" , "intent" : {} }  -> activity
+{"kind":"activity","intent":{},"defaultOnly":true} -> activity default
+{"kind":"activity","intent":{},"defaultOnly":false} -> activity
+{"kind":"activity","intent":{"action":null,"categories":null},"defaultOnly":null} -> activity
+{"kind":"activity","intent":{"action":"","categories":[]}} -> activity action=
+{"kind":"activity","intent":{"categories":["c.B","c.A","c.B",""]}} -> activity category= category=c.A category=c.B
+{"kind":"receiver","kind":"activity","intent":{"action":"\u0061.X"}} -> activity action=a.X
+{"kind":"activity","intent":{"data":"http://h/a%20b"}} -> activity uri=http://h/a%20b path=/a b
+{"kind":"activity","intent":{"data":"mailto:a@b.org","type":"text/plain"}} -> activity uri=mailto:a@b.org path= type=text plain
+{"kind":"activity","intent":{"data":null,"type":"image/*"}} -> activity type=image *"#;
+
+    #[test]
+    fn reads(rt: HostRuntime) -> Result<(), Fail> {
+        let mut rows: u32 = 0;
+        for line in READ.lines() {
+            let (body, wanted) = line.split_once(" -> ").unwrap_or((line, "no row"));
+            assert_eq!(rt;
+                said(rt.alloc(), body.as_bytes())?.as_str(),
+                wanted,
+                "{line}"
+            );
+            rows = rows.wrapping_add(1);
+        }
+        assert_eq!(rt; rows, 11);
+        Ok(())
+    }
+
+    // Bodies that are no query, a line each; the first is empty.
+    const REFUSED: &str = r#"
+activity
+null
+[]
+"activity"
+{}
+{"kind":"activity"}
+{"intent":{}}
+{"kind":"activity","intent":{}
+{"kind":"activity","intent":{}} x
+{"kind":"service","intent":{}}
+{"kind":"Activity","intent":{}}
+{"kind":null,"intent":{}}
+{"kind":0,"intent":{}}
+{"kind":"activity","intent":null}
+{"kind":"activity","intent":[]}
+{"kind":"activity","intent":"a.X"}
+{"kind":"activity","intent":{},"defaultOnly":"true"}
+{"kind":"activity","intent":{},"defaultOnly":1}
+{"kind":"activity","intent":{},"source":1}
+{"kind":"activity","intent":{},"source":null}
+{"kind":"activity","intent":{"data":"//h/"}}
+{"kind":"activity","intent":{"data":"http://h/%"}}
+{"kind":"activity","intent":{"data":["x:y"]}}
+{"kind":"activity","intent":{"type":"text"}}
+{"kind":"activity","intent":{"type":{}}}
+{"kind":"activity","intent":{"package":null}}
+{"kind":"activity","intent":{"action":1}}
+{"kind":"activity","intent":{"action":["a.X"]}}
+{"kind":"activity","intent":{"categories":"c.A"}}
+{"kind":"activity","intent":{"categories":{}}}
+{"kind":"activity","intent":{"categories":["c.A",null]}}
+{"kind":"activity","intent":{"categories":["c.A",["c.B"]]}}"#;
+
+    #[test]
+    fn refuses(rt: HostRuntime) -> Result<(), Fail> {
+        let mut rows: u32 = 0;
+        for body in REFUSED.lines() {
+            assert_eq!(rt;
+                said(rt.alloc(), body.as_bytes())?.as_str(),
+                "none",
+                "{body}"
+            );
+            rows = rows.wrapping_add(1);
+        }
+        assert_eq!(rt; rows, 33);
+        let body = b"{\"kind\":\"activity\",\"intent\":{\"action\":\"\xff\"}}";
+        assert_eq!(rt; said(rt.alloc(), body)?.as_str(), "none");
+        Ok(())
     }
 
     // The body of a query with that many categories, each of that many bytes.
@@ -298,108 +451,12 @@ mod tests {
     }
 
     #[test]
-    fn reads(rt: HostRuntime) -> Result<(), Fail> {
-        let alloc = rt.alloc();
-        let none: [&str; 0] = [];
-        let cases = [
-            (
-                r#"{"intent":{"action":"a.X"},"kind":"activity"}"#,
-                query(alloc, Some("a.X"), &none, false)?,
-            ),
-            (
-                r#" {"kind" : "activity" , "intent" : {} } "#,
-                query(alloc, None, &none, false)?,
-            ),
-            (
-                r#"{"kind":"activity","intent":{},"defaultOnly":true}"#,
-                query(alloc, None, &none, true)?,
-            ),
-            (
-                r#"{"kind":"activity","intent":{},"defaultOnly":false}"#,
-                query(alloc, None, &none, false)?,
-            ),
-            (
-                r#"{"kind":"activity","intent":{"action":null,"categories":null},"defaultOnly":null}"#,
-                query(alloc, None, &none, false)?,
-            ),
-            (
-                r#"{"kind":"activity","intent":{"action":"","categories":[]}}"#,
-                query(alloc, Some(""), &none, false)?,
-            ),
-            (
-                r#"{"kind":"activity","intent":{"categories":["c.B","c.A","c.B",""]}}"#,
-                query(alloc, None, &["", "c.A", "c.B"], false)?,
-            ),
-            (
-                r#"{"kind":"receiver","kind":"activity","intent":{"action":"\u0061.X"}}"#,
-                query(alloc, Some("a.X"), &none, false)?,
-            ),
-        ];
-        for (body, expected) in cases {
-            assert_eq!(rt;
-                read_query(alloc, body.as_bytes())?,
-                Some(expected),
-                "{body}"
-            );
-        }
-        Ok(())
-    }
-
-    #[test]
-    fn refuses(rt: HostRuntime) -> Result<(), Fail> {
-        let cases = [
-            "",
-            "activity",
-            "null",
-            "[]",
-            r#""activity""#,
-            "{}",
-            r#"{"kind":"activity"}"#,
-            r#"{"intent":{}}"#,
-            r#"{"kind":"activity","intent":{}"#,
-            r#"{"kind":"activity","intent":{}} x"#,
-            r#"{"kind":"service","intent":{}}"#,
-            r#"{"kind":"Activity","intent":{}}"#,
-            r#"{"kind":null,"intent":{}}"#,
-            r#"{"kind":0,"intent":{}}"#,
-            r#"{"kind":"activity","intent":null}"#,
-            r#"{"kind":"activity","intent":[]}"#,
-            r#"{"kind":"activity","intent":"a.X"}"#,
-            r#"{"kind":"activity","intent":{},"defaultOnly":"true"}"#,
-            r#"{"kind":"activity","intent":{},"defaultOnly":1}"#,
-            r#"{"kind":"activity","intent":{},"source":1}"#,
-            r#"{"kind":"activity","intent":{},"source":null}"#,
-            r#"{"kind":"activity","intent":{"data":"x:y"}}"#,
-            r#"{"kind":"activity","intent":{"package":null}}"#,
-            r#"{"kind":"activity","intent":{"action":1}}"#,
-            r#"{"kind":"activity","intent":{"action":["a.X"]}}"#,
-            r#"{"kind":"activity","intent":{"categories":"c.A"}}"#,
-            r#"{"kind":"activity","intent":{"categories":{}}}"#,
-            r#"{"kind":"activity","intent":{"categories":["c.A",null]}}"#,
-            r#"{"kind":"activity","intent":{"categories":["c.A",["c.B"]]}}"#,
-        ];
-        for body in cases {
-            assert!(rt;
-                read_query(rt.alloc(), body.as_bytes())?.is_none(),
-                "{body}"
-            );
-        }
-        assert!(rt;
-            read_query(
-                rt.alloc(),
-                b"{\"kind\":\"activity\",\"intent\":{\"action\":\"\xff\"}}"
-            )?
-            .is_none()
-        );
-        Ok(())
-    }
-
-    #[test]
     fn keeps_limits(rt: HostRuntime) -> Result<(), Fail> {
         let cases = [(64, 1024, true), (65, 1, false), (1, 1025, false)];
         for (categories, bytes, is_read) in cases {
             let body = body_with(rt.alloc(), categories, bytes)?;
-            assert_eq!(rt; read_query(rt.alloc(), body.as_bytes())?.is_some(), is_read);
+            let said = said(rt.alloc(), body.as_bytes())?;
+            assert_eq!(rt; said.as_str() != "none", is_read);
         }
         Ok(())
     }

@@ -1,8 +1,9 @@
-use Rattle.std.proofs.Common.{ℕ, List, Option, refl, ◌∙◌, subst, arith}
+use Rattle.std.proofs.Common.{ℕ, ◌+◌, ◌*◌, List, Option, refl, ◌∙◌, subst, arith}
 use Rattle.std.specs.Io.KnownBytes.{prepend_known}
-use Rattle.am_model.specs.Desks.{Origin, opening_of}
-use Rattle.am_model.specs.History.{IsLegal}
-use Rattle.am_http.specs.Sessions.{Going, Went, Closes, Stops}
+use Rattle.am_steps.specs.Desks.{Origin, opening_of}
+use Rattle.am_steps.specs.History.{IsLegal}
+use Rattle.am_http.specs.Sessions.{most_bytes, Going, Went, Closes, Stops}
+use Rattle.am_http.proofs.NextLemmas.{gives_none, gives_more}
 use Rattle.am_http.proofs.SessionLemmas.{going_none, going_more, session_close, session_stop}
 use Rattle.am_http.proofs.TurnLemmas.{at_both, nothing_before}
 use Rattle.am_http.proofs.connection.serve.Goals as goal
@@ -18,6 +19,7 @@ loop-answered-init g c =
     record {
       going = subst (λ (rest : Option (List ℕ)). Going start number seen seen left rest taken taken 0)
           (nothing_before c.clear.new.self left c.clear.ensures) (going_none start number seen left taken);
+      gives = gives_none left;
       reads = omega arith;
       writes = omega arith;
       legal = λ h. h;
@@ -44,7 +46,10 @@ returns-in-Closed-clause-session g c =
     session_close (opening_of (origin c.args.desk.now)) (number c.args.desk.now) (seen c.args.desk.now) (seen mid.desk) (seen new.desk)
     (left c.args.source.now) (prepend_known mid.window (left mid.source)) (prepend_known new.window (left new.source)) (left new.source)
     (taken c.args.sink.now) (taken mid.sink) (taken new.sink) mid.answered
-    (omega (arith, c.loop-answered-test.true)) inv.going
+    (omega (arith, c.loop-answered-test.true))
+    (gives_more (73728 * mid.answered) 73728 most_bytes (left c.args.source.now) (left mid.source) (left new.source)
+    (omega (arith, c.loop-answered-test.true)) inv.gives c.in-Closed.ensures.gives)
+    inv.going
     (at_both P (origin mid.desk) (origin c.args.desk.now) (number mid.desk) (number c.args.desk.now) inv.origin inv.number c.in-Closed.ensures.turn)
 
 pub returns-in-Stopped-clause-session : goal.returns-in-Stopped-clause-session
@@ -62,7 +67,10 @@ returns-in-Stopped-clause-session g c =
     session_stop (opening_of (origin c.args.desk.now)) (number c.args.desk.now) (seen c.args.desk.now) (seen mid.desk) (seen new.desk)
     (left c.args.source.now) (prepend_known mid.window (left mid.source)) (left new.source)
     (taken c.args.sink.now) (taken mid.sink) (taken new.sink) mid.answered c.in-Stopped.end
-    (omega (arith, c.loop-answered-test.true)) inv.going
+    (omega (arith, c.loop-answered-test.true))
+    (gives_more (73728 * mid.answered) 73728 most_bytes (left c.args.source.now) (left mid.source) (left new.source)
+    (omega (arith, c.loop-answered-test.true)) inv.gives c.in-Stopped.ensures.gives)
+    inv.going
     (at_both P (origin mid.desk) (origin c.args.desk.now) (number mid.desk) (number c.args.desk.now) inv.origin inv.number c.in-Stopped.ensures.turn)
 
 pub loop-answered-preserved : goal.loop-answered-preserved
@@ -84,6 +92,8 @@ loop-answered-preserved g c =
           (left c.args.source.now) (prepend_known mid.window (left mid.source)) (prepend_known new.window (left new.source))
           (taken c.args.sink.now) (taken mid.sink) (taken new.sink) mid.answered inv.going
           (at_both P (origin mid.desk) (origin c.args.desk.now) (number mid.desk) (number c.args.desk.now) inv.origin inv.number went.turn);
+      gives = gives_more (73728 * mid.answered) 73728 (73728 * (mid.answered + 1)) (left c.args.source.now) (left mid.source) (left new.source)
+          (omega arith) inv.gives went.gives;
       reads = omega (arith, inv.reads, went.reads);
       writes = omega (arith, inv.writes, went.writes);
       legal = λ h. subst L inv.origin went.legal (inv.legal h);

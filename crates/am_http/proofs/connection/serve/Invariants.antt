@@ -1,8 +1,8 @@
-use Rattle.std.proofs.Common.{◌≡◌, ◌≤◌, vec_capacity}
+use Rattle.std.proofs.Common.{◌≡◌, ◌*◌, ◌≤◌, vec_capacity}
 use Rattle.std.specs.Io.KnownBytes.{prepend_known}
-use Rattle.am_model.specs.Desks.{opening_of}
-use Rattle.am_model.specs.History.{IsLegal}
-use Rattle.am_http.specs.Sessions.{Going}
+use Rattle.am_steps.specs.Desks.{opening_of}
+use Rattle.am_steps.specs.History.{IsLegal}
+use Rattle.am_http.specs.Sessions.{Going, GivesAtMost}
 use Rattle.am_http.proofs.connection.serve.Given as goal
 
 -- the connection goes on: so far each frame was answered, and what is left is told
@@ -13,6 +13,7 @@ invariant-loop-answered g l =
       going : Going start (g.D.Desk.number l.initial.desk) (g.D.Desk.seen l.initial.desk) (g.D.Desk.seen l.desk)
           (g.S.Source.left l.initial.source) (prepend_known l.window (g.S.Source.left l.source))
           (g.W.Sink.taken l.initial.sink) (g.W.Sink.taken l.sink) l.answered;
+      gives : GivesAtMost (73728 * l.answered) (g.S.Source.left l.initial.source) (g.S.Source.left l.source);
       reads : g.S.Source.faults l.initial.source ≤ g.S.Source.faults l.source;
       writes : g.W.Sink.faults l.initial.sink ≤ g.W.Sink.faults l.sink;
       legal : IsLegal start (g.D.Desk.seen l.initial.desk) → IsLegal start (g.D.Desk.seen l.desk);

@@ -1,5 +1,6 @@
 use Rattle.std.proofs.Common.{◌≡◌, ◌-◌, ◌≤◌, length}
 use Rattle.std.specs.Io.KnownBytes.{Keeps, prepend_known}
+use Rattle.am_http.specs.Windows.{Reads}
 use Rattle.am_http.proofs.reader.next_frame.Given as goal
 
 -- what is left stays, and no fault is forgotten
@@ -8,6 +9,7 @@ invariant-loop-found g l =
     let left = g.S.Source.left in
     record {
       kept : Keeps (prepend_known l.initial.window (left l.initial.source)) (prepend_known l.window (left l.source));
+      reads : Reads l.initial.window l.window (left l.initial.source) (left l.source);
       never_falls : g.S.Source.faults l.initial.source ≤ g.S.Source.faults l.source;
       mark : g.S.Source.mark l.source ≡ g.S.Source.mark l.initial.source;
     }

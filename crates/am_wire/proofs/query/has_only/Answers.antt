@@ -3,7 +3,7 @@ use Rattle.std.specs.List.{list_all}
 use Rattle.std.specs.Map.Iter.{TakesFirst, deref}
 use Rattle.std.proofs.lemmas.Iterator.Consumers.{YieldsList-from_shown}
 use Rattle.std.proofs.lemmas.Iterator.Search.{all_from_yields_List}
-use Rattle.am_model.specs.Filters.{lists}
+use Rattle.am_model.specs.Texts.{lists}
 use Rattle.am_wire.proofs.Listed.{list_all-members_view}
 use Rattle.am_wire.proofs.query.has_only.Goals as goal
 

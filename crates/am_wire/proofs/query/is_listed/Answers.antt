@@ -1,7 +1,7 @@
 use Rattle.std.proofs.Common.{rules, ◌∙◌, tests}
 use Rattle.std.proofs.lemmas.Iterator.{YieldsList-from_slice}
 use Rattle.std.proofs.lemmas.Iterator.Search.{any_from_yields_List}
-use Rattle.am_model.specs.Filters.{is_same}
+use Rattle.am_model.specs.Texts.{is_same}
 use Rattle.am_wire.proofs.Listed.{list_any-map}
 use Rattle.am_wire.proofs.query.is_listed.Goals as goal
 

@@ -1,0 +1,5 @@
+pub mod Each
+pub mod Keys
+pub mod StepsRead
+pub mod Order
+pub mod Limits

@@ -1,0 +1,84 @@
+ghost use Rattle.std.specs.Prelude.{◌≡◌};
+ghost use Rattle.std.specs.Option.{option_copied};
+ghost use Rattle.am_model.specs.Boards.{is_grant, is_granted};
+ghost use Rattle.am_model.specs.Gates.{holds, is_privileged, verdict};
+ghost use Rattle.am_gates.specs.Rulings.{verdict_of};
+
+use am_types::{Grant, List, Text};
+
+/// The uid of the root.
+const ROOT: u32 = 0;
+
+/// The uid of the system.
+const SYSTEM: u32 = 1000;
+
+/// What is said of a caller.
+#[derive(Clone, Copy, Debug, PartialEq, Eq)]
+pub enum Ruling<'a> {
+    /// It may reach the component.
+    Admit,
+    /// The component isn't exported, and the caller is another app.
+    NotExported,
+    /// The caller doesn't hold this permission, which the component asks for.
+    NeedsPermission(&'a Text),
+}
+
+/// What is said of a caller of a component of that owner: the system, the root and the owner are
+/// admitted; others where the component is exported and they hold its permission, if it asks for
+/// one. Uids are any; the grants may stand in any order. (AOSP,
+/// `ActivityManager.checkComponentPermission`.) Takes no memory.
+pub fn verdict<'a>(
+    caller: u32,
+    owner: u32,
+    exported: bool,
+    permission: Option<&'a Text>,
+    grants: &List<Grant>,
+) -> Ruling<'a>
+    ensures { verdict_of result
+        ≡ verdict grants.now caller owner exported (option_copied permission.entry) }
+{
+    if is_privileged(caller) || caller == owner {
+        return Ruling::Admit;
+    }
+    if !exported {
+        return Ruling::NotExported;
+    }
+    match permission {
+        Some(permission) if !holds(caller, permission, grants) => {
+            Ruling::NeedsPermission(permission)
+        }
+        _ => Ruling::Admit,
+    }
+}
+
+/// Whether the uid holds the permission: the system and the root hold every one, an app what was
+/// granted to it. (AOSP, the same method; that grants are handed in is (own).) Takes no memory.
+pub fn holds(uid: u32, permission: &Text, grants: &List<Grant>) -> bool
+    ensures { result ≡ holds grants.now uid permission.now }
+{
+    is_privileged(uid) || is_granted(grants, uid, permission)
+}
+
+/// The uid was granted the permission.
+fn is_granted(grants: &List<Grant>, uid: u32, permission: &Text) -> bool
+    ensures { result ≡ is_granted grants.now uid permission.now }
+{
+    grants
+        .as_slice()
+        .iter()
+        .any(|grant| is_grant(grant, uid, permission))
+}
+
+/// The uid is the system's or the root's.
+fn is_privileged(uid: u32) -> bool
+    ensures { result ≡ is_privileged uid }
+{
+    uid == ROOT || uid == SYSTEM
+}
+
+/// The grant is of that uid and permission.
+fn is_grant(grant: &Grant, uid: u32, permission: &Text) -> bool
+    ensures { result ≡ is_grant uid permission.now grant.now }
+{
+    grant.uid == uid && grant.permission == *permission
+}

@@ -1,0 +1,107 @@
+-- Values of which examples are made: plain intents, filters, components and packages.
+use Rattle.std.specs.Prelude.{ℕ, ℤ, true, false, codes, List, [], ◌∷◌, Option, Some, None}
+use Rattle.am_types.specs.declared.intent.Intent.{Intent}
+use Rattle.am_types.specs.declared.intent.Component.{Component}
+use Rattle.am_types.specs.declared.intent.Flags.{Flags}
+use Rattle.am_types.specs.declared.uri.Uri.{Uri}
+use Rattle.am_types.specs.declared.uri.Mime.{Mime}
+use Rattle.am_types.specs.declared.filter.Filter.{Filter}
+use Rattle.am_types.specs.declared.manifest.Kind.{Kind}
+use Rattle.am_types.specs.declared.manifest.Mode.TheVariants.{Standard}
+use Rattle.am_types.specs.declared.manifest.Decl.{Decl}
+use Rattle.am_types.specs.declared.device.Package.{Package}
+use Rattle.am_model.specs.Boards.{Board}
+
+-- no flag is set
+abbrev pub no_flags : Flags
+no_flags = record {
+  new_task = false;
+  multiple_task = false;
+  clear_task = false;
+  clear_top = false;
+  single_top = false;
+  reorder_to_front = false;
+  registered_only = false;
+  foreground = false;
+  no_abort = false;
+  include_stopped = false;
+}
+
+-- the intent that says nothing
+abbrev pub no_intent : Intent
+no_intent = record {
+  action = None;
+  uri = None;
+  mime = None;
+  identifier = None;
+  categories = [];
+  «package» = None;
+  component = None;
+  flags = no_flags;
+  extras = [];
+}
+
+-- the intent of an action
+abbrev pub asking : List ℕ → Intent
+asking action = record no_intent { action = Some action }
+
+-- a component by its package and its class
+abbrev pub component_of : List ℕ → List ℕ → Component
+component_of name class = record { «package» = name; class = class }
+
+-- the explicit intent to a component
+abbrev pub to_component : Component → Intent
+to_component component = record no_intent { component = Some component }
+
+-- a URI by its text, its scheme and its host
+abbrev pub uri_at : List ℕ → List ℕ → Option (List ℕ) → Uri
+uri_at text scheme host = record { text = text; scheme = scheme; host = host; port = None; path = codes "/" }
+
+-- a type by its two parts
+abbrev pub mime_at : List ℕ → List ℕ → Mime
+mime_at main sub = record { main = main; sub = sub }
+
+-- a filter of one action, with categories and a priority
+abbrev pub filter_for : List ℕ → List (List ℕ) → ℤ → Filter
+filter_for action categories priority = record {
+  actions = action ∷ [];
+  categories = categories;
+  schemes = [];
+  authorities = [];
+  paths = [];
+  types = [];
+  priority = priority;
+}
+
+-- an exported component without a permission
+abbrev pub open_decl : Kind → List ℕ → List Filter → Decl
+open_decl kind class filters = record {
+  kind = kind;
+  class = class;
+  exported = true;
+  enabled = true;
+  permission = None;
+  mode = Standard;
+  affinity = [];
+  filters = filters;
+}
+
+-- a package that isn't stopped
+abbrev pub package_with : ℕ → List ℕ → List Decl → Package
+package_with uid name decls = record { uid = uid; name = name; key = codes "k"; stopped = false; decls = decls }
+
+-- the board of packages to which nothing was given
+abbrev pub board_with : List Package → Board
+board_with packages = record {
+  packages = packages;
+  grants = [];
+  links = [];
+  registered = [];
+  browser = None;
+  protected = [];
+  exempt = [];
+}
+
+-- the category of what a link in a page opens
+abbrev pub browsable : List ℕ
+browsable = codes "android.intent.category.BROWSABLE"

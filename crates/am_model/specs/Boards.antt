@@ -1,0 +1,115 @@
+-- What is installed on a device and what was given to it: packages, grants, links and registered receivers.
+use Rattle.std.specs.Prelude.{ℕ, Bool, true, false, not, ◌&&◌, ◌||◌, ◌==◌, nat_lt, List, [], ◌∷◌, map, filter, if◌then◌else◌, Option, Some, None}
+use Rattle.std.specs.List.{list_any}
+use Rattle.am_types.specs.declared.device.Device.{Device}
+use Rattle.am_types.specs.declared.device.Package.{Package}
+use Rattle.am_types.specs.declared.device.Grant.{Grant}
+use Rattle.am_types.specs.declared.device.Link.{Link}
+use Rattle.am_types.specs.declared.resolve.Registration.{Registration}
+use Rattle.am_model.specs.Texts.{is_same, is_before}
+
+-- packages in the order of their uids, grants by uid and permission, links by uid and host, registered receivers
+-- by number; and the device's browser and its lists of protected and exempt actions
+pub record Board : Type 0 where
+  pub packages : List Package
+  pub grants : List Grant
+  pub links : List Link
+  pub registered : List Registration
+  pub browser : Option (List ℕ)
+  pub protected : List (List ℕ)
+  pub exempt : List (List ℕ)
+
+-- the board of a device on which nothing happened yet
+abbrev pub board_of : Device → Board
+board_of device = record {
+  packages = device.packages;
+  grants = device.grants;
+  links = device.links;
+  registered = [];
+  browser = device.browser;
+  protected = device.protected;
+  exempt = device.exempt;
+}
+
+-- the package with that name, if there is one
+abbrev pub package_named : List Package → List ℕ → Option Package
+package_named [] name = None
+package_named (first ∷ others) name = if is_same first.name name then Some first else package_named others name
+
+-- the package with that uid, if there is one
+abbrev pub package_at : List Package → ℕ → Option Package
+package_at [] uid = None
+package_at (first ∷ others) uid = if first.uid == uid then Some first else package_at others uid
+
+-- a package has the uid
+abbrev pub is_package_uid : List Package → ℕ → Bool
+is_package_uid packages uid = list_any (λ (p : Package). p.uid == uid) packages
+
+-- the packages, the one with that uid stopped or not stopped
+abbrev pub with_stopped : List Package → ℕ → Bool → List Package
+with_stopped packages uid stopped =
+    map (λ (p : Package). if p.uid == uid then record p { stopped = stopped } else p) packages
+
+-- the packages without the one of that uid
+abbrev pub without_package : List Package → ℕ → List Package
+without_package packages uid = filter (λ (p : Package). not (p.uid == uid)) packages
+
+-- one uid and text stand before another: by uid, then by bytes
+abbrev pub stands_before : ℕ → List ℕ → ℕ → List ℕ → Bool
+stands_before uid text other_uid other = nat_lt uid other_uid || ((uid == other_uid) && is_before text other)
+
+-- the grant is of that uid and permission
+abbrev pub is_grant : ℕ → List ℕ → Grant → Bool
+is_grant uid permission grant = (grant.uid == uid) && is_same grant.permission permission
+
+-- the uid was granted the permission
+abbrev pub is_granted : List Grant → ℕ → List ℕ → Bool
+is_granted grants uid permission = list_any (is_grant uid permission) grants
+
+-- the grant in its place
+abbrev pub place_grant : Grant → List Grant → List Grant
+place_grant grant [] = grant ∷ []
+place_grant grant (first ∷ others) =
+    if stands_before grant.uid grant.permission first.uid first.permission
+    then grant ∷ first ∷ others
+    else first ∷ place_grant grant others
+
+-- the grants with that one held or not held
+abbrev pub with_grant : List Grant → ℕ → List ℕ → Bool → List Grant
+with_grant grants uid permission true =
+    if is_granted grants uid permission then grants else place_grant (record { uid = uid; permission = permission }) grants
+with_grant grants uid permission false = filter (λ grant. not (is_grant uid permission grant)) grants
+
+-- the link is of that uid and host
+abbrev pub is_link : ℕ → List ℕ → Link → Bool
+is_link uid host link = (link.uid == uid) && is_same link.host host
+
+-- the uid is approved for the host
+abbrev pub is_linked : List Link → ℕ → List ℕ → Bool
+is_linked links uid host = list_any (is_link uid host) links
+
+-- the link in its place
+abbrev pub place_link : Link → List Link → List Link
+place_link link [] = link ∷ []
+place_link link (first ∷ others) =
+    if stands_before link.uid link.host first.uid first.host
+    then link ∷ first ∷ others
+    else first ∷ place_link link others
+
+-- the links with that one approved or not
+abbrev pub with_link : List Link → ℕ → List ℕ → Bool → List Link
+with_link links uid host true =
+    if is_linked links uid host then links else place_link (record { uid = uid; host = host }) links
+with_link links uid host false = filter (λ link. not (is_link uid host link)) links
+
+-- what is left of the grants without those of a uid
+abbrev pub grants_without : List Grant → ℕ → List Grant
+grants_without grants uid = filter (λ (grant : Grant). not (grant.uid == uid)) grants
+
+-- what is left of the links without those of a uid
+abbrev pub links_without : List Link → ℕ → List Link
+links_without links uid = filter (λ (link : Link). not (link.uid == uid)) links
+
+-- what is left of the registered receivers without those of a uid
+abbrev pub registered_without : List Registration → ℕ → List Registration
+registered_without registered uid = filter (λ (r : Registration). not (r.uid == uid)) registered

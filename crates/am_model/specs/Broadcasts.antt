@@ -1,0 +1,201 @@
+-- Broadcasts: deliveries and their deadlines, the two queues, and the result of an ordered broadcast.
+use Rattle.std.specs.Prelude.{ℕ, ◌+◌, Bool, true, false, not, ◌&&◌, ◌||◌, nat_le, List, [], ◌∷◌, ◌++◌, length, map, filter, if◌then◌else◌, Option, Some, None}
+use Rattle.std.specs.List.{list_any}
+use Rattle.am_types.specs.declared.intent.Intent.{Intent}
+use Rattle.am_types.specs.declared.broadcast.Spot.{Spot}
+use Rattle.am_types.specs.declared.broadcast.Answer.{Answer}
+use Rattle.am_types.specs.declared.broadcast.Outcome.{Outcome}
+use Rattle.am_model.specs.Filters.{is_empty}
+
+-- a delivery of a normal broadcast that isn't finished: its number, its receiver and its deadline
+pub record Delivery : Type 0 where
+  pub number : ℕ
+  pub spot : Spot
+  pub deadline : ℕ
+
+-- a normal broadcast with the deliveries that it has left
+pub record Normal : Type 0 where
+  pub number : ℕ
+  pub sender : ℕ
+  pub intent : Intent
+  pub deliveries : List Delivery
+
+-- what a receiver did with an ordered broadcast: it answered, was late, or went away
+pub data Doing : Type 0 where
+  Answered : Answer → Doing
+  Late : Doing
+  Gone : Doing
+
+-- a receiver that is past, and what it did
+pub record Past : Type 0 where
+  pub spot : Spot
+  pub doing : Doing
+
+-- the delivery to the first receiver that is left: its number and its deadline
+pub record Current : Type 0 where
+  pub number : ℕ
+  pub deadline : ℕ
+
+-- an ordered broadcast in a queue: how it began, the receivers that are past and those that are left
+pub record InTurn : Type 0 where
+  pub number : ℕ
+  pub sender : ℕ
+  pub intent : Intent
+  pub no_abort : Bool
+  pub initial : Outcome
+  pub wanted : Bool
+  pub past : List Past
+  pub rest : List Spot
+  pub current : Option Current
+
+-- the result of an ordered broadcast that ended, in its sender's inbox
+pub record Result : Type 0 where
+  pub delivery : ℕ
+  pub broadcast : ℕ
+  pub sender : ℕ
+  pub outcome : Outcome
+
+-- all broadcasts, the two queues from their heads on, and the next numbers
+pub record Broadcasts : Type 0 where
+  pub normal : List Normal
+  pub foreground : List InTurn
+  pub background : List InTurn
+  pub results : List Result
+  pub next_broadcast : ℕ
+  pub next_delivery : ℕ
+
+-- no broadcast yet
+abbrev pub no_broadcasts : Broadcasts
+no_broadcasts = record { normal = []; foreground = []; background = []; results = []; next_broadcast = 1; next_delivery = 1 }
+
+-- how long a delivery may take, in milliseconds
+abbrev pub span : Bool → ℕ
+span foreground = if foreground then 10000 else 60000
+
+-- the outcome that an answer sets, or the one before
+abbrev pub outcome_after : Outcome → Option Outcome → Outcome
+outcome_after before None = before
+outcome_after before (Some set) = set
+
+-- the outcome after those doings: the last one that was set before an abort that counts
+abbrev pub fold_outcome : Outcome → Bool → List Doing → Outcome
+fold_outcome outcome no_abort [] = outcome
+fold_outcome outcome no_abort (Late ∷ others) = fold_outcome outcome no_abort others
+fold_outcome outcome no_abort (Gone ∷ others) = fold_outcome outcome no_abort others
+fold_outcome outcome no_abort (Answered answer ∷ others) =
+    if answer.abort && not no_abort
+    then outcome_after outcome answer.set
+    else fold_outcome (outcome_after outcome answer.set) no_abort others
+
+-- what the receivers did that are past
+abbrev pub doings : InTurn → List Doing
+doings broadcast = map (λ (past : Past). past.doing) broadcast.past
+
+-- the outcome so far
+abbrev pub outcome_of : InTurn → Outcome
+outcome_of broadcast = fold_outcome broadcast.initial broadcast.no_abort (doings broadcast)
+
+-- the doing is an answer that aborts
+abbrev pub is_abort : Doing → Bool
+is_abort (Answered answer) = answer.abort
+is_abort Late = false
+is_abort Gone = false
+
+-- an ordered broadcast ends where no receiver is left, or one aborted and that counts
+abbrev pub is_over : InTurn → Bool
+is_over broadcast = is_empty broadcast.rest || (not broadcast.no_abort && list_any is_abort (doings broadcast))
+
+-- the result for the sender, where it wants it
+abbrev pub result_of : ℕ → InTurn → List Result
+result_of delivery broadcast =
+    if broadcast.wanted
+    then record { delivery = delivery; broadcast = broadcast.number; sender = broadcast.sender; outcome = outcome_of broadcast } ∷ []
+    else []
+
+-- a queue with the results that left it, and the next delivery number
+pub record Settled : Type 0 where
+  pub queue : List InTurn
+  pub results : List Result
+  pub next : ℕ
+
+-- the queue whose head has the delivery that it has, or the next one
+abbrev pub dispatched : ℕ → ℕ → InTurn → List InTurn → Option Current → Settled
+dispatched next deadline head others (Some current) = record { queue = head ∷ others; results = []; next = next }
+dispatched next deadline head others None =
+    record { queue = record head { current = Some (record { number = next; deadline = deadline }) } ∷ others; results = []; next = next + 1 }
+
+-- what settled, with results that left before
+abbrev pub with_results : List Result → Settled → Settled
+with_results results after = record after { results = results ++ after.results }
+
+-- the queue without the heads that are over, each leaving its result; the head that is left has a delivery with that
+-- deadline if it had none
+abbrev pub settled : ℕ → ℕ → List InTurn → Settled
+settled next deadline [] = record { queue = []; results = []; next = next }
+settled next deadline (head ∷ others) =
+    if is_over head
+    then with_results (result_of next head) (settled (next + length (result_of next head)) deadline others)
+    else dispatched next deadline head others head.current
+
+-- the broadcasts with the foreground queue settled at a moment
+abbrev pub settle_foreground : ℕ → Broadcasts → Broadcasts
+settle_foreground now all =
+    let after = settled all.next_delivery (now + span true) all.foreground in
+    record all { foreground = after.queue; results = all.results ++ after.results; next_delivery = after.next }
+
+-- the broadcasts with the background queue settled at a moment
+abbrev pub settle_background : ℕ → Broadcasts → Broadcasts
+settle_background now all =
+    let after = settled all.next_delivery (now + span false) all.background in
+    record all { background = after.queue; results = all.results ++ after.results; next_delivery = after.next }
+
+-- the first receiver that is left did this, and is past
+abbrev pub turned : Doing → InTurn → List Spot → InTurn
+turned doing broadcast [] = record broadcast { current = None }
+turned doing broadcast (spot ∷ rest) =
+    record broadcast { past = broadcast.past ++ record { spot = spot; doing = doing } ∷ []; rest = rest; current = None }
+
+-- the first receiver that is left, if there is one, did this
+abbrev pub turn : Doing → InTurn → InTurn
+turn doing broadcast = turned doing broadcast broadcast.rest
+
+-- the delivery's deadline is at most that moment
+abbrev pub is_late : ℕ → Option Current → Bool
+is_late now None = false
+is_late now (Some current) = nat_le current.deadline now
+
+-- the queue whose head, if its delivery is late, passes its receiver over
+abbrev pub late_head : ℕ → List InTurn → List InTurn
+late_head now [] = []
+late_head now (head ∷ others) = if is_late now head.current then turn Late head ∷ others else head ∷ others
+
+-- the head of the queue has a delivery that is due
+abbrev pub is_head_due : ℕ → List InTurn → Bool
+is_head_due now [] = false
+is_head_due now (head ∷ others) = is_late now head.current
+
+-- a normal delivery is due
+abbrev pub is_delivery_due : ℕ → Delivery → Bool
+is_delivery_due now delivery = nat_le delivery.deadline now
+
+-- some deadline is at most that moment
+abbrev pub due : Broadcasts → ℕ → Bool
+due all now =
+    (is_head_due now all.foreground || is_head_due now all.background)
+    || list_any (λ (n : Normal). list_any (is_delivery_due now) n.deliveries) all.normal
+
+-- a normal broadcast with the deliveries that pass the test
+abbrev pub keeping : (Delivery → Bool) → Normal → Normal
+keeping keeps broadcast = record broadcast { deliveries = filter keeps broadcast.deliveries }
+
+-- the normal broadcasts with the deliveries that pass the test; one without deliveries isn't live any more
+abbrev pub normals_keeping : (Delivery → Bool) → List Normal → List Normal
+normals_keeping keeps normal = filter (λ (n : Normal). not (is_empty n.deliveries)) (map (keeping keeps) normal)
+
+-- the broadcasts after the deadlines that are due at a moment: the foreground queue's, then the background queue's,
+-- each passing over one receiver at most; then the normal deliveries that are due leave
+abbrev pub expired : Broadcasts → ℕ → Broadcasts
+expired all now =
+    let first = if is_head_due now all.foreground then settle_foreground now (record all { foreground = late_head now all.foreground }) else all in
+    let second = if is_head_due now first.background then settle_background now (record first { background = late_head now first.background }) else first in
+    record second { normal = normals_keeping (λ delivery. not (is_delivery_due now delivery)) second.normal }

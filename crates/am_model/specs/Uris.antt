@@ -1,0 +1,132 @@
+-- URIs: a scheme, a colon and a rest, in which a host, a port and a path may stand.
+use Rattle.std.specs.Prelude.{ℕ, ◌-◌, Bool, true, false, not, ◌&&◌, ◌||◌, ◌==◌, nat_lt, nat_le, codes, List, [], ◌∷◌, length, map, drop, if◌then◌else◌, Option, Some, None, Result, Ok, Err}
+use Rattle.std.specs.List.{list_any, list_all, take_while, before_first, after_first, before_last, after_last}
+use Rattle.std.specs.Char.{is_ascii_alphabetic, is_ascii_alphanumeric, is_ascii_digit, is_ascii_hexdigit}
+use Rattle.std.specs.Int.Digits.{number_from_digits}
+use Rattle.std.specs.Str.{is_utf8}
+use Rattle.percent_encoding.specs.Percent.{percent_sign, percent_decode}
+use Rattle.am_types.specs.declared.uri.Uri.{Uri}
+use Rattle.am_types.specs.declared.uri.UriFault.{UriFault}
+use Rattle.am_types.specs.declared.uri.UriFault.TheVariants.{NoScheme, BadPort, BadEscape, NotUtf8, TooLong}
+use Rattle.am_model.specs.Texts.{begins_with}
+
+-- a colon
+abbrev pub is_colon : ℕ → Bool
+is_colon b = b == 58
+
+-- a byte that a scheme may have behind its first letter: a letter, a digit, `+`, `-` or `.`
+abbrev pub is_scheme_byte : ℕ → Bool
+is_scheme_byte b = ((is_ascii_alphanumeric b || (b == 43)) || (b == 45)) || (b == 46)
+
+-- an ASCII letter, and then letters, digits, `+`, `-` and `.`
+abbrev pub is_scheme : List ℕ → Bool
+is_scheme [] = false
+is_scheme (b ∷ bytes) = if is_ascii_alphabetic b then list_all is_scheme_byte bytes else false
+
+-- the text is a scheme, a colon and a rest
+abbrev pub has_scheme : List ℕ → Bool
+has_scheme text = list_any is_colon text && is_scheme (before_first is_colon text)
+
+-- what stands before the first colon
+abbrev pub scheme_in : List ℕ → List ℕ
+scheme_in text = before_first is_colon text
+
+-- what stands behind the first colon
+abbrev pub rest_in : List ℕ → List ℕ
+rest_in text = after_first is_colon text
+
+-- a slash, a question mark or a number sign, at which an authority ends
+abbrev pub ends_authority : ℕ → Bool
+ends_authority b = ((b == 47) || (b == 63)) || (b == 35)
+
+-- a question mark or a number sign, at which a path ends
+abbrev pub ends_path : ℕ → Bool
+ends_path b = (b == 63) || (b == 35)
+
+-- the rest has an authority, which follows two slashes
+abbrev pub has_authority : List ℕ → Bool
+has_authority rest = begins_with rest (codes "//")
+
+-- the authority of a rest that has one
+abbrev pub authority_in : List ℕ → List ℕ
+authority_in rest = take_while (λ b. not (ends_authority b)) (drop 2 rest)
+
+-- what follows the authority of a rest that has one
+abbrev pub behind_authority : List ℕ → List ℕ
+behind_authority rest = drop (length (authority_in rest)) (drop 2 rest)
+
+-- the server that an authority names: what follows its last `@`, or all of it
+abbrev pub server_in : List ℕ → List ℕ
+server_in authority = after_last (λ b. b == 64) authority
+
+-- the server has a colon behind its last `]`, and so a port
+abbrev pub has_port : List ℕ → Bool
+has_port server = list_any is_colon (after_last (λ b. b == 93) server)
+
+-- what stands before the server's last colon, where it has a port; else all of it
+abbrev pub host_in : List ℕ → List ℕ
+host_in server = if has_port server then before_last is_colon server else server
+
+-- the digits of the port, none where the server has no port
+abbrev pub port_text : List ℕ → List ℕ
+port_text server = if has_port server then after_last is_colon server else []
+
+-- at most five digits
+abbrev pub is_port : List ℕ → Bool
+is_port text = nat_le (length text) 5 && list_all is_ascii_digit text
+
+-- the number that the digits write; no digits are no port
+abbrev pub port_of : List ℕ → Option ℕ
+port_of [] = None
+port_of (digit ∷ digits) = Some (number_from_digits 10 (map (λ b. b - 48) (digit ∷ digits)))
+
+-- the path as it is written: up to a question mark or a number sign; an opaque rest, which doesn't begin with a
+-- slash, has none
+abbrev pub path_text : List ℕ → List ℕ
+path_text rest =
+    if has_authority rest then take_while (λ b. not (ends_path b)) (behind_authority rest)
+    else if begins_with rest (codes "/") then take_while (λ b. not (ends_path b)) rest
+    else []
+
+-- the text begins with two hexadecimal digits
+abbrev pub begins_with_digits : List ℕ → Bool
+begins_with_digits [] = false
+begins_with_digits (high ∷ []) = false
+begins_with_digits (high ∷ low ∷ others) = is_ascii_hexdigit high && is_ascii_hexdigit low
+
+-- behind each percent sign stand two hexadecimal digits
+abbrev pub is_escaped : List ℕ → Bool
+is_escaped [] = true
+is_escaped (b ∷ others) = (not (b == percent_sign) || begins_with_digits others) && is_escaped others
+
+-- the rest has no authority, or a port that is one
+abbrev pub is_port_good : List ℕ → Bool
+is_port_good rest = not (has_authority rest) || is_port (port_text (server_in (authority_in rest)))
+
+-- the host of a rest that has an authority
+abbrev pub host_of : List ℕ → Option (List ℕ)
+host_of rest = if has_authority rest then Some (host_in (server_in (authority_in rest))) else None
+
+-- the port of a rest that has an authority with one
+abbrev pub port_in : List ℕ → Option ℕ
+port_in rest = if has_authority rest then port_of (port_text (server_in (authority_in rest))) else None
+
+-- the parts of a text whose rest this is
+abbrev pub parts_of : List ℕ → List ℕ → Uri
+parts_of text rest = record {
+  text = text;
+  scheme = scheme_in text;
+  host = host_of rest;
+  port = port_in rest;
+  path = percent_decode (path_text rest);
+}
+
+-- the URI that a text is, or the first fault that it has
+unfoldable pub uri_of : List ℕ → Result Uri UriFault
+uri_of text =
+    if nat_lt 1024 (length text) then Err TooLong
+    else if not (has_scheme text) then Err NoScheme
+    else if not (is_port_good (rest_in text)) then Err BadPort
+    else if not (is_escaped (path_text (rest_in text))) then Err BadEscape
+    else if not (is_utf8 (percent_decode (path_text (rest_in text)))) then Err NotUtf8
+    else Ok (parts_of text (rest_in text))

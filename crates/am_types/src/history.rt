@@ -1,0 +1,55 @@
+ghost use Rattle.std.specs.Prelude.{◌≡◌};
+
+use crate::{Reply, Request};
+use std::alloc::AllocError;
+
+/// A stored call in the history.
+#[derive(Debug, Drop, PartialEq, Eq)]
+pub struct Entry {
+    pub desk: u32,
+    pub uid: u32,
+    /// The moment handed in, in milliseconds.
+    pub now: u64,
+    /// The length of the request's body, in bytes.
+    pub weight: u32,
+    pub request: Request,
+    /// False where the keeper failed, so that the request had no effect.
+    pub kept: bool,
+}
+
+impl Clone for Entry {
+    ghost is_clone = { λ x y. y ≡ x };
+
+    fn clone(&self) -> Result<Entry, AllocError> {
+        Ok(Entry {
+            desk: self.desk,
+            uid: self.uid,
+            now: self.now,
+            weight: self.weight,
+            request: self.request.clone()?,
+            kept: self.kept,
+        })
+    }
+}
+
+/// A reply with its place in the history.
+#[derive(Debug, Drop, PartialEq, Eq)]
+pub struct Shown {
+    /// The number of entries before the call.
+    pub at: u64,
+    /// Whether the call is entry `at`.
+    pub stored: bool,
+    pub reply: Reply,
+}
+
+impl Clone for Shown {
+    ghost is_clone = { λ x y. y ≡ x };
+
+    fn clone(&self) -> Result<Shown, AllocError> {
+        Ok(Shown {
+            at: self.at,
+            stored: self.stored,
+            reply: self.reply.clone()?,
+        })
+    }
+}

@@ -1,0 +1,99 @@
+ghost use Rattle.std.specs.Prelude.{◌≡◌};
+
+use crate::{Component, Entry, Item, Landed, List, Receiving, Rule, ServiceView, TaskView, copies};
+use std::alloc::AllocError;
+
+/// What the manager answers.
+#[derive(Debug, Drop, PartialEq, Eq)]
+pub enum Reply {
+    /// In the order of priority, uid and place.
+    Components(List<Component>),
+    /// Several activities share the greatest priority.
+    Choose(List<Component>),
+    /// Where an activity start landed.
+    Placed(Landed),
+    /// The instance that was ended, if there was one.
+    Finished(Option<u64>),
+    /// From front to back.
+    Tasks(List<TaskView>),
+    /// In the order of their first start.
+    Services(List<ServiceView>),
+    /// The number of the registered receiver.
+    Registered(u64),
+    /// By rising number, at most 64.
+    Items(List<Item>),
+    /// The token, if there is one.
+    Token(Option<u64>),
+    /// The uid of the new package.
+    Installed(u32),
+    /// Nothing was done, but for what the rule's own words say.
+    Refused(Rule),
+    /// A service runs: how often it was started since it began to.
+    Started {
+        component: Component,
+        starts: u64,
+    },
+    /// The broadcast's number, and who was offered it, in order.
+    Sent {
+        broadcast: u64,
+        receivers: List<Receiving>,
+    },
+    /// At most 64 stored calls, from that number on.
+    Entries {
+        from: u64,
+        entries: List<Entry>,
+    },
+    /// The length of the history, the last moment in milliseconds, and the number of packages.
+    Status {
+        history: u64,
+        moment: u64,
+        packages: u32,
+    },
+    /// It was done.
+    Plain,
+}
+
+impl Clone for Reply {
+    ghost is_clone = { λ x y. y ≡ x };
+
+    fn clone(&self) -> Result<Reply, AllocError> {
+        match self {
+            Reply::Components(value) => Ok(Reply::Components(copies::components(value)?)),
+            Reply::Choose(value) => Ok(Reply::Choose(copies::components(value)?)),
+            Reply::Placed(value) => Ok(Reply::Placed(*value)),
+            Reply::Finished(value) => Ok(Reply::Finished(*value)),
+            Reply::Tasks(value) => Ok(Reply::Tasks(copies::tasks(value)?)),
+            Reply::Services(value) => Ok(Reply::Services(copies::services(value)?)),
+            Reply::Registered(value) => Ok(Reply::Registered(*value)),
+            Reply::Items(value) => Ok(Reply::Items(copies::items(value)?)),
+            Reply::Token(value) => Ok(Reply::Token(*value)),
+            Reply::Installed(value) => Ok(Reply::Installed(*value)),
+            Reply::Refused(value) => Ok(Reply::Refused(value.clone()?)),
+            Reply::Started { component, starts } => Ok(Reply::Started {
+                component: component.clone()?,
+                starts: *starts,
+            }),
+            Reply::Sent {
+                broadcast,
+                receivers,
+            } => Ok(Reply::Sent {
+                broadcast: *broadcast,
+                receivers: copies::receivings(receivers)?,
+            }),
+            Reply::Entries { from, entries } => Ok(Reply::Entries {
+                from: *from,
+                entries: copies::entries(entries)?,
+            }),
+            Reply::Status {
+                history,
+                moment,
+                packages,
+            } => Ok(Reply::Status {
+                history: *history,
+                moment: *moment,
+                packages: *packages,
+            }),
+            Reply::Plain => Ok(Reply::Plain),
+        }
+    }
+}

@@ -1,0 +1,218 @@
+ghost use Rattle.std.specs.Prelude.{◌≡◌};
+
+use crate::{Answer, Component, Filter, Intent, Kind, Ordered, PendingFlags, Text, copies};
+use std::alloc::AllocError;
+
+/// What a caller asks of the manager.
+#[derive(Debug, Drop, PartialEq, Eq)]
+pub enum Request {
+    /// Which components would get the intent. With `default_only` their filters must list the default category.
+    Query {
+        kind: Kind,
+        intent: Intent,
+        default_only: bool,
+    },
+    /// Starts the activity that the intent finds, from an activity instance if one is named.
+    Start {
+        intent: Intent,
+        source: Option<u64>,
+    },
+    /// Ends an activity instance.
+    FinishActivity {
+        instance: u64,
+    },
+    /// Ends the activity instance that the user sees.
+    Back,
+    /// The caller's tasks, from front to back.
+    ListTasks,
+    /// Starts the service that the intent finds.
+    StartService {
+        intent: Intent,
+    },
+    /// Stops a running service.
+    StopService {
+        component: Component,
+    },
+    /// The caller's running services.
+    Services,
+    /// Broadcasts the intent, to receivers that hold the permission, if one is named.
+    Send {
+        intent: Intent,
+        permission: Option<Text>,
+        ordered: Option<Ordered>,
+    },
+    /// Registers a receiver for broadcasts that pass the filter, of senders that hold the permission.
+    Register {
+        filter: Filter,
+        permission: Option<Text>,
+    },
+    /// Takes a registered receiver back.
+    Unregister {
+        number: u64,
+    },
+    /// The caller's deliveries and results.
+    Inbox,
+    /// Finishes a delivery or takes a result.
+    Finish {
+        delivery: u64,
+        answer: Answer,
+    },
+    /// Asks for the token of a pending intent.
+    PendingGet {
+        kind: Kind,
+        code: i64,
+        intent: Intent,
+        flags: PendingFlags,
+    },
+    /// Does what a token stands for, as its creator.
+    PendingSend {
+        token: u64,
+        fill: Option<Intent>,
+    },
+    /// Cancels a token.
+    PendingCancel {
+        token: u64,
+    },
+    /// Gives a token to a package.
+    PendingGive {
+        token: u64,
+        package: Text,
+    },
+    /// Installs the package that the manifest's text describes, with a key for its calls.
+    Install {
+        text: Text,
+        key: Text,
+    },
+    /// Removes a package.
+    Uninstall {
+        package: Text,
+    },
+    /// Gives a package a permission, or takes it.
+    Grant {
+        package: Text,
+        permission: Text,
+        held: bool,
+    },
+    /// Approves a package for the web links of a host, or withdraws that. The host is in lower ASCII case.
+    Link {
+        package: Text,
+        host: Text,
+        approved: bool,
+    },
+    /// Stops a package and all that it has.
+    ForceStop {
+        package: Text,
+    },
+    /// Lets time pass.
+    Tick,
+    /// The stored calls from this number on.
+    History {
+        from: u64,
+    },
+    /// The length of the history, the moment, and the number of packages.
+    Status,
+}
+
+impl Clone for Request {
+    ghost is_clone = { λ x y. y ≡ x };
+
+    fn clone(&self) -> Result<Request, AllocError> {
+        match self {
+            Request::Query {
+                kind,
+                intent,
+                default_only,
+            } => Ok(Request::Query {
+                kind: *kind,
+                intent: intent.clone()?,
+                default_only: *default_only,
+            }),
+            Request::Start { intent, source } => Ok(Request::Start {
+                intent: intent.clone()?,
+                source: *source,
+            }),
+            Request::FinishActivity { instance } => Ok(Request::FinishActivity {
+                instance: *instance,
+            }),
+            Request::Back => Ok(Request::Back),
+            Request::ListTasks => Ok(Request::ListTasks),
+            Request::StartService { intent } => Ok(Request::StartService {
+                intent: intent.clone()?,
+            }),
+            Request::StopService { component } => Ok(Request::StopService {
+                component: component.clone()?,
+            }),
+            Request::Services => Ok(Request::Services),
+            Request::Send {
+                intent,
+                permission,
+                ordered,
+            } => Ok(Request::Send {
+                intent: intent.clone()?,
+                permission: copies::text(permission)?,
+                ordered: copies::ordered(ordered)?,
+            }),
+            Request::Register { filter, permission } => Ok(Request::Register {
+                filter: filter.clone()?,
+                permission: copies::text(permission)?,
+            }),
+            Request::Unregister { number } => Ok(Request::Unregister { number: *number }),
+            Request::Inbox => Ok(Request::Inbox),
+            Request::Finish { delivery, answer } => Ok(Request::Finish {
+                delivery: *delivery,
+                answer: answer.clone()?,
+            }),
+            Request::PendingGet {
+                kind,
+                code,
+                intent,
+                flags,
+            } => Ok(Request::PendingGet {
+                kind: *kind,
+                code: *code,
+                intent: intent.clone()?,
+                flags: *flags,
+            }),
+            Request::PendingSend { token, fill } => Ok(Request::PendingSend {
+                token: *token,
+                fill: copies::intent(fill)?,
+            }),
+            Request::PendingCancel { token } => Ok(Request::PendingCancel { token: *token }),
+            Request::PendingGive { token, package } => Ok(Request::PendingGive {
+                token: *token,
+                package: package.clone()?,
+            }),
+            Request::Install { text, key } => Ok(Request::Install {
+                text: text.clone()?,
+                key: key.clone()?,
+            }),
+            Request::Uninstall { package } => Ok(Request::Uninstall {
+                package: package.clone()?,
+            }),
+            Request::Grant {
+                package,
+                permission,
+                held,
+            } => Ok(Request::Grant {
+                package: package.clone()?,
+                permission: permission.clone()?,
+                held: *held,
+            }),
+            Request::Link {
+                package,
+                host,
+                approved,
+            } => Ok(Request::Link {
+                package: package.clone()?,
+                host: host.clone()?,
+                approved: *approved,
+            }),
+            Request::ForceStop { package } => Ok(Request::ForceStop {
+                package: package.clone()?,
+            }),
+            Request::Tick => Ok(Request::Tick),
+            Request::History { from } => Ok(Request::History { from: *from }),
+            Request::Status => Ok(Request::Status),
+        }
+    }
+}

@@ -1,0 +1,73 @@
+ghost use Rattle.std.specs.Prelude.{◌≡◌};
+
+use crate::{Component, Filter, List, Text, copies};
+use std::alloc::AllocError;
+
+/// A component that an intent finds.
+#[derive(Debug, Drop, PartialEq, Eq)]
+pub struct Hit {
+    pub component: Component,
+    pub uid: u32,
+    /// Its position among the components of its kind in the manifest, from 0.
+    pub place: u32,
+    pub priority: i32,
+}
+
+impl Clone for Hit {
+    ghost is_clone = { λ x y. y ≡ x };
+
+    fn clone(&self) -> Result<Hit, AllocError> {
+        Ok(Hit {
+            component: self.component.clone()?,
+            uid: self.uid,
+            place: self.place,
+            priority: self.priority,
+        })
+    }
+}
+
+/// Which component a start of an activity reaches.
+#[derive(Debug, Drop, PartialEq, Eq)]
+pub enum Target {
+    /// None passes.
+    Nothing,
+    /// The one of greatest priority.
+    One(Hit),
+    /// Several share the greatest priority: the user must choose among these, and nothing starts.
+    Choose(List<Hit>),
+}
+
+impl Clone for Target {
+    ghost is_clone = { λ x y. y ≡ x };
+
+    fn clone(&self) -> Result<Target, AllocError> {
+        match self {
+            Target::Nothing => Ok(Target::Nothing),
+            Target::One(value) => Ok(Target::One(value.clone()?)),
+            Target::Choose(value) => Ok(Target::Choose(copies::hits(value)?)),
+        }
+    }
+}
+
+/// A receiver that an app registered while it runs.
+#[derive(Debug, Drop, PartialEq, Eq)]
+pub struct Registration {
+    pub number: u64,
+    pub uid: u32,
+    pub filter: Filter,
+    /// What a sender must hold.
+    pub permission: Option<Text>,
+}
+
+impl Clone for Registration {
+    ghost is_clone = { λ x y. y ≡ x };
+
+    fn clone(&self) -> Result<Registration, AllocError> {
+        Ok(Registration {
+            number: self.number,
+            uid: self.uid,
+            filter: self.filter.clone()?,
+            permission: copies::text(&self.permission)?,
+        })
+    }
+}
