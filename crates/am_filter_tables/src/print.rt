@@ -20,41 +20,17 @@ impl<'a> fmt::Display for Printed<'a> {
     fn fmt<W: fmt::Write>(&self, f: &mut fmt::Formatter<W>) -> fmt::Result {
         match self.fault {
             ManifestFault::NotToml => f.write_str("not_toml"),
-            ManifestFault::Missing(place) => {
-                let place = place.as_str();
-                write!(f, "missing {place}")
-            },
-            ManifestFault::WrongKind(place) => {
-                let place = place.as_str();
-                write!(f, "wrong_kind {place}")
-            },
-            ManifestFault::BadUri(place) => {
-                let place = place.as_str();
-                write!(f, "bad_uri {place}")
-            },
-            ManifestFault::BadMime(place) => {
-                let place = place.as_str();
-                write!(f, "bad_mime {place}")
-            },
+            ManifestFault::Missing(place) => write!(f, "missing {}", place.as_str()),
+            ManifestFault::WrongKind(place) => write!(f, "wrong_kind {}", place.as_str()),
+            ManifestFault::BadUri(place) => write!(f, "bad_uri {}", place.as_str()),
+            ManifestFault::BadMime(place) => write!(f, "bad_mime {}", place.as_str()),
             ManifestFault::BadPriority => f.write_str("bad_priority"),
             ManifestFault::ExportedUnstated(class) => {
-                {
-                    let class = class.as_str();
-                    write!(f, "exported_unstated {class}")
-                }
+                write!(f, "exported_unstated {}", class.as_str())
             }
-            ManifestFault::Duplicate(name) => {
-                let name = name.as_str();
-                write!(f, "duplicate {name}")
-            },
-            ManifestFault::OverLimit(name) => {
-                let name = name.as_str();
-                write!(f, "over_limit {name}")
-            },
-            ManifestFault::LeftOut(place) => {
-                let place = place.as_str();
-                write!(f, "left_out {place}")
-            },
+            ManifestFault::Duplicate(name) => write!(f, "duplicate {}", name.as_str()),
+            ManifestFault::OverLimit(name) => write!(f, "over_limit {}", name.as_str()),
+            ManifestFault::LeftOut(place) => write!(f, "left_out {}", place.as_str()),
         }
     }
 }

@@ -149,9 +149,6 @@ fn pattern_in(alloc: Global, text: Option<Text>) -> Result<Option<Glob>, ReadFau
     let Some(text) = text else {
         return Ok(None);
     };
-    if text.as_str().len() > 1024 {
-        return Err(over_limit(alloc, "text"));
-    }
     match Glob::new(text) {
         Ok(glob) => Ok(Some(glob)),
         Err(_) => Err(over_limit(alloc, "text")),

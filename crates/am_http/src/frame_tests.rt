@@ -7,7 +7,7 @@ use std::alloc::Global;
 use std::str;
 use std::test::Fail;
 
-/// The line, with `\r`, `\n`, `\t`, `\x7f` and `<3:x>` spelled out.
+/// The line, with `\r`, `\n`, `\t`, `\x7f` and `<3:a>` spelled out.
 pub(crate) fn spelled_out(alloc: Global, line: &str) -> Result<Vec<u8>, Fail> {
     let mut bytes = Vec::new(alloc);
     let (front, repeated) = line.split_once('<').unwrap_or((line, ""));

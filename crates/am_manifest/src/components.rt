@@ -72,33 +72,21 @@ fn heading_of(alloc: Global, package: &Text, at: &str, table: &Value) -> Result<
 fn is_activity(kind: Kind) -> bool
     ensures { result ≡ is_activity kind }
 {
-    match kind {
-        Kind::Activity => true,
-        Kind::Service => false,
-        Kind::Receiver => false,
-    }
+    kind == Kind::Activity
 }
 
 /// The launch mode of this name.
 fn mode_named(word: &str) -> Option<Mode>
     ensures { result ≡ mode_named word.now }
 {
-    if word == "standard" {
-        return Some(Mode::Standard);
+    match word {
+        "standard" => Some(Mode::Standard),
+        "singleTop" => Some(Mode::SingleTop),
+        "singleTask" => Some(Mode::SingleTask),
+        "singleInstance" => Some(Mode::SingleInstance),
+        "singleInstancePerTask" => Some(Mode::SingleInstancePerTask),
+        _ => None,
     }
-    if word == "singleTop" {
-        return Some(Mode::SingleTop);
-    }
-    if word == "singleTask" {
-        return Some(Mode::SingleTask);
-    }
-    if word == "singleInstance" {
-        return Some(Mode::SingleInstance);
-    }
-    if word == "singleInstancePerTask" {
-        return Some(Mode::SingleInstancePerTask);
-    }
-    None
 }
 
 /// The launch mode that a value names.

@@ -1,5 +1,5 @@
 //! Heads of requests, each with what is found at the front of these bytes. `\r`, `\n`, `\t` and `\x7f` are single
-//! bytes, and `<3:x>` stands for `xxx`.
+//! bytes, and `<3:a>` stands for `aaa`.
 
 /// Frames, and heads that the peer hasn't sent whole.
 pub const FRAMES: &str = r#" -> empty

@@ -1,4 +1,4 @@
-//! Documents, each followed by a line with what becomes of it. `<3:x>` in a line stands for `xxx`.
+//! Documents, each followed by a line with what becomes of it. `<3:a>` in a line stands for `aaa`.
 
 /// Device files.
 pub const DEVICES: &str = r#"= missing system_key

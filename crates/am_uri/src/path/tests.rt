@@ -1,4 +1,4 @@
-//! Worked rows.
+//! What the clauses leave to be tried: paths and patterns, with answers written by hand.
 
 use super::passes_path;
 use am_types::{Glob, PathRule, Text};

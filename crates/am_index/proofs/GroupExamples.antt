@@ -1,0 +1,60 @@
+-- Examples of groups: how many filters an intent is tested against at most.
+use Rattle.std.specs.Prelude.{◌≡◌, ℕ, pos, codes, List, [], ◌∷◌, Some, refl}
+use Rattle.am_types.specs.declared.device.Package.{Package}
+use Rattle.am_types.specs.declared.filter.Filter.{Filter}
+use Rattle.am_types.specs.declared.manifest.Kind.TheVariants.{Activity, Service}
+use Rattle.am_types.specs.declared.manifest.Decl.{Decl}
+use Rattle.am_types.specs.declared.uri.Mime.{Mime}
+use Rattle.am_types.specs.declared.uri.Uri.{Uri}
+use Rattle.am_model.proofs.Samples.{no_intent, asking, filter_for, mime_at, open_decl, package_with, uri_at}
+use Rattle.am_index.specs.Groups.{group_size}
+
+-- a filter of an action with schemes and types
+abbrev lists : List ℕ → List (List ℕ) → List Mime → Filter
+lists action schemes types = record (filter_for action [] (pos 0)) { schemes = schemes; types = types }
+
+-- a picture
+abbrev picture : Mime
+picture = mime_at (codes "image") (codes "png")
+
+-- a page
+abbrev page : Uri
+page = uri_at (codes "http://h") (codes "http") (Some (codes "h"))
+
+-- an activity with one filter
+abbrev activity : List ℕ → Filter → Decl
+activity class filter = open_decl Activity class (filter ∷ [])
+
+-- five activities
+abbrev device : List Package
+device = package_with 10000 (codes "com.one")
+    (activity (codes "F1") (lists (codes "x.A") [] [])
+    ∷ activity (codes "F2") (lists (codes "x.A") (codes "http" ∷ []) [])
+    ∷ activity (codes "F3") (lists (codes "x.A") [] (picture ∷ []))
+    ∷ activity (codes "F4") (lists (codes "x.A") (codes "http" ∷ []) (picture ∷ []))
+    ∷ activity (codes "F5") (lists (codes "x.B") [] [])
+    ∷ []) ∷ []
+
+-- four list the action
+pub by_action : group_size device Activity (asking (codes "x.A")) ≡ 4
+by_action = refl
+
+-- two list neither scheme nor type
+pub without_data : group_size device Activity no_intent ≡ 2
+without_data = refl
+
+-- two list the scheme
+pub by_scheme : group_size device Activity (record no_intent { uri = Some page }) ≡ 2
+by_scheme = refl
+
+-- one lists a type and no scheme
+pub by_type : group_size device Activity (record no_intent { mime = Some picture }) ≡ 1
+by_type = refl
+
+-- three list the scheme, or a type and no scheme
+pub by_both : group_size device Activity (record no_intent { uri = Some page; mime = Some picture }) ≡ 3
+by_both = refl
+
+-- none is a service's
+pub of_another_kind : group_size device Service (asking (codes "x.A")) ≡ 0
+of_another_kind = refl

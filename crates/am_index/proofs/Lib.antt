@@ -1,0 +1,13 @@
+pub mod Asking
+pub mod Dropping
+pub mod GroupExamples
+pub mod Listing
+pub mod Merging
+pub mod Noting
+pub mod Order
+pub mod Ordered
+pub mod Passing
+pub mod Priorities
+pub mod Rising
+pub mod Searching
+pub mod Stands

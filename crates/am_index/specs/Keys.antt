@@ -1,0 +1,102 @@
+-- Under what components are listed: a kind, one package or every one, and what they are or their filters list.
+use Rattle.std.specs.Prelude.{ℕ, Bool, true, false, not, ◌&&◌, List, [], ◌∷◌, ◌++◌, map, Option, Some, None, if◌then◌else◌}
+use Rattle.std.specs.List.{list_any}
+use Rattle.am_types.specs.declared.device.Package.{Package}
+use Rattle.am_types.specs.declared.filter.Filter.{Filter}
+use Rattle.std.specs.Hash as fed
+use Rattle.std.specs.Hash.{HashWrites}
+use Rattle.am_types.specs.declared.manifest.Decl.{Decl}
+use Rattle.am_types.specs.declared.manifest.Kind.{Kind}
+use Rattle.am_types.specs.declared.manifest.Kind.TheVariants.{Activity, Service, Receiver}
+use Rattle.am_model.specs.Texts.{is_same, lists}
+use Rattle.am_model.specs.Filters.{is_empty}
+use Rattle.am_model.specs.Candidates.{is_kind}
+use Rattle.am_index.specs.declared.key.Group.{Group}
+use Rattle.am_index.specs.declared.key.Group.TheVariants.{Class, Action, Scheme, Bare, Typed}
+use Rattle.am_index.specs.declared.key.Key.{Key}
+
+-- two groups are the same
+abbrev pub same_group : Group → Group → Bool
+same_group (Class asked) (Class listed) = is_same asked listed
+same_group (Action asked) (Action listed) = is_same listed asked
+same_group (Scheme asked) (Scheme listed) = is_same listed asked
+same_group Bare Bare = true
+same_group Typed Typed = true
+same_group _ _ = false
+
+-- two packages, or every one, are the same
+abbrev pub same_owner : Option (List ℕ) → Option (List ℕ) → Bool
+same_owner None None = true
+same_owner (Some asked) (Some listed) = is_same asked listed
+same_owner _ _ = false
+
+-- two keys are the same
+abbrev pub same_key : Key → Key → Bool
+same_key asked listed =
+    is_kind asked.kind listed.kind && (same_owner asked.owner listed.owner && same_group asked.group listed.group)
+
+-- that package is asked for, or every one is
+abbrev pub is_for : Option (List ℕ) → List ℕ → Bool
+is_for None name = true
+is_for (Some asked) name = is_same asked name
+
+-- a filter lists neither scheme nor type
+abbrev pub is_bare : Filter → Bool
+is_bare filter = is_empty filter.schemes && is_empty filter.types
+
+-- a filter lists no scheme and some type
+abbrev pub is_typed : Filter → Bool
+is_typed filter = is_empty filter.schemes && not (is_empty filter.types)
+
+-- a component is of that class, or has a filter that lists such a thing
+abbrev pub is_in : Group → Decl → Bool
+is_in (Class class) decl = is_same class decl.class
+is_in (Action action) decl = list_any (λ (f : Filter). lists f.actions action) decl.filters
+is_in (Scheme scheme) decl = list_any (λ (f : Filter). lists f.schemes scheme) decl.filters
+is_in Bare decl = list_any is_bare decl.filters
+is_in Typed decl = list_any is_typed decl.filters
+
+-- a component is listed under the key
+abbrev pub is_under : Key → Package → Decl → Bool
+is_under key owner decl = is_for key.owner owner.name && is_in key.group decl
+
+-- for what the data of a filter lists its component, beside the schemes
+abbrev pub data_groups : Filter → List Group
+data_groups filter =
+    if is_empty filter.schemes then (if is_empty filter.types then Bare ∷ [] else Typed ∷ []) else []
+
+-- for what a filter lists its component
+abbrev pub groups_of_filter : Filter → List Group
+groups_of_filter filter = (map Action filter.actions ++ map Scheme filter.schemes) ++ data_groups filter
+
+-- for what the filters list their component
+abbrev pub groups_of_filters : List Filter → List Group
+groups_of_filters [] = []
+groups_of_filters (first ∷ others) = groups_of_filter first ++ groups_of_filters others
+
+-- for what a component is listed, repeats included
+abbrev pub groups_of : Decl → List Group
+groups_of decl = Class decl.class ∷ groups_of_filters decl.filters
+
+-- what a kind feeds a hasher
+abbrev pub kind_writes : Kind → HashWrites
+kind_writes Activity = fed.u8 0
+kind_writes Service = fed.u8 1
+kind_writes Receiver = fed.u8 2
+
+-- what a package, or every one, feeds a hasher
+abbrev pub owner_writes : Option (List ℕ) → HashWrites
+owner_writes None = fed.u8 0
+owner_writes (Some name) = fed.str name
+
+-- what a group feeds a hasher
+abbrev pub group_writes : Group → HashWrites
+group_writes (Class class) = fed.str class
+group_writes (Action action) = fed.str action
+group_writes (Scheme scheme) = fed.str scheme
+group_writes Bare = fed.u8 1
+group_writes Typed = fed.u8 2
+
+-- what a key feeds a hasher
+abbrev pub key_writes : Key → HashWrites
+key_writes key = kind_writes key.kind ++ (owner_writes key.owner ++ group_writes key.group)

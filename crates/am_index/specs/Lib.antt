@@ -1,0 +1,7 @@
+pub mod Groups
+pub mod Keys
+pub mod Lookups
+pub mod Members
+pub mod Same
+pub mod Lists
+pub mod Standing

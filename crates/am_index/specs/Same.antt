@@ -1,0 +1,124 @@
+-- Keys that are the same are equal.
+use Rattle.std.proofs.Common.{◌≡◌, ℕ, Bool, true, false, ◌&&◌, List, Option, Some, None, refl, sym, ap, ◌∙◌, Decides}
+use Rattle.std.proofs.lemmas.Bool.{false≢true}
+use Rattle.std.proofs.lemmas.Slice.Eq.{slice_eq-Decides}
+use Rattle.std.proofs.lemmas.Bool.Decides.{Decides-eqb}
+use Rattle.std.specs.Cmp.{IsEquivalence, decided}
+use Rattle.am_types.specs.declared.manifest.Kind.{Kind}
+use Rattle.am_types.specs.declared.manifest.Kind.TheVariants.{Activity, Service, Receiver}
+use Rattle.am_model.specs.Texts.{is_same}
+use Rattle.am_model.specs.Candidates.{is_kind}
+use Rattle.am_index.specs.declared.key.Group.{Group}
+use Rattle.am_index.specs.declared.key.Group.TheVariants.{Class, Action, Scheme, Bare, Typed}
+use Rattle.am_index.specs.declared.key.Key.{Key}
+use Rattle.am_index.specs.Keys.{same_group, same_owner, same_key, key_writes}
+
+-- texts that are the same are equal
+pub is_same-Decides : (a b : List ℕ) → Decides (is_same a b) (a ≡ b)
+is_same-Decides a b = slice_eq-Decides Decides-eqb a b (is_same a b) refl
+
+-- a text is the same as itself
+pub is_same_itself : (a : List ℕ) → is_same a a ≡ true
+is_same_itself a = (is_same-Decides a a).1 refl
+
+-- groups that are the same are equal
+same_group-equal : (a b : Group) → same_group a b ≡ true → a ≡ b
+same_group-equal (Class x) (Class y) e = ap Class ((is_same-Decides x y).0 e)
+same_group-equal (Action x) (Action y) e = ap Action (sym ((is_same-Decides y x).0 e))
+same_group-equal (Scheme x) (Scheme y) e = ap Scheme (sym ((is_same-Decides y x).0 e))
+same_group-equal Bare Bare e = refl
+same_group-equal Typed Typed e = refl
+same_group-equal (Class x) (Action y) e = absurd (false≢true e)
+same_group-equal (Class x) (Scheme y) e = absurd (false≢true e)
+same_group-equal (Class x) Bare e = absurd (false≢true e)
+same_group-equal (Class x) Typed e = absurd (false≢true e)
+same_group-equal (Action x) (Class y) e = absurd (false≢true e)
+same_group-equal (Action x) (Scheme y) e = absurd (false≢true e)
+same_group-equal (Action x) Bare e = absurd (false≢true e)
+same_group-equal (Action x) Typed e = absurd (false≢true e)
+same_group-equal (Scheme x) (Class y) e = absurd (false≢true e)
+same_group-equal (Scheme x) (Action y) e = absurd (false≢true e)
+same_group-equal (Scheme x) Bare e = absurd (false≢true e)
+same_group-equal (Scheme x) Typed e = absurd (false≢true e)
+same_group-equal Bare (Class y) e = absurd (false≢true e)
+same_group-equal Bare (Action y) e = absurd (false≢true e)
+same_group-equal Bare (Scheme y) e = absurd (false≢true e)
+same_group-equal Bare Typed e = absurd (false≢true e)
+same_group-equal Typed (Class y) e = absurd (false≢true e)
+same_group-equal Typed (Action y) e = absurd (false≢true e)
+same_group-equal Typed (Scheme y) e = absurd (false≢true e)
+same_group-equal Typed Bare e = absurd (false≢true e)
+
+-- a group is the same as itself
+same_group_itself : (a : Group) → same_group a a ≡ true
+same_group_itself (Class x) = is_same_itself x
+same_group_itself (Action x) = is_same_itself x
+same_group_itself (Scheme x) = is_same_itself x
+same_group_itself Bare = refl
+same_group_itself Typed = refl
+
+-- whether two groups are the same decides whether they are equal
+pub same_group-Decides : (a b : Group) → Decides (same_group a b) (a ≡ b)
+same_group-Decides a b = (same_group-equal a b, λ e. ap (same_group a) (sym e) ∙ same_group_itself a)
+
+pub same_group_equiv : IsEquivalence same_group
+same_group_equiv = decided same_group same_group-Decides
+
+-- kinds that are the same are equal
+pub is_kind-equal : (a b : Kind) → is_kind a b ≡ true → a ≡ b
+is_kind-equal Activity Activity e = refl
+is_kind-equal Service Service e = refl
+is_kind-equal Receiver Receiver e = refl
+is_kind-equal Activity Service e = absurd (false≢true e)
+is_kind-equal Activity Receiver e = absurd (false≢true e)
+is_kind-equal Service Activity e = absurd (false≢true e)
+is_kind-equal Service Receiver e = absurd (false≢true e)
+is_kind-equal Receiver Activity e = absurd (false≢true e)
+is_kind-equal Receiver Service e = absurd (false≢true e)
+
+-- a kind is the same as itself
+pub is_kind_itself : (a : Kind) → is_kind a a ≡ true
+is_kind_itself Activity = refl
+is_kind_itself Service = refl
+is_kind_itself Receiver = refl
+
+same_owner-equal : (a b : Option (List ℕ)) → same_owner a b ≡ true → a ≡ b
+same_owner-equal None None e = refl
+same_owner-equal (Some x) (Some y) e = ap Some ((is_same-Decides x y).0 e)
+same_owner-equal None (Some y) e = absurd (false≢true e)
+same_owner-equal (Some x) None e = absurd (false≢true e)
+
+same_owner_itself : (a : Option (List ℕ)) → same_owner a a ≡ true
+same_owner_itself None = refl
+same_owner_itself (Some x) = is_same_itself x
+
+-- the parts of a conjunction
+pub both : (a b : Bool) → (a && b) ≡ true → (a ≡ true) × (b ≡ true)
+both true b e = (refl, e)
+both false b e = absurd (false≢true e)
+
+-- keys of equal parts are equal
+of_parts : (a b : Key) → a.kind ≡ b.kind → a.owner ≡ b.owner → a.group ≡ b.group → a ≡ b
+of_parts a b k o g = λ i. record { kind = k i; owner = o i; group = g i }
+
+same_key-equal : (a b : Key) → same_key a b ≡ true → a ≡ b
+same_key-equal a b e =
+    let first = both _ _ e in
+    let second = both _ _ first.1 in
+    of_parts a b (is_kind-equal _ _ first.0) (same_owner-equal _ _ second.0) (same_group-equal _ _ second.1)
+
+same_key_itself : (a : Key) → same_key a a ≡ true
+same_key_itself a =
+    ap (λ b. b && (same_owner a.owner a.owner && same_group a.group a.group)) (is_kind_itself a.kind)
+    ∙ ap (λ b. b && same_group a.group a.group) (same_owner_itself a.owner)
+    ∙ same_group_itself a.group
+
+-- whether two keys are the same decides whether they are equal
+pub same_key-Decides : (a b : Key) → Decides (same_key a b) (a ≡ b)
+same_key-Decides a b = (same_key-equal a b, λ e. ap (same_key a) (sym e) ∙ same_key_itself a)
+
+pub same_key_equiv : IsEquivalence same_key
+same_key_equiv = decided same_key same_key-Decides
+
+pub same_keys_write_alike : (a b : Key) → same_key a b ≡ true → key_writes a ≡ key_writes b
+same_keys_write_alike a b e = ap key_writes (same_key-equal a b e)

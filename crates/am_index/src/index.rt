@@ -1,0 +1,99 @@
+//! The index, and the packages for which it stands.
+ghost use Rattle.std.specs.Prelude.{◌≡◌, ◌∷◌, ◌++◌, [], List as Items, ◌+◌, ◌≤◌, IfOk, IsSome, OnOk, OnErr};
+ghost use Rattle.am_types.specs.declared.device.Package.{Package};
+ghost use Rattle.am_model.specs.Boards.{without_package};
+ghost use Rattle.am_model.specs.Candidates.{hits};
+ghost use Rattle.am_index.specs.Groups.{group_size};
+ghost use Rattle.am_index.specs.Standing.{CanBeListed, CanTake, ListsTheSame, StandsFor};
+
+use crate::found::{by_priority, hits_of_spots};
+use crate::lists::{Lists, drop_spots, note_package};
+use crate::lookup::spots_for;
+use am_tally::Steps;
+use am_types::{Hit, Intent, Kind, List, NoMemory, Package};
+use std::alloc::Global;
+use std::collections::HashMap;
+use std::sync::ledger::Ledger;
+
+/// Where the enabled components of packages stand, by their names and by what their filters list:
+/// action, scheme and type.
+#[derive(Drop)]
+pub struct FilterIndex {
+    lists: Lists,
+    alloc: Global,
+}
+
+impl FilterIndex {
+    /// The index that stands for the packages, as those of a sound device: in the order of their
+    /// uids, each with at most 256 components.
+    pub fn build(alloc: Global, packages: &List<Package>) -> Result<FilterIndex, NoMemory>
+        requires { CanBeListed packages.now }
+        ensures { IfOk result (λ index. StandsFor index packages.now) }
+    {
+        let mut lists = HashMap::new(alloc);
+        for package in packages.as_slice() {
+            note_package(alloc, &mut lists, package)?;
+        }
+        Ok(FilterIndex { lists, alloc })
+    }
+
+    /// Adds a package behind those for which the index stands: its uid is greater than every uid
+    /// there, and it has at most 256 components. Without memory the index is as before.
+    pub fn add(&mut self, package: &Package) -> Result<(), NoMemory>
+        requires { CanTake self.old «package».now }
+        ensures added { OnOk result
+            ((packages : Items Package) →
+            StandsFor self.old packages →
+            CanBeListed (packages ++ «package».now ∷ []) →
+            StandsFor self.new (packages ++ «package».now ∷ [])) }
+        ensures as_before { OnErr result (ListsTheSame self.old self.new) }
+        ensures stands { OnErr result
+            ((packages : Items Package) → StandsFor self.old packages → StandsFor self.new packages) }
+    {
+        let noted = note_package(self.alloc, &mut self.lists, package);
+        if noted.is_err() {
+            drop_spots(&mut self.lists, package.uid);
+        }
+        noted
+    }
+
+    /// Takes out the package of the uid, if there is one. Takes no memory.
+    pub fn drop_uid(&mut self, uid: u32)
+        ensures { (packages : Items Package) →
+            StandsFor self.old packages →
+            StandsFor self.new (without_package packages uid) }
+    {
+        drop_spots(&mut self.lists, uid);
+    }
+
+    /// The components of the kind that the intent finds in the packages for which the index stands,
+    /// by falling priority, then uid, then place. With `need_default` a filter must list the
+    /// default category. Each full test of a filter is a step: at most as many as the intent's
+    /// group has filters, and none where the intent names a component.
+    pub fn candidates<L: Ledger>(
+        &self,
+        alloc: Global,
+        packages: &List<Package>,
+        kind: Kind,
+        intent: &Intent,
+        need_default: bool,
+        steps: &mut Steps<L>,
+    ) -> Result<List<Hit>, NoMemory>
+        requires { StandsFor self.now packages.now }
+        ensures hits { IfOk result (λ found. found ≡ hits packages.now kind intent.now need_default) }
+        ensures tests { steps.new ≤ steps.old + group_size packages.now kind intent.now }
+        ensures explicit { IsSome intent.now.component → steps.new ≡ steps.old }
+    {
+        let spots = spots_for(alloc, &self.lists, kind, intent)?;
+        let found = hits_of_spots(
+            alloc,
+            packages,
+            kind,
+            intent,
+            need_default,
+            spots.as_slice(),
+            steps,
+        )?;
+        by_priority(found)
+    }
+}

@@ -1,0 +1,14 @@
+//! An index of the components of packages by what their filters list: action, scheme and type.
+#![tactic(auto)]
+
+mod found;
+mod groups;
+mod index;
+mod key;
+mod lists;
+mod lookup;
+mod merge;
+#[cfg(test)]
+mod tests;
+
+pub use index::FilterIndex;

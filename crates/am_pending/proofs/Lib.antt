@@ -1,0 +1,7 @@
+pub mod Lookups
+pub mod Lists
+pub mod Changes
+pub mod Indexing
+pub mod Tables
+pub mod Asking
+pub mod Using

@@ -1,0 +1,200 @@
+-- What filters and additions leave to be found and counted.
+use Rattle.std.proofs.Common.{◌≡◌, ℕ, ◌+◌, Bool, true, false, not, ◌||◌, cond, List, [], ◌∷◌, ◌++◌, filter, count_by, All, Option, Some, None, refl, sym, ap, ◌∙◌, subst, true≢false, arith}
+use Rattle.std.specs.List.{find, list_any}
+use Rattle.std.specs.Option.{unwrap_or}
+use Rattle.std.proofs.lemmas.List.Elements.{All-head, All-tail}
+use Rattle.std.proofs.lemmas.List.Recursion.{or_push}
+use Rattle.std.proofs.lemmas.List.Sums.{sum_by-cons}
+use Rattle.am_pending.specs.Once.{AtMostOne}
+
+or_second : (b c : Bool) → (b || c) ≡ false → c ≡ false
+or_second true c h = absurd (true≢false h)
+or_second false c h = h
+
+or_none : (b c : Bool) → b ≡ false → c ≡ false → (b || c) ≡ false
+or_none b c e f = ap (λ a. a || c) e ∙ f
+
+module _ {X : Type 0} where
+  some_same : (x y : X) → Some x ≡ Some y → x ≡ y
+  some_same x y e = ap (λ o. unwrap_or o x) e
+
+  -- where none passes, none is found
+  pub find-none : (p : X → Bool) (xs : List X) → list_any p xs ≡ false → find p xs ≡ None
+  find-none p [] h = refl
+  find-none p (x ∷ xs) h = by (p x) h (find-none p xs (or_second (p x) (list_any p xs) h))
+    where
+      by : (b : Bool) → (b || list_any p xs) ≡ false → find p xs ≡ None → cond b (Some x) (find p xs) ≡ None
+      by true h rest = absurd (true≢false h)
+      by false h rest = rest
+
+  -- where none is found, none passes
+  pub any-none : (p : X → Bool) (xs : List X) → find p xs ≡ None → list_any p xs ≡ false
+  any-none p [] h = refl
+  any-none p (x ∷ xs) h = by (p x) h (λ k. any-none p xs k)
+    where
+      by : (b : Bool) → cond b (Some x) (find p xs) ≡ None → (find p xs ≡ None → list_any p xs ≡ false) → (b || list_any p xs) ≡ false
+      by true h rest = cc
+      by false h rest = rest h
+
+  -- what is found doesn't pass a test that none passes
+  pub found-not : (r s : X → Bool) (xs : List X) (y : X) → find r xs ≡ Some y → list_any s xs ≡ false → s y ≡ false
+  found-not r s [] y h k = cc
+  found-not r s (x ∷ xs) y h k = by (r x) (s x) h k refl (λ e f. found-not r s xs y e f)
+    where
+      by : (b c : Bool) → cond b (Some x) (find r xs) ≡ Some y → (c || list_any s xs) ≡ false → s x ≡ c → (find r xs ≡ Some y → list_any s xs ≡ false → s y ≡ false) → s y ≡ false
+      by b true h k e rest = absurd (true≢false k)
+      by true false h k e rest = ap s (sym (some_same x y h)) ∙ e
+      by false false h k e rest = rest h k
+
+  -- what is found passes the test
+  pub found-passes : (p : X → Bool) (xs : List X) (y : X) → find p xs ≡ Some y → p y ≡ true
+  found-passes p [] y h = cc
+  found-passes p (x ∷ xs) y h = by (p x) refl h (λ k. found-passes p xs y k)
+    where
+      by : (b : Bool) → p x ≡ b → cond b (Some x) (find p xs) ≡ Some y → (find p xs ≡ Some y → p y ≡ true) → p y ≡ true
+      by true e h rest = ap p (sym (some_same x y h)) ∙ e
+      by false e h rest = rest h
+
+  -- what holds of all holds of what is found
+  pub found-has : (P : X → Type 0) (p : X → Bool) (xs : List X) (y : X) → find p xs ≡ Some y → All P xs → P y
+  found-has P p [] y h all = cc
+  found-has P p (x ∷ xs) y h all = by (p x) h (λ k. found-has P p xs y k (All-tail P x xs all))
+    where
+      by : (b : Bool) → cond b (Some x) (find p xs) ≡ Some y → (find p xs ≡ Some y → P y) → P y
+      by true h rest = subst P (some_same x y h) (All-head P x xs all)
+      by false h rest = rest h
+
+  -- what is found by one test is found by another that it alone passes
+  pub found-otherwise : (q r : X → Bool) (xs : List X) (y : X) → find q xs ≡ Some y → r y ≡ true → AtMostOne r xs → find r xs ≡ Some y
+  found-otherwise q r [] y h e m = h
+  found-otherwise q r (x ∷ xs) y h e m = by (q x) (r x) refl h (λ k. found-otherwise q r xs y k e m.1)
+    where
+      by : (b c : Bool) → r x ≡ c → cond b (Some x) (find q xs) ≡ Some y → (find q xs ≡ Some y → find r xs ≡ Some y) → cond c (Some x) (find r xs) ≡ Some y
+      by true true f h rest = h
+      by true false f h rest = absurd (true≢false (sym e ∙ ap r (sym (some_same x y h)) ∙ f))
+      by false true f h rest = absurd (true≢false (sym e ∙ found-not q r xs y h (m.0 f)))
+      by false false f h rest = rest h
+
+  -- where none passes, all of the others are kept
+  pub filter-none : (r : X → Bool) (xs : List X) → list_any r xs ≡ false → filter (λ x. not (r x)) xs ≡ xs
+  filter-none r [] h = refl
+  filter-none r (x ∷ xs) h = by (r x) h (filter-none r xs (or_second (r x) (list_any r xs) h))
+    where
+      by : (b : Bool) → (b || list_any r xs) ≡ false → filter (λ x. not (r x)) xs ≡ xs → cond (not b) (x ∷ filter (λ x. not (r x)) xs) (filter (λ x. not (r x)) xs) ≡ x ∷ xs
+      by true h rest = absurd (true≢false h)
+      by false h rest = ap (λ l. x ∷ l) rest
+
+  -- where none passes, none of those kept does
+  pub any-kept : (p keep : X → Bool) (xs : List X) → list_any p xs ≡ false → list_any p (filter keep xs) ≡ false
+  any-kept p keep [] h = refl
+  any-kept p keep (x ∷ xs) h = by (p x) (keep x) h refl (any-kept p keep xs (or_second (p x) (list_any p xs) h))
+    where
+      by : (b c : Bool) → (b || list_any p xs) ≡ false → p x ≡ b → list_any p (filter keep xs) ≡ false → list_any p (cond c (x ∷ filter keep xs) (filter keep xs)) ≡ false
+      by true c h e rest = absurd (true≢false h)
+      by false true h e rest = ap (λ b. b || list_any p (filter keep xs)) e ∙ rest
+      by false false h e rest = rest
+
+  -- at most one of those kept passes
+  pub most-kept : (p keep : X → Bool) (xs : List X) → AtMostOne p xs → AtMostOne p (filter keep xs)
+  most-kept p keep [] m = tt
+  most-kept p keep (x ∷ xs) m = by (keep x) (most-kept p keep xs m.1)
+    where
+      by : (c : Bool) → AtMostOne p (filter keep xs) → AtMostOne p (cond c (x ∷ filter keep xs) (filter keep xs))
+      by true rest = ((λ e. any-kept p keep xs (m.0 e)), rest)
+      by false rest = rest
+
+  pub any-push : (p : X → Bool) (xs : List X) (y : X) → list_any p (xs ++ y ∷ []) ≡ (list_any p xs || p y)
+  any-push p xs y = or_push (list_any p) p refl (λ _ _. refl) xs y
+
+  -- at most one passes of one more, where none before it does if it does
+  pub most-push : (p : X → Bool) (xs : List X) (y : X) → AtMostOne p xs → (p y ≡ true → list_any p xs ≡ false) → AtMostOne p (xs ++ y ∷ [])
+  most-push p [] y m h = ((λ _. refl), tt)
+  most-push p (x ∷ xs) y m h = (first, most-push p xs y m.1 (λ e. or_second (p x) (list_any p xs) (h e)))
+    where
+      not_both : (c : Bool) → p x ≡ true → p y ≡ c → c ≡ false
+      not_both true e f = absurd (true≢false (sym (ap (λ b. b || list_any p xs) e) ∙ h f))
+      not_both false e f = refl
+
+      first : p x ≡ true → list_any p (xs ++ y ∷ []) ≡ false
+      first e = any-push p xs y ∙ or_none (list_any p xs) (p y) (m.0 e) (not_both (p y) e refl)
+
+  without_here : (q : X → Bool) (x : X) (xs : List X) (c : Bool) → AtMostOne q (x ∷ xs) → q x ≡ c → find q xs ≡ cond c None (cond c (Some x) (find q xs))
+  without_here q x xs true n e = find-none q xs (n.0 e)
+  without_here q x xs false n e = refl
+
+  without_there : (r q : X → Bool) (x : X) (xs : List X) (y : X) (o : Option X) (c d : Bool) → AtMostOne q (x ∷ xs) → q x ≡ c → q y ≡ d → find r xs ≡ Some y → o ≡ cond d None (find q xs) → cond c (Some x) o ≡ cond d None (cond c (Some x) (find q xs))
+  without_there r q x xs y o true true n e f h rest = absurd (true≢false (sym f ∙ found-not r q xs y h (n.0 e)))
+  without_there r q x xs y o true false n e f h rest = refl
+  without_there r q x xs y o false d n e f h rest = rest
+
+  -- what is found without the one that is taken away
+  pub find-without : (r q : X → Bool) (xs : List X) (y : X) → find r xs ≡ Some y → AtMostOne r xs → AtMostOne q xs → find q (filter (λ x. not (r x)) xs) ≡ cond (q y) None (find q xs)
+  find-without r q [] y h m n = cc
+  find-without r q (x ∷ xs) y h m n = by (r x) refl h (λ k. find-without r q xs y k m.1 n.1)
+    where
+      others : List X
+      others = filter (λ x. not (r x)) xs
+
+      by : (b : Bool) → r x ≡ b → cond b (Some x) (find r xs) ≡ Some y → (find r xs ≡ Some y → find q others ≡ cond (q y) None (find q xs)) → find q (cond (not b) (x ∷ others) others) ≡ cond (q y) None (cond (q x) (Some x) (find q xs))
+      by true e h rest =
+          ap (find q) (filter-none r xs (m.0 e))
+          ∙ without_here q x xs (q x) n refl
+          ∙ ap (λ z. cond (q z) None (cond (q x) (Some x) (find q xs))) (some_same x y h)
+      by false e h rest = without_there r q x xs y (find q others) (q x) (q y) n refl refl h (rest h)
+
+  count_by-cons : (s : X → Bool) (x : X) (xs : List X) → count_by s (x ∷ xs) ≡ cond (s x) 1 0 + count_by s xs
+  count_by-cons s x xs = sum_by-cons (λ x. cond (s x) 1 0) x xs
+
+  -- how many pass without the one that is taken away
+  pub count-without : (r s : X → Bool) (xs : List X) (y : X) → find r xs ≡ Some y → AtMostOne r xs → count_by s (filter (λ x. not (r x)) xs) + cond (s y) 1 0 ≡ count_by s xs
+  count-without r s [] y h m = cc
+  count-without r s (x ∷ xs) y h m = by (r x) refl h (λ k. count-without r s xs y k m.1)
+    where
+      others : List X
+      others = filter (λ x. not (r x)) xs
+
+      by : (b : Bool) → r x ≡ b → cond b (Some x) (find r xs) ≡ Some y → (find r xs ≡ Some y → count_by s others + cond (s y) 1 0 ≡ count_by s xs) → count_by s (cond (not b) (x ∷ others) others) + cond (s y) 1 0 ≡ count_by s (x ∷ xs)
+      by true e h rest =
+          let a = ap (count_by s) (filter-none r xs (m.0 e)) in
+          let c = ap {B = ℕ} (λ z. cond (s z) 1 0) (some_same x y h) in
+          let d = count_by-cons s x xs in
+          omega (arith, a, c, d)
+      by false e h rest =
+          let a = count_by-cons s x others in
+          let c = rest h in
+          let d = count_by-cons s x xs in
+          omega (arith, a, c, d)
+
+  -- what is found among those kept, by a test that tells which are kept
+  pub find-filter : (q keep : X → Bool) (kept : Bool) → ((x : X) → q x ≡ true → keep x ≡ kept) → (xs : List X) → find q (filter keep xs) ≡ cond kept (find q xs) None
+  find-filter q keep true h [] = refl
+  find-filter q keep false h [] = refl
+  find-filter q keep kept h (x ∷ xs) = by (keep x) (q x) kept refl refl (h x) (find-filter q keep kept h xs)
+    where
+      by : (b c k : Bool) → keep x ≡ b → q x ≡ c → (q x ≡ true → keep x ≡ k) → find q (filter keep xs) ≡ cond k (find q xs) None → find q (cond b (x ∷ filter keep xs) (filter keep xs)) ≡ cond k (cond c (Some x) (find q xs)) None
+      by true true true e f says rest = ap (λ a. cond a (Some x) (find q (filter keep xs))) f
+      by true true false e f says rest = absurd (true≢false (sym e ∙ says f))
+      by true false k e f says rest = ap (λ a. cond a (Some x) (find q (filter keep xs))) f ∙ rest
+      by false true true e f says rest = absurd (true≢false (sym (says f) ∙ e))
+      by false true false e f says rest = rest
+      by false false k e f says rest = rest
+
+  -- how many pass of those kept, by a test that tells which are kept
+  pub count-filter : (s keep : X → Bool) (kept : Bool) → ((x : X) → s x ≡ true → keep x ≡ kept) → (xs : List X) → count_by s (filter keep xs) ≡ cond kept (count_by s xs) 0
+  count-filter s keep true h [] = refl
+  count-filter s keep false h [] = refl
+  count-filter s keep kept h (x ∷ xs) = by (keep x) (s x) kept refl refl (h x) (count-filter s keep kept h xs)
+    where
+      by : (b c k : Bool) → keep x ≡ b → s x ≡ c → (s x ≡ true → keep x ≡ k) → count_by s (filter keep xs) ≡ cond k (count_by s xs) 0 → count_by s (cond b (x ∷ filter keep xs) (filter keep xs)) ≡ cond k (count_by s (x ∷ xs)) 0
+      by true c true e f says rest = count_by-cons s x (filter keep xs) ∙ ap (λ n. cond (s x) 1 0 + n) rest ∙ sym (count_by-cons s x xs)
+      by true true false e f says rest = absurd (true≢false (sym e ∙ says f))
+      by true false false e f says rest =
+          let a = count_by-cons s x (filter keep xs) in
+          let d = ap {B = ℕ} (λ b. cond b 1 0) f in
+          omega (arith, a, d, rest)
+      by false true true e f says rest = absurd (true≢false (sym (says f) ∙ e))
+      by false false true e f says rest =
+          let a = count_by-cons s x xs in
+          let d = ap {B = ℕ} (λ b. cond b 1 0) f in
+          omega (arith, a, d, rest)
+      by false c false e f says rest = rest

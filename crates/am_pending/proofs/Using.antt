@@ -1,0 +1,92 @@
+-- What canceling, giving and using a token come to, by the record that is found.
+use Rattle.std.proofs.Common.{◌≡◌, ℕ, ◌==◌, Bool, true, false, not, cond, length, map, Option, Some, None, Result, Ok, Err, option_map, refl, ap, ◌∙◌, arith}
+use Rattle.std.specs.Prelude.{nat_le}
+use Rattle.std.specs.Option.{unwrap_or}
+use Rattle.std.proofs.lemmas.Bool.Decides.{nat_tests}
+use Rattle.am_types.specs.declared.intent.Intent.{Intent}
+use Rattle.am_types.specs.declared.filter.FillFault.{FillFault}
+use Rattle.am_types.specs.declared.pending.PendingFault.{PendingFault}
+use Rattle.am_types.specs.declared.pending.PendingFault.TheVariants.{NoToken, NotCreator, NotHolder, HoldersFull}
+use Rattle.am_model.specs.Pendings.{Pending, Pendings, cancel, canceled, give, given, is_holder, lent, no_record, use_token, used, used_as, with_holder, without_token}
+use Rattle.am_pending.specs.Records.{record_in}
+
+-- what was mapped
+pub mapped : {X : Type 0} (f : X → ℕ) (o : Option X) (n : ℕ) → option_map f o ≡ Some n → (x : X) × (o ≡ Some x) × (f x ≡ n)
+mapped f None n h = cc
+mapped f (Some x) n h = (x, refl, ap (λ m. unwrap_or m (f x)) h)
+
+pub mapped_none : {X Y : Type 0} (f : X → Y) (o : Option X) → option_map f o ≡ None → o ≡ None
+mapped_none f None h = refl
+mapped_none f (Some x) h = cc
+
+pub same : (x y : ℕ) → x ≡ y → (x == y) ≡ true
+same x y e = grind (arith, nat_tests)
+
+pub apart : (x y : ℕ) → (x ≡ y → ⊥) → (x == y) ≡ false
+apart x y e = grind (arith, nat_tests)
+
+-- all is the same where the records and the next token are
+pub all_same : (all other : Pendings) → all.records ≡ other.records → all.next ≡ other.next → all ≡ other
+all_same all other r n = λ i. record { records = r i; next = n i }
+
+module _ (all : Pendings) (token uid : ℕ) where
+  pub cancel_none : record_in token all.records ≡ None → cancel all token uid ≡ Err NoToken
+  unfolding cancel
+  cancel_none h = ap (canceled all uid) h
+
+  module _ (kept : Pending) (is : record_in token all.records ≡ Some kept) where
+    pub cancel_other : (kept.creator == uid) ≡ false → cancel all token uid ≡ Err NotCreator
+    unfolding cancel
+    cancel_other e = ap (canceled all uid) is ∙ ap (λ b. cond b (Ok (record all { records = without_token all.records kept.token })) (Err NotCreator)) e
+
+    pub cancel_own : (kept.creator == uid) ≡ true → cancel all token uid ≡ Ok (record all { records = without_token all.records kept.token })
+    unfolding cancel
+    cancel_own e = ap (canceled all uid) is ∙ ap (λ b. cond b (Ok (record all { records = without_token all.records kept.token })) (Err NotCreator)) e
+
+-- what a gift comes to
+pub gift : Pendings → ℕ → ℕ → Pending → Bool → Bool → Bool → Result Pendings PendingFault
+gift all uid to kept own has full = cond own (cond has (Ok all) (cond full (Err HoldersFull) (Ok (record all { records = map (with_holder kept.token to) all.records })))) (Err NotCreator)
+
+not_not : (b : Bool) (x y : Result Pendings PendingFault) → cond (not b) x y ≡ cond b y x
+not_not true x y = refl
+not_not false x y = refl
+
+module _ (all : Pendings) (token uid to : ℕ) where
+  pub give_none : record_in token all.records ≡ None → give all token uid to ≡ Err NoToken
+  unfolding give
+  give_none h = ap (given all uid to) h
+
+  module _ (kept : Pending) (is : record_in token all.records ≡ Some kept) where
+    pub give_is : give all token uid to ≡ gift all uid to kept (kept.creator == uid) (is_holder kept to) (nat_le 64 (length kept.holders))
+    unfolding give gift
+    give_is = ap (given all uid to) is ∙ not_not (kept.creator == uid) (Err NotCreator) (cond (is_holder kept to) (Ok all) (cond (nat_le 64 (length kept.holders)) (Err HoldersFull) (Ok (record all { records = map (with_holder kept.token to) all.records }))))
+
+    pub give_other : (kept.creator == uid) ≡ false → give all token uid to ≡ Err NotCreator
+    unfolding gift
+    give_other e = give_is ∙ ap (λ own. gift all uid to kept own (is_holder kept to) (nat_le 64 (length kept.holders))) e
+
+    pub give_again : (kept.creator == uid) ≡ true → is_holder kept to ≡ true → give all token uid to ≡ Ok all
+    unfolding gift
+    give_again e f = give_is ∙ (λ i. gift all uid to kept (e i) (f i) (nat_le 64 (length kept.holders)))
+
+    pub give_full : (kept.creator == uid) ≡ true → is_holder kept to ≡ false → nat_le 64 (length kept.holders) ≡ true → give all token uid to ≡ Err HoldersFull
+    unfolding gift
+    give_full e f l = give_is ∙ (λ i. gift all uid to kept (e i) (f i) (l i))
+
+    pub give_new : (kept.creator == uid) ≡ true → is_holder kept to ≡ false → nat_le 64 (length kept.holders) ≡ false → give all token uid to ≡ Ok (record all { records = map (with_holder kept.token to) all.records })
+    unfolding gift
+    give_new e f l = give_is ∙ (λ i. gift all uid to kept (e i) (f i) (l i))
+
+module _ (all : Pendings) (token uid : ℕ) (filled : Option Intent) where
+  pub use_none : record_in token all.records ≡ None → use_token all token uid filled ≡ Err (no_record all token)
+  unfolding use_token
+  use_none h = ap (used all token uid filled) h
+
+  module _ (kept : Pending) (is : record_in token all.records ≡ Some kept) where
+    pub use_other : is_holder kept uid ≡ false → use_token all token uid filled ≡ Err NotHolder
+    unfolding use_token
+    use_other e = ap (used all token uid filled) is ∙ ap (λ b. cond b (used_as kept (lent kept filled)) (Err NotHolder)) e
+
+    pub use_own : (lends : Result Intent FillFault) → is_holder kept uid ≡ true → lent kept filled ≡ lends → use_token all token uid filled ≡ used_as kept lends
+    unfolding use_token
+    use_own lends e l = ap (used all token uid filled) is ∙ ap (λ b. cond b (used_as kept (lent kept filled)) (Err NotHolder)) e ∙ ap (used_as kept) l

@@ -1,0 +1,37 @@
+use Rattle.std.proofs.Common.{◌≡◌, ℕ, ◌==◌, List, not, map, filter, ap, sym, subst, ◌∙◌}
+use Rattle.am_model.specs.Pendings.{Pending, without_holder}
+use Rattle.am_pending.specs.Records.{Indexes, Kept, pendings_of, others_than, let_go_by_all, token_at, count_at}
+use Rattle.am_pending.proofs.Changes.{pendings-others, pendings-let_go}
+use Rattle.am_pending.proofs.Indexing.{indexes-same, indexes-others, indexes-map, without_holder-leaves}
+use Rattle.am_pending.proofs.table.Table.forget.Goals as goal
+
+others : ℕ → List Pending → List Pending
+others uid records = filter (λ (kept : Pending). not (kept.creator == uid)) records
+
+view : (uid : ℕ) (es es1 es2 : List (ℕ × Kept)) → es1 ≡ others_than uid es → es2 ≡ let_go_by_all uid es1 → pendings_of es2 ≡ map (without_holder uid) (others uid (pendings_of es))
+unfolding others
+view uid es es1 es2 first second =
+    ap pendings_of second ∙ pendings-let_go uid es1 ∙ ap (λ l. map (without_holder uid) (pendings_of l)) first ∙ ap (map (without_holder uid)) (pendings-others uid es)
+
+pub invariant_of-self : goal.invariant_of-self
+unfolding others
+invariant_of-self c =
+    let es : List (ℕ × Kept) = c.self.inside.records.entries in
+    let ps : List Pending = pendings_of es in
+    let left : List Pending = filter (λ (kept : Pending). not (kept.creator == c.args.uid)) ps in
+    let e = view c.args.uid es c.forget_records.new.records.entries c.forget_holder.new.records.entries c.forget_records.ensures.entries c.forget_holder.ensures.entries in
+    record {
+      rising = c.forget_holder.ensures.rising;
+      indexes =
+          subst (λ (all : List Pending). Indexes all (token_at c.forget_tokens.new.tokens.entries) (count_at c.forget_count.new.counts.entries)) (sym e)
+          (indexes-same _ _ (token_at c.forget_tokens.new.tokens.entries) _ (count_at c.forget_count.new.counts.entries)
+          (indexes-map (without_holder c.args.uid) (without_holder-leaves c.args.uid) left _ _
+          (indexes-others ps (token_at c.self.inside.tokens.entries) (count_at c.self.inside.counts.entries) c.args.uid c.self.invariant.indexes))
+          c.forget_tokens.ensures c.forget_count.ensures);
+    }
+
+pub returns : goal.returns
+unfolding others
+returns c =
+    view c.args.uid c.self.inside.records.entries c.forget_records.new.records.entries c.forget_holder.new.records.entries c.forget_records.ensures.entries c.forget_holder.ensures.entries
+    ∙ ap (λ ps. map (without_holder c.args.uid) (others c.args.uid ps)) c.self.view_is

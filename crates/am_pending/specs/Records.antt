@@ -1,0 +1,93 @@
+-- Live records as a table keeps them: by token, with the token of each key and each creator's number of records.
+use Rattle.std.specs.Prelude.{◌≡◌, ℕ, ◌==◌, not, List, [], ◌∷◌, ◌++◌, map, filter, nat_eq, unwrap_or, if◌then◌else◌, Option, option_map}
+use Rattle.am_types.specs.declared.intent.Named.{Named}
+use Rattle.std.specs.List.{find}
+use Rattle.std.specs.List.Sorted.{IsStrictlySortedBy}
+use Rattle.std.specs.Map.{lookup, keys_of}
+use Rattle.std.specs.Ordering.{nat_cmp}
+use Rattle.am_model.specs.Pendings.{Pending, count_of, has_key}
+use Rattle.am_pending.specs.declared.key.Key.{Key}
+use Rattle.am_pending.specs.Keys.{asked_by, is_same_key}
+use Rattle.am_pending.specs.Once.{AtMostOne}
+
+-- a record: its key, with the whole intent, and those besides the creator who hold its token
+pub record Kept : Type 0 where
+  pub key : Key
+  pub holders : List ℕ
+
+-- a record without holders
+abbrev pub unheld : Key → Kept
+unheld key = record { key = key; holders = [] }
+
+-- a record under its token, as the definitions see it
+abbrev pub pending_of : ℕ → Kept → Pending
+pending_of token kept = record {
+  token = token;
+  creator = kept.key.creator;
+  kind = kept.key.kind;
+  code = kept.key.code;
+  one_shot = kept.key.one_shot;
+  immutable = kept.key.immutable;
+  mutable = kept.key.mutable;
+  intent = kept.key.intent;
+  holders = kept.holders;
+}
+
+-- the records that stand under tokens
+abbrev pub pendings_of : List (ℕ × Kept) → List Pending
+pendings_of entries = map (λ (e : ℕ × Kept). pending_of e.0 e.1) entries
+
+-- the token of the record that has the key, if there is one
+abbrev pub token_in : Key → List Pending → Option ℕ
+token_in key records = option_map (λ (kept : Pending). kept.token) (find (has_key (asked_by key)) records)
+
+-- the record of the token, if there is one
+abbrev pub record_in : ℕ → List Pending → Option Pending
+record_in token records = find (λ (kept : Pending). kept.token == token) records
+
+-- the records, with another in the place of the one under the token
+abbrev pub changed_at : ℕ → (Kept → Kept) → List (ℕ × Kept) → List (ℕ × Kept)
+changed_at token change entries = map (λ (e : ℕ × Kept). if e.0 == token then (e.0, change e.1) else e) entries
+
+-- the records without the one under the token
+abbrev pub dropped_at : ℕ → List (ℕ × Kept) → List (ℕ × Kept)
+dropped_at token entries = filter (λ (e : ℕ × Kept). not (e.0 == token)) entries
+
+-- the record with other extras
+abbrev pub with_extras : List Named → Kept → Kept
+with_extras extras kept = record kept { key = record (kept.key) { intent = record (kept.key.intent) { extras = extras } } }
+
+-- the record with one more holder
+abbrev pub held_by : ℕ → Kept → Kept
+held_by to kept = record kept { holders = kept.holders ++ to ∷ [] }
+
+-- the record without a holder
+abbrev pub let_go_by : ℕ → Kept → Kept
+let_go_by uid kept = record kept { holders = filter (λ holder. not (holder == uid)) kept.holders }
+
+-- the records of other creators
+abbrev pub others_than : ℕ → List (ℕ × Kept) → List (ℕ × Kept)
+others_than uid entries = filter (λ (e : ℕ × Kept). not (e.1.key.creator == uid)) entries
+
+-- the records, each without a holder
+abbrev pub let_go_by_all : ℕ → List (ℕ × Kept) → List (ℕ × Kept)
+let_go_by_all uid entries = map (λ (e : ℕ × Kept). (e.0, let_go_by uid e.1)) entries
+
+-- the token of a key in a table of tokens
+abbrev pub token_at : List (Key × ℕ) → Key → Option ℕ
+token_at tokens key = lookup (λ k. is_same_key k key) tokens
+
+-- a creator's number in a table of numbers
+abbrev pub count_at : List (ℕ × ℕ) → ℕ → ℕ
+count_at counts uid = unwrap_or (lookup (nat_eq uid) counts) 0
+
+-- each key has the token of its record, no two records have the same key, and each creator has its number of records
+pub record Indexes (records : List Pending) (tokens : Key → Option ℕ) (counts : ℕ → ℕ) : Type 0 where
+  pub found : (key : Key) → tokens key ≡ token_in key records
+  pub apart : (key : Key) → AtMostOne (has_key (asked_by key)) records
+  pub counted : (uid : ℕ) → counts uid ≡ count_of records uid
+
+-- the records stand in the order of their tokens, and the two other tables are theirs
+pub record IsIndexed (records : List (ℕ × Kept)) (tokens : List (Key × ℕ)) (counts : List (ℕ × ℕ)) : Type 0 where
+  pub rising : IsStrictlySortedBy nat_cmp (keys_of records)
+  pub indexes : Indexes (pendings_of records) (token_at tokens) (count_at counts)

@@ -1,0 +1,11 @@
+//! Pending intents: records that lend their creator's identity to those who hold their token.
+#![tactic(auto)]
+
+mod key;
+mod pendings;
+mod records;
+mod table;
+#[cfg(test)]
+mod tests;
+
+pub use pendings::Pending;

@@ -1,0 +1,79 @@
+//! Live records.
+ghost use Rattle.std.specs.Prelude.{◌≡◌, OnOk, OnErr};
+ghost use Rattle.am_pending.specs.Records.{held_by, let_go_by, unheld, with_extras};
+
+use crate::key::Key;
+use am_types::{List, Named};
+use std::alloc::{AllocError, Global};
+use std::marker::Model;
+
+/// A live record: its key, with the whole intent, and the uids besides the creator's that hold its token.
+#[derive(Debug, Drop)]
+pub struct Record {
+    key: Key,
+    holders: Vec<u32>,
+}
+
+impl Model for Record {
+    ghost use Rattle.am_pending.specs.Records.{Kept};
+
+    ghost Value = { Kept };
+
+    ghost view = { λ r. record { key = r.key; holders = r.holders.items } };
+}
+
+impl Record {
+    /// A record without holders. Takes no memory.
+    pub fn new(alloc: Global, key: Key) -> Record
+        ensures { result ≡ unheld key }
+    {
+        Record {
+            key,
+            holders: Vec::new(alloc),
+        }
+    }
+
+    /// The key, with the whole intent.
+    pub fn key(&self) -> &Key
+        ensures { result.now ≡ self.now.key }
+    {
+        &self.key
+    }
+
+    /// The uids besides the creator's that hold the token.
+    pub fn holders(&self) -> &[u32]
+        ensures { result.now ≡ self.now.holders }
+    {
+        self.holders.as_slice()
+    }
+
+    /// Gives the intent other extras. Takes no memory.
+    pub fn set_extras(&mut self, extras: List<Named>)
+        ensures { self.new ≡ with_extras extras self.old }
+    {
+        self.key.intent.extras = extras;
+    }
+
+    /// Adds a holder. Without memory all stays.
+    pub fn hold(&mut self, to: u32) -> Result<(), AllocError>
+        ensures ok { OnOk result (self.new ≡ held_by to self.old) }
+        ensures err { OnErr result (self.new ≡ self.old) }
+    {
+        self.holders.push(to)?;
+        Ok(())
+    }
+
+    /// Takes a holder away. Takes no memory.
+    pub fn let_go(&mut self, uid: u32)
+        ensures { self.new ≡ let_go_by uid self.old }
+    {
+        self.holders.retain(|holder| *holder != uid);
+    }
+
+    /// The key. Takes no memory.
+    pub fn into_key(self) -> Key
+        ensures { result ≡ self.key }
+    {
+        self.key
+    }
+}

@@ -1,0 +1,335 @@
+//! Live records, found by token and by key.
+ghost use Rattle.std.specs.Prelude.{◌≡◌, ℕ, ◌+◌, ◌-◌, cond, ◌<◌, ◌≤◌, ◌==◌, ◌∷◌, ◌++◌, [], not, map, filter, All, None, Some, OnOk, OnErr, IsSome, nat_eq, option_map};
+ghost use Rattle.std.specs.Option.{option_copied};
+ghost use Rattle.std.specs.Map.{keys_of, lookup};
+ghost use Rattle.std.specs.List.Sorted.{IsStrictlySortedBy};
+ghost use Rattle.std.specs.Ordering.{nat_cmp};
+ghost use Rattle.std.specs.BTreeMap.{insert_entry, is_at};
+ghost use Rattle.indexmap.specs.IndexMap.{spare};
+ghost use Rattle.am_model.specs.Pendings.{Pending, count_of, fresh, updated, with_holder, without_holder, without_token};
+ghost use Rattle.am_pending.specs.Keys.{asked_by, is_same_key};
+ghost use Rattle.am_pending.specs.Records.{changed_at, count_at, dropped_at, held_by, let_go_by_all, others_than, pending_of, record_in, token_at, token_in, unheld, with_extras};
+ghost use Rattle.am_pending.specs.declared.key.Key.{Key};
+
+use crate::key::Key;
+use crate::records::Record;
+use am_tally::Steps;
+use am_types::{List, Named};
+use indexmap::IndexMap;
+use std::alloc::{AllocError, Global};
+use std::collections::BTreeMap;
+use std::marker::Model;
+use std::sync::ledger::Ledger;
+
+/// Live records. Contracts see them in the order of their tokens.
+#[derive(Debug, Drop)]
+pub struct Table {
+    records: BTreeMap<u64, Record>,
+    tokens: IndexMap<Key, u64>,
+    /// How many records each creator has.
+    counts: IndexMap<u32, u32>,
+}
+
+impl Model for Table {
+    ghost use Rattle.std.specs.Prelude.{List};
+    ghost use Rattle.am_model.specs.Pendings.{Pending};
+    ghost use Rattle.am_pending.specs.Records.{IsIndexed, pendings_of};
+
+    ghost Value = { List Pending };
+
+    ghost view = { λ t. pendings_of t.records.entries };
+
+    ghost invariant = { λ t. IsIndexed t.records.entries t.tokens.entries t.counts.entries };
+}
+
+/// Puts a record without holders under a token. Without memory all stays.
+fn put(
+    records: &mut BTreeMap<u64, Record>,
+    alloc: Global,
+    token: u64,
+    key: &Key,
+) -> Result<(), AllocError>
+    ensures ok { OnOk result (records.new.entries ≡ insert_entry nat_cmp records.old.entries token (unheld key.now)) }
+    ensures err { OnErr result (records.new.entries ≡ records.old.entries) }
+    ensures rising { IsStrictlySortedBy nat_cmp (keys_of records.old.entries) → IsStrictlySortedBy nat_cmp (keys_of records.new.entries) }
+{
+    let kept = Record::new(alloc, key.clone()?);
+    match records.insert(token, kept) {
+        Ok(_) => Ok(()),
+        Err(failed) => {
+            drop(failed);
+            Err(AllocError)
+        }
+    }
+}
+
+/// Gives the intent of the record under the token other extras.
+fn change_extras(records: &mut BTreeMap<u64, Record>, token: u64, extras: List<Named>)
+    ensures { records.new.entries ≡ changed_at token (with_extras extras) records.old.entries }
+{
+    if let Some(kept) = records.get_mut(&token) {
+        kept.set_extras(extras);
+    }
+}
+
+/// Adds a holder to the record under the token. Without memory all stays.
+fn add_holder(records: &mut BTreeMap<u64, Record>, token: u64, to: u32) -> Result<(), AllocError>
+    ensures ok { OnOk result (records.new.entries ≡ changed_at token (held_by to) records.old.entries) }
+    ensures err { OnErr result (records.new.entries ≡ records.old.entries) }
+{
+    match records.get_mut(&token) {
+        Some(kept) => kept.hold(to),
+        None => Ok(()),
+    }
+}
+
+/// Takes the record under the token away.
+fn take(records: &mut BTreeMap<u64, Record>, token: u64) -> Option<Record>
+    requires { IsStrictlySortedBy nat_cmp (keys_of records.old.entries) }
+    ensures found { result ≡ lookup (is_at (nat_cmp token)) records.old.entries }
+    ensures entries { records.new.entries ≡ dropped_at token records.old.entries }
+    ensures rising { IsStrictlySortedBy nat_cmp (keys_of records.new.entries) }
+{
+    records.remove(&token)
+}
+
+/// Takes the record under the token away and drops it.
+fn discard(records: &mut BTreeMap<u64, Record>, token: u64)
+    requires { IsStrictlySortedBy nat_cmp (keys_of records.old.entries) }
+    ensures entries { records.new.entries ≡ dropped_at token records.old.entries }
+    ensures rising { IsStrictlySortedBy nat_cmp (keys_of records.new.entries) }
+{
+    drop(take(records, token));
+}
+
+/// Gives the key a token, where there is room for it or it has one.
+fn set_token(tokens: &mut IndexMap<Key, u64>, key: Key, token: u64)
+    requires { (token_at tokens.old.entries key ≡ None) → 1 ≤ spare tokens.old }
+    ensures { (other : Key) → token_at tokens.new.entries other ≡ cond (is_same_key other key) (Some token) (token_at tokens.old.entries other) }
+{
+    match tokens.insert(key, token) {
+        Ok(_) => {}
+        Err(failed) => drop(failed),
+    }
+}
+
+/// Takes the key's token away.
+fn unset_token(tokens: &mut IndexMap<Key, u64>, key: &Key)
+    ensures { (other : Key) → token_at tokens.new.entries other ≡ cond (is_same_key other key.now) None (token_at tokens.old.entries other) }
+{
+    tokens.swap_remove(key);
+}
+
+/// Takes the records of a creator away.
+fn forget_records(records: &mut BTreeMap<u64, Record>, uid: u32)
+    ensures entries { records.new.entries ≡ others_than uid records.old.entries }
+    ensures rising { IsStrictlySortedBy nat_cmp (keys_of records.new.entries) }
+{
+    records.retain(|_, kept| kept.key().creator != uid);
+}
+
+/// Takes a holder away from each record.
+fn forget_holder(records: &mut BTreeMap<u64, Record>, uid: u32)
+    ensures entries { records.new.entries ≡ let_go_by_all uid records.old.entries }
+    ensures rising { IsStrictlySortedBy nat_cmp (keys_of records.new.entries) }
+{
+    records.retain(|_, kept| {
+        kept.let_go(uid);
+        true
+    });
+}
+
+/// Takes the tokens of a creator's keys away.
+fn forget_tokens(tokens: &mut IndexMap<Key, u64>, uid: u32)
+    ensures { (other : Key) → token_at tokens.new.entries other ≡ cond (other.creator == uid) None (token_at tokens.old.entries other) }
+{
+    tokens.retain(|key, _| key.creator != uid);
+}
+
+/// Takes a creator's number of records away.
+fn forget_count(counts: &mut IndexMap<u32, u32>, uid: u32)
+    ensures { (other : ℕ) → count_at counts.new.entries other ≡ cond (other == uid) 0 (count_at counts.old.entries other) }
+{
+    counts.swap_remove(&uid);
+}
+
+/// Makes room for one more key and for its creator's number of records.
+fn make_room(
+    tokens: &mut IndexMap<Key, u64>,
+    counts: &mut IndexMap<u32, u32>,
+    creator: u32,
+) -> Result<(), AllocError>
+    ensures tokens { tokens.new.entries ≡ tokens.old.entries }
+    ensures room { OnOk result (1 ≤ spare tokens.new) }
+    ensures counts { (uid : ℕ) → count_at counts.new.entries uid ≡ count_at counts.old.entries uid }
+    ensures creator { OnOk result (IsSome (lookup (nat_eq creator) counts.new.entries)) }
+{
+    tokens.reserve(1)?;
+    let live = counts.get(&creator).copied().unwrap_or(0);
+    match counts.insert(creator, live) {
+        Ok(_) => Ok(()),
+        Err(_) => Err(AllocError),
+    }
+}
+
+/// Lowers the creator's number of records by one.
+fn lower(counts: &mut IndexMap<u32, u32>, creator: u32)
+    requires { 0 < count_at counts.old.entries creator }
+    ensures { (uid : ℕ) → count_at counts.new.entries uid ≡ count_at counts.old.entries uid - cond (uid == creator) 1 0 }
+{
+    if let Some(count) = counts.get_mut(&creator) {
+        *count -= 1;
+    }
+}
+
+/// Raises the creator's number of records, which is there, by one.
+fn raise(counts: &mut IndexMap<u32, u32>, creator: u32)
+    requires there { IsSome (lookup (nat_eq creator) counts.old.entries) }
+    requires few { count_at counts.old.entries creator < 1024 }
+    ensures { (uid : ℕ) → count_at counts.new.entries uid ≡ count_at counts.old.entries uid + cond (uid == creator) 1 0 }
+{
+    if let Some(count) = counts.get_mut(&creator) {
+        *count += 1;
+    }
+}
+
+/// The creator's number of records.
+fn count_of(counts: &IndexMap<u32, u32>, creator: u32) -> u32
+    ensures { result ≡ count_at counts.now.entries creator }
+{
+    counts.get(&creator).copied().unwrap_or(0)
+}
+
+impl Table {
+    /// No record. Takes no memory.
+    pub fn new(alloc: Global) -> Table
+        ensures { result ≡ [] }
+    {
+        Table {
+            records: BTreeMap::new(alloc),
+            tokens: IndexMap::new(alloc),
+            counts: IndexMap::new(alloc),
+        }
+    }
+
+    /// The token of the record that has the key.
+    pub fn find(&self, key: &Key) -> Option<u64>
+        ensures { result ≡ token_in key.now self.now }
+    {
+        self.tokens.get(key).copied()
+    }
+
+    /// The record of the token. A step is one such reading.
+    pub fn read<L: Ledger>(&self, token: u64, steps: &mut Steps<L>) -> Option<&Record>
+        ensures found { option_map (pending_of token) (option_copied result) ≡ record_in token self.now }
+        ensures steps { steps.new ≡ steps.old + 1 }
+    {
+        steps.tick();
+        self.records.get(&token)
+    }
+
+    /// The creator of the token's record, which is a step.
+    pub fn creator<L: Ledger>(&self, token: u64, steps: &mut Steps<L>) -> Option<u32>
+        ensures found { result ≡ option_map (λ (kept : Pending). kept.creator) (record_in token self.now) }
+        ensures steps { steps.new ≡ steps.old + 1 }
+    {
+        match self.read(token, steps) {
+            Some(kept) => Some(kept.key().creator),
+            None => None,
+        }
+    }
+
+    /// How many records the creator has.
+    pub fn live(&self, creator: u32) -> u32
+        ensures { result ≡ count_of self.now creator }
+    {
+        count_of(&self.counts, creator)
+    }
+
+    /// How many records the key's creator has besides the one that has the key.
+    pub fn live_besides(&self, old: u64, key: &Key) -> u32
+        requires { token_in key.now self.now ≡ Some old }
+        ensures { result ≡ count_of (without_token self.now old) key.now.creator }
+    {
+        count_of(&self.counts, key.creator) - 1
+    }
+
+    /// Adds a record without holders under a token above all others. Without memory all stays.
+    pub fn add(&mut self, alloc: Global, token: u64, key: Key) -> Result<(), AllocError>
+        requires above { All (λ (kept : Pending). kept.token < token) self.old }
+        requires absent { token_in key self.old ≡ None }
+        requires few { count_of self.old key.creator < 1024 }
+        ensures ok { OnOk result (self.new ≡ self.old ++ fresh token (asked_by key) ∷ []) }
+        ensures err { OnErr result (self.new ≡ self.old) }
+    {
+        let creator = key.creator;
+        let room = make_room(&mut self.tokens, &mut self.counts, creator);
+        if room.is_err() || put(&mut self.records, alloc, token, &key).is_err() {
+            drop(key);
+            return Err(AllocError);
+        }
+        set_token(&mut self.tokens, key, token);
+        raise(&mut self.counts, creator);
+        Ok(())
+    }
+
+    /// Adds a record in the place of the one with its key. Without memory all stays.
+    pub fn replace(
+        &mut self,
+        alloc: Global,
+        old: u64,
+        token: u64,
+        key: Key,
+    ) -> Result<(), AllocError>
+        requires above { All (λ (kept : Pending). kept.token < token) self.old }
+        requires found { token_in key self.old ≡ Some old }
+        ensures ok { OnOk result (self.new ≡ without_token self.old old ++ fresh token (asked_by key) ∷ []) }
+        ensures err { OnErr result (self.new ≡ self.old) }
+    {
+        if put(&mut self.records, alloc, token, &key).is_err() {
+            drop(key);
+            return Err(AllocError);
+        }
+        discard(&mut self.records, old);
+        set_token(&mut self.tokens, key, token);
+        Ok(())
+    }
+
+    /// Takes the record away. Takes no memory.
+    pub fn remove(&mut self, token: u64)
+        ensures { self.new ≡ without_token self.old token }
+    {
+        if let Some(kept) = take(&mut self.records, token) {
+            unset_token(&mut self.tokens, kept.key());
+            lower(&mut self.counts, kept.key().creator);
+            drop(kept);
+        }
+    }
+
+    /// Gives the record's intent other extras, which is a step. Takes no memory.
+    pub fn set_extras<L: Ledger>(&mut self, token: u64, extras: List<Named>, steps: &mut Steps<L>)
+        ensures extras { self.new ≡ map (updated token extras) self.old }
+        ensures steps { steps.new ≡ steps.old + 1 }
+    {
+        steps.tick();
+        change_extras(&mut self.records, token, extras);
+    }
+
+    /// Adds a holder to the record. Without memory all stays.
+    pub fn add_holder(&mut self, token: u64, to: u32) -> Result<(), AllocError>
+        ensures ok { OnOk result (self.new ≡ map (with_holder token to) self.old) }
+        ensures err { OnErr result (self.new ≡ self.old) }
+    {
+        add_holder(&mut self.records, token, to)
+    }
+
+    /// Takes the records of a creator away, and that uid as a holder of the others. Takes no memory.
+    pub fn forget(&mut self, uid: u32)
+        ensures { self.new ≡ map (without_holder uid) (filter (λ (kept : Pending). not (kept.creator == uid)) self.old) }
+    {
+        forget_records(&mut self.records, uid);
+        forget_holder(&mut self.records, uid);
+        forget_tokens(&mut self.tokens, uid);
+        forget_count(&mut self.counts, uid);
+    }
+}

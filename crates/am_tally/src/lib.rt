@@ -1,0 +1,6 @@
+//! Steps that contracts count.
+#![tactic(auto)]
+
+mod steps;
+
+pub use steps::Steps;

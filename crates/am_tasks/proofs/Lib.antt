@@ -1,0 +1,14 @@
+pub mod Backs
+pub mod Carrying
+pub mod Finding
+pub mod Fullness
+pub mod Mapping
+pub mod MarkLemmas
+pub mod NumberLemmas
+pub mod Once
+pub mod Owners
+pub mod Outcomes
+pub mod PlanLemmas
+pub mod RootLemmas
+pub mod Soundness
+pub mod Sources

@@ -1,0 +1,14 @@
+//! Tasks and the back stack: in which task a started activity is placed, and what ends activities.
+#![tactic(auto)]
+
+mod carry;
+mod find;
+mod leave;
+mod plan;
+mod task;
+mod tasks;
+#[cfg(test)]
+mod tests;
+mod views;
+
+pub use tasks::Tasks;
