@@ -3,15 +3,18 @@ ghost use Rattle.std.specs.Prelude.{◌≡◌, ◌≤◌, ◌<◌, ◌+◌};
 
 use crate::Pending;
 use am_tally::Steps;
-use am_types::{Extra, Flags, Intent, Kind, List, Named, PendingFault, PendingFlags, Text, Used};
+use am_types::{
+    Component, Extra, Flags, Intent, Kind, List, Named, PendingFault, PendingFlags, Text, Used,
+};
 use std::alloc::{AllocError, Global};
 use std::marker::Brand;
 use std::sync::ledger::{Blank, Ledger};
 use std::test::Fail;
 
-/// `get UID FLAGS CODE ACTION EXTRAS` asks for a token, with the flags by their first letters (`o`, `n`, `c`, `u`, `i`, `m`);
+/// `get UID FLAGS CODE ACTION EXTRAS KIND` asks for a token, with the flags by their first letters (`o`, `n`, `c`, `u`, `i`,
+/// `m`), and with a component in the place of the action where there is a slash;
 /// `use TOKEN UID EXTRAS` uses it, with extras that are filled in; `cancel TOKEN UID`; `give TOKEN UID TO`; `forget UID`.
-const STEPS: [(&str, &str); 40] = [
+const STEPS: [(&str, &str); 50] = [
     ("get 10000 m 0 x.P a=1", "1"),
     ("get 10000 m 0 x.P a=2", "1"),
     ("use 1 10000 -", "10000 a=1"),
@@ -52,6 +55,16 @@ const STEPS: [(&str, &str); 40] = [
     ("forget 10000", "done"),
     ("use 7 10000 -", "canceled"),
     ("use 4 10000 -", "not holder"),
+    ("get 10003 oi 0 com.one/com.one.None - activity", "8"),
+    ("use 8 10003 -", "10003 once"),
+    ("cancel 8 10003", "done"),
+    ("use 8 10003 -", "canceled"),
+    ("get 10003 nm 0 x.N - activity", "none"),
+    ("get 10003 m 0 x.P - activity", "9"),
+    ("get 10003 m 0 x.P - service", "10"),
+    ("get 10003 m 0 x.P -", "11"),
+    ("get 10003 i 0 x.P - service", "12"),
+    ("get 10003 m 0 com.one/x.P - service", "13"),
 ];
 
 fn text(alloc: Global, of: &str) -> Result<Text, AllocError> {
@@ -84,10 +97,10 @@ fn extras(alloc: Global, word: &str) -> Result<List<Named>, AllocError> {
     Ok(List::new(extras))
 }
 
-/// An intent with that action, or with none.
-fn intent(alloc: Global, action: Option<Text>, extras: List<Named>) -> Intent {
+/// An intent that names nothing.
+fn unaimed(alloc: Global, extras: List<Named>) -> Intent {
     Intent {
-        action,
+        action: None,
         uri: None,
         mime: None,
         identifier: None,
@@ -96,6 +109,30 @@ fn intent(alloc: Global, action: Option<Text>, extras: List<Named>) -> Intent {
         component: None,
         flags: Flags::default(),
         extras,
+    }
+}
+
+/// An intent with that action, or for that component.
+fn intent(alloc: Global, word: &str, extras: List<Named>) -> Result<Intent, AllocError> {
+    let mut intent = unaimed(alloc, extras);
+    match word.split_once('/') {
+        Some((package, class)) => intent.component = Some(component(alloc, package, class)?),
+        None => intent.action = Some(text(alloc, word)?),
+    }
+    Ok(intent)
+}
+
+fn component(alloc: Global, package: &str, class: &str) -> Result<Component, AllocError> {
+    let package = text(alloc, package)?;
+    let class = text(alloc, class)?;
+    Ok(Component { package, class })
+}
+
+fn kind(word: &str) -> Kind {
+    match word {
+        "activity" => Kind::Activity,
+        "service" => Kind::Service,
+        _ => Kind::Receiver,
     }
 }
 
@@ -154,12 +191,11 @@ fn got<L: Ledger>(
     requires { pending.old.next ≤ 1125899906842624 }
     ensures { pending.new.next ≤ pending.old.next + 1 }
 {
-    let action = text(alloc, word(line, 4))?;
-    let asked = intent(alloc, Some(action), extras(alloc, word(line, 5))?);
+    let asked = intent(alloc, word(line, 4), extras(alloc, word(line, 5))?)?;
     let code = word(line, 3).parse::<i64>().unwrap_or(0);
     match pending.get(
         uid(line, 1),
-        Kind::Receiver,
+        kind(word(line, 6)),
         code,
         asked,
         flags(word(line, 2)),
@@ -177,7 +213,7 @@ fn used<L: Ledger>(
     line: &str,
     steps: &mut Steps<L>,
 ) -> Result<String, AllocError> {
-    let fill = intent(alloc, None, extras(alloc, word(line, 3))?);
+    let fill = unaimed(alloc, extras(alloc, word(line, 3))?);
     let answer = match pending.use_token(token(line), uid(line, 2), Some(&fill), steps) {
         Ok(used) => {
             let words = shown(alloc, &used);
@@ -222,26 +258,20 @@ fn tried<L: Ledger>(alloc: Global, blank: Blank) -> Result<usize, AllocError>
 {
     let mut steps = Steps::<L>::new(blank);
     let mut pending = Pending::new(alloc);
-    for i in 0..40 {
+    for i in 0..50 {
         let (line, wanted) = STEPS[i];
         let answer = said(alloc, &mut pending, line, &mut steps)?;
         if answer.as_str() != wanted {
             return Ok(i);
         }
     }
-    Ok(40)
+    Ok(50)
 }
 
 #[test]
 fn answers(rt: HostRuntime) -> Result<(), Fail> {
-    assert_eq!(rt; tried::<Brand>(rt.alloc(), Blank::new(1))?, 40);
+    assert_eq!(rt; tried::<Brand>(rt.alloc(), Blank::new(1))?, 50);
     Ok(())
-}
-
-/// An intent of a receiver without extras.
-fn plain(alloc: Global) -> Result<Intent, AllocError> {
-    let action = text(alloc, "x.P")?;
-    Ok(intent(alloc, Some(action), List::new(Vec::new(alloc))))
 }
 
 /// Whether a record is made for that code.
@@ -254,7 +284,7 @@ fn is_made<L: Ledger>(
     requires { pending.old.next ≤ 1125899906842624 }
     ensures { pending.new.next ≤ pending.old.next + 1 }
 {
-    let asked = plain(alloc)?;
+    let asked = intent(alloc, "x.P", List::new(Vec::new(alloc)))?;
     let code = i64::from(code);
     Ok(
         pending
