@@ -34,7 +34,7 @@ use Rattle.am_index.specs.Standing.{StandsFor}
 use Rattle.am_index.specs.declared.index.FilterIndex.{FilterIndex}
 use Rattle.am_index.proofs.Merging.{merged_where}
 use Rattle.am_index.proofs.Ordered.{Located, members_in_order, members_located}
-use Rattle.am_index.proofs.Rising.{rises}
+use Rattle.am_board.proofs.Rising.{rises}
 
 -- an intent finds the component by its name, or might by a filter of its group
 abbrev pub sought_by : Option Component → Option (List ℕ) → Option (List ℕ) → Option Uri → Option Mime → Member → Bool

@@ -8,6 +8,4 @@ pub mod Order
 pub mod Ordered
 pub mod Passing
 pub mod Priorities
-pub mod Rising
-pub mod Searching
 pub mod Stands

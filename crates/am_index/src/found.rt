@@ -2,7 +2,6 @@
 ghost use Rattle.std.specs.Prelude.{◌≡◌, ◌++◌, ◌+◌, ◌≤◌, Some, IfOk, OnOk, option_copied, if◌then◌else◌, count_by};
 ghost use Rattle.std.specs.List.{slice_get};
 ghost use Rattle.std.specs.List.Sorted.{IsStrictlyIncreasing};
-ghost use Rattle.am_model.specs.Boards.{package_at};
 ghost use Rattle.am_model.specs.Candidates.{by_priority, counted_priority, greatest, hit_at, priority_of};
 ghost use Rattle.am_model.specs.Filters.{passes};
 ghost use Rattle.am_model.specs.Sound.{uids_of};
@@ -12,6 +11,7 @@ ghost use Rattle.am_index.specs.Keys.{is_bare, is_typed};
 ghost use Rattle.am_index.specs.Lookups.{cost_found, cost_of_spot, cost_of_spots, hit_of_spot, hits_of_spots, priority_found};
 
 use crate::key::Spot;
+use am_board::package_at;
 use am_filter::passes;
 use am_tally::Steps;
 use am_types::{Component, Decl, Filter, Hit, Intent, Kind, List, NoMemory, Package, Text};
@@ -74,18 +74,6 @@ fn add_hit<L: Ledger>(
     match priority_found(kind, intent, need_default, decl, steps) {
         None => Ok(()),
         Some(priority) => push_hit(found, owner, spot.place, decl, priority),
-    }
-}
-
-/// The package of the uid, by halving.
-fn package_at(packages: &List<Package>, uid: u32) -> Option<&Package>
-    requires { IsStrictlyIncreasing (uids_of packages.now) }
-    ensures { option_copied result ≡ package_at packages.now uid }
-{
-    let packages = packages.as_slice();
-    match packages.binary_search_by_key(&uid, |package| package.uid) {
-        Ok(at) => Some(&packages[at]),
-        Err(_) => None,
     }
 }
 
@@ -158,8 +146,9 @@ fn priority_of<L: Ledger>(
     best
 }
 
-/// The intent passes the filter, which is tested only if it belongs to the intent's group.
-fn is_passed<L: Ledger>(
+/// Whether the intent passes the filter, which is tested only if it belongs to the intent's group: a
+/// step. Takes no memory.
+pub fn is_passed<L: Ledger>(
     filter: &Filter,
     intent: &Intent,
     need_default: bool,

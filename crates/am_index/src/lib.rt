@@ -11,4 +11,5 @@ mod merge;
 #[cfg(test)]
 mod tests;
 
+pub use found::is_passed;
 pub use index::FilterIndex;

@@ -5,7 +5,7 @@ use Rattle.std.specs.Result.{is_err}
 use Rattle.std.specs.Option.{unwrap_or}
 use Rattle.std.specs.List.{find}
 use Rattle.std.specs.List.Sorted.{IsStrictlySortedBy}
-use Rattle.std.specs.Map.{keys_of, lookup}
+use Rattle.std.specs.Map.{lookup}
 use Rattle.std.specs.BTreeMap.{insert_entry, is_at}
 use Rattle.std.specs.Ordering.{nat_cmp}
 use Rattle.std.specs.Cmp.{nat_eq_equiv, unsigned_Decides}
@@ -18,6 +18,7 @@ use Rattle.am_pending.specs.Records.{Indexes, IsIndexed, Kept, pending_of, pendi
 use Rattle.am_pending.proofs.Lists.{any-none, count-without, found-has, found-otherwise, found-passes}
 use Rattle.am_pending.proofs.Lookups.{lookup-records}
 use Rattle.am_pending.proofs.Changes.{dropped-none, inserted, once, is_token, pendings-dropped, pendings-push}
+use Rattle.am_pending.proofs.Orders.{Rises, rises-filter, rises-insert}
 use Rattle.am_pending.proofs.Indexing.{indexes-same, indexes-push, indexes-without, has-creator, has-other}
 
 pub from_err : {T E P : Type 0} (r : Result T E) → OnErr r P → is_err r ≡ true → P
@@ -28,15 +29,25 @@ pub from_ok : {T E P : Type 0} (r : Result T E) → OnOk r P → is_err r ≡ fa
 from_ok (Ok x) h e = h
 from_ok (Err y) h e = absurd (true≢false e)
 
+empty_indexed : IsIndexed [] [] []
+unfolding IsStrictlySortedBy
+empty_indexed = record { rising = tt; indexes = record { found = λ key. refl; apart = λ key. tt; counted = λ uid. refl } }
+
+-- where nothing stands, nothing is indexed
+pub none_indexed : (es : List (ℕ × Kept)) (ts : List (Key × ℕ)) (cs : List (ℕ × ℕ)) → es ≡ [] → ts ≡ [] → cs ≡ [] → IsIndexed es ts cs
+none_indexed es ts cs e t s =
+    subst (λ (all : List (ℕ × Kept)). IsIndexed all ts cs) (sym e)
+    (subst (λ (all : List (Key × ℕ)). IsIndexed [] all cs) (sym t) (subst (λ (all : List (ℕ × ℕ)). IsIndexed [] [] all) (sym s) empty_indexed))
+
 -- a record that is added stands last
 pub added_view : (es : List (ℕ × Kept)) (key : Key) (token : ℕ) → All (λ (kept : Pending). kept.token < token) (pendings_of es) → pendings_of (insert_entry nat_cmp es token (unheld key)) ≡ pendings_of es ++ fresh token (asked_by key) ∷ []
 added_view es key token above = ap pendings_of (inserted token (unheld key) es above) ∙ pendings-push es token (unheld key)
 
 -- one more record, of a key that none has
 pub added : (es es' : List (ℕ × Kept)) (ts ts' : List (Key × ℕ)) (cs cs' : List (ℕ × ℕ)) (key : Key) (token : ℕ) → IsIndexed es ts cs → All (λ (kept : Pending). kept.token < token) (pendings_of es) → token_in key (pendings_of es) ≡ None →
-    es' ≡ insert_entry nat_cmp es token (unheld key) → IsStrictlySortedBy nat_cmp (keys_of es') → ((other : Key) → token_at ts' other ≡ cond (is_same_key other key) (Some token) (token_at ts other)) → ((uid : ℕ) → count_at cs' uid ≡ count_at cs uid + cond (uid == key.creator) 1 0) → IsIndexed es' ts' cs'
-added es es' ts ts' cs cs' key token h above absent is rising t s = record {
-  rising = rising;
+    es' ≡ insert_entry nat_cmp es token (unheld key) → ((other : Key) → token_at ts' other ≡ cond (is_same_key other key) (Some token) (token_at ts other)) → ((uid : ℕ) → count_at cs' uid ≡ count_at cs uid + cond (uid == key.creator) 1 0) → IsIndexed es' ts' cs'
+added es es' ts ts' cs cs' key token h above absent is t s = record {
+  rising = subst Rises (sym is) (rises-insert token (unheld key) es h.rising);
   indexes =
       subst (λ (ps : List Pending). Indexes ps (token_at ts') (count_at cs')) (sym (ap pendings_of is ∙ added_view es key token above))
       (indexes-same _ _ (token_at ts') _ (count_at cs') (indexes-push (pendings_of es) (token_at ts) (count_at cs) key token h.indexes absent) t s);
@@ -47,9 +58,9 @@ record_is token es kept h = sym (lookup-records token es) ∙ ap (option_map (pe
 
 -- a record taken away
 pub taken : (es es' : List (ℕ × Kept)) (ts ts' : List (Key × ℕ)) (cs cs' : List (ℕ × ℕ)) (token : ℕ) (kept : Kept) → IsIndexed es ts cs → lookup (is_at (nat_cmp token)) es ≡ Some kept →
-    es' ≡ dropped_at token es → IsStrictlySortedBy nat_cmp (keys_of es') → ((other : Key) → token_at ts' other ≡ cond (is_same_key other kept.key) None (token_at ts other)) → ((uid : ℕ) → count_at cs' uid ≡ count_at cs uid - cond (uid == kept.key.creator) 1 0) → IsIndexed es' ts' cs'
-taken es es' ts ts' cs cs' token kept h found is rising t s = record {
-  rising = rising;
+    es' ≡ dropped_at token es → ((other : Key) → token_at ts' other ≡ cond (is_same_key other kept.key) None (token_at ts other)) → ((uid : ℕ) → count_at cs' uid ≡ count_at cs uid - cond (uid == kept.key.creator) 1 0) → IsIndexed es' ts' cs'
+taken es es' ts ts' cs cs' token kept h found is t s = record {
+  rising = subst Rises (sym is) (rises-filter _ es h.rising);
   indexes =
       subst (λ (ps : List Pending). Indexes ps (token_at ts') (count_at cs')) (sym (ap pendings_of is ∙ pendings-dropped token es))
       (indexes-same _ _ (token_at ts') _ (count_at cs')

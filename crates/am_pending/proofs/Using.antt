@@ -1,12 +1,14 @@
 -- What canceling, giving and using a token come to, by the record that is found.
 use Rattle.std.proofs.Common.{◌≡◌, ℕ, ◌==◌, Bool, true, false, not, cond, length, map, Option, Some, None, Result, Ok, Err, option_map, refl, ap, ◌∙◌, arith}
-use Rattle.std.specs.Prelude.{nat_le}
+use Rattle.std.specs.Prelude.{IsOk, nat_le, nat_lt}
 use Rattle.std.specs.Option.{unwrap_or}
 use Rattle.std.proofs.lemmas.Bool.Decides.{nat_tests}
 use Rattle.am_types.specs.declared.intent.Intent.{Intent}
 use Rattle.am_types.specs.declared.filter.FillFault.{FillFault}
+use Rattle.am_types.specs.declared.filter.FillFault.TheVariants as fault
 use Rattle.am_types.specs.declared.pending.PendingFault.{PendingFault}
 use Rattle.am_types.specs.declared.pending.PendingFault.TheVariants.{NoToken, NotCreator, NotHolder, HoldersFull}
+use Rattle.am_model.specs.Intents.{fill_in, filled, united_extras}
 use Rattle.am_model.specs.Pendings.{Pending, Pendings, cancel, canceled, give, given, is_holder, lent, no_record, use_token, used, used_as, with_holder, without_token}
 use Rattle.am_pending.specs.Records.{record_in}
 
@@ -90,3 +92,28 @@ module _ (all : Pendings) (token uid : ℕ) (filled : Option Intent) where
     pub use_own : (lends : Result Intent FillFault) → is_holder kept uid ≡ true → lent kept filled ≡ lends → use_token all token uid filled ≡ used_as kept lends
     unfolding use_token
     use_own lends e l = ap (used all token uid filled) is ∙ ap (λ b. cond b (used_as kept (lent kept filled)) (Err NotHolder)) e ∙ ap (used_as kept) l
+
+filled_or_full : Bool → Intent → Result Intent FillFault
+filled_or_full b intent = cond b (Err fault.ExtrasFull) (Ok intent)
+
+not_full : (b : Bool) (intent : Intent) → (filled_or_full b intent ≡ Err fault.ExtrasFull → ⊥) → IsOk (filled_or_full b intent)
+unfolding filled_or_full
+not_full true intent h = absurd (h refl)
+not_full false intent h = refl
+
+wants_apart : (r : Result Intent FillFault) → r ≡ Err fault.NoMemory → r ≡ Err fault.ExtrasFull → ⊥
+wants_apart r e f = cc
+
+-- where memory is wanting for a fill-in, there is room for the extras
+pub wanting_fill : (kept other : Intent) (r : Result Intent FillFault) → r ≡ Err fault.NoMemory → (fill_in kept other ≡ Err fault.ExtrasFull → r ≡ Err fault.ExtrasFull) → IsOk (fill_in kept other)
+unfolding fill_in filled_or_full
+wanting_fill kept other r e back = not_full (nat_lt 64 (length (united_extras kept.extras other.extras))) (filled kept other) (λ f. wants_apart r e (back f))
+
+-- what a mutable record lends
+pub lent_mutable : (kept : Pending) (o : Option Intent) (other : Intent) → o ≡ Some other → kept.mutable ≡ true → lent kept o ≡ fill_in kept.intent other
+lent_mutable kept o other is mutable = ap (lent kept) is ∙ ap (λ b. cond b (fill_in kept.intent other) (Ok kept.intent)) mutable
+
+-- what is lent is used
+pub used_ok : (kept : Pending) (r : Result Intent FillFault) → IsOk r → IsOk (used_as kept r)
+used_ok kept (Ok intent) h = refl
+used_ok kept (Err full) h = cc

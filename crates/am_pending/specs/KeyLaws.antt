@@ -1,5 +1,6 @@
 -- Sameness of keys is an equivalence, and the same keys are hashed alike.
 use Rattle.std.specs.Prelude.{◌≡◌, ℕ, ◌==◌, Bool, true, false, ◌&&◌, ◌||◌, List, [], ◌∷◌, ◌++◌, Option, Some, None, refl}
+use Rattle.std.specs.Prelude.{pos}
 use Rattle.std.proofs.Common.{sym, ap, ◌∙◌, true≢false}
 use Rattle.std.specs.List.{list_all}
 use Rattle.std.specs.Ordering.{int_eq}
@@ -188,12 +189,36 @@ same_equiv =
 pub key_equiv : IsEquivalence (λ (x y : Key). is_same_key y x)
 key_equiv = back_equiv same_equiv
 
--- the same actions are fed alike
-action_fed : (a b : Option (List ℕ)) → agree is_same a b ≡ true → fed.option fed.str a ≡ fed.option fed.str b
-action_fed None None h = refl
-action_fed None (Some y) h = absurd (true≢false (sym h))
-action_fed (Some x) None h = absurd (true≢false (sym h))
-action_fed (Some x) (Some y) h = ap (λ t. fed.option fed.str (Some t)) (same_text x y h)
+-- where the same values are fed alike, so are the same values that may be there
+agree_fed : {X : Type 0} (E : X → X → Bool) (F : X → fed.HashWrites) → ((x y : X) → E x y ≡ true → F x ≡ F y) → (a b : Option X) → agree E a b ≡ true → fed.option F a ≡ fed.option F b
+agree_fed E F alike None None h = refl
+agree_fed E F alike None (Some y) h = absurd (true≢false (sym h))
+agree_fed E F alike (Some x) None h = absurd (true≢false (sym h))
+agree_fed E F alike (Some x) (Some y) h = ap (λ w. fed.isize (pos 1) ++ w) (alike x y h)
+
+text_fed : (x y : List ℕ) → is_same x y ≡ true → fed.str x ≡ fed.str y
+text_fed x y h = ap fed.str (same_text x y h)
+
+pair_fed : (x y v w : List ℕ) → (is_same x y && is_same v w) ≡ true → fed.str x ++ fed.str v ≡ fed.str y ++ fed.str w
+pair_fed x y v w h =
+    let a = same_text x y (first_so (is_same x y) (is_same v w) h) in
+    let b = same_text v w (second_so (is_same x y) (is_same v w) h) in
+    λ i. fed.str (a i) ++ fed.str (b i)
+
+abbrev uri_fed : Uri → fed.HashWrites
+uri_fed uri = fed.str uri.text
+
+abbrev mime_fed : Mime → fed.HashWrites
+mime_fed mime = fed.str mime.main ++ fed.str mime.sub
+
+abbrev component_fed : Component → fed.HashWrites
+component_fed component = fed.str component.«package» ++ fed.str component.class
+
+-- what a hasher is fed of a key: all that tells keys apart, but for the kind, the flags and the categories, whose order doesn't count
+abbrev pub fed_by : Key → fed.HashWrites
+fed_by key =
+    fed.u32 key.creator ++ (fed.i64 key.code ++ (fed.option fed.str key.intent.action ++ (fed.option uri_fed key.intent.uri ++ (fed.option mime_fed key.intent.mime
+    ++ (fed.option fed.str key.intent.identifier ++ (fed.option fed.str key.intent.«package» ++ fed.option component_fed key.intent.component))))))
 
 -- the creators of the same keys
 pub creators : (x y : Key) → is_same_key x y ≡ true → (x.creator == y.creator) ≡ true
@@ -203,16 +228,24 @@ creators x y h = first_so _ _ (first_so _ _ (first_so _ _ (first_so _ _ (first_s
 codes_same : (x y : Key) → is_same_key x y ≡ true → int_eq x.code y.code ≡ true
 codes_same x y h = second_so _ _ (first_so _ _ (first_so _ _ (first_so _ _ (first_so _ _ h))))
 
--- the actions of the same keys
-actions_same : (x y : Key) → is_same_key x y ≡ true → agree is_same x.intent.action y.intent.action ≡ true
-actions_same x y h =
-    let e : filter_equals x.intent y.intent ≡ true = second_so _ _ h in
-    first_so _ _ (first_so _ _ (first_so _ _ (first_so _ _ (first_so _ _ (first_so _ _ e)))))
+-- the intents of the same keys
+intents_same : (x y : Key) → is_same_key x y ≡ true → filter_equals x.intent y.intent ≡ true
+intents_same x y h = second_so _ _ h
 
 -- the same keys are hashed alike
-pub key_fed : (x y : Key) → is_same_key y x ≡ true → fed.u32 x.creator ++ (fed.i64 x.code ++ fed.option fed.str x.intent.action) ≡ fed.u32 y.creator ++ (fed.i64 y.code ++ fed.option fed.str y.intent.action)
+pub key_fed : (x y : Key) → is_same_key y x ≡ true → fed_by x ≡ fed_by y
 key_fed x y h =
-    let a = sym ((unsigned_Decides y.creator x.creator).0 (creators y x h)) in
-    let b = sym ((signed_Decides y.code x.code).0 (codes_same y x h)) in
-    let c = sym (action_fed y.intent.action x.intent.action (actions_same y x h)) in
-    λ i. fed.u32 (a i) ++ (fed.i64 (b i) ++ c i)
+    let creator = sym ((unsigned_Decides y.creator x.creator).0 (creators y x h)) in
+    let code = sym ((signed_Decides y.code x.code).0 (codes_same y x h)) in
+    let e1 = first_so _ _ (intents_same y x h) in
+    let e2 = first_so _ _ e1 in
+    let e3 = first_so _ _ e2 in
+    let e4 = first_so _ _ e3 in
+    let e5 = first_so _ _ e4 in
+    let action = sym (agree_fed is_same fed.str text_fed y.intent.action x.intent.action (first_so _ _ e5)) in
+    let uri = sym (agree_fed is_same_uri uri_fed (λ u v k. text_fed u.text v.text k) y.intent.uri x.intent.uri (second_so _ _ e5)) in
+    let mime = sym (agree_fed is_same_mime mime_fed (λ u v k. pair_fed u.main v.main u.sub v.sub k) y.intent.mime x.intent.mime (second_so _ _ e4)) in
+    let identifier = sym (agree_fed is_same fed.str text_fed y.intent.identifier x.intent.identifier (second_so _ _ e3)) in
+    let owner = sym (agree_fed is_same fed.str text_fed y.intent.«package» x.intent.«package» (second_so _ _ e2)) in
+    let component = sym (agree_fed is_same_component component_fed (λ u v k. pair_fed u.«package» v.«package» u.class v.class k) y.intent.component x.intent.component (second_so _ _ e1)) in
+    λ i. fed.u32 (creator i) ++ (fed.i64 (code i) ++ (action i ++ (uri i ++ (mime i ++ (identifier i ++ (owner i ++ component i))))))

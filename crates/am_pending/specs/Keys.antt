@@ -1,5 +1,5 @@
 -- What tells one pending intent from another.
-use Rattle.std.specs.Prelude.{Bool, false, ◌&&◌, ◌==◌}
+use Rattle.std.specs.Prelude.{Bool, false, ◌&&◌, ◌==◌, []}
 use Rattle.std.specs.Ordering.{int_eq}
 use Rattle.am_pending.specs.declared.key.Key.{Key}
 use Rattle.am_model.specs.Candidates.{is_kind}
@@ -34,6 +34,10 @@ key_for asked = record {
   mutable = asked.flags.mutable;
   intent = asked.intent;
 }
+
+-- the key, without extras of its intent
+abbrev pub bare : Key → Key
+bare key = record key { intent = record (key.intent) { extras = [] } }
 
 -- two keys are the same: extras and flags of their intents don't count
 abbrev pub is_same_key : Key → Key → Bool

@@ -4,6 +4,7 @@ use Rattle.am_types.specs.declared.intent.Named.{Named}
 use Rattle.std.specs.List.{find}
 use Rattle.std.specs.List.Sorted.{IsStrictlySortedBy}
 use Rattle.std.specs.Map.{lookup, keys_of}
+use Rattle.std.specs.BTreeMap.{insert_entry}
 use Rattle.std.specs.Ordering.{nat_cmp}
 use Rattle.am_model.specs.Pendings.{Pending, count_of, has_key}
 use Rattle.am_pending.specs.declared.key.Key.{Key}
@@ -64,6 +65,11 @@ held_by to kept = record kept { holders = kept.holders ++ to ∷ [] }
 -- the record without a holder
 abbrev pub let_go_by : ℕ → Kept → Kept
 let_go_by uid kept = record kept { holders = filter (λ holder. not (holder == uid)) kept.holders }
+
+-- the records in the order of their tokens; of two under the same token the first counts
+abbrev pub in_order : List (ℕ × Kept) → List (ℕ × Kept)
+in_order [] = []
+in_order (e ∷ es) = insert_entry nat_cmp (in_order es) e.0 e.1
 
 -- the records of other creators
 abbrev pub others_than : ℕ → List (ℕ × Kept) → List (ℕ × Kept)

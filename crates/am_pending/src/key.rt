@@ -1,14 +1,15 @@
 //! What tells one pending intent from another.
-ghost use Rattle.std.specs.Prelude.{◌≡◌, ◌++◌};
+ghost use Rattle.std.specs.Prelude.{◌≡◌, option_map};
+ghost use Rattle.std.specs.Option.{option_copied};
 ghost use Rattle.std.specs.Cmp.{partial_equiv_from_equiv};
-ghost use Rattle.std.specs.Hash as fed;
+ghost use Rattle.am_types.specs.declared.uri.Uri.{Uri};
 ghost use Rattle.am_model.specs.Candidates.{is_kind};
 ghost use Rattle.am_model.specs.Pendings.{is_same_truth};
-ghost use Rattle.am_pending.specs.Keys.{key_for};
+ghost use Rattle.am_pending.specs.Keys.{bare, key_for};
 
 use am_filter::filter_equals;
-use am_types::{Intent, Kind, List, Named, PendingFlags};
-use std::alloc::AllocError;
+use am_types::{Intent, Kind, List, Named, PendingFlags, Text, Uri};
+use std::alloc::{AllocError, Global};
 use std::hash::{Hash, Hasher};
 
 /// Who made a pending intent and what for: the key of its record. Extras and flags of the intent don't count.
@@ -35,6 +36,16 @@ fn is_same(truth: bool, other: bool) -> bool
     truth == other
 }
 
+/// The whole text of a URI.
+fn uri_text(uri: &Option<Uri>) -> Option<&Text>
+    ensures { option_copied result ≡ option_map (λ (uri : Uri). uri.text) uri.now }
+{
+    match uri {
+        Some(uri) => Some(&uri.text),
+        None => None,
+    }
+}
+
 impl Key {
     /// The key of what is asked for with these flags. Takes no memory.
     pub fn asked(creator: u32, kind: Kind, code: i64, intent: Intent, flags: PendingFlags) -> Key
@@ -49,6 +60,15 @@ impl Key {
             mutable: flags.mutable,
             intent,
         }
+    }
+
+    /// The same key, without extras, which don't count. Takes no memory.
+    pub fn without_extras(self, alloc: Global) -> Key
+        ensures { result ≡ bare self }
+    {
+        let mut key = self;
+        key.intent.extras = List::new(Vec::new(alloc));
+        key
     }
 
     /// The extras of the intent. Takes no memory.
@@ -102,9 +122,9 @@ impl Eq for Key {
 }
 
 impl Hash for Key {
-    ghost use Rattle.am_pending.specs.KeyLaws.{key_fed};
+    ghost use Rattle.am_pending.specs.KeyLaws.{fed_by, key_fed};
 
-    ghost hash_input = { λ key. fed.u32 key.creator ++ fed.i64 key.code ++ fed.option fed.str key.intent.action };
+    ghost hash_input = { fed_by };
 
     ghost respects_eq = { key_fed };
 
@@ -112,5 +132,10 @@ impl Hash for Key {
         self.creator.hash(state);
         self.code.hash(state);
         self.intent.action.hash(state);
+        uri_text(&self.intent.uri).hash(state);
+        self.intent.mime.hash(state);
+        self.intent.identifier.hash(state);
+        self.intent.package.hash(state);
+        self.intent.component.hash(state);
     }
 }

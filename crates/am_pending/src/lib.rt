@@ -1,6 +1,7 @@
 //! Pending intents: records that lend their creator's identity to those who hold their token.
 #![tactic(auto)]
 
+mod by_token;
 mod key;
 mod pendings;
 mod records;

@@ -1,5 +1,5 @@
 //! The calls on pending intents.
-ghost use Rattle.std.specs.Prelude.{◌≡◌, ◌≤◌, ◌+◌, if◌then◌else◌, ◌==◌, ◌||◌, map, IfOk, None, Some, Ok, Err};
+ghost use Rattle.std.specs.Prelude.{◌≡◌, ◌≤◌, ◌+◌, if◌then◌else◌, ◌==◌, ◌||◌, map, IfOk, IsOk, None, Some, Ok, Err};
 ghost use Rattle.std.specs.Option.{option_copied};
 ghost use Rattle.std.specs.List.{list_any};
 ghost use Rattle.am_model.specs.Pendings.{cancel, forget_uid, get, give, is_clear, lent, made, no_pendings, no_record, updated, use_token, without_token};
@@ -66,6 +66,7 @@ fn was_given(holders: &[u32], uid: u32) -> bool
 fn lent(alloc: Global, kept: &Record, fill: Option<&Intent>) -> Result<Intent, FillFault>
     ensures ok { IfOk result (λ intent. lent (pending_of 0 kept.now) (option_copied fill.entry) ≡ Ok intent) }
     ensures full { (result ≡ Err FillFault.ExtrasFull) → (lent (pending_of 0 kept.now) (option_copied fill.entry) ≡ Err FillFault.ExtrasFull) }
+    ensures wanting { result ≡ Err FillFault.NoMemory → IsOk (lent (pending_of 0 kept.now) (option_copied fill.entry)) }
 {
     let key = kept.key();
     match fill {
@@ -93,7 +94,7 @@ impl Pending {
     /// is no such record. Extras and flags of the intent don't tell records apart; `cancel_current` ends the record that is
     /// there, and `update_current` gives it the new extras. Refusals: `Mutability` unless exactly one of `mutable` and
     /// `immutable` is given; `Full` where a record would be made and the creator has 1,024. A step is one reading of a kept
-    /// record. (`PendingIntent`; AOSP, `PendingIntentController.getIntentSender`.)
+    /// record. Memory is wanting only where nothing is refused. (`PendingIntent`; AOSP, `PendingIntentController.getIntentSender`.)
     pub fn get<L: Ledger>(
         &mut self,
         creator: u32,
@@ -105,6 +106,7 @@ impl Pending {
     ) -> Result<Option<u64>, PendingFault>
         requires { self.old.next ≤ 1125899906842624 }
         ensures answer { IsAnswer result self.old self.new (get self.old (record { creator = creator; kind = kind; code = code; intent = intent; flags = flags })) }
+        ensures wanting { result ≡ Err PendingFault.NoMemory → IsOk (get self.old (record { creator = creator; kind = kind; code = code; intent = intent; flags = flags })) }
         ensures next { self.new.next ≤ self.old.next + 1 }
         ensures steps { steps.new ≤ steps.old + 2 }
     {
@@ -140,6 +142,7 @@ impl Pending {
         requires next { self.old.next ≤ 1125899906842624 }
         requires absent { token_in key self.old.records ≡ None }
         ensures answer { IsAnswer result self.old self.new (made self.old self.old.records (asking no_create key)) }
+        ensures wanting { result ≡ Err PendingFault.NoMemory → IsOk (made self.old self.old.records (asking no_create key)) }
         ensures next { self.new.next ≤ self.old.next + 1 }
     {
         if no_create {
@@ -163,6 +166,7 @@ impl Pending {
         requires next { self.old.next ≤ 1125899906842624 }
         requires found { token_in key self.old.records ≡ Some old }
         ensures answer { IsAnswer result self.old self.new (made self.old (without_token self.old.records old) (asking no_create key)) }
+        ensures wanting { result ≡ Err PendingFault.NoMemory → IsOk (made self.old (without_token self.old.records old) (asking no_create key)) }
         ensures next { self.new.next ≤ self.old.next + 1 }
     {
         if no_create {
@@ -216,6 +220,7 @@ impl Pending {
         steps: &mut Steps<L>,
     ) -> Result<(), PendingFault>
         ensures answer { IsChange result self.old self.new (give self.old token uid to) }
+        ensures wanting { result ≡ Err PendingFault.NoMemory → IsOk (give self.old token uid to) }
         ensures next { self.new.next ≡ self.old.next }
         ensures steps { steps.new ≤ steps.old + 1 }
     {
@@ -249,6 +254,7 @@ impl Pending {
         steps: &mut Steps<L>,
     ) -> Result<Used, PendingFault>
         ensures answer { IsUse result (use_token self.now token uid (option_copied fill.entry)) }
+        ensures wanting { result ≡ Err PendingFault.NoMemory → IsOk (use_token self.now token uid (option_copied fill.entry)) }
         ensures steps { steps.new ≤ steps.old + 1 }
     {
         let Some(kept) = self.table.read(token, steps) else {

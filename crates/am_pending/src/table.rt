@@ -1,30 +1,27 @@
 //! Live records, found by token and by key.
 ghost use Rattle.std.specs.Prelude.{◌≡◌, ℕ, ◌+◌, ◌-◌, cond, ◌<◌, ◌≤◌, ◌==◌, ◌∷◌, ◌++◌, [], not, map, filter, All, None, Some, OnOk, OnErr, IsSome, nat_eq, option_map};
 ghost use Rattle.std.specs.Option.{option_copied};
-ghost use Rattle.std.specs.Map.{keys_of, lookup};
-ghost use Rattle.std.specs.List.Sorted.{IsStrictlySortedBy};
-ghost use Rattle.std.specs.Ordering.{nat_cmp};
-ghost use Rattle.std.specs.BTreeMap.{insert_entry, is_at};
+ghost use Rattle.std.specs.Map.{lookup};
 ghost use Rattle.indexmap.specs.IndexMap.{spare};
 ghost use Rattle.am_model.specs.Pendings.{Pending, count_of, fresh, updated, with_holder, without_holder, without_token};
 ghost use Rattle.am_pending.specs.Keys.{asked_by, is_same_key};
-ghost use Rattle.am_pending.specs.Records.{changed_at, count_at, dropped_at, held_by, let_go_by_all, others_than, pending_of, record_in, token_at, token_in, unheld, with_extras};
+ghost use Rattle.am_pending.specs.Records.{count_at, pending_of, record_in, token_at, token_in};
 ghost use Rattle.am_pending.specs.declared.key.Key.{Key};
 
+use crate::by_token::ByToken;
 use crate::key::Key;
 use crate::records::Record;
 use am_tally::Steps;
 use am_types::{List, Named};
 use indexmap::IndexMap;
 use std::alloc::{AllocError, Global};
-use std::collections::BTreeMap;
 use std::marker::Model;
 use std::sync::ledger::Ledger;
 
 /// Live records. Contracts see them in the order of their tokens.
 #[derive(Debug, Drop)]
 pub struct Table {
-    records: BTreeMap<u64, Record>,
+    records: ByToken,
     tokens: IndexMap<Key, u64>,
     /// How many records each creator has.
     counts: IndexMap<u32, u32>,
@@ -37,73 +34,13 @@ impl Model for Table {
 
     ghost Value = { List Pending };
 
-    ghost view = { λ t. pendings_of t.records.entries };
+    ghost view = { λ t. pendings_of t.records };
 
-    ghost invariant = { λ t. IsIndexed t.records.entries t.tokens.entries t.counts.entries };
-}
-
-/// Puts a record without holders under a token. Without memory all stays.
-fn put(
-    records: &mut BTreeMap<u64, Record>,
-    alloc: Global,
-    token: u64,
-    key: &Key,
-) -> Result<(), AllocError>
-    ensures ok { OnOk result (records.new.entries ≡ insert_entry nat_cmp records.old.entries token (unheld key.now)) }
-    ensures err { OnErr result (records.new.entries ≡ records.old.entries) }
-    ensures rising { IsStrictlySortedBy nat_cmp (keys_of records.old.entries) → IsStrictlySortedBy nat_cmp (keys_of records.new.entries) }
-{
-    let kept = Record::new(alloc, key.clone()?);
-    match records.insert(token, kept) {
-        Ok(_) => Ok(()),
-        Err(failed) => {
-            drop(failed);
-            Err(AllocError)
-        }
-    }
-}
-
-/// Gives the intent of the record under the token other extras.
-fn change_extras(records: &mut BTreeMap<u64, Record>, token: u64, extras: List<Named>)
-    ensures { records.new.entries ≡ changed_at token (with_extras extras) records.old.entries }
-{
-    if let Some(kept) = records.get_mut(&token) {
-        kept.set_extras(extras);
-    }
-}
-
-/// Adds a holder to the record under the token. Without memory all stays.
-fn add_holder(records: &mut BTreeMap<u64, Record>, token: u64, to: u32) -> Result<(), AllocError>
-    ensures ok { OnOk result (records.new.entries ≡ changed_at token (held_by to) records.old.entries) }
-    ensures err { OnErr result (records.new.entries ≡ records.old.entries) }
-{
-    match records.get_mut(&token) {
-        Some(kept) => kept.hold(to),
-        None => Ok(()),
-    }
-}
-
-/// Takes the record under the token away.
-fn take(records: &mut BTreeMap<u64, Record>, token: u64) -> Option<Record>
-    requires { IsStrictlySortedBy nat_cmp (keys_of records.old.entries) }
-    ensures found { result ≡ lookup (is_at (nat_cmp token)) records.old.entries }
-    ensures entries { records.new.entries ≡ dropped_at token records.old.entries }
-    ensures rising { IsStrictlySortedBy nat_cmp (keys_of records.new.entries) }
-{
-    records.remove(&token)
-}
-
-/// Takes the record under the token away and drops it.
-fn discard(records: &mut BTreeMap<u64, Record>, token: u64)
-    requires { IsStrictlySortedBy nat_cmp (keys_of records.old.entries) }
-    ensures entries { records.new.entries ≡ dropped_at token records.old.entries }
-    ensures rising { IsStrictlySortedBy nat_cmp (keys_of records.new.entries) }
-{
-    drop(take(records, token));
+    ghost invariant = { λ t. IsIndexed t.records t.tokens.entries t.counts.entries };
 }
 
 /// Gives the key a token, where there is room for it or it has one.
-fn set_token(tokens: &mut IndexMap<Key, u64>, key: Key, token: u64)
+fn put_token(tokens: &mut IndexMap<Key, u64>, key: Key, token: u64)
     requires { (token_at tokens.old.entries key ≡ None) → 1 ≤ spare tokens.old }
     ensures { (other : Key) → token_at tokens.new.entries other ≡ cond (is_same_key other key) (Some token) (token_at tokens.old.entries other) }
 {
@@ -113,30 +50,19 @@ fn set_token(tokens: &mut IndexMap<Key, u64>, key: Key, token: u64)
     }
 }
 
+/// The same, and the key that is kept has no extras: the record has them.
+fn set_token(tokens: &mut IndexMap<Key, u64>, alloc: Global, key: Key, token: u64)
+    requires { (token_at tokens.old.entries key ≡ None) → 1 ≤ spare tokens.old }
+    ensures { (other : Key) → token_at tokens.new.entries other ≡ cond (is_same_key other key) (Some token) (token_at tokens.old.entries other) }
+{
+    put_token(tokens, key.without_extras(alloc), token);
+}
+
 /// Takes the key's token away.
 fn unset_token(tokens: &mut IndexMap<Key, u64>, key: &Key)
     ensures { (other : Key) → token_at tokens.new.entries other ≡ cond (is_same_key other key.now) None (token_at tokens.old.entries other) }
 {
     tokens.swap_remove(key);
-}
-
-/// Takes the records of a creator away.
-fn forget_records(records: &mut BTreeMap<u64, Record>, uid: u32)
-    ensures entries { records.new.entries ≡ others_than uid records.old.entries }
-    ensures rising { IsStrictlySortedBy nat_cmp (keys_of records.new.entries) }
-{
-    records.retain(|_, kept| kept.key().creator != uid);
-}
-
-/// Takes a holder away from each record.
-fn forget_holder(records: &mut BTreeMap<u64, Record>, uid: u32)
-    ensures entries { records.new.entries ≡ let_go_by_all uid records.old.entries }
-    ensures rising { IsStrictlySortedBy nat_cmp (keys_of records.new.entries) }
-{
-    records.retain(|_, kept| {
-        kept.let_go(uid);
-        true
-    });
 }
 
 /// Takes the tokens of a creator's keys away.
@@ -206,7 +132,7 @@ impl Table {
         ensures { result ≡ [] }
     {
         Table {
-            records: BTreeMap::new(alloc),
+            records: ByToken::new(alloc),
             tokens: IndexMap::new(alloc),
             counts: IndexMap::new(alloc),
         }
@@ -225,7 +151,7 @@ impl Table {
         ensures steps { steps.new ≡ steps.old + 1 }
     {
         steps.tick();
-        self.records.get(&token)
+        self.records.get(token)
     }
 
     /// The creator of the token's record, which is a step.
@@ -264,11 +190,11 @@ impl Table {
     {
         let creator = key.creator;
         let room = make_room(&mut self.tokens, &mut self.counts, creator);
-        if room.is_err() || put(&mut self.records, alloc, token, &key).is_err() {
+        if room.is_err() || self.records.put(alloc, token, &key).is_err() {
             drop(key);
             return Err(AllocError);
         }
-        set_token(&mut self.tokens, key, token);
+        set_token(&mut self.tokens, alloc, key, token);
         raise(&mut self.counts, creator);
         Ok(())
     }
@@ -286,12 +212,12 @@ impl Table {
         ensures ok { OnOk result (self.new ≡ without_token self.old old ++ fresh token (asked_by key) ∷ []) }
         ensures err { OnErr result (self.new ≡ self.old) }
     {
-        if put(&mut self.records, alloc, token, &key).is_err() {
+        if self.records.put(alloc, token, &key).is_err() {
             drop(key);
             return Err(AllocError);
         }
-        discard(&mut self.records, old);
-        set_token(&mut self.tokens, key, token);
+        self.records.discard(old);
+        set_token(&mut self.tokens, alloc, key, token);
         Ok(())
     }
 
@@ -299,7 +225,7 @@ impl Table {
     pub fn remove(&mut self, token: u64)
         ensures { self.new ≡ without_token self.old token }
     {
-        if let Some(kept) = take(&mut self.records, token) {
+        if let Some(kept) = self.records.take(token) {
             unset_token(&mut self.tokens, kept.key());
             lower(&mut self.counts, kept.key().creator);
             drop(kept);
@@ -312,7 +238,7 @@ impl Table {
         ensures steps { steps.new ≡ steps.old + 1 }
     {
         steps.tick();
-        change_extras(&mut self.records, token, extras);
+        self.records.set_extras(token, extras);
     }
 
     /// Adds a holder to the record. Without memory all stays.
@@ -320,15 +246,15 @@ impl Table {
         ensures ok { OnOk result (self.new ≡ map (with_holder token to) self.old) }
         ensures err { OnErr result (self.new ≡ self.old) }
     {
-        add_holder(&mut self.records, token, to)
+        self.records.add_holder(token, to)
     }
 
     /// Takes the records of a creator away, and that uid as a holder of the others. Takes no memory.
     pub fn forget(&mut self, uid: u32)
         ensures { self.new ≡ map (without_holder uid) (filter (λ (kept : Pending). not (kept.creator == uid)) self.old) }
     {
-        forget_records(&mut self.records, uid);
-        forget_holder(&mut self.records, uid);
+        self.records.forget_creator(uid);
+        self.records.forget_holder(uid);
         forget_tokens(&mut self.tokens, uid);
         forget_count(&mut self.counts, uid);
     }

@@ -247,7 +247,7 @@ fn calls_answer_in_order(rt: HostRuntime) -> Result<(), Fail> {
             rows = rows.wrapping_add(1);
         }
     }
-    assert_eq!(rt; rows, 100);
+    assert_eq!(rt; rows, 103);
     Ok(())
 }
 

@@ -37,6 +37,13 @@ impl<T> List<T> {
     {
         self.items.as_slice()
     }
+
+    /// Hands the items over. Takes no memory.
+    pub fn into_items(self) -> Vec<T>
+        ensures { result.items ≡ self }
+    {
+        self.items
+    }
 }
 
 impl<T: Clone> Clone for List<T> {

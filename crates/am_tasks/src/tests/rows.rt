@@ -68,6 +68,8 @@ start one.C new_task clear_task | fresh 1 3 | 1:3C
 start one.B clear_task from=3 | fresh 1 4 | 1:3C,4B
 start one.D singleTask clear_task from=4 | fresh 1 5 | 1:3C,4B,5D
 start one.C singleTask new_task clear_task | fresh 1 6 | 1:6C
+start one.E singleTop new_task clear_task | fresh 1 7 | 1:7E
+start one.E singleTop new_task say=z | fronted 1 7 | 1:7E
 # CLEAR_TOP: what isn't standard, or has SINGLE_TOP, gets the new intent. The topmost is meant.
 start one.A new_task | fresh 1 1 | 1:1A
 start one.B from=1 | fresh 1 2 | 1:1A,2B
@@ -86,6 +88,7 @@ start one.B reorder_to_front from=3 say=x | new_intent 1 2 | 1:1A,3C,2B=x
 start one.D reorder_to_front from=2 | fresh 1 4 | 1:1A,3C,2B=x,4D
 start one.C new_task reorder_to_front | fresh 1 5 | 1:1A,3C,2B=x,4D,5C
 start one.B reorder_to_front clear_top from=5 | fresh 1 6 | 1:1A,3C,6B
+start one.A singleTop reorder_to_front from=6 say=y | new_intent 1 1 | 1:3C,6B,1A=y
 # singleTop and SINGLE_TOP count where the component is on top.
 start one.A new_task | fresh 1 1 | 1:1A
 start one.A singleTop from=1 say=x | new_intent 1 1 | 1:1A=x

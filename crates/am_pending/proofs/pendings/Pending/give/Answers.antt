@@ -1,5 +1,5 @@
 use Rattle.std.proofs.Common.{◌≡◌, ℕ, ◌<◌, ◌≤◌, true, false, All, Some, None, Ok, option_map, length, map, subst, sym, ap, ◌∙◌, refl, arith}
-use Rattle.std.specs.Prelude.{nat_le}
+use Rattle.std.specs.Prelude.{IsOk, nat_le}
 use Rattle.std.specs.Option.{option_copied}
 use Rattle.std.proofs.lemmas.Bool.Decides.{nat_tests}
 use Rattle.std.proofs.lemmas.List.Elements.{All-map, All-weaker}
@@ -71,3 +71,14 @@ returns-clause-answer g c =
     (same kept.creator c.args.uid (ap (λ k. k.creator) (sym c.key.ensures) ∙ c.if-key-uid.false)) (sym c.is_holder.ensures ∙ c.if-is_holder.false)
     (few _ (length kept.holders) (ap length c.holders.ensures) c.if-holders-ge-MOST_HOLDERS.false)
     ∙ ap Ok (all_same _ _ (ap (map (with_holder c.args.token c.args.to)) (sym records) ∙ sym (from_ok c.add_holder.result c.add_holder.ensures.ok (sym c.is_err.ensures.value ∙ c.if-is_err.false))) (ap (λ all. all.next) (sym c.self.view_is)))
+
+pub returns-then-is_err-clause-wanting : goal.returns-then-is_err-clause-wanting
+returns-then-is_err-clause-wanting g c want =
+    let records = ap (λ all. all.records) c.self.view_is in
+    let kept : Pending = pending_of c.args.token c.in-Some.kept.now in
+    let is : record_in c.args.token c.self.inside.table ≡ Some kept = sym c.read.ensures.found ∙ ap (λ o. option_map (pending_of c.args.token) (option_copied o)) c.in-Some.is in
+    subst IsOk
+    (sym (give_new c.args.self.now c.args.token c.args.uid c.args.to kept (ap (record_in c.args.token) (sym records) ∙ is)
+    (same kept.creator c.args.uid (ap (λ k. k.creator) (sym c.key.ensures) ∙ c.if-key-uid.false)) (sym c.is_holder.ensures ∙ c.if-is_holder.false)
+    (few _ (length kept.holders) (ap length c.holders.ensures) c.if-holders-ge-MOST_HOLDERS.false)))
+    refl

@@ -1,14 +1,14 @@
 use Rattle.std.proofs.Common.{◌≡◌, ℕ, ◌==◌, ◌||◌, Bool, true, false, cond, Result, Some, None, Ok, Err, option_map, subst, sym, ap, ◌∙◌, refl}
-use Rattle.std.specs.Prelude.{nat_le}
+use Rattle.std.specs.Prelude.{IsOk, nat_le}
 use Rattle.std.specs.Option.{option_copied}
 use Rattle.am_types.specs.declared.filter.FillFault.TheVariants as fill
 use Rattle.am_types.specs.declared.pending.Used.{Used}
 use Rattle.am_types.specs.declared.pending.PendingFault.{PendingFault}
 use Rattle.am_types.specs.declared.pending.PendingFault.TheVariants.{NoToken, Canceled}
-use Rattle.am_model.specs.Pendings.{Pending, Pendings, no_record, use_token}
+use Rattle.am_model.specs.Pendings.{Pending, Pendings, lent, no_record, use_token}
 use Rattle.am_pending.specs.Answers.{IsRefusal}
 use Rattle.am_pending.specs.Records.{pending_of, record_in}
-use Rattle.am_pending.proofs.Using.{use_none, use_other, use_own}
+use Rattle.am_pending.proofs.Using.{use_none, use_other, use_own, used_ok}
 use Rattle.am_pending.proofs.pendings.Pending.use_token.Goals as goal
 
 refused_by : (b : Bool) → let said : Result Used PendingFault = Err (cond b NoToken Canceled) in IsRefusal (cond b NoToken Canceled) said
@@ -48,3 +48,12 @@ returns-clause-answer g c =
     let is : record_in c.args.token c.self.inside.table ≡ Some kept = sym c.read.ensures.found ∙ ap (λ o. option_map (pending_of c.args.token) (option_copied o)) c.in-Some.is in
     use_own c.args.self.now c.args.token c.args.uid (option_copied c.args.fill) kept (ap (record_in c.args.token) (sym records) ∙ is) (Ok c.in-Ok.intent) (sym c.is_holder.ensures ∙ c.if-not-is_holder.false) c.in-Ok.ensures.ok
     ∙ (λ i. let used : Used = record { creator = (sym c.key.ensures i).creator; kind = (sym c.key-2.ensures i).kind; intent = c.in-Ok.intent; one_shot = (sym c.key-3.ensures i).one_shot } in Ok used)
+
+pub returns-in-Err-NoMemory-clause-wanting : goal.returns-in-Err-NoMemory-clause-wanting
+returns-in-Err-NoMemory-clause-wanting g c want =
+    let records = ap (λ all. all.records) c.self.view_is in
+    let kept : Pending = pending_of c.args.token c.in-Some.kept.now in
+    let is : record_in c.args.token c.self.inside.table ≡ Some kept = sym c.read.ensures.found ∙ ap (λ o. option_map (pending_of c.args.token) (option_copied o)) c.in-Some.is in
+    subst IsOk
+    (sym (use_own c.args.self.now c.args.token c.args.uid (option_copied c.args.fill) kept (ap (record_in c.args.token) (sym records) ∙ is) (lent kept (option_copied c.args.fill)) (sym c.is_holder.ensures ∙ c.if-not-is_holder.false) refl))
+    (used_ok kept (lent kept (option_copied c.args.fill)) (c.lent.ensures.wanting (c.in-Err-NoMemory.is ∙ ap Err c.in-Err-NoMemory.field-0-is)))

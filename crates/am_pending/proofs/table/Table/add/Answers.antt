@@ -14,19 +14,19 @@ same_tables es es' ts ts' cs cs' h e t s =
 
 pub invariant_of-self-then-is_err-2 : goal.invariant_of-self-then-is_err-2
 invariant_of-self-then-is_err-2 c =
-    same_tables c.self.inside.records.entries _ c.self.inside.tokens.entries _ c.self.inside.counts.entries _ c.self.invariant
+    same_tables c.self.inside.records _ c.self.inside.tokens.entries _ c.self.inside.counts.entries _ c.self.invariant
     (from_err c.put.result c.put.ensures.err (sym c.is_err-else-is_err.ensures.value ∙ c.if-is_err-2.true)) c.make_room-room.ensures.tokens c.make_room-room.ensures.counts
 
 pub invariant_of-self-2 : goal.invariant_of-self-2
 invariant_of-self-2 c =
-    added c.self.inside.records.entries c.put.new.records.entries c.self.inside.tokens.entries c.set_token.new.tokens.entries c.self.inside.counts.entries c.raise.new.counts.entries c.args.key c.args.token
+    added c.self.inside.records c.put.new.self c.self.inside.tokens.entries c.set_token.new.tokens.entries c.self.inside.counts.entries c.raise.new.counts.entries c.args.key c.args.token
     c.self.invariant (subst (All (λ (kept : Pending). kept.token < c.args.token)) (sym c.self.view_is) c.requires.above) (ap (token_in c.args.key) c.self.view_is ∙ c.requires.absent)
-    (from_ok c.put.result c.put.ensures.ok (sym c.is_err-else-is_err.ensures.value ∙ c.if-is_err-2.false)) (c.put.ensures.rising c.self.invariant.rising)
+    (from_ok c.put.result c.put.ensures.ok (sym c.is_err-else-is_err.ensures.value ∙ c.if-is_err-2.false))
     (λ other. c.set_token.ensures other ∙ ap (λ (all : List (Key × ℕ)). cond (is_same_key other c.args.key) (Some c.args.token) (token_at all other)) c.make_room-room.ensures.tokens)
     (λ uid. c.raise.ensures uid ∙ ap (λ n. n + cond (uid == c.args.key.creator) 1 0) (c.make_room-room.ensures.counts uid))
 
 pub returns-clause-ok : goal.returns-clause-ok
 returns-clause-ok c =
     ap pendings_of (from_ok c.put.result c.put.ensures.ok (sym c.is_err-else-is_err.ensures.value ∙ c.if-is_err-2.false))
-    ∙ added_view c.self.inside.records.entries c.args.key c.args.token (subst (All (λ (kept : Pending). kept.token < c.args.token)) (sym c.self.view_is) c.requires.above)
+    ∙ added_view c.self.inside.records c.args.key c.args.token (subst (All (λ (kept : Pending). kept.token < c.args.token)) (sym c.self.view_is) c.requires.above)
     ∙ ap (λ ps. ps ++ fresh c.args.token (asked_by c.args.key) ∷ []) c.self.view_is

@@ -22,10 +22,10 @@ either (Err y) es es' ts cs token to h ok err = subst (λ (all : List (ℕ × Ke
 
 pub invariant_of-self : goal.invariant_of-self
 invariant_of-self c =
-    either c.add_holder.result c.self.inside.records.entries c.add_holder.new.records.entries c.self.inside.tokens.entries c.self.inside.counts.entries c.args.token c.args.to c.self.invariant c.add_holder.ensures.ok c.add_holder.ensures.err
+    either c.add_holder.result c.self.inside.records c.add_holder.new.self c.self.inside.tokens.entries c.self.inside.counts.entries c.args.token c.args.to c.self.invariant c.add_holder.ensures.ok c.add_holder.ensures.err
 
 pub returns-clause-ok : goal.returns-clause-ok
 returns-clause-ok c =
     on_ok_weaker c.add_holder.result
-    (λ is. ap pendings_of is ∙ pendings-held c.args.token c.args.to c.self.inside.records.entries ∙ ap (map (with_holder c.args.token c.args.to)) c.self.view_is)
+    (λ is. ap pendings_of is ∙ pendings-held c.args.token c.args.to c.self.inside.records ∙ ap (map (with_holder c.args.token c.args.to)) c.self.view_is)
     c.add_holder.ensures.ok

@@ -1,7 +1,9 @@
-use Rattle.std.proofs.Common.{◌≡◌, ℕ, ◌==◌, List, not, map, filter, ap, sym, subst, ◌∙◌}
+use Rattle.std.proofs.Common.{◌≡◌, ℕ, ◌==◌, List, not, map, filter, ap, sym, subst, ◌∙◌, nat_cmp}
+use Rattle.std.specs.List.Sorted.{IsStrictlySortedBy}
 use Rattle.am_model.specs.Pendings.{Pending, without_holder}
-use Rattle.am_pending.specs.Records.{Indexes, Kept, pendings_of, others_than, let_go_by_all, token_at, count_at}
+use Rattle.am_pending.specs.Records.{Indexes, Kept, let_go_by, pendings_of, others_than, let_go_by_all, token_at, count_at}
 use Rattle.am_pending.proofs.Changes.{pendings-others, pendings-let_go}
+use Rattle.am_pending.proofs.Orders.{Rises, keys-map, rises-filter}
 use Rattle.am_pending.proofs.Indexing.{indexes-same, indexes-others, indexes-map, without_holder-leaves}
 use Rattle.am_pending.proofs.table.Table.forget.Goals as goal
 
@@ -16,12 +18,14 @@ view uid es es1 es2 first second =
 pub invariant_of-self : goal.invariant_of-self
 unfolding others
 invariant_of-self c =
-    let es : List (ℕ × Kept) = c.self.inside.records.entries in
+    let es : List (ℕ × Kept) = c.self.inside.records in
     let ps : List Pending = pendings_of es in
     let left : List Pending = filter (λ (kept : Pending). not (kept.creator == c.args.uid)) ps in
-    let e = view c.args.uid es c.forget_records.new.records.entries c.forget_holder.new.records.entries c.forget_records.ensures.entries c.forget_holder.ensures.entries in
+    let e = view c.args.uid es c.forget_creator.new.self c.forget_holder.new.self c.forget_creator.ensures c.forget_holder.ensures in
     record {
-      rising = c.forget_holder.ensures.rising;
+      rising =
+          subst Rises (sym (c.forget_holder.ensures ∙ ap (let_go_by_all c.args.uid) c.forget_creator.ensures))
+          (subst (IsStrictlySortedBy nat_cmp) (sym (keys-map (let_go_by c.args.uid) (others_than c.args.uid es))) (rises-filter _ es c.self.invariant.rising));
       indexes =
           subst (λ (all : List Pending). Indexes all (token_at c.forget_tokens.new.tokens.entries) (count_at c.forget_count.new.counts.entries)) (sym e)
           (indexes-same _ _ (token_at c.forget_tokens.new.tokens.entries) _ (count_at c.forget_count.new.counts.entries)
@@ -33,5 +37,5 @@ invariant_of-self c =
 pub returns : goal.returns
 unfolding others
 returns c =
-    view c.args.uid c.self.inside.records.entries c.forget_records.new.records.entries c.forget_holder.new.records.entries c.forget_records.ensures.entries c.forget_holder.ensures.entries
+    view c.args.uid c.self.inside.records c.forget_creator.new.self c.forget_holder.new.self c.forget_creator.ensures c.forget_holder.ensures
     ∙ ap (λ ps. map (without_holder c.args.uid) (others c.args.uid ps)) c.self.view_is

@@ -6,7 +6,7 @@ use Rattle.am_pending.proofs.table.Table.live_besides.Goals as goal
 
 pub overflow_sub-result : goal.overflow_sub-result
 overflow_sub-result c =
-    let e = besides c.self.inside.records.entries c.self.inside.tokens.entries c.self.inside.counts.entries c.args.key.now c.args.old c.self.invariant (ap (token_in c.args.key.now) c.self.view_is ∙ c.requires) in
+    let e = besides c.self.inside.records c.self.inside.tokens.entries c.self.inside.counts.entries c.args.key.now c.args.old c.self.invariant (ap (token_in c.args.key.now) c.self.view_is ∙ c.requires) in
     let v = ap (λ ps. count_of ps c.args.key.now.creator) c.self.view_is in
     let l = c.count_of.ensures in
     let k = c.self.invariant.indexes.counted c.args.key.now.creator in
@@ -14,7 +14,7 @@ overflow_sub-result c =
 
 pub returns : goal.returns
 returns c =
-    let e = besides c.self.inside.records.entries c.self.inside.tokens.entries c.self.inside.counts.entries c.args.key.now c.args.old c.self.invariant (ap (token_in c.args.key.now) c.self.view_is ∙ c.requires) in
+    let e = besides c.self.inside.records c.self.inside.tokens.entries c.self.inside.counts.entries c.args.key.now c.args.old c.self.invariant (ap (token_in c.args.key.now) c.self.view_is ∙ c.requires) in
     let v = ap (λ ps. count_of ps c.args.key.now.creator) c.self.view_is in
     let w = ap (λ ps. count_of (without_token ps c.args.old) c.args.key.now.creator) c.self.view_is in
     let l = c.count_of.ensures in

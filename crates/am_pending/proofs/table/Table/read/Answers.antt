@@ -5,5 +5,5 @@ use Rattle.am_pending.proofs.table.Table.read.Goals as goal
 
 pub returns-clause-found : goal.returns-clause-found
 returns-clause-found g c =
-    ap (option_map (pending_of c.args.token)) c.get.ensures.value
-    ∙ lookup-records c.args.token c.self.inside.records.entries ∙ ap (record_in c.args.token) c.self.view_is
+    ap (option_map (pending_of c.args.token)) c.get.ensures
+    ∙ lookup-records c.args.token c.self.inside.records ∙ ap (record_in c.args.token) c.self.view_is

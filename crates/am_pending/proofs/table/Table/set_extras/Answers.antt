@@ -9,15 +9,15 @@ use Rattle.am_pending.proofs.table.Table.set_extras.Goals as goal
 
 pub invariant_of-self : goal.invariant_of-self
 invariant_of-self g c =
-    let e = ap pendings_of c.change_extras.ensures ∙ pendings-extras c.args.token c.args.extras c.self.inside.records.entries in
-    let k = ap keys_of c.change_extras.ensures ∙ keys-changed c.args.token (with_extras c.args.extras) c.self.inside.records.entries in
+    let e = ap pendings_of c.set_extras.ensures ∙ pendings-extras c.args.token c.args.extras c.self.inside.records in
+    let k = ap keys_of c.set_extras.ensures ∙ keys-changed c.args.token (with_extras c.args.extras) c.self.inside.records in
     record {
       rising = subst (λ (ks : List ℕ). IsStrictlySortedBy nat_cmp ks) (sym k) c.self.invariant.rising;
       indexes = subst (λ (ps : List Pending). Indexes ps (token_at c.self.inside.tokens.entries) (count_at c.self.inside.counts.entries)) (sym e)
-          (indexes-map (updated c.args.token c.args.extras) (updated-leaves c.args.token c.args.extras) (pendings_of c.self.inside.records.entries) (token_at c.self.inside.tokens.entries) (count_at c.self.inside.counts.entries) c.self.invariant.indexes);
+          (indexes-map (updated c.args.token c.args.extras) (updated-leaves c.args.token c.args.extras) (pendings_of c.self.inside.records) (token_at c.self.inside.tokens.entries) (count_at c.self.inside.counts.entries) c.self.invariant.indexes);
     }
 
 pub returns-clause-extras : goal.returns-clause-extras
 returns-clause-extras g c =
-    ap pendings_of c.change_extras.ensures ∙ pendings-extras c.args.token c.args.extras c.self.inside.records.entries
+    ap pendings_of c.set_extras.ensures ∙ pendings-extras c.args.token c.args.extras c.self.inside.records
     ∙ ap (map (updated c.args.token c.args.extras)) c.self.view_is

@@ -1,0 +1,54 @@
+//! Where packages and their components are found.
+ghost use Rattle.std.specs.Prelude.{◌≡◌, option_copied};
+ghost use Rattle.std.specs.Option.{option_map};
+ghost use Rattle.std.specs.List.Sorted.{IsStrictlyIncreasing};
+ghost use Rattle.am_model.specs.Boards.{package_at};
+ghost use Rattle.am_model.specs.Receivers.{decl_in, declared};
+ghost use Rattle.am_model.specs.Sound.{uids_of};
+
+use am_types::{Component, Decl, Kind, List, Package, Text};
+
+/// The package of the uid, if there is one, by halving: packages stand in the order of their uids.
+/// Takes no memory.
+pub fn package_at(packages: &List<Package>, uid: u32) -> Option<&Package>
+    requires { IsStrictlyIncreasing (uids_of packages.now) }
+    ensures { option_copied result ≡ package_at packages.now uid }
+{
+    let packages = packages.as_slice();
+    match packages.binary_search_by_key(&uid, |package| package.uid) {
+        Ok(at) => Some(&packages[at]),
+        Err(_) => None,
+    }
+}
+
+/// The enabled component of a kind that a package declares under a class, if there is one. Takes no
+/// memory.
+pub fn decl_in<'a>(kind: Kind, class: &Text, decls: &'a List<Decl>) -> Option<&'a Decl>
+    ensures { option_copied result ≡ decl_in kind class.now decls.now }
+{
+    for decl in decls.as_slice() {
+        if decl.enabled && decl.kind == kind && decl.class == *class {
+            return Some(decl);
+        }
+    }
+    None
+}
+
+/// An enabled component of a kind with the uid of its package, if there is one. Takes no memory.
+pub fn declared<'a>(
+    packages: &'a List<Package>,
+    kind: Kind,
+    component: &Component,
+) -> Option<(u32, &'a Decl)>
+    ensures { option_map (λ found. (found.0, found.1.now)) result ≡ declared packages.now kind component.now }
+{
+    for package in packages.as_slice() {
+        if package.name == component.package {
+            return match decl_in(kind, &component.class, &package.decls) {
+                None => None,
+                Some(decl) => Some((package.uid, decl)),
+            };
+        }
+    }
+    None
+}

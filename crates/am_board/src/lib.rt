@@ -1,0 +1,13 @@
+//! What is installed on a device and what was given to it: packages, grants, links and registered
+//! receivers.
+#![tactic(auto)]
+
+mod find;
+mod installed;
+mod lists;
+mod rights;
+#[cfg(test)]
+mod tests;
+
+pub use find::{decl_in, declared, package_at};
+pub use installed::Installed;

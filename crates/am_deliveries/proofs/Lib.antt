@@ -1,0 +1,10 @@
+pub mod Changes
+pub mod Finding
+pub mod Items
+pub mod Keeping
+pub mod Keys
+pub mod Listing
+pub mod Numbering
+pub mod Retiring
+pub mod Slots
+pub mod Standing

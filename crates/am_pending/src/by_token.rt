@@ -1,0 +1,146 @@
+//! Live records, found by their tokens.
+ghost use Rattle.std.specs.Prelude.{◌≡◌, [], OnOk, OnErr};
+ghost use Rattle.std.specs.Option.{option_copied};
+ghost use Rattle.std.specs.Map.{lookup};
+ghost use Rattle.std.specs.Ordering.{nat_cmp};
+ghost use Rattle.std.specs.BTreeMap.{insert_entry, is_at};
+ghost use Rattle.am_pending.specs.Records.{changed_at, dropped_at, held_by, in_order, let_go_by_all, others_than, unheld, with_extras};
+
+use crate::key::Key;
+use crate::records::Record;
+use am_types::{List, Named};
+use indexmap::IndexMap;
+use std::alloc::{AllocError, Global};
+use std::marker::Model;
+
+/// Live records under their tokens. They stand side by side, so that taking one out moves one other at most. Contracts see
+/// them in the order of their tokens.
+#[derive(Debug, Drop)]
+pub struct ByToken {
+    records: IndexMap<u64, Record>,
+}
+
+impl Model for ByToken {
+    ghost use Rattle.std.specs.Prelude.{ℕ, List as Items};
+    ghost use Rattle.am_pending.specs.Records.{Kept, in_order};
+
+    ghost Value = { Items (ℕ × Kept) };
+
+    ghost view = { λ b. in_order b.records.entries };
+}
+
+/// Puts a record under a token. Without memory all stays.
+fn put_record(
+    records: &mut IndexMap<u64, Record>,
+    token: u64,
+    kept: Record,
+) -> Result<(), AllocError>
+    ensures ok { OnOk result (in_order records.new.entries ≡ insert_entry nat_cmp (in_order records.old.entries) token kept) }
+    ensures err { OnErr result (records.new.entries ≡ records.old.entries) }
+{
+    match records.insert(token, kept) {
+        Ok(_) => Ok(()),
+        Err(failed) => {
+            drop(failed);
+            Err(AllocError)
+        }
+    }
+}
+
+/// Gives the intent of the record under the token other extras.
+fn change_extras(records: &mut IndexMap<u64, Record>, token: u64, extras: List<Named>)
+    ensures { in_order records.new.entries ≡ changed_at token (with_extras extras) (in_order records.old.entries) }
+{
+    if let Some(kept) = records.get_mut(&token) {
+        kept.set_extras(extras);
+    }
+}
+
+/// Adds a holder to the record under the token. Without memory all stays.
+fn hold(records: &mut IndexMap<u64, Record>, token: u64, to: u32) -> Result<(), AllocError>
+    ensures ok { OnOk result (in_order records.new.entries ≡ changed_at token (held_by to) (in_order records.old.entries)) }
+    ensures err { OnErr result (records.new.entries ≡ records.old.entries) }
+{
+    match records.get_mut(&token) {
+        Some(kept) => kept.hold(to),
+        None => Ok(()),
+    }
+}
+
+impl ByToken {
+    /// No record. Takes no memory.
+    pub fn new(alloc: Global) -> ByToken
+        ensures { result ≡ [] }
+    {
+        ByToken {
+            records: IndexMap::new(alloc),
+        }
+    }
+
+    /// The record under the token.
+    pub fn get(&self, token: u64) -> Option<&Record>
+        ensures { option_copied result ≡ lookup (is_at (nat_cmp token)) self.now }
+    {
+        self.records.get(&token)
+    }
+
+    /// Puts a record without holders under a token. Without memory all stays.
+    pub fn put(&mut self, alloc: Global, token: u64, key: &Key) -> Result<(), AllocError>
+        ensures ok { OnOk result (self.new ≡ insert_entry nat_cmp self.old token (unheld key.now)) }
+        ensures err { OnErr result (self.new ≡ self.old) }
+    {
+        match key.clone() {
+            Ok(key) => put_record(&mut self.records, token, Record::new(alloc, key)),
+            Err(_) => Err(AllocError),
+        }
+    }
+
+    /// Gives the intent of the record under the token other extras. Takes no memory.
+    pub fn set_extras(&mut self, token: u64, extras: List<Named>)
+        ensures { self.new ≡ changed_at token (with_extras extras) self.old }
+    {
+        change_extras(&mut self.records, token, extras);
+    }
+
+    /// Adds a holder to the record under the token. Without memory all stays.
+    pub fn add_holder(&mut self, token: u64, to: u32) -> Result<(), AllocError>
+        ensures ok { OnOk result (self.new ≡ changed_at token (held_by to) self.old) }
+        ensures err { OnErr result (self.new ≡ self.old) }
+    {
+        hold(&mut self.records, token, to)
+    }
+
+    /// Takes the record under the token away. Takes no memory.
+    pub fn take(&mut self, token: u64) -> Option<Record>
+        ensures found { result ≡ lookup (is_at (nat_cmp token)) self.old }
+        ensures entries { self.new ≡ dropped_at token self.old }
+    {
+        self.records.swap_remove(&token)
+    }
+
+    /// Takes the record under the token away and drops it.
+    pub fn discard(&mut self, token: u64)
+        ensures { self.new ≡ dropped_at token self.old }
+    {
+        drop(self.take(token));
+    }
+
+    /// Takes the records of a creator away.
+    pub fn forget_creator(&mut self, uid: u32)
+        ensures { self.new ≡ others_than uid self.old }
+    {
+        // Its clause says that no two stand under the same token.
+        let _all = self.records.len();
+        self.records.retain(|_, kept| kept.key().creator != uid);
+    }
+
+    /// Takes a holder away from each record.
+    pub fn forget_holder(&mut self, uid: u32)
+        ensures { self.new ≡ let_go_by_all uid self.old }
+    {
+        self.records.retain(|_, kept| {
+            kept.let_go(uid);
+            true
+        });
+    }
+}

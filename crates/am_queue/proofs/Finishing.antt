@@ -1,0 +1,105 @@
+-- What a finish finds and leaves.
+use Rattle.std.proofs.Common.{◌≡◌, ℕ, Bool, true, false, not, ◌&&◌, ◌||◌, cond, List, [], ◌∷◌, refl, ap}
+use Rattle.std.specs.Prelude.{Option, Some, None, is_some, ◌==◌, Ok, Err}
+use Rattle.std.specs.Option.{option_map}
+use Rattle.std.specs.List.{filter, list_all}
+use Rattle.am_types.specs.declared.broadcast.Answer.{Answer}
+use Rattle.am_types.specs.declared.broadcast.FinishFault.{FinishFault}
+use Rattle.am_types.specs.declared.broadcast.FinishFault.TheVariants.{NoDelivery, NotYours, NotOrdered}
+use Rattle.am_model.specs.Filters.{is_empty}
+use Rattle.am_model.specs.Broadcasts.{Broadcasts, Normal, Delivery, InTurn, Doing, normals_keeping}
+use Rattle.am_model.specs.Sending.{Held, or_held, held_in_deliveries, held_in_normals, is_current, answered_head, is_for_ordered, finished, finish_held}
+use Rattle.am_turns.specs.Lines.{is_head, head_turned}
+use Rattle.am_deliveries.specs.Batches.{at_once_by}
+use Rattle.am_deliveries.specs.Kept.{AllLive}
+use Rattle.am_queue.specs.Sound.{has_current, IsSound}
+use Rattle.am_queue.specs.Taken.{fault_of}
+
+-- the delivery isn't that one
+abbrev pub other_than : ℕ → Delivery → Bool
+other_than number delivery = not (delivery.number == number)
+
+-- a delivery that isn't held is none of these
+unheld_in : (number : ℕ) (deliveries : List Delivery) → held_in_deliveries number deliveries ≡ None → filter (other_than number) deliveries ≡ deliveries
+unheld_in number [] none = refl
+unheld_in number (first ∷ others) none = by (first.number == number) none (unheld_in number others)
+  where
+    by : (same : Bool) → cond same (Some (at_once_by first.spot.uid)) (held_in_deliveries number others) ≡ None
+        → (held_in_deliveries number others ≡ None → filter (other_than number) others ≡ others)
+        → cond (not same) (first ∷ filter (other_than number) others) (filter (other_than number) others) ≡ first ∷ others
+    by true none rest = absurd cc
+    by false none rest = ap (λ l. first ∷ l) (rest none)
+
+-- neither of two is held
+neither : (a b : Option Held) → or_held a b ≡ None → (a ≡ None) × (b ≡ None)
+neither None b none = (refl, none)
+neither (Some held) b none = absurd cc
+
+both : (a b : Bool) → a && b ≡ true → (a ≡ true) × (b ≡ true)
+both true b pass = (refl, pass)
+both false b pass = cc
+
+-- where a delivery isn't held all stay without it
+pub unheld : (number : ℕ) (normal : List Normal) → held_in_normals number normal ≡ None → AllLive normal → normals_keeping (other_than number) normal ≡ normal
+unheld number [] none live = refl
+unheld number (n ∷ others) none live =
+    let parts = neither (held_in_deliveries number n.deliveries) (held_in_normals number others) none in
+    let tests = both (not (is_empty n.deliveries)) (list_all (λ (n : Normal). not (is_empty n.deliveries)) others) live in
+    rw (unheld_in number n.deliveries parts.0, tests.0, unheld number others parts.1 tests.1) refl
+
+-- no holder is found where none holds it
+pub no_holder : (holder : Option ℕ) (held : Option Held) → held ≡ option_map at_once_by holder → is_some holder ≡ false → held ≡ None
+no_holder None held is none = is
+no_holder (Some uid) held is none = cc
+
+-- the head that has the delivery has its turn
+pub answered_turned : (number : ℕ) (doing : Doing) (queue : List InTurn) → is_head number queue ≡ true → answered_head number doing queue ≡ head_turned doing queue
+answered_turned number doing [] is = refl
+answered_turned number doing (head ∷ others) is = rw is refl
+
+-- another head stays
+pub unanswered : (number : ℕ) (doing : Doing) (queue : List InTurn) → is_head number queue ≡ false → answered_head number doing queue ≡ queue
+unanswered number doing [] is = refl
+unanswered number doing (head ∷ others) is = rw is refl
+
+-- the head has what it has
+head_current : (number : ℕ) (queue : List InTurn) → is_head number queue ≡ true → has_current number queue ≡ true
+head_current number [] is = cc
+head_current number (head ∷ others) is = rw is refl
+
+-- what none has, the head hasn't
+head_none : (number : ℕ) (queue : List InTurn) → has_current number queue ≡ false → is_head number queue ≡ false
+head_none number [] none = refl
+head_none number (head ∷ others) none = by (is_current number head.current) none
+  where
+    by : (b : Bool) → b || has_current number others ≡ false → b ≡ false
+    by true none = cc
+    by false none = refl
+
+-- the heads of both queues have different deliveries
+pub heads_differ : (number : ℕ) (all : Broadcasts) → IsSound all → is_head number all.foreground ≡ true → is_head number all.background ≡ false
+heads_differ number all sound is = head_none number all.background (sound.differ number (head_current number all.foreground is))
+
+-- without a fault it is finished
+pub finished_without : (all : Broadcasts) (number uid : ℕ) (answer : Answer) (now : ℕ) (held : Option Held) → fault_of uid answer held ≡ None
+    → finish_held all number uid answer now held ≡ Ok (finished all number answer now)
+finished_without all number uid answer now None none = absurd cc
+finished_without all number uid answer now (Some holder) none = by (not (holder.uid == uid)) (is_for_ordered answer && not holder.ordered) none
+  where
+    by : (other unfit : Bool) → cond other (Some NotYours) (cond unfit (Some NotOrdered) None) ≡ None
+        → cond other (Err NotYours) (cond unfit (Err NotOrdered) (Ok (finished all number answer now))) ≡ Ok (finished all number answer now)
+    by true unfit none = absurd cc
+    by false true none = absurd cc
+    by false false none = refl
+
+-- a fault is the refusal
+pub refused_with : (all : Broadcasts) (number uid : ℕ) (answer : Answer) (now : ℕ) (held : Option Held) (fault : FinishFault) → fault_of uid answer held ≡ Some fault
+    → finish_held all number uid answer now held ≡ Err fault
+refused_with all number uid answer now None fault is = let e : NoDelivery ≡ fault = cc in ap (λ f. Err f) e
+refused_with all number uid answer now (Some holder) fault is = by (not (holder.uid == uid)) (is_for_ordered answer && not holder.ordered) is
+  where
+    by : (other unfit : Bool) → cond other (Some NotYours) (cond unfit (Some NotOrdered) None) ≡ Some fault
+        → cond other (Err NotYours) (cond unfit (Err NotOrdered) (Ok (finished all number answer now))) ≡ Err fault
+    by true unfit is = let e : NotYours ≡ fault = cc in ap (λ f. Err f) e
+    by false true is = let e : NotOrdered ≡ fault = cc in ap (λ f. Err f) e
+    by false false is = absurd cc

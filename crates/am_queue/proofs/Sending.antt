@@ -1,0 +1,139 @@
+-- A broadcast that is sent keeps all broadcasts sound.
+use Rattle.std.proofs.Common.{◌≡◌, ℕ, ◌+◌, ◌≤◌, Bool, true, false, ◌||◌, cond, List, [], ◌∷◌, ◌++◌, length, length-append, refl, sym, ap, ◌∙◌, arith}
+use Rattle.std.proofs.lemmas.List.Sums.{sum_by-append}
+use Rattle.std.proofs.lemmas.List.Folds.{list_any-append}
+use Rattle.std.proofs.lemmas.Bool.Decides.{nat_tests}
+use Rattle.std.specs.Prelude.{Some, None, Ok, Err, ◌==◌, nat_le, nat_lt}
+use Rattle.am_types.specs.declared.broadcast.SendFault.{SendFault}
+use Rattle.am_types.specs.declared.broadcast.SendFault.TheVariants.{Full, TooMany}
+use Rattle.am_queue.specs.Taken.{refusal_of}
+use Rattle.am_types.specs.declared.broadcast.Sending.{Sending}
+use Rattle.am_types.specs.declared.broadcast.Ordered.{Ordered}
+use Rattle.am_model.specs.Broadcasts.{Broadcasts, Normal, InTurn}
+use Rattle.am_model.specs.Sending.{at_once, in_turn, is_current, live}
+use Rattle.am_turns.proofs.Counting.{count_by-append}
+use Rattle.am_turns.specs.Counts.{count_of, one_for, queued_of}
+use Rattle.am_queue.specs.Sound.{owed, owed_in, has_current, IsSound, AreSound, all_of}
+
+-- one broadcast more of a sender
+one_for_it : (sender uid : ℕ) → cond (sender == uid) 1 0 ≡ one_for sender uid
+one_for_it sender uid = grind (arith, nat_tests)
+
+-- numbers that were given out
+pub sound_numbered : (all : Broadcasts) (normal : List Normal) (count : ℕ) → IsSound all → all.next_broadcast ≤ 1125899906842624 → count ≤ 1024
+    → IsSound (all_of normal all.foreground all.background all.results (all.next_broadcast + 1) (all.next_delivery + count))
+sound_numbered all normal count sound few short = record {
+  numbers = omega (arith, sound.numbers);
+  broadcasts = omega (arith, few);
+  foreground = λ number free. sound.foreground number (omega (arith, free));
+  background = λ number free. sound.background number (omega (arith, free));
+  differ = sound.differ;
+}
+
+-- a normal broadcast that is sent
+pub at_once_sound : (end room first : ℕ) (counts counts' : List (ℕ × ℕ)) (all : Broadcasts) (sending : Sending) → AreSound end room counts all → all.next_broadcast ≤ 1125899906842624
+    → length sending.to ≤ 1024 → ((uid : ℕ) → count_of counts' uid ≡ count_of counts uid + one_for sending.sender uid)
+    → AreSound (all.next_delivery + length sending.to) room counts'
+    (all_of (all.normal ++ at_once all.next_broadcast first sending ∷ []) all.foreground all.background all.results (all.next_broadcast + 1) (all.next_delivery + length sending.to))
+at_once_sound end room first counts counts' all sending sound few short counted = record {
+  sound = sound_numbered all (all.normal ++ at_once all.next_broadcast first sending ∷ []) (length sending.to) sound.sound few short;
+  counted = λ uid. omega (arith, counted uid, sound.counted uid, one_for_it sending.sender uid, count_by-append (λ (n : Normal). n.sender == uid) all.normal (at_once all.next_broadcast first sending ∷ []));
+  end_before = omega arith;
+  results_fit = sound.results_fit;
+}
+
+-- a number that no delivery has
+pub passed_sound : (end room : ℕ) (counts : List (ℕ × ℕ)) (all : Broadcasts) → AreSound end room counts all → all.next_broadcast ≤ 1125899906842624
+    → AreSound end room counts (all_of all.normal all.foreground all.background all.results (all.next_broadcast + 1) all.next_delivery)
+passed_sound end room counts all sound few = record {
+  sound = record {
+    numbers = omega (arith, sound.sound.numbers);
+    broadcasts = omega (arith, few);
+    foreground = sound.sound.foreground;
+    background = sound.sound.background;
+    differ = sound.sound.differ;
+  };
+  counted = sound.counted;
+  end_before = sound.end_before;
+  results_fit = sound.results_fit;
+}
+
+-- the same numbers, counted alike
+pub recounted : (end room room' : ℕ) (counts counts' : List (ℕ × ℕ)) (all : Broadcasts) → AreSound end room counts all → room ≤ room' → ((uid : ℕ) → count_of counts' uid ≡ count_of counts uid) → AreSound end room' counts' all
+recounted end room room' counts counts' all sound more same = record {
+  sound = sound.sound;
+  counted = λ uid. same uid ∙ sound.counted uid;
+  end_before = sound.end_before;
+  results_fit = omega (arith, sound.results_fit, more);
+}
+
+-- a queue with one more, which has no delivery yet
+module _ (queue : List InTurn) (number : ℕ) (sending : Sending) (ordered : Ordered) where
+  more_owed : owed_in (queue ++ in_turn number sending ordered ∷ []) ≡ owed_in queue + (length sending.to + 1)
+  more_owed = omega (arith, sum_by-append owed queue (in_turn number sending ordered ∷ []))
+
+  no_more_current : (delivery : ℕ) → has_current delivery (queue ++ in_turn number sending ordered ∷ []) ≡ has_current delivery queue
+  no_more_current delivery = list_any-append (λ (b : InTurn). is_current delivery b.current) queue (in_turn number sending ordered ∷ []) ∙ or_false (has_current delivery queue)
+    where
+      or_false : (b : Bool) → b || false ≡ b
+      or_false true = refl
+      or_false false = refl
+
+  more_queued : (uid : ℕ) → queued_of (queue ++ in_turn number sending ordered ∷ []) uid ≡ queued_of queue uid + one_for sending.sender uid
+  more_queued uid = omega (arith, count_by-append (λ (b : InTurn). b.sender == uid) queue (in_turn number sending ordered ∷ []), one_for_it sending.sender uid)
+
+-- an ordered broadcast that is sent to the foreground queue
+pub foreground_sent : (end room room' : ℕ) (counts counts' : List (ℕ × ℕ)) (all : Broadcasts) (sending : Sending) (ordered : Ordered) → AreSound end room counts all → all.next_broadcast ≤ 1125899906842624
+    → length sending.to ≤ 1024 → ((uid : ℕ) → count_of counts' uid ≡ count_of counts uid + one_for sending.sender uid)
+    → length all.foreground + length all.background + length all.results + 1 ≤ room'
+    → AreSound end room' counts' (all_of all.normal (all.foreground ++ in_turn all.next_broadcast sending ordered ∷ []) all.background all.results (all.next_broadcast + 1) all.next_delivery)
+foreground_sent end room room' counts counts' all sending ordered sound few short counted fits = record {
+  sound = record {
+    numbers = omega (arith, sound.sound.numbers, more_owed all.foreground all.next_broadcast sending ordered);
+    broadcasts = omega (arith, few);
+    foreground = λ number free. no_more_current all.foreground all.next_broadcast sending ordered number ∙ sound.sound.foreground number free;
+    background = sound.sound.background;
+    differ = λ number is. sound.sound.differ number (sym (no_more_current all.foreground all.next_broadcast sending ordered number) ∙ is);
+  };
+  counted = λ uid. omega (arith, counted uid, sound.counted uid, more_queued all.foreground all.next_broadcast sending ordered uid);
+  end_before = sound.end_before;
+  results_fit = rw length-append (omega (arith, fits));
+}
+
+-- or to the background queue
+pub background_sent : (end room room' : ℕ) (counts counts' : List (ℕ × ℕ)) (all : Broadcasts) (sending : Sending) (ordered : Ordered) → AreSound end room counts all → all.next_broadcast ≤ 1125899906842624
+    → length sending.to ≤ 1024 → ((uid : ℕ) → count_of counts' uid ≡ count_of counts uid + one_for sending.sender uid)
+    → length all.foreground + length all.background + length all.results + 1 ≤ room'
+    → AreSound end room' counts' (all_of all.normal all.foreground (all.background ++ in_turn all.next_broadcast sending ordered ∷ []) all.results (all.next_broadcast + 1) all.next_delivery)
+background_sent end room room' counts counts' all sending ordered sound few short counted fits = record {
+  sound = record {
+    numbers = omega (arith, sound.sound.numbers, more_owed all.background all.next_broadcast sending ordered);
+    broadcasts = omega (arith, few);
+    foreground = sound.sound.foreground;
+    background = λ number free. no_more_current all.background all.next_broadcast sending ordered number ∙ sound.sound.background number free;
+    differ = λ number is. no_more_current all.background all.next_broadcast sending ordered number ∙ sound.sound.differ number is;
+  };
+  counted = λ uid. omega (arith, counted uid, sound.counted uid, more_queued all.background all.next_broadcast sending ordered uid);
+  end_before = sound.end_before;
+  results_fit = rw length-append (omega (arith, fits));
+}
+
+-- a refusal is what the definition answers
+pub refused : {X : Type 0} (all : Broadcasts) (sender receivers : ℕ) (sent : X) (fault : SendFault) → refusal_of all sender receivers ≡ Some fault
+    → cond (nat_le 64 (live all sender)) (Err Full) (cond (nat_lt 1024 receivers) (Err TooMany) (Ok sent)) ≡ Err fault
+refused {X} all sender receivers sent fault is = by (nat_le 64 (live all sender)) (nat_lt 1024 receivers) is
+  where
+    by : (full many : Bool) → cond full (Some Full) (cond many (Some TooMany) None) ≡ Some fault → cond full (Err Full) (cond many (Err TooMany) (Ok sent)) ≡ Err fault
+    by true many is = let e : Full ≡ fault = cc in ap (λ f. Err f) e
+    by false true is = let e : TooMany ≡ fault = cc in ap (λ f. Err f) e
+    by false false is = absurd cc
+
+-- without one it is sent
+pub not_refused : {X : Type 0} (all : Broadcasts) (sender receivers : ℕ) (sent : X) → refusal_of all sender receivers ≡ None
+    → cond (nat_le 64 (live all sender)) (Err Full) (cond (nat_lt 1024 receivers) (Err TooMany) (Ok sent)) ≡ Ok sent
+not_refused {X} all sender receivers sent none = by (nat_le 64 (live all sender)) (nat_lt 1024 receivers) none
+  where
+    by : (full many : Bool) → cond full (Some Full) (cond many (Some TooMany) None) ≡ None → cond full (Err Full) (cond many (Err TooMany) (Ok sent)) ≡ Ok sent
+    by true many is = absurd cc
+    by false true is = absurd cc
+    by false false is = refl

@@ -1,0 +1,3 @@
+pub mod Inbox
+pub mod Sound
+pub mod Taken

@@ -1,0 +1,11 @@
+//! Broadcasts that are live: normal ones, two queues of ordered ones, and results.
+#![tactic(auto)]
+
+mod inbox;
+mod puts;
+mod queues;
+mod results;
+#[cfg(test)]
+mod tests;
+
+pub use queues::Queues;

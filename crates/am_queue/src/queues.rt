@@ -1,0 +1,568 @@
+//! All live broadcasts.
+ghost use Rattle.std.specs.Prelude.{◌≡◌, ℕ, ◌+◌, ◌≤◌, not, ◌==◌, ◌<◌, ◌≢◌, [], ◌∷◌, ◌++◌, false, filter, map, length, Ok, Err, IsOk, IsSome, IsTrue, ◌↔◌, IfSome, IfOk, IfErr, OnOk, OnErr};
+ghost use Rattle.std.specs.Option.{option_map};
+ghost use Rattle.am_model.specs.Broadcasts as broadcasts;
+ghost use Rattle.am_model.specs.Broadcasts.{no_broadcasts, settle_foreground, settle_background, late_head, is_head_due, is_delivery_due, normals_keeping, due, expired, span};
+ghost use Rattle.am_model.specs.Filters.{is_empty};
+ghost use Rattle.am_model.specs.Sending.{live, in_turn, with_normal, with_ordered, with_sent, send, held, answered_head, finish, forget, forget_uid, forget_registered, inbox, result_items, strike, unwanted};
+ghost use Rattle.am_turns.specs.Deeds.{doing_of};
+ghost use Rattle.am_turns.specs.Struck.{strikes};
+ghost use Rattle.am_turns.specs.Lines.{head_turned};
+ghost use Rattle.am_queue.specs.Taken.{fault_of, held_as, is_taken, refusal_of};
+ghost use Rattle.am_queue.specs.Sound.{foreground_expired, background_expired};
+ghost use Rattle.am_deliveries.specs.Kept.{deliveries_in};
+
+use crate::inbox::{SHOWN, first_by_number, push_item, push_results};
+use crate::puts::{Begin, put_normal, put_turn};
+use crate::results::{self, Taken};
+use am_deliveries::Deliveries;
+use am_tally::Steps;
+use am_turns::{Counts, Deed, Final, Line, Struck};
+use am_types::{Answer, FinishFault, Item, List, NoMemory, SendFault, Sending};
+use std::alloc::{AllocError, Global};
+use std::marker::Model;
+use std::sync::ledger::Ledger;
+
+/// How long a delivery of the foreground queue may take, in milliseconds.
+const FOREGROUND_SPAN: u64 = 10_000;
+
+/// How long another delivery may take, in milliseconds.
+const BACKGROUND_SPAN: u64 = 60_000;
+
+/// All live broadcasts, and the next numbers.
+#[derive(Debug, Drop)]
+pub struct Queues {
+    alloc: Global,
+    normals: Deliveries,
+    foreground: Line,
+    background: Line,
+    /// By rising delivery number, with room for those of all that stand in the queues.
+    results: Vec<Final>,
+    /// How many broadcasts of each sender are live.
+    live: Counts,
+    next_broadcast: u64,
+    next_delivery: u64,
+}
+
+impl Model for Queues {
+    ghost use Rattle.std.specs.Prelude.{vec_capacity};
+    ghost use Rattle.am_model.specs.Broadcasts.{Broadcasts};
+    ghost use Rattle.am_queue.specs.Taken.{fault_of, held_as, is_taken, refusal_of};
+    ghost use Rattle.am_queue.specs.Sound.{AreSound, all_of};
+
+    ghost Value = { Broadcasts };
+
+    ghost view = { λ q. all_of q.normals.normal q.foreground q.background q.results.items q.next_broadcast q.next_delivery };
+
+    ghost invariant = { λ q. AreSound q.normals.end (vec_capacity q.results) q.live
+        (all_of q.normals.normal q.foreground q.background q.results.items q.next_broadcast q.next_delivery) };
+}
+
+impl Queues {
+    /// No broadcast yet. Takes no memory.
+    pub fn new(alloc: Global) -> Self
+        ensures { result ≡ no_broadcasts }
+    {
+        Queues {
+            alloc,
+            normals: Deliveries::new(alloc),
+            foreground: Line::new(alloc),
+            background: Line::new(alloc),
+            results: Vec::new(alloc),
+            live: Counts::new(alloc),
+            next_broadcast: 1,
+            next_delivery: 1,
+        }
+    }
+
+    /// Whether the numbers of broadcasts suffice for one more. Takes no memory.
+    pub fn can_send(&self) -> bool
+        ensures { IsTrue result ↔ (self.now.next_broadcast ≤ 1125899906842624) }
+    {
+        self.next_broadcast <= 1_125_899_906_842_624
+    }
+
+    /// Whether some deadline is at most `now`. A step is a reading of a deadline. Takes no memory.
+    pub fn due<L: Ledger>(&self, now: u64, steps: &mut Steps<L>) -> bool
+        ensures due { result ≡ due self.now now }
+        ensures cost { steps.new ≤ steps.old + 3 }
+    {
+        self.foreground.is_due(now, steps)
+            || self.background.is_due(now, steps)
+            || self.normals.is_due(now, steps)
+    }
+
+    /// Why a broadcast of the sender to so many receivers isn't sent.
+    fn refusal(&self, sender: u32, receivers: usize) -> Option<SendFault>
+        ensures { result ≡ refusal_of self.now sender receivers }
+    {
+        if self.live.get(sender) >= 64 {
+            return Some(SendFault::Full);
+        }
+        if receivers > 1024 {
+            return Some(SendFault::TooMany);
+        }
+        None
+    }
+
+    /// Gives out the number of a broadcast without receivers.
+    fn pass_number(&mut self) -> u64
+        requires { self.old.next_broadcast ≤ 1125899906842624 }
+        ensures number { result ≡ self.old.next_broadcast }
+        ensures passed { self.new ≡ record self.old { next_broadcast = self.old.next_broadcast + 1 } }
+    {
+        let number = self.next_broadcast;
+        self.next_broadcast = number + 1;
+        number
+    }
+
+    /// Sends a normal broadcast to some receivers.
+    fn put_at_once(&mut self, sending: Sending) -> Result<u64, AllocError>
+        requires broadcasts { self.old.next_broadcast ≤ 1125899906842624 }
+        requires moment { sending.now ≤ 4611686018427387904 }
+        requires not_full { live self.old sending.sender < 64 }
+        requires some { is_empty sending.to ≡ false }
+        requires few { length sending.to ≤ 1024 }
+        ensures number { IfOk result (λ number. number ≡ self.old.next_broadcast) }
+        ensures sent { OnOk result (self.new ≡ with_normal self.old sending) }
+        ensures same { OnErr result (self.new ≡ self.old) }
+    {
+        let begin = Begin {
+            number: self.next_broadcast,
+            first: self.next_delivery,
+            deadline: sending.now + span(sending.foreground),
+        };
+        let count = sending.to.as_slice().len() as u64;
+        match put_normal(
+            self.alloc,
+            &mut self.normals,
+            &mut self.live,
+            begin,
+            sending,
+        ) {
+            Ok(()) => {
+                self.next_broadcast = begin.number + 1;
+                self.next_delivery = begin.first + count;
+                Ok(begin.number)
+            }
+            Err(error) => Err(error),
+        }
+    }
+
+    /// Puts an ordered broadcast to the foreground queue.
+    fn put_foreground(&mut self, sending: Sending) -> Result<u64, AllocError>
+        requires broadcasts { self.old.next_broadcast ≤ 1125899906842624 }
+        requires ordered { IsSome sending.ordered }
+        requires not_full { live self.old sending.sender < 64 }
+        requires few { length sending.to ≤ 1024 }
+        ensures number { IfOk result (λ number. number ≡ self.old.next_broadcast) }
+        ensures put { OnOk result (IfSome sending.ordered (λ ordered. self.new ≡ record self.old {
+          foreground = self.old.foreground ++ in_turn self.old.next_broadcast sending ordered ∷ [];
+          next_broadcast = self.old.next_broadcast + 1;
+        })) }
+        ensures same { OnErr result (self.new ≡ self.old) }
+    {
+        let number = self.next_broadcast;
+        let more = self.foreground.len() + self.background.len() + 1;
+        let (results, live) = (&mut self.results, &mut self.live);
+        match put_turn(
+            self.alloc,
+            &mut self.foreground,
+            results,
+            more,
+            live,
+            number,
+            sending,
+        ) {
+            Ok(()) => {
+                self.next_broadcast = number + 1;
+                Ok(number)
+            }
+            Err(error) => Err(error),
+        }
+    }
+
+    /// Puts an ordered broadcast to the background queue.
+    fn put_background(&mut self, sending: Sending) -> Result<u64, AllocError>
+        requires broadcasts { self.old.next_broadcast ≤ 1125899906842624 }
+        requires ordered { IsSome sending.ordered }
+        requires not_full { live self.old sending.sender < 64 }
+        requires few { length sending.to ≤ 1024 }
+        ensures number { IfOk result (λ number. number ≡ self.old.next_broadcast) }
+        ensures put { OnOk result (IfSome sending.ordered (λ ordered. self.new ≡ record self.old {
+          background = self.old.background ++ in_turn self.old.next_broadcast sending ordered ∷ [];
+          next_broadcast = self.old.next_broadcast + 1;
+        })) }
+        ensures same { OnErr result (self.new ≡ self.old) }
+    {
+        let number = self.next_broadcast;
+        let more = self.foreground.len() + self.background.len() + 1;
+        let (results, live) = (&mut self.results, &mut self.live);
+        match put_turn(
+            self.alloc,
+            &mut self.background,
+            results,
+            more,
+            live,
+            number,
+            sending,
+        ) {
+            Ok(()) => {
+                self.next_broadcast = number + 1;
+                Ok(number)
+            }
+            Err(error) => Err(error),
+        }
+    }
+
+    /// Sends an ordered broadcast.
+    fn put_in_turn(&mut self, sending: Sending) -> Result<u64, AllocError>
+        requires broadcasts { self.old.next_broadcast ≤ 1125899906842624 }
+        requires moment { sending.now ≤ 4611686018427387904 }
+        requires ordered { IsSome sending.ordered }
+        requires not_full { live self.old sending.sender < 64 }
+        requires few { length sending.to ≤ 1024 }
+        ensures number { IfOk result (λ number. number ≡ self.old.next_broadcast) }
+        ensures sent { OnOk result (IfSome sending.ordered (λ ordered. self.new ≡ with_ordered self.old sending ordered)) }
+        ensures same { OnErr result (self.new ≡ self.old) }
+    {
+        let now = sending.now;
+        if sending.foreground {
+            let number = self.put_foreground(sending)?;
+            self.settle_foreground(now);
+            Ok(number)
+        } else {
+            let number = self.put_background(sending)?;
+            self.settle_background(now);
+            Ok(number)
+        }
+    }
+
+    /// Sends a broadcast that isn't refused.
+    fn put(&mut self, sending: Sending) -> Result<u64, AllocError>
+        requires broadcasts { self.old.next_broadcast ≤ 1125899906842624 }
+        requires moment { sending.now ≤ 4611686018427387904 }
+        requires not_full { live self.old sending.sender < 64 }
+        requires few { length sending.to ≤ 1024 }
+        ensures number { IfOk result (λ number. number ≡ self.old.next_broadcast) }
+        ensures sent { OnOk result (self.new ≡ with_sent self.old sending sending.ordered) }
+        ensures same { OnErr result (self.new ≡ self.old) }
+    {
+        if sending.ordered.is_some() {
+            return self.put_in_turn(sending);
+        }
+        if sending.to.as_slice().is_empty() {
+            drop(sending);
+            return Ok(self.pass_number());
+        }
+        self.put_at_once(sending)
+    }
+
+    /// Sends a broadcast, and answers its number: `Full` where its sender has 64 live broadcasts,
+    /// else `TooMany` where it has more than 1,024 receivers. It takes all memory that the
+    /// broadcast's course needs. After a refusal, and without memory, all is as before.
+    pub fn send(&mut self, call: Sending) -> Result<u64, SendFault>
+        requires broadcasts { self.old.next_broadcast ≤ 1125899906842624 }
+        requires moment { call.now ≤ 4611686018427387904 }
+        ensures sent { IfOk result (λ number. send self.old call ≡ Ok (number, self.new)) }
+        ensures refused { IfErr result (λ fault. fault ≢ SendFault.NoMemory → send self.old call ≡ Err fault) }
+        ensures no_memory { result ≡ Err SendFault.NoMemory → IsOk (send self.old call) }
+        ensures same { OnErr result (self.new ≡ self.old) }
+    {
+        match self.refusal(call.sender, call.to.as_slice().len()) {
+            Some(fault) => {
+                drop(call);
+                Err(fault)
+            }
+            None => match self.put(call) {
+                Ok(number) => Ok(number),
+                Err(_) => Err(SendFault::NoMemory),
+            },
+        }
+    }
+
+    /// The first 64 deliveries and results of a uid by rising number. An ordered one has the outcome
+    /// so far.
+    pub fn inbox(&self, alloc: Global, uid: u32) -> Result<List<Item>, NoMemory>
+        ensures { IfOk result (λ items. items ≡ inbox self.now uid) }
+    {
+        let mut items = self.normals.items(alloc, uid, SHOWN)?;
+        push_item(&mut items, self.foreground.item(uid)?)?;
+        push_item(&mut items, self.background.item(uid)?)?;
+        self.push_results(uid, &mut items)?;
+        Ok(List::new(first_by_number(alloc, items)?))
+    }
+
+    /// Puts the results of a uid behind other items. Only a uid with a live broadcast may have one.
+    fn push_results(&self, uid: u32, items: &mut Vec<Item>) -> Result<(), AllocError>
+        ensures { OnOk result (items.new.items ≡ items.old.items ++ result_items uid self.now.results) }
+    {
+        if self.live.get(uid) == 0 {
+            return Ok(());
+        }
+        push_results(items, &self.results, uid)
+    }
+
+    /// Equal queues, which have taken the same memory for the course of their broadcasts.
+    pub fn copy(&self) -> Result<Self, NoMemory>
+        ensures { IfOk result (λ copy. copy ≡ self.now) }
+    {
+        let waiting = self.foreground.len() + self.background.len();
+        Ok(Queues {
+            alloc: self.alloc,
+            normals: self.normals.copy()?,
+            foreground: self.foreground.copy()?,
+            background: self.background.copy()?,
+            results: results::copy(&self.results, waiting)?,
+            live: self.live.copy()?,
+            next_broadcast: self.next_broadcast,
+            next_delivery: self.next_delivery,
+        })
+    }
+
+    /// The foreground queue settles at a moment.
+    fn settle_foreground(&mut self, now: u64)
+        requires { now ≤ 4611686018427387904 }
+        ensures { self.new ≡ settle_foreground now self.old }
+    {
+        self.next_delivery = self.foreground.settle(
+            &mut self.results,
+            &mut self.live,
+            self.next_delivery,
+            now + FOREGROUND_SPAN,
+        );
+    }
+
+    /// The background queue settles at a moment.
+    fn settle_background(&mut self, now: u64)
+        requires { now ≤ 4611686018427387904 }
+        ensures { self.new ≡ settle_background now self.old }
+    {
+        self.next_delivery = self.background.settle(
+            &mut self.results,
+            &mut self.live,
+            self.next_delivery,
+            now + BACKGROUND_SPAN,
+        );
+    }
+
+    /// The head's first receiver in the foreground queue did this.
+    fn turn_foreground(&mut self, deed: Deed)
+        ensures { self.new ≡ record self.old { foreground = head_turned (doing_of deed) self.old.foreground } }
+    {
+        self.foreground.turn_head(deed);
+    }
+
+    /// The head's first receiver in the background queue did this.
+    fn turn_background(&mut self, deed: Deed)
+        ensures { self.new ≡ record self.old { background = head_turned (doing_of deed) self.old.background } }
+    {
+        self.background.turn_head(deed);
+    }
+
+    /// The foreground queue passes a late receiver over.
+    fn expire_foreground<L: Ledger>(&mut self, now: u64, steps: &mut Steps<L>)
+        requires { now ≤ 4611686018427387904 }
+        ensures queue { self.new ≡ foreground_expired now self.old }
+        ensures cost { steps.new ≤ steps.old + 1 }
+    {
+        if self.foreground.is_due(now, steps) {
+            self.turn_foreground(Deed::Late);
+            self.settle_foreground(now);
+        }
+    }
+
+    /// The background queue passes a late receiver over.
+    fn expire_background<L: Ledger>(&mut self, now: u64, steps: &mut Steps<L>)
+        requires { now ≤ 4611686018427387904 }
+        ensures queue { self.new ≡ background_expired now self.old }
+        ensures cost { steps.new ≤ steps.old + 1 }
+    {
+        if self.background.is_due(now, steps) {
+            self.turn_background(Deed::Late);
+            self.settle_background(now);
+        }
+    }
+
+    /// The normal deliveries that are due leave.
+    fn expire_normal<L: Ledger>(&mut self, now: u64, steps: &mut Steps<L>)
+        ensures normal { self.new ≡ record self.old { normal = normals_keeping (λ delivery. not (is_delivery_due now delivery)) self.old.normal } }
+        ensures cost { steps.new + deliveries_in self.new.normal ≤ steps.old + 1 + deliveries_in self.old.normal }
+    {
+        self.normals.expire(now, &mut self.live, steps);
+    }
+
+    /// Handles the deadlines that are due: one receiver of each queue at most, and all normal
+    /// deliveries. A step is a reading of a deadline. Takes no memory.
+    pub fn expire<L: Ledger>(&mut self, now: u64, steps: &mut Steps<L>)
+        requires { now ≤ 4611686018427387904 }
+        ensures expired { self.new ≡ expired self.old now }
+        ensures cost { steps.new + deliveries_in self.new.normal ≤ steps.old + 3 + deliveries_in self.old.normal }
+    {
+        self.expire_foreground(now, steps);
+        self.expire_background(now, steps);
+        self.expire_normal(now, steps);
+    }
+
+    /// Whose the delivery or the result of that number is, and whether it is an ordered broadcast's.
+    fn held(&self, number: u64) -> Option<(u32, bool)>
+        ensures { held self.now number ≡ option_map held_as result }
+    {
+        if let Some(uid) = self.normals.holder(number) {
+            return Some((uid, false));
+        }
+        if let Some(uid) = self.foreground.holder(number) {
+            return Some((uid, true));
+        }
+        if let Some(uid) = self.background.holder(number) {
+            return Some((uid, true));
+        }
+        match results::holder(&self.results, number) {
+            None => None,
+            Some(uid) => Some((uid, false)),
+        }
+    }
+
+    /// Finishes the normal delivery of that number, if there is one.
+    fn finish_normal(&mut self, number: u64)
+        ensures { self.new ≡ record self.old { normal = normals_keeping (λ delivery. not (delivery.number == number)) self.old.normal } }
+    {
+        if self.normals.holder(number).is_some() {
+            self.normals.finish(number, &mut self.live);
+        }
+    }
+
+    /// Answers the ordered delivery of that number, if there is one.
+    fn answer_head(&mut self, number: u64, answer: Answer)
+        ensures { self.new ≡ record self.old {
+          foreground = answered_head number (broadcasts.Answered answer) self.old.foreground;
+          background = answered_head number (broadcasts.Answered answer) self.old.background;
+        } }
+    {
+        if self.foreground.is_head(number) {
+            self.turn_foreground(Deed::Answered(answer));
+        } else if self.background.is_head(number) {
+            self.turn_background(Deed::Answered(answer));
+        } else {
+            drop(answer);
+        }
+    }
+
+    /// Takes results out.
+    fn take_results(&mut self, taken: &Taken)
+        ensures { self.new ≡ record self.old { results = filter (λ kept. not (is_taken taken.now kept)) self.old.results } }
+    {
+        results::take_out(&mut self.results, taken, &mut self.live);
+    }
+
+    /// Finishes a delivery, or takes a result: `NoDelivery` where none of that number stands,
+    /// `NotYours` where it is another uid's, and `NotOrdered` where the answer sets an outcome or
+    /// aborts, and it isn't an ordered delivery. After a refusal all is as before. Takes no memory.
+    pub fn finish(
+        &mut self,
+        delivery: u64,
+        uid: u32,
+        answer: Answer,
+        now: u64,
+    ) -> Result<(), FinishFault>
+        requires { now ≤ 4611686018427387904 }
+        ensures finished { OnOk result (finish self.old delivery uid answer now ≡ Ok self.new) }
+        ensures refused { IfErr result (λ fault. finish self.old delivery uid answer now ≡ Err fault) }
+        ensures same { OnErr result (self.new ≡ self.old) }
+    {
+        match fault_of(uid, &answer, self.held(delivery)) {
+            Some(fault) => {
+                drop(answer);
+                Err(fault)
+            }
+            None => {
+                self.finish_normal(delivery);
+                self.answer_head(delivery, answer);
+                self.take_results(&Taken::Delivery(delivery));
+                self.settle_foreground(now);
+                self.settle_background(now);
+                Ok(())
+            }
+        }
+    }
+
+    /// Strikes receivers everywhere.
+    fn strike(&mut self, struck: &Struck)
+        ensures { self.new ≡ record self.old {
+          normal = normals_keeping (λ delivery. not (strikes struck.now delivery.spot)) self.old.normal;
+          foreground = map (strike (strikes struck.now)) self.old.foreground;
+          background = map (strike (strikes struck.now)) self.old.background;
+        } }
+    {
+        self.normals.strike(struck, &mut self.live);
+        self.foreground.strike(struck);
+        self.background.strike(struck);
+    }
+
+    /// Strikes receivers everywhere, and settles both queues.
+    fn forget(&mut self, struck: &Struck, now: u64)
+        requires { now ≤ 4611686018427387904 }
+        ensures { self.new ≡ forget self.old (strikes struck.now) now }
+    {
+        self.strike(struck);
+        self.settle_foreground(now);
+        self.settle_background(now);
+    }
+
+    /// A uid wants no result any more.
+    fn unwant(&mut self, uid: u32)
+        ensures { self.new ≡ record self.old {
+          foreground = map (unwanted uid) self.old.foreground;
+          background = map (unwanted uid) self.old.background;
+        } }
+    {
+        self.foreground.unwant(uid);
+        self.background.unwant(uid);
+    }
+
+    /// Strikes the receivers of a uid, and takes its results; it wants none any more. Takes no
+    /// memory.
+    pub fn forget_uid(&mut self, uid: u32, now: u64)
+        requires { now ≤ 4611686018427387904 }
+        ensures { self.new ≡ forget_uid self.old uid now }
+    {
+        self.unwant(uid);
+        self.take_results(&Taken::Sender(uid));
+        self.forget(&Struck::Uid(uid), now);
+    }
+
+    /// Strikes a registered receiver. Takes no memory.
+    pub fn forget_registered(&mut self, number: u64, now: u64)
+        requires { now ≤ 4611686018427387904 }
+        ensures { self.new ≡ forget_registered self.old number now }
+    {
+        self.forget(&Struck::Registered(number), now);
+    }
+}
+
+/// How long a delivery may take, in milliseconds.
+fn span(foreground: bool) -> u64
+    ensures { result ≡ span foreground }
+{
+    if foreground {
+        FOREGROUND_SPAN
+    } else {
+        BACKGROUND_SPAN
+    }
+}
+
+/// Why a uid doesn't finish what is held.
+fn fault_of(uid: u32, answer: &Answer, held: Option<(u32, bool)>) -> Option<FinishFault>
+    ensures { result ≡ fault_of uid answer.now (option_map held_as held) }
+{
+    let Some((holder, ordered)) = held else {
+        return Some(FinishFault::NoDelivery);
+    };
+    if holder != uid {
+        return Some(FinishFault::NotYours);
+    }
+    if (answer.set.is_some() || answer.abort) && !ordered {
+        return Some(FinishFault::NotOrdered);
+    }
+    None
+}

@@ -1,0 +1,4 @@
+pub mod Adding
+pub mod Owners
+pub mod Ranks
+pub mod Stopped

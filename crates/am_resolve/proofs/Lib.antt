@@ -1,0 +1,4 @@
+pub mod Costs
+pub mod General
+pub mod Standing
+pub mod Tops

@@ -1,0 +1,250 @@
+//! What is installed, with the index that stands for it.
+ghost use Rattle.std.specs.Prelude.{◌≡◌, ◌∷◌, ◌++◌, ◌+◌, ◌*◌, ◌≤◌, [], not, ◌==◌, false, filter, length, IfOk, IsOk, IsSome, OnOk, OnErr, option_copied};
+ghost use Rattle.std.specs.Option.{option_map};
+ghost use Rattle.am_types.specs.declared.manifest.Kind.TheVariants.{Activity, Receiver};
+ghost use Rattle.am_types.specs.declared.resolve.Registration.{Registration};
+ghost use Rattle.am_model.specs.Boards.{board_of, package_at, with_grant, with_link, with_stopped, without_package};
+ghost use Rattle.am_model.specs.Candidates.{hits};
+ghost use Rattle.am_model.specs.Receivers.{declared, receivers};
+ghost use Rattle.am_model.specs.Sound.{IsSound};
+ghost use Rattle.am_model.specs.Targets.{target};
+ghost use Rattle.am_board.specs.Installed.{AreInstalled};
+ghost use Rattle.am_board.specs.Places.{place_registered};
+ghost use Rattle.am_index.specs.Groups.{group_size};
+
+use crate::narrow::narrowed;
+use crate::top::choose;
+use am_board::Installed;
+use am_index::FilterIndex;
+use am_receivers::receivers;
+use am_tally::Steps;
+use am_types::{
+    Component, Decl, Device, Grant, Hit, Intent, Kind, Link, List, NoMemory, Package, Receiving,
+    Registration, Target, Text,
+};
+use std::alloc::Global;
+use std::marker::Model;
+use std::sync::ledger::Ledger;
+
+/// What is installed on a device and was given to it, with an index of what its components take.
+#[derive(Drop)]
+pub struct Board {
+    installed: Installed,
+    index: FilterIndex,
+}
+
+impl Model for Board {
+    ghost use Rattle.am_model.specs.Boards as boards;
+    ghost use Rattle.am_index.specs.Standing.{StandsFor};
+
+    ghost Value = { boards.Board };
+
+    ghost view = { λ b. b.installed };
+
+    ghost invariant = { λ b. StandsFor b.index b.installed.packages };
+}
+
+impl Board {
+    /// The board of a sound device on which nothing happened yet.
+    pub fn from_device(alloc: Global, device: Device) -> Result<Self, NoMemory>
+        requires { IsSound device }
+        ensures { IfOk result (λ board. board ≡ board_of device) }
+    {
+        let built = FilterIndex::build(alloc, &device.packages);
+        let installed = Installed::from_device(alloc, device);
+        match built {
+            Ok(index) => Ok(Board { installed, index }),
+            Err(error) => {
+                drop(installed);
+                Err(error)
+            }
+        }
+    }
+
+    /// The components of the kind that the intent finds, by falling priority, then uid, then place;
+    /// with `default_only` an implicit intent finds those with a filter that lists the default
+    /// category. Each full test of a filter is a step: at most as many as the intent's group has
+    /// filters, and none where the intent names a component. ("Intents and intent filters".)
+    pub fn query<L: Ledger>(
+        &self,
+        alloc: Global,
+        kind: Kind,
+        intent: &Intent,
+        default_only: bool,
+        steps: &mut Steps<L>,
+    ) -> Result<List<Hit>, NoMemory>
+        ensures hits { IfOk result (λ found. found ≡ hits self.now.packages kind intent.now default_only) }
+        ensures tests { steps.new ≤ steps.old + group_size self.now.packages kind intent.now }
+        ensures explicit { IsSome intent.now.component → steps.new ≡ steps.old }
+    {
+        let packages = self.installed.packages();
+        self.index
+            .candidates(alloc, packages, kind, intent, default_only, steps)
+    }
+
+    /// Which activity a start of the intent reaches: none, the one of greatest priority, or several
+    /// that share it. A web intent is narrowed first. Each full test of a filter is a step: at most
+    /// twice as many as the intent's group has filters, and none where the intent names a
+    /// component. ("Intents and intent filters"; narrowing is (own) in detail.)
+    pub fn target<L: Ledger>(
+        &self,
+        alloc: Global,
+        intent: &Intent,
+        steps: &mut Steps<L>,
+    ) -> Result<Target, NoMemory>
+        ensures target { IfOk result (λ reached. reached ≡ target self.now intent.now) }
+        ensures tests { steps.new ≤ steps.old + 2 * group_size self.now.packages Activity intent.now }
+        ensures explicit { IsSome intent.now.component → steps.new ≡ steps.old }
+    {
+        let found = self.query(alloc, Kind::Activity, intent, true, steps)?;
+        let left = narrowed(alloc, &self.installed, intent, found, steps)?;
+        Ok(choose(left))
+    }
+
+    /// Who the broadcast of the sender is offered to, by falling priority, at a tie registered
+    /// receivers by number, then the manifests' by uid and place; each with the rule by which it is
+    /// skipped. Each full test of a filter is a step: at most as many as the intent's group has
+    /// filters and one for each registered receiver, and none where the intent names a component.
+    pub fn receivers<L: Ledger>(
+        &self,
+        alloc: Global,
+        intent: &Intent,
+        sender: u32,
+        permission: Option<&Text>,
+        steps: &mut Steps<L>,
+    ) -> Result<List<Receiving>, NoMemory>
+        ensures receivers { IfOk result (λ offered. offered ≡ receivers self.now intent.now sender (option_copied permission.entry)) }
+        ensures tests { steps.new ≤ steps.old + group_size self.now.packages Receiver intent.now + length self.now.registered }
+        ensures explicit { IsSome intent.now.component → steps.new ≡ steps.old }
+    {
+        let found = self.query(alloc, Kind::Receiver, intent, false, steps)?;
+        receivers(
+            alloc,
+            &self.installed,
+            &found,
+            intent,
+            sender,
+            permission,
+            steps,
+        )
+    }
+
+    /// An enabled component of a kind with the uid of its package, if there is one. Takes no memory.
+    pub fn declared(&self, kind: Kind, component: &Component) -> Option<(u32, &Decl)>
+        ensures { option_map (λ found. (found.0, found.1.now)) result ≡ declared self.now.packages kind component.now }
+    {
+        self.installed.declared(kind, component)
+    }
+
+    /// The package of the uid, if there is one. Takes no memory.
+    pub fn package_at(&self, uid: u32) -> Option<&Package>
+        ensures { option_copied result ≡ package_at self.now.packages uid }
+    {
+        self.installed.package_at(uid)
+    }
+
+    /// The packages in the order of their uids. Takes no memory.
+    pub fn packages(&self) -> &List<Package>
+        ensures packages { result.now ≡ self.now.packages }
+        ensures installed { AreInstalled self.now.packages }
+    {
+        self.installed.packages()
+    }
+
+    /// The grants in the order of uid, then permission by bytes. Takes no memory.
+    pub fn grants(&self) -> &List<Grant>
+        ensures { result.now ≡ self.now.grants }
+    {
+        self.installed.grants()
+    }
+
+    /// The links in the order of uid, then host by bytes. Takes no memory.
+    pub fn links(&self) -> &List<Link>
+        ensures { result.now ≡ self.now.links }
+    {
+        self.installed.links()
+    }
+
+    /// The registered receivers by rising number. Takes no memory.
+    pub fn registered(&self) -> &List<Registration>
+        ensures { result.now ≡ self.now.registered }
+    {
+        self.installed.registered()
+    }
+
+    /// The actions that only the system and the root may broadcast. Takes no memory.
+    pub fn protected(&self) -> &List<Text>
+        ensures { result.now ≡ self.now.protected }
+    {
+        self.installed.protected()
+    }
+
+    /// Installs a package behind the others: its uid is greater than every uid there, its name is
+    /// new, and it has at most 256 components, of distinct classes. Without memory all is as before.
+    pub fn add_package(&mut self, package: Package) -> Result<(), NoMemory>
+        requires { AreInstalled (self.old.packages ++ «package» ∷ []) }
+        ensures added { OnOk result (self.new ≡ record self.old { packages = self.old.packages ++ «package» ∷ [] }) }
+        ensures same { OnErr result (self.new ≡ self.old) }
+    {
+        let uid = package.uid;
+        if self.index.add(&package).is_err() {
+            drop(package);
+            return Err(NoMemory);
+        }
+        let added = self.installed.add_package(package);
+        if added.is_err() {
+            self.index.drop_uid(uid);
+        }
+        added
+    }
+
+    /// Takes the package of the uid out, and nothing else. Takes no memory.
+    pub fn drop_package(&mut self, uid: u32)
+        ensures { self.new ≡ record self.old { packages = without_package self.old.packages uid } }
+    {
+        self.installed.drop_package(uid);
+        self.index.drop_uid(uid);
+    }
+
+    /// The package of the uid is stopped, or isn't any more. Takes no memory.
+    pub fn set_stopped(&mut self, uid: u32, stopped: bool)
+        ensures { self.new ≡ record self.old { packages = with_stopped self.old.packages uid stopped } }
+    {
+        self.installed.set_stopped(uid, stopped);
+    }
+
+    /// The uid holds the permission, or doesn't any more; taking it away takes no memory. Without
+    /// memory all is as before.
+    pub fn set_grant(&mut self, uid: u32, permission: &Text, held: bool) -> Result<(), NoMemory>
+        ensures set { OnOk result (self.new ≡ record self.old { grants = with_grant self.old.grants uid permission.now held }) }
+        ensures same { OnErr result (self.new ≡ self.old) }
+        ensures taken { held ≡ false → IsOk result }
+    {
+        self.installed.set_grant(uid, permission, held)
+    }
+
+    /// The uid is approved for the host, or isn't any more; taking it away takes no memory. Without
+    /// memory all is as before.
+    pub fn set_link(&mut self, uid: u32, host: &Text, approved: bool) -> Result<(), NoMemory>
+        ensures set { OnOk result (self.new ≡ record self.old { links = with_link self.old.links uid host.now approved }) }
+        ensures same { OnErr result (self.new ≡ self.old) }
+        ensures taken { approved ≡ false → IsOk result }
+    {
+        self.installed.set_link(uid, host, approved)
+    }
+
+    /// Registers a receiver, in its place by number. Without memory all is as before.
+    pub fn register(&mut self, registration: Registration) -> Result<(), NoMemory>
+        ensures registered { OnOk result (self.new ≡ record self.old { registered = place_registered registration self.old.registered }) }
+        ensures same { OnErr result (self.new ≡ self.old) }
+    {
+        self.installed.register(registration)
+    }
+
+    /// Takes the registered receiver of the number out. Takes no memory.
+    pub fn unregister(&mut self, number: u64)
+        ensures { self.new ≡ record self.old { registered = filter (λ (r : Registration). not (r.number == number)) self.old.registered } }
+    {
+        self.installed.unregister(number);
+    }
+}

@@ -1,0 +1,4 @@
+pub mod Counting
+pub mod Outcomes
+pub mod Queues
+pub mod Settling
