@@ -1,14 +1,28 @@
 -- Where a number stands among batches in order.
-use Rattle.std.proofs.Common.{◌≡◌, ℕ, ◌-◌, ◌<◌, ◌≤◌, Bool, true, false, List, length, get_or, ◌∙◌, arith, subst, ◌⊎◌, inl, inr}
+use Rattle.std.proofs.Common.{◌≡◌, ℕ, ◌-◌, ◌<◌, ◌≤◌, Bool, true, false, List, [], ◌∷◌, length, map, get_or, sym, ap, ◌∙◌, arith, subst, ◌⊎◌, inl, inr}
 use Rattle.std.proofs.lemmas.Bool.{cases_lt}
-use Rattle.std.proofs.lemmas.List.{get_or_default}
+use Rattle.std.proofs.lemmas.List.{get_or-map, get_or_default, length-map}
 use Rattle.std.proofs.lemmas.Bool.Decides.{nat_tests}
 use Rattle.std.specs.Prelude.{nat_le}
 use Rattle.std.specs.List.{AllWithin}
 use Rattle.std.specs.List.Sorted.{IsPartitionedBy}
 use Rattle.am_deliveries.specs.Batches.{Batch}
-use Rattle.am_deliveries.specs.Kept.{AreApart, HasAt, NoneHas}
+use Rattle.am_deliveries.specs.Kept.{AreApart, HasAt, NoneHas, firsts_of}
 use Rattle.am_deliveries.proofs.Keeping.{slots_within, ends_rise}
+
+-- a list whose images a test divides is divided by what they are images of
+divided_of : {X Y : Type 0} (f : X → Y) (test : Y → Bool) (xs : List X) → IsPartitionedBy (λ x. test (f x)) xs → IsPartitionedBy test (map f xs)
+divided_of f test [] divided i j d less within is = absurd (omega arith)
+divided_of f test (x ∷ xs) divided i j d less within is =
+    let inside : j < length (x ∷ xs) = omega (arith, within, length-map (x ∷ xs) f) in
+    ap test (get_or-map f (x ∷ xs) i x d (omega (arith, less, inside)))
+    ∙ divided i j x less inside (sym (ap test (get_or-map f (x ∷ xs) j x d inside)) ∙ is)
+
+-- what holds of images within bounds holds of what they are images of
+pub within_of : {X Y : Type 0} (f : X → Y) (test : Y → Bool) (answer : Bool) (xs : List X) (low high : ℕ) → high ≤ length xs
+    → AllWithin (λ y. test y ≡ answer) (map f xs) low high → AllWithin (λ x. test (f x) ≡ answer) xs low high
+within_of f test answer xs low high bound all place d from to =
+    sym (ap test (get_or-map f xs place d (f d) (omega (arith, to, bound)))) ∙ all place (f d) from to
 
 -- a batch that begins up to a number
 abbrev pub begins_by : ℕ → Batch → Bool
@@ -24,7 +38,7 @@ above : (a b : ℕ) → nat_le a b ≡ false → b < a
 above a b test = grind (arith, nat_tests)
 
 -- those that begin up to a number come first
-pub begin_in_order : (end number : ℕ) (batches : List Batch) → AreApart 0 end batches → IsPartitionedBy (begins_by number) batches
+begin_in_order : (end number : ℕ) (batches : List Batch) → AreApart 0 end batches → IsPartitionedBy (begins_by number) batches
 begin_in_order end number batches apart i j d less within test = by (cases_lt i j)
   where
     by : (i < j) ⊎ (j ≤ i) → begins_by number (get_or batches i d) ≡ true
@@ -32,6 +46,11 @@ begin_in_order end number batches apart i j d less within test = by (cases_lt i 
         at_most (get_or batches i d).first number
         (omega (arith, up_to (get_or batches j d).first number test, ends_rise 0 end batches i j d apart below within, (slots_within 0 end batches i d apart (omega arith)).0))
     by (inr same) = let e : j ≡ i = omega arith in subst (λ k. begins_by number (get_or batches k d) ≡ true) e test
+
+-- so do their first numbers
+pub firsts_in_order : (end number : ℕ) (batches : List Batch) → AreApart 0 end batches → IsPartitionedBy (λ first. nat_le first number) (firsts_of batches)
+firsts_in_order end number batches apart =
+    divided_of (λ (b : Batch). b.first) (λ first. nat_le first number) batches (begin_in_order end number batches apart)
 
 -- where all begin above it none has it
 pub none_begins : (number : ℕ) (batches : List Batch) (after : ℕ) → AllWithin (λ b. begins_by number b ≡ false) batches after (length batches) → after ≡ 0 → NoneHas number batches

@@ -9,6 +9,7 @@ use Rattle.std.specs.List.{filter, list_any}
 use Rattle.am_types.specs.declared.broadcast.Spot.{Spot}
 use Rattle.am_types.specs.declared.broadcast.Item.{Item}
 use Rattle.am_types.specs.declared.broadcast.ItemKind.TheVariants as kinds
+use Rattle.am_model.specs.Filters.{is_empty}
 use Rattle.am_model.specs.Broadcasts.{Delivery}
 use Rattle.am_model.specs.Sending.{normal_items}
 use Rattle.am_deliveries.specs.Batches.{Batch, standing, normal_of, slot_of, spot_in, items_from}
@@ -127,6 +128,52 @@ found_nowhere uid number (b ∷ others) none =
     rest : (x : Bool) → x || list_any (stands uid number) others ≡ false → list_any (stands uid number) others ≡ false
     rest true none = cc
     rest false none = none
+
+-- more items in front leave none out
+some_behind : (items more : List Item) → is_empty more ≡ false → is_empty (items ++ more) ≡ false
+some_behind [] more some = some
+some_behind (item ∷ items) more some = refl
+
+-- nor do more behind
+some_before : (items more : List Item) → is_empty items ≡ false → is_empty (items ++ more) ≡ false
+some_before [] more some = cc
+some_before (item ∷ items) more some = refl
+
+-- a number that stands in slots has an item
+some_in_slots : (uid number n : ℕ) (b : Batch) (slots : List (Option Spot)) → stands_in uid number n slots ≡ true → is_empty (filter (is_of number) (items_from uid b n slots)) ≡ false
+some_in_slots uid number n b [] some = cc
+some_in_slots uid number n b (None ∷ others) some = some_in_slots uid number (n + 1) b others some
+some_in_slots uid number n b (Some spot ∷ others) some =
+    ap (λ items. is_empty (filter (is_of number) items)) (slots_items uid n b spot others) ∙ by (spot.uid == uid) (n == number) refl some (λ more. some_in_slots uid number (n + 1) b others more)
+  where
+    rest : List Item
+    rest = items_from uid b (n + 1) others
+
+    item : Item
+    item = record { delivery = n; broadcast = b.number; what = kinds.Normal spot.aim b.intent }
+
+    by : (own same : Bool) → n == number ≡ same → (own && same) || stands_in uid number (n + 1) others ≡ true
+        → (stands_in uid number (n + 1) others ≡ true → is_empty (filter (is_of number) rest) ≡ false)
+        → is_empty (filter (is_of number) (cond own (item ∷ rest) rest)) ≡ false
+    by true true is some more = rw is refl
+    by true false is some more = rw is (more some)
+    by false same is some more = more some
+
+-- a number that stands in some batch has an item
+pub found_somewhere : (uid number : ℕ) (batches : List Batch) → list_any (stands uid number) batches ≡ true → is_empty (found uid number (live_of batches)) ≡ false
+found_somewhere uid number [] some = cc
+found_somewhere uid number (b ∷ others) some =
+    ap is_empty (found-cons uid number b others) ∙ by (stands uid number b) refl some (λ more. found_somewhere uid number others more)
+  where
+    own : List Item
+    own = filter (is_of number) (normal_items uid (normal_of b))
+
+    rest : List Item
+    rest = found uid number (live_of others)
+
+    by : (c : Bool) → stands uid number b ≡ c → c || list_any (stands uid number) others ≡ true → (list_any (stands uid number) others ≡ true → is_empty rest ≡ false) → is_empty (own ++ rest) ≡ false
+    by true is some more = some_before own rest (some_in_slots uid number b.first b b.slots is)
+    by false is some more = some_behind own rest (more some)
 
 -- one that stands in a batch has its item
 found_at : (from end uid number : ℕ) (batches : List Batch) (i : ℕ) (d : Batch) → AreApart from end batches → i < length batches
@@ -293,7 +340,7 @@ pub next_shown : (uid from : ℕ) (batches : List Batch) (numbers : List (ℕ ×
     → MatchOption next (HasNone numbers uid from) (IsNext numbers uid from) → MatchOption next (NoneFrom (live_of batches) uid from) (IsNextOf (live_of batches) uid from)
 next_shown uid from batches numbers None numbered is = λ number low. found_nowhere uid number batches (sym (numbered uid number) ∙ is number low)
 next_shown uid from batches numbers (Some next) numbered is =
-    (is.0, λ number low before. found_nowhere uid number batches (sym (numbered uid number) ∙ is.2 number low before))
+    (is.0, found_somewhere uid next batches (sym (numbered uid next) ∙ is.1), λ number low before. found_nowhere uid number batches (sym (numbered uid number) ∙ is.2 number low before))
 
 -- it has a number below the end
 pub next_before : (uid from end : ℕ) (batches : List Batch) (numbers : List (ℕ × ℕ)) (next : Option ℕ) → AreApart 0 end batches → AreNumbered numbers batches

@@ -21,6 +21,10 @@ AreApart from end [] = from ≤ end
 AreApart from end (batch ∷ others) =
     (from ≤ batch.first) × (batch.first < batch.end) × (batch.first + length batch.slots ≤ batch.end) × AreApart batch.end end others
 
+-- the numbers of the first deliveries
+abbrev pub firsts_of : List Batch → List ℕ
+firsts_of batches = map (λ (b : Batch). b.first) batches
+
 -- the batch is live, and has that deadline and that first number
 abbrev pub is_kept : ℕ → ℕ → Batch → Bool
 is_kept at first batch = is_live (normal_of batch) && is_same batch.deadline batch.first at first

@@ -4,6 +4,7 @@ use Rattle.std.specs.List.{flat_map, list_any}
 use Rattle.am_types.specs.declared.broadcast.Spot.{Spot}
 use Rattle.am_types.specs.declared.broadcast.Item.{Item}
 use Rattle.am_types.specs.declared.broadcast.ItemKind.TheVariants as kinds
+use Rattle.am_model.specs.Filters.{is_empty}
 use Rattle.am_model.specs.Broadcasts.{Normal}
 use Rattle.am_model.specs.Sending.{normal_items}
 use Rattle.am_deliveries.specs.Batches.{Batch}
@@ -68,6 +69,7 @@ Rise from (item ∷ others) = (from ≤ item.delivery) × Rise (item.delivery + 
 abbrev pub NoneFrom : List Normal → ℕ → ℕ → Type 0
 NoneFrom normal uid from = (number : ℕ) → from ≤ number → found uid number normal ≡ []
 
--- no delivery to the uid has a number from one on and below the next
+-- a delivery to the uid has the next number, and none has a number from one on and below the next
 abbrev pub IsNextOf : List Normal → ℕ → ℕ → ℕ → Type 0
-IsNextOf normal uid from next = (from ≤ next) × ((number : ℕ) → from ≤ number → number < next → found uid number normal ≡ [])
+IsNextOf normal uid from next =
+    (from ≤ next) × (is_empty (found uid next normal) ≡ false) × ((number : ℕ) → from ≤ number → number < next → found uid number normal ≡ [])

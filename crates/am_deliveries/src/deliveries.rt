@@ -9,7 +9,7 @@ ghost use Rattle.am_turns.specs.Struck.{strikes};
 ghost use Rattle.am_deliveries.specs.Batches.{at_once_by, batch_of, is_live, normal_of};
 ghost use Rattle.am_deliveries.specs.Deadlines.{has, is_same};
 ghost use Rattle.am_deliveries.specs.Numbers.{IsNextOf, NoneFrom, Rise, found, items_of, stands};
-ghost use Rattle.am_deliveries.specs.Kept.{AllLive, AreApart, HasAt, NoneHas, counts_live, deliveries_in, has_gone, is_early, normals_of, some_due};
+ghost use Rattle.am_deliveries.specs.Kept.{AllLive, AreApart, HasAt, NoneHas, counts_live, deliveries_in, firsts_of, has_gone, is_early, normals_of, some_due};
 
 use crate::{Batch, Deadlines, Numbers};
 use am_tally::Steps;
@@ -24,6 +24,8 @@ use std::sync::ledger::Ledger;
 pub struct Deliveries {
     /// By rising delivery numbers. Those that ended stay here for a while.
     batches: Vec<Batch>,
+    /// The number of each batch's first delivery. A search reads these, which lie close together.
+    firsts: Vec<u64>,
     /// Those of the batches that are live.
     deadlines: Deadlines,
     /// Those of the deliveries that stand.
@@ -33,22 +35,24 @@ pub struct Deliveries {
 }
 
 impl Model for Deliveries {
-    ghost use Rattle.am_deliveries.specs.Kept.{AreApart, AreListed, Kept, live_of};
+    ghost use Rattle.std.specs.Prelude.{◌≡◌};
+    ghost use Rattle.am_deliveries.specs.Kept.{AreApart, AreListed, Kept, firsts_of, live_of};
     ghost use Rattle.am_deliveries.specs.Numbers.{AreNumbered};
 
     ghost Value = { Kept };
 
     ghost view = { λ d. record { normal = live_of d.batches.items; end = d.end } };
 
-    ghost invariant = { λ d. AreApart 0 d.end d.batches.items × AreListed d.deadlines d.batches.items × AreNumbered d.numbers d.batches.items };
+    ghost invariant = { λ d. AreApart 0 d.end d.batches.items × AreListed d.deadlines d.batches.items × AreNumbered d.numbers d.batches.items × (d.firsts.items ≡ firsts_of d.batches.items) };
 }
 
 /// The place of the batch that has a delivery of that number, or had one.
-fn find(batches: &[Batch], number: u64) -> Option<usize>
-    requires { (end : ℕ) × AreApart 0 end batches.now }
+fn find(firsts: &[u64], batches: &[Batch], number: u64) -> Option<usize>
+    requires apart { (end : ℕ) × AreApart 0 end batches.now }
+    requires firsts { firsts.now ≡ firsts_of batches.now }
     ensures { MatchOption result (NoneHas number batches.now) (HasAt number batches.now) }
 {
-    let after = batches.partition_point(|batch| batch.first() <= number);
+    let after = firsts.partition_point(|first| *first <= number);
     if after == 0 {
         return None;
     }
@@ -78,21 +82,36 @@ fn retire(was_live: bool, batch: &Batch, deadlines: &mut Deadlines, live: &mut C
 /// alone may have changed.
 fn make_room(
     batches: &mut Vec<Batch>,
+    firsts: &mut Vec<u64>,
     deadlines: &mut Deadlines,
     numbers: &mut Numbers,
     batch: &Batch,
 ) -> Result<(), AllocError>
     ensures batches { batches.new.items ≡ batches.old.items }
+    ensures firsts { firsts.new.items ≡ firsts.old.items }
     ensures room { OnOk result (vec_len batches.new < vec_capacity batches.new) }
+    ensures room_of_firsts { OnOk result (vec_len firsts.new < vec_capacity firsts.new) }
     ensures deadlines { OnOk result ((at first : ℕ) → has deadlines.new at first ≡ (is_same batch.now.deadline batch.now.first at first || has deadlines.old at first)) }
     ensures numbers { OnOk result ((uid number : ℕ) → has numbers.new uid number ≡ (stands uid number batch.now || has numbers.old uid number)) }
     ensures err { OnErr result (deadlines.new ≡ deadlines.old) }
     ensures others { (uid number : ℕ) → stands uid number batch.now ≡ false → has numbers.new uid number ≡ has numbers.old uid number }
 {
     batches.reserve(1)?;
+    firsts.reserve(1)?;
     batch.list(numbers)?;
     deadlines.add(batch.deadline(), batch.first())?;
     Ok(())
+}
+
+/// The numbers of the first deliveries again, once batches were left out.
+fn list_firsts(firsts: &mut Vec<u64>, batches: &[Batch])
+    requires { length batches.now ≤ vec_len firsts.old }
+    ensures { firsts.new.items ≡ firsts_of batches.now }
+{
+    firsts.clear();
+    for batch in batches {
+        firsts.push_reserved(batch.first());
+    }
 }
 
 impl Deliveries {
@@ -102,6 +121,7 @@ impl Deliveries {
     {
         Deliveries {
             batches: Vec::new(alloc),
+            firsts: Vec::new(alloc),
             deadlines: Deadlines::new(alloc),
             numbers: Numbers::new(alloc),
             end: 0,
@@ -113,7 +133,7 @@ impl Deliveries {
         ensures held { held_in_normals number self.now.normal ≡ option_map at_once_by result }
         ensures live { AllLive self.now.normal }
     {
-        match find(&self.batches, number) {
+        match find(&self.firsts, &self.batches, number) {
             None => None,
             Some(place) => self.batches[place].holder(number),
         }
@@ -141,7 +161,7 @@ impl Deliveries {
         ensures normal { self.new ≡ record self.old { normal = normals_keeping (λ delivery. not (delivery.number == number)) self.old.normal } }
         ensures live { Follows live.old live.new (normals_of self.old.normal) (normals_of self.new.normal) }
     {
-        if let Some(place) = find(&self.batches, number) {
+        if let Some(place) = find(&self.firsts, &self.batches, number) {
             let batch = &mut self.batches[place];
             let was_live = batch.is_live();
             batch.unlist_one(number, &mut self.numbers);
@@ -162,7 +182,7 @@ impl Deliveries {
         let Some((_, first)) = self.deadlines.soonest() else {
             return;
         };
-        if let Some(place) = find(&self.batches, first) {
+        if let Some(place) = find(&self.firsts, &self.batches, first) {
             let batch = &mut self.batches[place];
             batch.unlist(&mut self.numbers);
             batch.clear();
@@ -203,6 +223,7 @@ impl Deliveries {
     {
         if self.batches.len() / 2 > self.deadlines.len() {
             self.batches.retain(|batch| batch.is_live());
+            list_firsts(&mut self.firsts, &self.batches);
         }
     }
 
@@ -215,10 +236,12 @@ impl Deliveries {
         ensures err { OnErr result (self.new ≡ self.old) }
     {
         self.tidy();
+        let (batches, firsts) = (&mut self.batches, &mut self.firsts);
         let (deadlines, numbers) = (&mut self.deadlines, &mut self.numbers);
-        match make_room(&mut self.batches, deadlines, numbers, &batch) {
+        match make_room(batches, firsts, deadlines, numbers, &batch) {
             Ok(()) => {
                 self.end = batch.end();
+                self.firsts.push_reserved(batch.first());
                 self.batches.push_reserved(batch);
                 Ok(())
             }
@@ -234,7 +257,7 @@ impl Deliveries {
     fn push_item(&self, uid: u32, number: u64, items: &mut Vec<Item>) -> Result<(), AllocError>
         ensures { OnOk result (items.new.items ≡ items.old.items ++ found uid number self.now.normal) }
     {
-        match find(&self.batches, number) {
+        match find(&self.firsts, &self.batches, number) {
             None => Ok(()),
             Some(place) => self.batches[place].push_item(uid, number, items),
         }
@@ -275,6 +298,7 @@ impl Deliveries {
     {
         Ok(Deliveries {
             batches: self.batches.clone()?,
+            firsts: self.firsts.clone()?,
             deadlines: self.deadlines.copy()?,
             numbers: self.numbers.copy()?,
             end: self.end,

@@ -1,5 +1,5 @@
 -- What is listed for an intent, and what it finds there: the candidates, within the tests that its group allows.
-use Rattle.std.proofs.Common.{◌≡◌, ℕ, ◌+◌, ◌≤◌, Bool, true, false, not, ◌&&◌, ◌||◌, cond, List, [], ◌∷◌, ◌++◌, Option, Some, None, Vec, HashMap, pos, count_by, refl, sym, ap, ◌∙◌, subst, arith, zero-add}
+use Rattle.std.proofs.Common.{◌≡◌, ℕ, ◌+◌, ◌≤◌, Bool, true, false, not, ◌&&◌, ◌||◌, cond, List, [], ◌∷◌, ◌++◌, Option, Some, None, Vec, HashMap, pos, count_by, refl, sym, ap, ◌∙◌, subst, arith, zero-add, map, codes}
 use Rattle.std.specs.Prelude.{is_none, IsSome}
 use Rattle.std.specs.List.{AllByRecursion, list_any}
 use Rattle.std.specs.declared.alloc.Global.{Global}
@@ -17,29 +17,37 @@ use Rattle.am_types.specs.declared.resolve.Hit.{Hit}
 use Rattle.am_types.specs.declared.uri.Uri.{Uri}
 use Rattle.am_types.specs.declared.uri.Mime.{Mime}
 use Rattle.am_model.specs.Texts.{is_same, lists}
-use Rattle.am_model.specs.MimeTypes.{passes_type}
+use Rattle.am_model.specs.MimeTypes.{is_any_type, passes_type}
 use Rattle.am_model.specs.Boards.{package_at}
 use Rattle.am_model.specs.Filters.{is_empty, is_local, unless, or_else, passes_action, data_why, passes}
 use Rattle.am_model.specs.Candidates.{is_kind, priority_of, greatest, counted_priority, is_named, hit_at, implicit_hit, hit_of, hits_from, candidates}
-use Rattle.am_index.specs.declared.key.Group.TheVariants.{Class, Action, Scheme, Bare, Typed}
+use Rattle.am_index.specs.declared.key.Group.{Group}
+use Rattle.am_index.specs.declared.key.Group.TheVariants.{Class, Typed, Main}
 use Rattle.am_index.specs.declared.key.Key.{Key}
 use Rattle.am_index.specs.declared.key.Spot.{Spot}
-use Rattle.am_index.specs.Groups.{in_data_group, in_group_by, in_group, size_of, group_size}
-use Rattle.am_index.specs.Keys.{is_for, is_typed, is_under}
+use Rattle.am_index.specs.Groups.{in_group, size_of, group_size}
+use Rattle.am_index.specs.Keys.{is_for, is_in, is_under, lists_main}
 use Rattle.am_index.specs.Lists.{spots_at}
-use Rattle.am_index.specs.Lookups.{group_of, owner_of, has_both, merged, spots_under_keys, spots_for, priority_found, cost_found, decl_in, hit_in, hit_of_spot, hits_of_spots, cost_in, cost_of_spot, cost_of_spots}
+use Rattle.am_index.specs.Lookups.{type_groups, data_groups_for, groups_for, owner_of, key_of, merged, with_keys, spots_for, priority_found, cost_found, decl_in, hit_in, hit_of_spot, hits_of_spots, cost_in, cost_of_spot, cost_of_spots}
 use Rattle.am_index.specs.Members.{Member, members_from, members, spot_of, spots_where, spots_under}
 use Rattle.am_index.specs.Same.{both}
 use Rattle.am_index.specs.Standing.{StandsFor}
 use Rattle.am_index.specs.declared.index.FilterIndex.{FilterIndex}
+use Rattle.am_index.proofs.Listing.{in_filter}
 use Rattle.am_index.proofs.Merging.{merged_where}
+use Rattle.am_index.proofs.Noting.{or_false}
 use Rattle.am_index.proofs.Ordered.{Located, members_in_order, members_located}
 use Rattle.am_board.proofs.Rising.{rises}
 
--- an intent finds the component by its name, or might by a filter of its group
+-- a filter is listed for some of the groups
+abbrev in_some : List Group → Filter → Bool
+in_some groups filter = list_any (λ g. in_filter g filter) groups
+
+-- an intent finds the component by its name, or might by a filter that is listed for a group of the intent
 abbrev pub sought_by : Option Component → Option (List ℕ) → Option (List ℕ) → Option Uri → Option Mime → Member → Bool
 sought_by (Some component) limited action uri mime m = is_named component m.owner.name m.decl.class
-sought_by None limited action uri mime m = is_for limited m.owner.name && list_any (in_group_by action uri mime) m.decl.filters
+sought_by None limited action uri mime m =
+    is_for limited m.owner.name && list_any (in_some (groups_for None action uri mime)) m.decl.filters
 
 abbrev pub sought : Intent → Member → Bool
 sought intent m = sought_by intent.component intent.«package» intent.action intent.uri intent.mime m
@@ -51,15 +59,23 @@ same_spots p q h (m ∷ ms) =
     ap (λ t. cond t (spot_of m ∷ spots_where p ms) (spots_where p ms)) (h m)
     ∙ ap (λ l. cond (q m) (spot_of m ∷ l) l) (same_spots p q h ms)
 
+-- no component stands where none passes
+no_spots : (ms : List Member) → spots_where (λ m. false) ms ≡ []
+no_spots [] = refl
+no_spots (m ∷ ms) = no_spots ms
+
+or_assoc : (a b c : Bool) → ((a || b) || c) ≡ (a || (b || c))
+or_assoc true b c = refl
+or_assoc false b c = refl
+
 -- two searches of filters are one
-either : (k : Bool) (p q : Filter → Bool) (fs : List Filter) → (k && list_any p fs || k && list_any q fs) ≡ (k && list_any (λ f. q f || p f) fs)
+either : (k : Bool) (p q : Filter → Bool) (fs : List Filter) → (k && list_any p fs || k && list_any q fs) ≡ (k && list_any (λ f. p f || q f) fs)
 either false p q fs = refl
 either true p q [] = refl
 either true p q (f ∷ fs) = by (p f) (q f) (either true p q fs)
   where
-    by : (a b : Bool) → (list_any p fs || list_any q fs) ≡ list_any (λ f. q f || p f) fs → ((a || list_any p fs) || (b || list_any q fs)) ≡ ((b || a) || list_any (λ f. q f || p f) fs)
-    by true true h = refl
-    by true false h = refl
+    by : (a b : Bool) → (list_any p fs || list_any q fs) ≡ list_any (λ f. p f || q f) fs → ((a || list_any p fs) || (b || list_any q fs)) ≡ ((a || b) || list_any (λ f. p f || q f) fs)
+    by true b h = refl
     by false true h = or_true_left (list_any p fs) (list_any q fs)
       where
         or_true_left : (a b : Bool) → (a || (true || b)) ≡ true
@@ -67,55 +83,139 @@ either true p q (f ∷ fs) = by (p f) (q f) (either true p q fs)
         or_true_left false b = refl
     by false false h = h
 
+-- a component is in the group by what a filter lists
+abbrev ByFilter : Group → Type 0
+ByFilter group = (decl : Decl) → is_in group decl ≡ list_any (in_filter group) decl.filters
+
+-- a component is under the key of one of some groups
+abbrev under_some : Option (List ℕ) → List Group → Member → Bool
+under_some owner groups m = list_any (λ g. is_for owner m.owner.name && is_in g m.decl) groups
+
+-- what filters are listed for is sought in them
+by_filters : (owner : Option (List ℕ)) (m : Member) (groups : List Group) → AllByRecursion ByFilter groups
+    → under_some owner groups m ≡ (is_for owner m.owner.name && list_any (in_some groups) m.decl.filters)
+by_filters owner m [] h = sym (nothing (is_for owner m.owner.name) m.decl.filters)
+  where
+    nothing : (k : Bool) (fs : List Filter) → (k && list_any (λ f. false) fs) ≡ false
+    nothing false fs = refl
+    nothing true [] = refl
+    nothing true (f ∷ fs) = nothing true fs
+by_filters owner m (g ∷ gs) h =
+    ap (λ b. (is_for owner m.owner.name && b) || under_some owner gs m) (h.0 m.decl)
+    ∙ ap (λ b. (is_for owner m.owner.name && list_any (in_filter g) m.decl.filters) || b) (by_filters owner m gs h.1)
+    ∙ either (is_for owner m.owner.name) (in_filter g) (in_some gs) m.decl.filters
+
+type_by_filters : (mime : Mime) → AllByRecursion ByFilter (type_groups mime)
+type_by_filters mime = by (is_any_type mime)
+  where
+    by : (b : Bool) → AllByRecursion ByFilter (cond b (Typed ∷ []) (Main mime.main ∷ Main (codes "*") ∷ []))
+    by true = (λ d. refl, tt)
+    by false = (λ d. refl, (λ d. refl, tt))
+
+-- the groups of an intent that names no component are of what filters list
+all_by_filters : (a : Option (List ℕ)) (u : Option Uri) (m : Option Mime) → AllByRecursion ByFilter (groups_for None a u m)
+all_by_filters (Some a) u m = (λ d. refl, tt)
+all_by_filters None None None = (λ d. refl, tt)
+all_by_filters None (Some u) None = (λ d. refl, tt)
+all_by_filters None None (Some m) = type_by_filters m
+all_by_filters None (Some u) (Some m) = (λ d. refl, type_by_filters m)
+
 module _ {S : Type 0} (listed : HashMap Key (Vec Spot Global) S) (kind : Kind) (packages : List Package)
-    (stands : (key : Key) → spots_at listed key ≡ spots_under key packages) where
+    (stands : (key : Key) → spots_at listed key ≡ spots_under key packages)
+    (merges : (p q : Member → Bool) → merged (spots_where p (members kind packages)) (spots_where q (members kind packages)) ≡ spots_where (λ m. p m || q m) (members kind packages)) where
+  -- where components stand that pass a test, or are under the keys of some groups
+  gathered : (owner : Option (List ℕ)) (groups : List Group) (test : Member → Bool)
+      → with_keys listed (spots_where test (members kind packages)) (map (key_of kind owner) groups)
+      ≡ spots_where (λ m. test m || under_some owner groups m) (members kind packages)
+  gathered owner [] test = same_spots _ _ (λ m. sym (or_false (test m))) (members kind packages)
+  gathered owner (g ∷ gs) test =
+      ap (λ l. with_keys listed (merged (spots_where test (members kind packages)) l) (map (key_of kind owner) gs)) (stands (key_of kind owner g))
+      ∙ ap (λ l. with_keys listed l (map (key_of kind owner) gs)) (merges test (λ m. is_under (key_of kind owner g) m.owner m.decl))
+      ∙ gathered owner gs (λ m. test m || is_under (key_of kind owner g) m.owner m.decl)
+      ∙ same_spots _ _ (λ m. or_assoc (test m) (is_under (key_of kind owner g) m.owner m.decl) (under_some owner gs m)) (members kind packages)
+
+  -- and that are under the keys alone
+  gathered_all : (owner : Option (List ℕ)) (groups : List Group)
+      → with_keys listed [] (map (key_of kind owner) groups) ≡ spots_where (under_some owner groups) (members kind packages)
+  gathered_all owner groups =
+      ap (λ l. with_keys listed l (map (key_of kind owner) groups)) (sym (no_spots (members kind packages)))
+      ∙ gathered owner groups (λ m. false)
+
   -- under the keys of an intent stand the components that it seeks
   asked : (c : Option Component) (l a : Option (List ℕ)) (u : Option Uri) (m : Option Mime)
-      → ((p q : Member → Bool) → merged (spots_where p (members kind packages)) (spots_where q (members kind packages)) ≡ spots_where (λ m. p m || q m) (members kind packages))
-      → spots_under_keys listed (record { kind = kind; owner = owner_of c l; group = group_of c a u m })
-      (cond (has_both c a u m) (Some (record { kind = kind; owner = owner_of c l; group = Typed })) None)
-      ≡ spots_where (sought_by c l a u m) (members kind packages)
-  asked (Some c) l a u m merges = stands (record { kind = kind; owner = Some c.«package»; group = Class c.class })
-  asked None l (Some a) u m merges = stands (record { kind = kind; owner = l; group = Action a })
-  asked None l None None None merges = stands (record { kind = kind; owner = l; group = Bare })
-  asked None l None (Some u) None merges = stands (record { kind = kind; owner = l; group = Scheme u.scheme })
-  asked None l None None (Some m) merges = stands (record { kind = kind; owner = l; group = Typed })
-  asked None l None (Some u) (Some m) merges =
-      ap (λ xs. merged xs (spots_at listed (record { kind = kind; owner = l; group = Typed }))) (stands (record { kind = kind; owner = l; group = Scheme u.scheme }))
-      ∙ ap (merged (spots_under (record { kind = kind; owner = l; group = Scheme u.scheme }) packages)) (stands (record { kind = kind; owner = l; group = Typed }))
-      ∙ merges (λ n. is_under (record { kind = kind; owner = l; group = Scheme u.scheme }) n.owner n.decl) (λ n. is_under (record { kind = kind; owner = l; group = Typed }) n.owner n.decl)
-      ∙ same_spots _ _ (λ n. either (is_for l n.owner.name) (λ f. lists f.schemes u.scheme) is_typed n.decl.filters) (members kind packages)
+      → with_keys listed [] (map (key_of kind (owner_of c l)) (groups_for c a u m)) ≡ spots_where (sought_by c l a u m) (members kind packages)
+  asked (Some c) l a u m =
+      gathered_all (Some c.«package») (Class c.class ∷ [])
+      ∙ same_spots _ _ (λ n. or_false (is_named c n.owner.name n.decl.class)) (members kind packages)
+  asked None l a u m =
+      gathered_all l (groups_for None a u m)
+      ∙ same_spots _ _ (λ n. by_filters l n (groups_for None a u m) (all_by_filters a u m)) (members kind packages)
+
+neither : (a b : Bool) → (a || b) ≡ false → (a ≡ false) × (b ≡ false)
+neither true b h = absurd (false≢true (sym h))
+neither false b h = (refl, h)
+
+-- types of which none has the main part, or the one that stands for every other, don't go with a type
+types_apart : (mime : Mime) → is_any_type mime ≡ false → (types : List Mime) → lists_main types mime.main ≡ false → lists_main types (codes "*") ≡ false → passes_type types mime ≡ false
+types_apart mime some [] h k = refl
+types_apart mime some (t ∷ ts) h k =
+    let own = neither (is_same t.main mime.main) (lists_main ts mime.main) h in
+    let any = neither (is_same t.main (codes "*")) (lists_main ts (codes "*")) k in
+    ap (λ b. (((b && ((is_same t.sub mime.sub || is_same t.sub (codes "*")) || is_same mime.sub (codes "*"))) || is_any_type t) || is_any_type mime) || passes_type ts mime) own.0
+    ∙ ap (λ b. ((b && is_same t.sub (codes "*")) || is_any_type mime) || passes_type ts mime) any.0
+    ∙ ap (λ b. b || passes_type ts mime) some
+    ∙ types_apart mime some ts own.1 any.1
+
+-- a filter that isn't listed for the groups of a type has a scheme, or no type that goes with it
+type_outside : (mime : Mime) (filter : Filter) → in_some (type_groups mime) filter ≡ false → (is_empty filter.schemes && passes_type filter.types mime) ≡ false
+type_outside mime filter h = by (is_any_type mime) refl h
+  where
+    any : (s : Bool) (types : List Mime) → ((s && not (is_empty types)) || false) ≡ false → (s && passes_type types mime) ≡ false
+    any true [] h = refl
+    any true (t ∷ ts) h = absurd (false≢true (sym h))
+    any false types h = refl
+
+    main : is_any_type mime ≡ false → (s : Bool) → ((s && lists_main filter.types mime.main) || ((s && lists_main filter.types (codes "*")) || false)) ≡ false → (s && passes_type filter.types mime) ≡ false
+    main some false h = refl
+    main some true h =
+        let parts = neither (lists_main filter.types mime.main) (lists_main filter.types (codes "*") || false) h in
+        types_apart mime some filter.types parts.0 (neither (lists_main filter.types (codes "*")) false parts.1).0
+
+    by : (b : Bool) → is_any_type mime ≡ b → in_some (cond b (Typed ∷ []) (Main mime.main ∷ Main (codes "*") ∷ [])) filter ≡ false → (is_empty filter.schemes && passes_type filter.types mime) ≡ false
+    by true e h = any (is_empty filter.schemes) filter.types h
+    by false e h = main e (is_empty filter.schemes) h
 
 -- a scheme that isn't listed fails the test
 scheme_fails : (b : Bool) (rest after : Option Why) → b ≡ false → is_none (or_else (or_else (unless b OfScheme) rest) after) ≡ false
 scheme_fails true rest after h = absurd (false≢true (sym h))
 scheme_fails false rest after h = refl
 
--- the data of an intent fails a filter outside its group
-outside_data : (u : Option Uri) (m : Option Mime) (filter : Filter) → in_data_group u m filter ≡ false → is_none (data_why filter u m) ≡ false
+-- the data of an intent fails a filter that isn't listed for a group of theirs
+outside_data : (u : Option Uri) (m : Option Mime) (filter : Filter) → in_some (data_groups_for u m) filter ≡ false → is_none (data_why filter u m) ≡ false
 outside_data None None filter h = by (is_empty filter.schemes) (is_empty filter.types) h
   where
-    by : (s t : Bool) → (s && t) ≡ false → is_none (or_else (unless s OfScheme) (unless t Type_)) ≡ false
+    by : (s t : Bool) → ((s && t) || false) ≡ false → is_none (or_else (unless s OfScheme) (unless t Type_)) ≡ false
     by true true h = absurd (false≢true (sym h))
     by true false h = refl
     by false t h = refl
-outside_data (Some u) None filter h = scheme_fails (lists filter.schemes u.scheme) _ _ h
-outside_data None (Some m) filter h = by (is_empty filter.schemes) filter.types h
+outside_data (Some u) None filter h = scheme_fails (lists filter.schemes u.scheme) _ _ (neither (lists filter.schemes u.scheme) false h).0
+outside_data None (Some m) filter h = by (is_empty filter.schemes) (passes_type filter.types m) (type_outside m filter h)
   where
-    by : (s : Bool) (types : List Mime) → (s && not (is_empty types)) ≡ false → is_none (or_else (unless s OfScheme) (unless (passes_type types m) Type_)) ≡ false
-    by true [] h = refl
-    by true (t ∷ ts) h = absurd (false≢true (sym h))
-    by false types h = refl
-outside_data (Some u) (Some m) filter h = by (is_empty filter.schemes) filter.types (is_local u) (lists filter.schemes u.scheme) _ h
+    by : (s p : Bool) → (s && p) ≡ false → is_none (or_else (unless s OfScheme) (unless p Type_)) ≡ false
+    by true true h = absurd (false≢true (sym h))
+    by true false h = refl
+    by false p h = refl
+outside_data (Some u) (Some m) filter h =
+    let parts = neither (lists filter.schemes u.scheme) (in_some (type_groups m) filter) h in
+    by (is_empty filter.schemes) (is_local u) (lists filter.schemes u.scheme) (passes_type filter.types m) _ parts.0 (type_outside m filter parts.1)
   where
-    by : (s : Bool) (types : List Mime) (local listed : Bool) (rest : Option Why) → ((s && not (is_empty types)) || listed) ≡ false
-        → is_none (or_else (cond (s && local) None (or_else (unless listed OfScheme) rest)) (unless (passes_type types m) Type_)) ≡ false
-    by true [] true listed rest h = refl
-    by true [] false true rest h = absurd (false≢true (sym h))
-    by true [] false false rest h = refl
-    by true (t ∷ ts) local listed rest h = absurd (false≢true (sym h))
-    by false types local true rest h = absurd (false≢true (sym h))
-    by false types local false rest h = refl
+    by : (s local listed p : Bool) (rest : Option Why) → listed ≡ false → (s && p) ≡ false
+        → is_none (or_else (cond (s && local) None (or_else (unless listed OfScheme) rest)) (unless p Type_)) ≡ false
+    by s local true p rest l h = absurd (false≢true (sym l))
+    by true true false true rest l h = absurd (false≢true (sym h))
+    by true true false false rest l h = refl
+    by true false false p rest l h = refl
+    by false local false p rest l h = refl
 
 -- an action that isn't listed fails the test
 action_fails : (actions : List (List ℕ)) (action : List ℕ) (rest : Option Why) → lists actions action ≡ false → is_none (or_else (unless (passes_action actions (Some action)) OfAction) rest) ≡ false
@@ -128,24 +228,24 @@ data_fail true None after h = absurd (false≢true (sym h))
 data_fail true (Some reason) after h = refl
 data_fail false d after h = refl
 
-outside_by : (action : Option (List ℕ)) (u : Option Uri) (m : Option Mime) (filter : Filter) (after : Option Why) → in_group_by action u m filter ≡ false
+outside_by : (action : Option (List ℕ)) (u : Option Uri) (m : Option Mime) (filter : Filter) (after : Option Why) → in_some (groups_for None action u m) filter ≡ false
     → is_none (or_else (unless (passes_action filter.actions action) OfAction) (or_else (data_why filter u m) after)) ≡ false
-outside_by (Some action) u m filter after h = action_fails filter.actions action _ h
+outside_by (Some action) u m filter after h = action_fails filter.actions action _ (neither (lists filter.actions action) false h).0
 outside_by None u m filter after h = data_fail (passes_action filter.actions None) (data_why filter u m) after (outside_data u m filter h)
 
--- an intent passes no filter outside its group
-outside : (filter : Filter) (intent : Intent) (need_default : Bool) → in_group intent filter ≡ false → passes filter intent need_default ≡ false
+-- a filter is listed for a group of the intent, which names no component
+abbrev asked_of : Intent → Filter → Bool
+asked_of intent filter = in_some (groups_for None intent.action intent.uri intent.mime) filter
+
+-- an intent passes no other filter
+outside : (filter : Filter) (intent : Intent) (need_default : Bool) → asked_of intent filter ≡ false → passes filter intent need_default ≡ false
 outside filter intent need_default h = outside_by intent.action intent.uri intent.mime filter _ h
 
-neither : (a b : Bool) → (a || b) ≡ false → (a ≡ false) × (b ≡ false)
-neither true b h = absurd (false≢true (sym h))
-neither false b h = (refl, h)
-
--- so none of a component of which no filter belongs to the group
-no_priority : (kind : Kind) (intent : Intent) (need_default : Bool) (filters : List Filter) → list_any (in_group intent) filters ≡ false → priority_of kind intent need_default filters ≡ None
+-- so none of a component of which no filter is listed for a group of the intent
+no_priority : (kind : Kind) (intent : Intent) (need_default : Bool) (filters : List Filter) → list_any (asked_of intent) filters ≡ false → priority_of kind intent need_default filters ≡ None
 no_priority kind intent need_default [] h = refl
 no_priority kind intent need_default (f ∷ fs) h =
-    let parts = neither (in_group intent f) (list_any (in_group intent) fs) h in
+    let parts = neither (asked_of intent f) (list_any (asked_of intent) fs) h in
     ap (λ b. cond b (Some (greatest (counted_priority kind f.priority) (priority_of kind intent need_default fs))) (priority_of kind intent need_default fs)) (outside f intent need_default parts.0)
     ∙ no_priority kind intent need_default fs parts.1
 
@@ -192,11 +292,11 @@ module _ (kind : Kind) (intent : Intent) (need_default : Bool) where
   seen m (Some c) l h = sym (ap (λ b. cond b (hit_at m.owner m.place m.decl (Some (pos 0))) []) h)
   seen m None (Some name) h =
       sym (ap (λ b. cond b (implicit_hit kind intent need_default m.owner m.place m.decl) [])
-      (both (is_same name m.owner.name) (list_any (in_group intent) m.decl.filters) h).0)
+      (both (is_same name m.owner.name) (list_any (asked_of intent) m.decl.filters) h).0)
   seen m None None h = refl
 
   -- nothing is found of another
-  unseen_implicit : (m : Member) → list_any (in_group intent) m.decl.filters ≡ false → implicit_hit kind intent need_default m.owner m.place m.decl ≡ []
+  unseen_implicit : (m : Member) → list_any (asked_of intent) m.decl.filters ≡ false → implicit_hit kind intent need_default m.owner m.place m.decl ≡ []
   unseen_implicit m h = ap (hit_at m.owner m.place m.decl) (no_priority kind intent need_default m.decl.filters h)
 
   unseen : (m : Member) (c : Option Component) (l : Option (List ℕ)) → sought_by c l intent.action intent.uri intent.mime m ≡ false
@@ -204,7 +304,7 @@ module _ (kind : Kind) (intent : Intent) (need_default : Bool) where
   unseen m (Some c) l h = ap (λ b. cond b (hit_at m.owner m.place m.decl (Some (pos 0))) []) h
   unseen m None (Some name) h = by (is_same name m.owner.name) h
     where
-      by : (b : Bool) → (b && list_any (in_group intent) m.decl.filters) ≡ false → cond b (implicit_hit kind intent need_default m.owner m.place m.decl) [] ≡ []
+      by : (b : Bool) → (b && list_any (asked_of intent) m.decl.filters) ≡ false → cond b (implicit_hit kind intent need_default m.owner m.place m.decl) [] ≡ []
       by true h = unseen_implicit m h
       by false h = refl
   unseen m None None h = unseen_implicit m h
@@ -255,8 +355,9 @@ module _ (kind : Kind) (intent : Intent) (need_default : Bool) where
     -- what is listed for an intent is what it seeks
     pub listed : spots_for index.lists kind intent ≡ spots_where (sought intent) (members kind packages)
     listed =
-        asked index.lists kind packages stands.lists intent.component intent.«package» intent.action intent.uri intent.mime
+        asked index.lists kind packages stands.lists
         (λ p q. merged_where p q (members kind packages) (members_in_order kind packages (rises packages stands.rising)))
+        intent.component intent.«package» intent.action intent.uri intent.mime
 
     -- what is found there are the candidates
     pub finds_candidates : hits_of_spots packages kind intent need_default (spots_for index.lists kind intent) ≡ candidates packages kind intent need_default

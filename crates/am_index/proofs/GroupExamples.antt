@@ -1,5 +1,5 @@
--- Examples of groups: how many filters an intent is tested against at most.
-use Rattle.std.specs.Prelude.{◌≡◌, ℕ, pos, codes, List, [], ◌∷◌, Some, refl}
+-- Examples of groups: how many filters an intent is tested against at most, what it asks for, and what is listed.
+use Rattle.std.specs.Prelude.{◌≡◌, ℕ, pos, codes, List, [], ◌∷◌, None, Some, refl}
 use Rattle.am_types.specs.declared.device.Package.{Package}
 use Rattle.am_types.specs.declared.filter.Filter.{Filter}
 use Rattle.am_types.specs.declared.manifest.Kind.TheVariants.{Activity, Service}
@@ -7,7 +7,10 @@ use Rattle.am_types.specs.declared.manifest.Decl.{Decl}
 use Rattle.am_types.specs.declared.uri.Mime.{Mime}
 use Rattle.am_types.specs.declared.uri.Uri.{Uri}
 use Rattle.am_model.proofs.Samples.{no_intent, asking, filter_for, mime_at, open_decl, package_with, uri_at}
+use Rattle.am_index.specs.declared.key.Group.TheVariants.{Action, Scheme, Typed, Main}
 use Rattle.am_index.specs.Groups.{group_size}
+use Rattle.am_index.specs.Keys.{groups_of_filter}
+use Rattle.am_index.specs.Lookups.{groups_for}
 
 -- a filter of an action with schemes and types
 abbrev lists : List ℕ → List (List ℕ) → List Mime → Filter
@@ -58,3 +61,24 @@ by_both = refl
 -- none is a service's
 pub of_another_kind : group_size device Service (asking (codes "x.A")) ≡ 0
 of_another_kind = refl
+
+-- an intent with a type asks for those that list its main part, and for those that list the one that stands for every other
+pub asked_by_type : groups_for None None None (Some picture) ≡ Main (codes "image") ∷ Main (codes "*") ∷ []
+asked_by_type = refl
+
+-- with the type that stands for every other for all types
+pub asked_by_any_type : groups_for None None None (Some (mime_at (codes "*") (codes "*"))) ≡ Typed ∷ []
+asked_by_any_type = refl
+
+-- with a URI for its scheme besides
+pub asked_by_both : groups_for None None (Some page) (Some picture) ≡ Scheme (codes "http") ∷ Main (codes "image") ∷ Main (codes "*") ∷ []
+asked_by_both = refl
+
+-- a filter without schemes is listed for the main parts of its types
+pub listed_by_types : groups_of_filter (lists (codes "x.A") [] (picture ∷ mime_at (codes "text") (codes "plain") ∷ []))
+    ≡ Action (codes "x.A") ∷ Typed ∷ Main (codes "image") ∷ Main (codes "text") ∷ []
+listed_by_types = refl
+
+-- one with a scheme by no type
+pub listed_by_scheme : groups_of_filter (lists (codes "x.A") (codes "http" ∷ []) (picture ∷ [])) ≡ Action (codes "x.A") ∷ Scheme (codes "http") ∷ []
+listed_by_scheme = refl

@@ -9,6 +9,7 @@ use Rattle.am_types.specs.declared.filter.Filter.{Filter}
 use Rattle.am_types.specs.declared.device.Package.{Package}
 use Rattle.am_types.specs.declared.manifest.Decl.{Decl}
 use Rattle.am_types.specs.declared.manifest.Kind.{Kind}
+use Rattle.am_types.specs.declared.uri.Mime.{Mime}
 use Rattle.am_model.specs.Candidates.{is_kind}
 use Rattle.am_index.specs.declared.key.Key.{Key}
 use Rattle.am_index.specs.declared.key.Spot.{Spot}
@@ -18,8 +19,8 @@ use Rattle.am_index.specs.Same.{is_kind-equal}
 use Rattle.am_model.specs.Texts.{is_same, lists}
 use Rattle.am_model.specs.Filters.{is_empty}
 use Rattle.am_index.specs.declared.key.Group.{Group}
-use Rattle.am_index.specs.declared.key.Group.TheVariants.{Class, Action, Scheme, Bare, Typed}
-use Rattle.am_index.specs.Keys.{same_group, is_bare, is_typed, is_in, is_for, is_under, data_groups, groups_of_filter, groups_of_filters, groups_of}
+use Rattle.am_index.specs.declared.key.Group.TheVariants.{Class, Action, Scheme, Bare, Typed, Main}
+use Rattle.am_index.specs.Keys.{same_group, is_bare, is_typed, lists_main, has_main, is_in, is_for, is_under, type_group, groups_of_types, data_groups, groups_of_filter, groups_of_filters, groups_of}
 use Rattle.am_index.proofs.Noting.{or_false}
 
 -- a filter lists what the group is about
@@ -29,42 +30,49 @@ in_filter (Action action) filter = lists filter.actions action
 in_filter (Scheme scheme) filter = lists filter.schemes scheme
 in_filter Bare filter = is_bare filter
 in_filter Typed filter = is_typed filter
+in_filter (Main main) filter = has_main main filter
 
--- one test of mapped texts
-any-map : (group : Group) (f : List ℕ → Group) (texts : List (List ℕ)) → list_any (same_group group) (map f texts) ≡ list_any (λ t. same_group group (f t)) texts
+-- one test of what is made of some things
+any-map : {A : Type 0} (group : Group) (f : A → Group) (xs : List A) → list_any (same_group group) (map f xs) ≡ list_any (λ x. same_group group (f x)) xs
 any-map group f [] = refl
-any-map group f (t ∷ ts) = ap (λ (b : Bool). same_group group (f t) || b) (any-map group f ts)
+any-map group f (x ∷ xs) = ap (λ (b : Bool). same_group group (f x) || b) (any-map group f xs)
 
 none : {X : Type 0} (xs : List X) → list_any (λ _. false) xs ≡ false
 none [] = refl
 none (x ∷ xs) = none xs
 
--- what the data of a filter is listed for
-data_is : (group : Group) (s t : Bool) → list_any (same_group group) (cond s (cond t (Bare ∷ []) (Typed ∷ [])) []) ≡ (same_group group Bare && (s && t) || same_group group Typed && (s && not t))
-data_is (Class x) s t = by s t
-  where
-    by : (s t : Bool) → list_any (same_group (Class x)) (cond s (cond t (Bare ∷ []) (Typed ∷ [])) []) ≡ false
-    by true true = refl
-    by true false = refl
-    by false t = refl
-data_is (Action x) s t = by s t
-  where
-    by : (s t : Bool) → list_any (same_group (Action x)) (cond s (cond t (Bare ∷ []) (Typed ∷ [])) []) ≡ false
-    by true true = refl
-    by true false = refl
-    by false t = refl
-data_is (Scheme x) s t = by s t
-  where
-    by : (s t : Bool) → list_any (same_group (Scheme x)) (cond s (cond t (Bare ∷ []) (Typed ∷ [])) []) ≡ false
-    by true true = refl
-    by true false = refl
-    by false t = refl
-data_is Bare true true = refl
-data_is Bare true false = refl
-data_is Bare false t = refl
-data_is Typed true true = refl
-data_is Typed true false = refl
-data_is Typed false t = refl
+and_false : (b : Bool) → (b && false) ≡ false
+and_false true = refl
+and_false false = refl
+
+-- types list what the group is about
+abbrev in_types : Group → List Mime → Bool
+in_types (Class class) types = false
+in_types (Action action) types = false
+in_types (Scheme scheme) types = false
+in_types Bare types = is_empty types
+in_types Typed types = not (is_empty types)
+in_types (Main main) types = lists_main types main
+
+-- types are listed for what they list
+types_are : (group : Group) (types : List Mime) → list_any (same_group group) (groups_of_types types) ≡ in_types group types
+types_are (Class x) [] = refl
+types_are (Action x) [] = refl
+types_are (Scheme x) [] = refl
+types_are Bare [] = refl
+types_are Typed [] = refl
+types_are (Main x) [] = refl
+types_are (Class x) (t ∷ ts) = any-map (Class x) type_group (t ∷ ts) ∙ none (t ∷ ts)
+types_are (Action x) (t ∷ ts) = any-map (Action x) type_group (t ∷ ts) ∙ none (t ∷ ts)
+types_are (Scheme x) (t ∷ ts) = any-map (Scheme x) type_group (t ∷ ts) ∙ none (t ∷ ts)
+types_are Bare (t ∷ ts) = any-map Bare type_group (t ∷ ts) ∙ none (t ∷ ts)
+types_are Typed (t ∷ ts) = refl
+types_are (Main x) (t ∷ ts) = any-map (Main x) type_group (t ∷ ts)
+
+-- and only of a filter without schemes
+data_are : (group : Group) (s : Bool) (types : List Mime) → list_any (same_group group) (cond s (groups_of_types types) []) ≡ (s && in_types group types)
+data_are group true types = types_are group types
+data_are group false types = refl
 
 -- a filter is listed for what it lists
 filter_is : (group : Group) (filter : Filter) → list_any (same_group group) (groups_of_filter filter) ≡ in_filter group filter
@@ -74,16 +82,22 @@ filter_is group filter =
     (list_any-append (same_group group) (map Action filter.actions) (map Scheme filter.schemes)
     ∙ ap (λ (b : Bool). b || list_any (same_group group) (map Scheme filter.schemes)) (any-map group Action filter.actions)
     ∙ ap (λ (b : Bool). list_any (λ t. same_group group (Action t)) filter.actions || b) (any-map group Scheme filter.schemes))
-    ∙ ap (λ (b : Bool). (list_any (λ t. same_group group (Action t)) filter.actions || list_any (λ t. same_group group (Scheme t)) filter.schemes) || b) (data_is group (is_empty filter.schemes) (is_empty filter.types))
+    ∙ ap (λ (b : Bool). (list_any (λ t. same_group group (Action t)) filter.actions || list_any (λ t. same_group group (Scheme t)) filter.schemes) || b) (data_are group (is_empty filter.schemes) filter.types)
     ∙ by group
   where
-    by : (g : Group) → ((list_any (λ t. same_group g (Action t)) filter.actions || list_any (λ t. same_group g (Scheme t)) filter.schemes)
-        || (same_group g Bare && (is_empty filter.schemes && is_empty filter.types) || same_group g Typed && (is_empty filter.schemes && not (is_empty filter.types)))) ≡ in_filter g filter
-    by (Class x) = or_false _ ∙ ap (λ (b : Bool). b || list_any (λ _. false) filter.schemes) (none filter.actions) ∙ none filter.schemes
-    by (Action x) = or_false _ ∙ ap (λ (b : Bool). lists filter.actions x || b) (none filter.schemes) ∙ or_false _
-    by (Scheme x) = or_false _ ∙ ap (λ (b : Bool). b || lists filter.schemes x) (none filter.actions)
-    by Bare = ap (λ (b : Bool). (b || list_any (λ _. false) filter.schemes) || (is_bare filter || false)) (none filter.actions) ∙ ap (λ (b : Bool). b || (is_bare filter || false)) (none filter.schemes) ∙ or_false _
-    by Typed = ap (λ (b : Bool). (b || list_any (λ _. false) filter.schemes) || is_typed filter) (none filter.actions) ∙ ap (λ (b : Bool). b || is_typed filter) (none filter.schemes)
+    no_data : (b : Bool) → (b || (is_empty filter.schemes && false)) ≡ b
+    no_data b = ap (λ (t : Bool). b || t) (and_false (is_empty filter.schemes)) ∙ or_false b
+
+    data_alone : (b : Bool) → ((list_any (λ _. false) filter.actions || list_any (λ _. false) filter.schemes) || b) ≡ b
+    data_alone b = ap (λ (t : Bool). (t || list_any (λ _. false) filter.schemes) || b) (none filter.actions) ∙ ap (λ (t : Bool). t || b) (none filter.schemes)
+
+    by : (g : Group) → ((list_any (λ t. same_group g (Action t)) filter.actions || list_any (λ t. same_group g (Scheme t)) filter.schemes) || (is_empty filter.schemes && in_types g filter.types)) ≡ in_filter g filter
+    by (Class x) = no_data _ ∙ ap (λ (b : Bool). b || list_any (λ _. false) filter.schemes) (none filter.actions) ∙ none filter.schemes
+    by (Action x) = no_data _ ∙ ap (λ (b : Bool). lists filter.actions x || b) (none filter.schemes) ∙ or_false _
+    by (Scheme x) = no_data _ ∙ ap (λ (b : Bool). b || lists filter.schemes x) (none filter.actions)
+    by Bare = data_alone (is_bare filter)
+    by Typed = data_alone (is_typed filter)
+    by (Main x) = data_alone (has_main x filter)
 
 filters_are : (group : Group) (filters : List Filter) → list_any (same_group group) (groups_of_filters filters) ≡ list_any (in_filter group) filters
 filters_are group [] = refl
@@ -102,6 +116,7 @@ listed_where_in group decl = ap (λ (b : Bool). same_group group (Class decl.cla
     by (Scheme x) = refl
     by Bare = refl
     by Typed = refl
+    by (Main x) = refl
 
 -- what is noted for the groups of a component is noted where it is under the key
 pub listed_noted : {S X E : Type 0} (m n : HashMap Key (Vec Spot Global) S) (owner : Package) (decl : Decl) (groups : List Group) (spot : Spot)

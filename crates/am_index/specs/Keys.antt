@@ -8,11 +8,12 @@ use Rattle.std.specs.Hash.{HashWrites}
 use Rattle.am_types.specs.declared.manifest.Decl.{Decl}
 use Rattle.am_types.specs.declared.manifest.Kind.{Kind}
 use Rattle.am_types.specs.declared.manifest.Kind.TheVariants.{Activity, Service, Receiver}
+use Rattle.am_types.specs.declared.uri.Mime.{Mime}
 use Rattle.am_model.specs.Texts.{is_same, lists}
 use Rattle.am_model.specs.Filters.{is_empty}
 use Rattle.am_model.specs.Candidates.{is_kind}
 use Rattle.am_index.specs.declared.key.Group.{Group}
-use Rattle.am_index.specs.declared.key.Group.TheVariants.{Class, Action, Scheme, Bare, Typed}
+use Rattle.am_index.specs.declared.key.Group.TheVariants.{Class, Action, Scheme, Bare, Typed, Main}
 use Rattle.am_index.specs.declared.key.Key.{Key}
 
 -- two groups are the same
@@ -22,6 +23,7 @@ same_group (Action asked) (Action listed) = is_same listed asked
 same_group (Scheme asked) (Scheme listed) = is_same listed asked
 same_group Bare Bare = true
 same_group Typed Typed = true
+same_group (Main asked) (Main listed) = is_same listed asked
 same_group _ _ = false
 
 -- two packages, or every one, are the same
@@ -48,6 +50,14 @@ is_bare filter = is_empty filter.schemes && is_empty filter.types
 abbrev pub is_typed : Filter → Bool
 is_typed filter = is_empty filter.schemes && not (is_empty filter.types)
 
+-- some listed type has that main part
+abbrev pub lists_main : List Mime → List ℕ → Bool
+lists_main types main = list_any (λ (t : Mime). is_same t.main main) types
+
+-- a filter lists no scheme and some type with that main part
+abbrev pub has_main : List ℕ → Filter → Bool
+has_main main filter = is_empty filter.schemes && lists_main filter.types main
+
 -- a component is of that class, or has a filter that lists such a thing
 abbrev pub is_in : Group → Decl → Bool
 is_in (Class class) decl = is_same class decl.class
@@ -55,15 +65,24 @@ is_in (Action action) decl = list_any (λ (f : Filter). lists f.actions action) 
 is_in (Scheme scheme) decl = list_any (λ (f : Filter). lists f.schemes scheme) decl.filters
 is_in Bare decl = list_any is_bare decl.filters
 is_in Typed decl = list_any is_typed decl.filters
+is_in (Main main) decl = list_any (has_main main) decl.filters
 
 -- a component is listed under the key
 abbrev pub is_under : Key → Package → Decl → Bool
 is_under key owner decl = is_for key.owner owner.name && is_in key.group decl
 
--- for what the data of a filter lists its component, beside the schemes
+-- for what a type of a filter without schemes lists its component
+abbrev pub type_group : Mime → Group
+type_group mime = Main mime.main
+
+-- for what the types of a filter without schemes list its component, repeats included
+abbrev pub groups_of_types : List Mime → List Group
+groups_of_types [] = Bare ∷ []
+groups_of_types (first ∷ others) = Typed ∷ map type_group (first ∷ others)
+
+-- for what the data of a filter list its component, beside the schemes
 abbrev pub data_groups : Filter → List Group
-data_groups filter =
-    if is_empty filter.schemes then (if is_empty filter.types then Bare ∷ [] else Typed ∷ []) else []
+data_groups filter = if is_empty filter.schemes then groups_of_types filter.types else []
 
 -- for what a filter lists its component
 abbrev pub groups_of_filter : Filter → List Group
@@ -96,6 +115,7 @@ group_writes (Action action) = fed.str action
 group_writes (Scheme scheme) = fed.str scheme
 group_writes Bare = fed.u8 1
 group_writes Typed = fed.u8 2
+group_writes (Main main) = fed.str main
 
 -- what a key feeds a hasher
 abbrev pub key_writes : Key → HashWrites

@@ -1,5 +1,5 @@
 -- Which keys an intent asks for, and what is found at the spots listed there.
-use Rattle.std.specs.Prelude.{ℕ, ◌+◌, Bool, true, false, ◌&&◌, ◌||◌, ◌==◌, nat_lt, List, [], ◌∷◌, ◌++◌, slice_get, count_by, Vec, Option, Some, None, if◌then◌else◌, ℤ, pos}
+use Rattle.std.specs.Prelude.{ℕ, ◌+◌, Bool, ◌&&◌, ◌||◌, ◌==◌, nat_lt, List, [], ◌∷◌, ◌++◌, map, codes, slice_get, count_by, Vec, Option, Some, None, if◌then◌else◌, ℤ, pos}
 use Rattle.std.specs.HashMap.{HashMap}
 use Rattle.std.specs.declared.alloc.Global.{Global}
 use Rattle.am_types.specs.declared.device.Package.{Package}
@@ -12,49 +12,46 @@ use Rattle.am_types.specs.declared.uri.Uri.{Uri}
 use Rattle.am_types.specs.declared.uri.Mime.{Mime}
 use Rattle.am_model.specs.Boards.{package_at}
 use Rattle.am_model.specs.Candidates.{priority_of, hit_at}
+use Rattle.am_model.specs.MimeTypes.{is_any_type}
 use Rattle.am_index.specs.declared.key.Group.{Group}
-use Rattle.am_index.specs.declared.key.Group.TheVariants.{Class, Action, Scheme, Bare, Typed}
+use Rattle.am_index.specs.declared.key.Group.TheVariants.{Class, Action, Scheme, Bare, Typed, Main}
 use Rattle.am_index.specs.declared.key.Key.{Key}
 use Rattle.am_index.specs.declared.key.Spot.{Spot}
 use Rattle.am_index.specs.Groups.{in_group}
 use Rattle.am_index.specs.Lists.{spots_at}
 
--- the group of an intent without an action; of one with a URI and a type that of its scheme
-abbrev pub data_group_of : Option Uri → Option Mime → Group
-data_group_of None None = Bare
-data_group_of (Some uri) mime = Scheme uri.scheme
-data_group_of None (Some mime) = Typed
+-- the groups of a type: of the one that stands for every other all types; else those with its main part, and with the
+-- one that stands for every other
+abbrev pub type_groups : Mime → List Group
+type_groups mime = if is_any_type mime then Typed ∷ [] else Main mime.main ∷ Main (codes "*") ∷ []
 
--- the group of an intent: the class that it names, else its action, else its data
-abbrev pub group_of : Option Component → Option (List ℕ) → Option Uri → Option Mime → Group
-group_of (Some component) action uri mime = Class component.class
-group_of None (Some action) uri mime = Action action
-group_of None None uri mime = data_group_of uri mime
+-- the groups of the data of an intent without an action: of its scheme and of its type, as far as it has them
+abbrev pub data_groups_for : Option Uri → Option Mime → List Group
+data_groups_for None None = Bare ∷ []
+data_groups_for (Some uri) None = Scheme uri.scheme ∷ []
+data_groups_for None (Some mime) = type_groups mime
+data_groups_for (Some uri) (Some mime) = Scheme uri.scheme ∷ type_groups mime
+
+-- the groups of an intent: of the class that it names, else of its action, else of its data
+abbrev pub groups_for : Option Component → Option (List ℕ) → Option Uri → Option Mime → List Group
+groups_for (Some component) action uri mime = Class component.class ∷ []
+groups_for None (Some action) uri mime = Action action ∷ []
+groups_for None None uri mime = data_groups_for uri mime
 
 -- the package that an intent names, by its component or alone
 abbrev pub owner_of : Option Component → Option (List ℕ) → Option (List ℕ)
 owner_of (Some component) limited = Some component.«package»
 owner_of None limited = limited
 
--- the key that an intent asks for
-abbrev pub key_of : Kind → Intent → Key
-key_of kind intent = record {
-  kind = kind;
-  owner = owner_of intent.component intent.«package»;
-  group = group_of intent.component intent.action intent.uri intent.mime;
-}
+-- the key of a group
+abbrev pub key_of : Kind → Option (List ℕ) → Group → Key
+key_of kind owner group = record { kind = kind; owner = owner; group = group }
 
--- an intent is tested by the scheme of its URI and by its type as well
-abbrev pub has_both : Option Component → Option (List ℕ) → Option Uri → Option Mime → Bool
-has_both None None (Some uri) (Some mime) = true
-has_both _ _ _ _ = false
-
--- the key of its type, which an intent without an action asks for beside that of its scheme
-abbrev pub other_key_of : Kind → Intent → Option Key
-other_key_of kind intent =
-    if has_both intent.component intent.action intent.uri intent.mime
-    then Some (record { kind = kind; owner = owner_of intent.component intent.«package»; group = Typed })
-    else None
+-- the keys that an intent asks for
+abbrev pub keys_of : Kind → Intent → List Key
+keys_of kind intent =
+    map (key_of kind (owner_of intent.component intent.«package»))
+    (groups_for intent.component intent.action intent.uri intent.mime)
 
 -- one spot stands before another: by uid, then by position
 abbrev pub stands_before : Spot → Spot → Bool
@@ -85,14 +82,14 @@ abbrev pub merged : List Spot → List Spot → List Spot
 merged [] others = others
 merged (first ∷ rest) others = spots_before first others ++ first ∷ merged rest (spots_after first others)
 
--- what is listed under one key, or under either of two
-abbrev pub spots_under_keys : {S : Type 0} → HashMap Key (Vec Spot Global) S → Key → Option Key → List Spot
-spots_under_keys lists key None = spots_at lists key
-spots_under_keys lists key (Some other) = merged (spots_at lists key) (spots_at lists other)
+-- some spots, and those listed under some keys, in order, each once
+abbrev pub with_keys : {S : Type 0} → HashMap Key (Vec Spot Global) S → List Spot → List Key → List Spot
+with_keys lists spots [] = spots
+with_keys lists spots (first ∷ others) = with_keys lists (merged spots (spots_at lists first)) others
 
 -- what is listed for an intent
 abbrev pub spots_for : {S : Type 0} → HashMap Key (Vec Spot Global) S → Kind → Intent → List Spot
-spots_for lists kind intent = spots_under_keys lists (key_of kind intent) (other_key_of kind intent)
+spots_for lists kind intent = with_keys lists [] (keys_of kind intent)
 
 -- the priority with which the intent finds a component that is listed under its key
 abbrev pub priority_found : Option Component → Kind → Intent → Bool → Decl → Option ℤ

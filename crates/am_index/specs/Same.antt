@@ -9,7 +9,7 @@ use Rattle.am_types.specs.declared.manifest.Kind.TheVariants.{Activity, Service,
 use Rattle.am_model.specs.Texts.{is_same}
 use Rattle.am_model.specs.Candidates.{is_kind}
 use Rattle.am_index.specs.declared.key.Group.{Group}
-use Rattle.am_index.specs.declared.key.Group.TheVariants.{Class, Action, Scheme, Bare, Typed}
+use Rattle.am_index.specs.declared.key.Group.TheVariants.{Class, Action, Scheme, Bare, Typed, Main}
 use Rattle.am_index.specs.declared.key.Key.{Key}
 use Rattle.am_index.specs.Keys.{same_group, same_owner, same_key, key_writes}
 
@@ -28,26 +28,37 @@ same_group-equal (Action x) (Action y) e = ap Action (sym ((is_same-Decides y x)
 same_group-equal (Scheme x) (Scheme y) e = ap Scheme (sym ((is_same-Decides y x).0 e))
 same_group-equal Bare Bare e = refl
 same_group-equal Typed Typed e = refl
+same_group-equal (Main x) (Main y) e = ap Main (sym ((is_same-Decides y x).0 e))
 same_group-equal (Class x) (Action y) e = absurd (false≢true e)
 same_group-equal (Class x) (Scheme y) e = absurd (false≢true e)
 same_group-equal (Class x) Bare e = absurd (false≢true e)
 same_group-equal (Class x) Typed e = absurd (false≢true e)
+same_group-equal (Class x) (Main y) e = absurd (false≢true e)
 same_group-equal (Action x) (Class y) e = absurd (false≢true e)
 same_group-equal (Action x) (Scheme y) e = absurd (false≢true e)
 same_group-equal (Action x) Bare e = absurd (false≢true e)
 same_group-equal (Action x) Typed e = absurd (false≢true e)
+same_group-equal (Action x) (Main y) e = absurd (false≢true e)
 same_group-equal (Scheme x) (Class y) e = absurd (false≢true e)
 same_group-equal (Scheme x) (Action y) e = absurd (false≢true e)
 same_group-equal (Scheme x) Bare e = absurd (false≢true e)
 same_group-equal (Scheme x) Typed e = absurd (false≢true e)
+same_group-equal (Scheme x) (Main y) e = absurd (false≢true e)
 same_group-equal Bare (Class y) e = absurd (false≢true e)
 same_group-equal Bare (Action y) e = absurd (false≢true e)
 same_group-equal Bare (Scheme y) e = absurd (false≢true e)
 same_group-equal Bare Typed e = absurd (false≢true e)
+same_group-equal Bare (Main y) e = absurd (false≢true e)
 same_group-equal Typed (Class y) e = absurd (false≢true e)
 same_group-equal Typed (Action y) e = absurd (false≢true e)
 same_group-equal Typed (Scheme y) e = absurd (false≢true e)
 same_group-equal Typed Bare e = absurd (false≢true e)
+same_group-equal Typed (Main y) e = absurd (false≢true e)
+same_group-equal (Main x) (Class y) e = absurd (false≢true e)
+same_group-equal (Main x) (Action y) e = absurd (false≢true e)
+same_group-equal (Main x) (Scheme y) e = absurd (false≢true e)
+same_group-equal (Main x) Bare e = absurd (false≢true e)
+same_group-equal (Main x) Typed e = absurd (false≢true e)
 
 -- a group is the same as itself
 same_group_itself : (a : Group) → same_group a a ≡ true
@@ -56,6 +67,7 @@ same_group_itself (Action x) = is_same_itself x
 same_group_itself (Scheme x) = is_same_itself x
 same_group_itself Bare = refl
 same_group_itself Typed = refl
+same_group_itself (Main x) = is_same_itself x
 
 -- whether two groups are the same decides whether they are equal
 pub same_group-Decides : (a b : Group) → Decides (same_group a b) (a ≡ b)

@@ -1,10 +1,10 @@
 //! For what a component is listed.
 ghost use Rattle.std.specs.Prelude.{◌≡◌, ◌++◌, OnOk, IfOk, map};
 ghost use Rattle.am_index.specs.declared.key.Group.TheVariants.{Action, Scheme};
-ghost use Rattle.am_index.specs.Keys.{data_groups, groups_of, groups_of_filter};
+ghost use Rattle.am_index.specs.Keys.{data_groups, groups_of, groups_of_filter, groups_of_types, type_group};
 
 use crate::key::Group;
-use am_types::{Decl, Filter, List, NoMemory, Text};
+use am_types::{Decl, Filter, List, Mime, NoMemory, Text};
 use std::alloc::Global;
 
 /// The class of the component, and what its filters list, repeats included.
@@ -46,17 +46,33 @@ fn add_schemes(groups: &mut Vec<Group>, schemes: &List<Text>) -> Result<(), NoMe
     Ok(())
 }
 
-/// Adds that a filter lists neither scheme nor type, or a type alone.
+/// Adds what the data of a filter list, beside the schemes.
 fn add_data(groups: &mut Vec<Group>, filter: &Filter) -> Result<(), NoMemory>
     ensures { OnOk result (groups.new.items ≡ groups.old.items ++ data_groups filter.now) }
 {
     if filter.schemes.as_slice().is_empty() {
-        let group = if filter.types.as_slice().is_empty() {
-            Group::Bare
-        } else {
-            Group::Typed
-        };
-        groups.push(group)?;
+        add_types(groups, &filter.types)?;
+    }
+    Ok(())
+}
+
+/// Adds that a filter without schemes lists no type, or which main parts its types have.
+fn add_types(groups: &mut Vec<Group>, types: &List<Mime>) -> Result<(), NoMemory>
+    ensures { OnOk result (groups.new.items ≡ groups.old.items ++ groups_of_types types.now) }
+{
+    if types.as_slice().is_empty() {
+        groups.push(Group::Bare)?;
+        return Ok(());
+    }
+    groups.push(Group::Typed)?;
+    add_mains(groups, types)
+}
+
+fn add_mains(groups: &mut Vec<Group>, types: &List<Mime>) -> Result<(), NoMemory>
+    ensures { OnOk result (groups.new.items ≡ groups.old.items ++ map type_group types.now) }
+{
+    for mime in types.as_slice() {
+        groups.push(Group::Main(mime.main.clone()?))?;
     }
     Ok(())
 }

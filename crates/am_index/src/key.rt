@@ -19,6 +19,8 @@ pub(crate) enum Group {
     Bare,
     /// A filter lists no scheme and some type.
     Typed,
+    /// A filter lists no scheme and some type with this main part.
+    Main(Text),
 }
 
 /// A kind, one package or every one, and a group.
@@ -51,6 +53,7 @@ impl Clone for Group {
             Group::Scheme(scheme) => Ok(Group::Scheme(scheme.clone()?)),
             Group::Bare => Ok(Group::Bare),
             Group::Typed => Ok(Group::Typed),
+            Group::Main(main) => Ok(Group::Main(main.clone()?)),
         }
     }
 }
@@ -71,6 +74,7 @@ impl PartialEq for Group {
             (Group::Scheme(asked), Group::Scheme(listed)) => listed == asked,
             (Group::Bare, Group::Bare) => true,
             (Group::Typed, Group::Typed) => true,
+            (Group::Main(asked), Group::Main(listed)) => listed == asked,
             _ => false,
         }
     }
@@ -118,6 +122,7 @@ impl Hash for Key {
             Group::Scheme(scheme) => scheme.hash(state),
             Group::Bare => state.write_u8(1),
             Group::Typed => state.write_u8(2),
+            Group::Main(main) => main.hash(state),
         }
     }
 }

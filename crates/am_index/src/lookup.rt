@@ -1,7 +1,8 @@
 //! Which keys an intent asks for, and what is listed there.
-ghost use Rattle.std.specs.Prelude.{◌≡◌, IfOk};
+ghost use Rattle.std.specs.Prelude.{◌≡◌, ◌++◌, codes, IfOk, OnOk};
+ghost use Rattle.am_model.specs.MimeTypes.{is_any, is_any_type};
 ghost use Rattle.am_index.specs.Lists.{spots_at};
-ghost use Rattle.am_index.specs.Lookups.{data_group_of, group_of, has_both, key_of, other_key_of, owner_of, spots_for};
+ghost use Rattle.am_index.specs.Lookups.{data_groups_for, groups_for, key_of, keys_of, owner_of, spots_for, type_groups};
 
 use crate::key::{Group, Key, Spot};
 use crate::lists::Lists;
@@ -18,18 +19,12 @@ pub(crate) fn spots_for(
 ) -> Result<Vec<Spot>, NoMemory>
     ensures { IfOk result (λ spots. spots.items ≡ spots_for lists.now kind intent.now) }
 {
-    let key = key_of(kind, intent)?;
-    match other_key_of(kind, intent)? {
-        None => copied(alloc, spots_at(lists, &key)),
-        Some(other) => merged(alloc, spots_at(lists, &key), spots_at(lists, &other)),
+    let keys = keys_of(alloc, kind, intent)?;
+    let mut spots = Vec::new(alloc);
+    for key in keys.as_slice() {
+        spots = merged(alloc, spots.as_slice(), spots_at(lists, key))?;
     }
-}
-
-fn copied(alloc: Global, spots: &[Spot]) -> Result<Vec<Spot>, NoMemory>
-    ensures { IfOk result (λ all. all.items ≡ spots.now) }
-{
-    let all = spots.to_vec(alloc)?;
-    Ok(all)
+    Ok(spots)
 }
 
 /// The spots listed under a key.
@@ -42,36 +37,26 @@ fn spots_at<'a>(lists: &'a Lists, key: &Key) -> &'a [Spot]
     }
 }
 
-/// The key that an intent asks for.
-fn key_of(kind: Kind, intent: &Intent) -> Result<Key, AllocError>
-    ensures { IfOk result (λ key. key ≡ key_of kind intent.now) }
+/// The keys that an intent asks for.
+fn keys_of(alloc: Global, kind: Kind, intent: &Intent) -> Result<Vec<Key>, NoMemory>
+    ensures { IfOk result (λ keys. keys.items ≡ keys_of kind intent.now) }
 {
+    let groups = groups_for(alloc, intent)?;
     let owner = owner_of(&intent.component, &intent.package)?;
-    let group = group_of(intent)?;
+    let mut keys = Vec::new(alloc);
+    for group in groups.as_slice() {
+        keys.push(key_of(kind, &owner, group)?)?;
+    }
+    Ok(keys)
+}
+
+/// The key of a group.
+fn key_of(kind: Kind, owner: &Option<Text>, group: &Group) -> Result<Key, AllocError>
+    ensures { IfOk result (λ key. key ≡ key_of kind owner.now group.now) }
+{
+    let owner = owner.clone()?;
+    let group = group.clone()?;
     Ok(Key { kind, owner, group })
-}
-
-/// The key of its type, for which an intent with a URI and a type and no action asks besides.
-fn other_key_of(kind: Kind, intent: &Intent) -> Result<Option<Key>, AllocError>
-    ensures { IfOk result (λ key. key ≡ other_key_of kind intent.now) }
-{
-    if has_both(intent) {
-        let owner = owner_of(&intent.component, &intent.package)?;
-        let group = Group::Typed;
-        Ok(Some(Key { kind, owner, group }))
-    } else {
-        Ok(None)
-    }
-}
-
-/// An intent is tested by the scheme of its URI and by its type as well.
-fn has_both(intent: &Intent) -> bool
-    ensures { result ≡ has_both intent.now.component intent.now.action intent.now.uri intent.now.mime }
-{
-    match (&intent.component, &intent.action) {
-        (None, None) => intent.uri.is_some() && intent.mime.is_some(),
-        _ => false,
-    }
 }
 
 /// The package that an intent names, by its component or alone.
@@ -88,25 +73,66 @@ fn owner_of(
     }
 }
 
-/// The group of an intent: the class that it names, else its action, else its data.
-fn group_of(intent: &Intent) -> Result<Group, AllocError>
+/// The groups of an intent: of the class that it names, else of its action, else of its data.
+fn groups_for(alloc: Global, intent: &Intent) -> Result<Vec<Group>, NoMemory>
     ensures { IfOk result
-        (λ group. group ≡ group_of intent.now.component intent.now.action intent.now.uri intent.now.mime) }
+        (λ groups. groups.items ≡ groups_for intent.now.component intent.now.action intent.now.uri intent.now.mime) }
 {
+    let mut groups = Vec::new(alloc);
     match (&intent.component, &intent.action) {
-        (Some(component), _) => Ok(Group::Class(component.class.clone()?)),
-        (None, Some(action)) => Ok(Group::Action(action.clone()?)),
-        (None, None) => data_group_of(&intent.uri, &intent.mime),
+        (Some(component), _) => groups.push(Group::Class(component.class.clone()?))?,
+        (None, Some(action)) => groups.push(Group::Action(action.clone()?))?,
+        (None, None) => add_data(alloc, &mut groups, &intent.uri, &intent.mime)?,
     }
+    Ok(groups)
 }
 
-/// The group of an intent without an action.
-fn data_group_of(uri: &Option<Uri>, mime: &Option<Mime>) -> Result<Group, AllocError>
-    ensures { IfOk result (λ group. group ≡ data_group_of uri.now mime.now) }
+/// Adds the groups of the data of an intent without an action.
+fn add_data(
+    alloc: Global,
+    groups: &mut Vec<Group>,
+    uri: &Option<Uri>,
+    mime: &Option<Mime>,
+) -> Result<(), NoMemory>
+    ensures { OnOk result (groups.new.items ≡ groups.old.items ++ data_groups_for uri.now mime.now) }
 {
     match (uri, mime) {
-        (Some(uri), _) => Ok(Group::Scheme(uri.scheme.clone()?)),
-        (None, Some(_)) => Ok(Group::Typed),
-        (None, None) => Ok(Group::Bare),
+        (None, None) => groups.push(Group::Bare)?,
+        (Some(uri), None) => groups.push(Group::Scheme(uri.scheme.clone()?))?,
+        (None, Some(mime)) => add_type(alloc, groups, mime)?,
+        (Some(uri), Some(mime)) => {
+            groups.push(Group::Scheme(uri.scheme.clone()?))?;
+            add_type(alloc, groups, mime)?;
+        }
     }
+    Ok(())
+}
+
+/// Adds the groups of a type: all types where it stands for every other, else those with its main
+/// part, and with the one that stands for every other.
+fn add_type(alloc: Global, groups: &mut Vec<Group>, mime: &Mime) -> Result<(), NoMemory>
+    ensures { OnOk result (groups.new.items ≡ groups.old.items ++ type_groups mime.now) }
+{
+    if is_any_type(mime) {
+        groups.push(Group::Typed)?;
+    } else {
+        let any = Text::new(String::from_str(alloc, "*")?);
+        groups.push(Group::Main(mime.main.clone()?))?;
+        groups.push(Group::Main(any))?;
+    }
+    Ok(())
+}
+
+/// The type stands for every other.
+fn is_any_type(mime: &Mime) -> bool
+    ensures { result ≡ is_any_type mime.now }
+{
+    is_any(&mime.main) && is_any(&mime.sub)
+}
+
+/// The part stands for every other.
+fn is_any(part: &Text) -> bool
+    ensures { result ≡ is_any part.now }
+{
+    part.as_str() == "*"
 }

@@ -11,11 +11,14 @@ ghost use Rattle.am_index.specs.Standing.{CanBeListed, StandsFor};
 
 use self::device::{device, intent, kind_of, many, needs_default};
 use self::plain::plain_hits;
-use self::rows::{DEVICE, QUERIES};
+use self::rows::{DEVICE, LISTED, QUERIES};
 use crate::FilterIndex;
+use crate::lists::{Lists, note_package};
+use crate::lookup::spots_for;
 use am_tally::Steps;
 use am_types::{Hit, Intent, Kind, List, NoMemory, Package};
 use std::alloc::Global;
+use std::collections::HashMap;
 use std::marker::Brand;
 use std::process::Abort;
 use std::sync::ledger::{Blank, Ledger};
@@ -181,7 +184,35 @@ fn queries_find_what_the_plain_scan_finds(rt: HostRuntime) -> Result<(), Fail> {
         assert_eq!(rt; other.as_str(), wanted, "{line}");
         rows = rows.wrapping_add(1);
     }
-    assert_eq!(rt; rows, 24);
+    assert_eq!(rt; rows, 43);
+    Ok(())
+}
+
+/// The lists of the packages that have at most 256 components.
+fn listed(alloc: Global, packages: &List<Package>) -> Result<Lists, NoMemory> {
+    let mut lists = HashMap::new(alloc);
+    for package in packages.as_slice() {
+        if package.decls.as_slice().len() <= 256 {
+            note_package(alloc, &mut lists, package)?;
+        }
+    }
+    Ok(lists)
+}
+
+#[test]
+fn a_type_asks_for_the_components_of_its_main_part(rt: HostRuntime) -> Result<(), Fail> {
+    let alloc = rt.alloc();
+    let lists = listed(alloc, &device(alloc, DEVICE)?)?;
+    let mut rows: u32 = 0;
+    for line in LISTED.lines() {
+        let (query, wanted) = line.split_once(" | ").unwrap_or((line, "no row"));
+        let intent = intent(alloc, query)?;
+        let spots = spots_for(alloc, &lists, kind_of(query), &intent)?;
+        let shown = format!(in alloc; "{}", spots.len())?;
+        assert_eq!(rt; shown.as_str(), wanted, "{line}");
+        rows = rows.wrapping_add(1);
+    }
+    assert_eq!(rt; rows, 11);
     Ok(())
 }
 
@@ -205,10 +236,11 @@ fn nothing_is_found_of_a_package_that_was_dropped(rt: HostRuntime) -> Result<(),
 #[test]
 fn a_query_among_many_finds_its_one(rt: HostRuntime) -> Result<(), Fail> {
     let alloc = rt.alloc();
-    let packages = many(alloc, 8, 16, 32)?;
+    let packages = many(alloc, 256, 16, 32)?;
     assert!(rt; can_be_listed(&packages));
     let index = FilterIndex::build(alloc, &packages)?;
-    for n in 0..4096 {
+    for call in 0u32..200_000 {
+        let n = call % 131_072;
         let query = format!(in alloc; "activity action=a.{n}")?;
         let found = count(alloc, &index, &packages, query.as_str())?;
         assert_eq!(rt; found, 1, "{query}");

@@ -45,8 +45,11 @@ impl Ranked for GrantRow {
     ghost total = { then_total (on_total (λ row. row.uid) nat_cmp_total) (on_total (λ row. row.permission) nat_list_cmp_total) };
 
     fn rank(&self, other: &Self) -> Ordering {
-        let by_uid = self.uid.cmp(&other.uid);
-        by_uid.then(self.permission.cmp(&other.permission))
+        // Texts are compared only where the uids are the same.
+        match self.uid.cmp(&other.uid) {
+            Ordering::Equal => self.permission.cmp(&other.permission),
+            decided => decided,
+        }
     }
 }
 
@@ -60,8 +63,11 @@ impl Ranked for LinkRow {
     ghost total = { then_total (on_total (λ row. row.uid) nat_cmp_total) (on_total (λ row. row.host) nat_list_cmp_total) };
 
     fn rank(&self, other: &Self) -> Ordering {
-        let by_uid = self.uid.cmp(&other.uid);
-        by_uid.then(self.host.cmp(&other.host))
+        // Texts are compared only where the uids are the same.
+        match self.uid.cmp(&other.uid) {
+            Ordering::Equal => self.host.cmp(&other.host),
+            decided => decided,
+        }
     }
 }
 

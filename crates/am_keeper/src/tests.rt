@@ -3,8 +3,8 @@ ghost use Rattle.std.specs.Prelude.{◌≡◌, IfOk};
 ghost use Rattle.am_keeper.specs.Rows.{IsInOrder};
 
 use crate::{
-    GrantRow, KeepFail, Keeper, MemoryKeeper, MemoryStore, PackageRow, Rows, RowsBuilder, Store,
-    StoredRows,
+    GrantRow, KeepFail, Keeper, LinkRow, MemoryKeeper, MemoryStore, PackageRow, Rows, RowsBuilder,
+    Store, StoredRows,
 };
 use am_types::{List, Text};
 use std::alloc::{AllocError, Global};
@@ -93,6 +93,58 @@ fn a_grant_takes_the_place_of_its_row(rt: HostRuntime) -> Result<(), Fail> {
         assert_eq!(rt; grant(alloc, &mut keeper, name, is_held), Ok(()));
     }
     assert_eq!(rt; held(&keeper), (1, 2));
+    Ok(())
+}
+
+/// One of four calls: a package, its grant and its link are put, and then the package as gone.
+fn keep(alloc: Global, keeper: &mut MemoryKeeper, call: u32) -> Result<(), KeepFail> {
+    match call {
+        1 => keeper.put_package(&package(alloc, 10000)?),
+        2 => grant(alloc, keeper, "p.X", true),
+        3 => keeper.put_link(&LinkRow {
+            uid: 10000,
+            host: text(alloc, "h.org")?,
+            approved: true,
+        }),
+        _ => {
+            let mut row = package(alloc, 10000)?;
+            row.gone = true;
+            keeper.put_package(&row)
+        }
+    }
+}
+
+/// How many packages, grants and links there are, and how many packages are gone.
+fn counts(alloc: Global, keeper: &MemoryKeeper) -> Result<String, AllocError> {
+    let Ok(rows) = keeper.rows() else {
+        return Ok(String::new(alloc));
+    };
+    let packages = rows.packages.as_slice();
+    let grants = rows.grants.as_slice().len();
+    let links = rows.links.as_slice().len();
+    let gone = packages.iter().filter(|row| row.gone).count();
+    format!(in alloc; "{} {grants} {links}, {gone} gone", packages.len())
+}
+
+#[test]
+fn each_call_may_be_the_one_that_fails(rt: HostRuntime) -> Result<(), Fail> {
+    let alloc = rt.alloc();
+    let wanted = [
+        (1, "1 1 1, 1 gone"),
+        (2, "1 0 1, 1 gone"),
+        (3, "1 1 0, 1 gone"),
+        (4, "1 1 1, 0 gone"),
+    ];
+    for (failing, left) in wanted {
+        let calls = List::new(vec![in alloc; failing]?);
+        let mut keeper = MemoryKeeper::new(alloc, no_rows(alloc), calls);
+        for call in 1..5u32 {
+            let answer = keep(alloc, &mut keeper, call);
+            assert_eq!(rt; answer.is_err(), call == failing, "{call} of {failing}");
+        }
+        let found = counts(alloc, &keeper)?;
+        assert_eq!(rt; found.as_str(), left, "where {failing} fails");
+    }
     Ok(())
 }
 

@@ -6,6 +6,7 @@ ghost use Rattle.std.specs.Ordering.{nat_cmp};
 ghost use Rattle.std.specs.BTreeMap.{insert_entry, is_at};
 ghost use Rattle.am_pending.specs.Records.{changed_at, dropped_at, held_by, in_order, let_go_by_all, others_than, unheld, with_extras};
 
+use crate::in_turn::InTurn;
 use crate::key::Key;
 use crate::records::Record;
 use am_types::{List, Named};
@@ -17,7 +18,7 @@ use std::marker::Model;
 /// them in the order of their tokens.
 #[derive(Debug, Drop)]
 pub struct ByToken {
-    records: IndexMap<u64, Record>,
+    records: IndexMap<u64, Record, InTurn>,
 }
 
 impl Model for ByToken {
@@ -31,7 +32,7 @@ impl Model for ByToken {
 
 /// Puts a record under a token. Without memory all stays.
 fn put_record(
-    records: &mut IndexMap<u64, Record>,
+    records: &mut IndexMap<u64, Record, InTurn>,
     token: u64,
     kept: Record,
 ) -> Result<(), AllocError>
@@ -48,7 +49,7 @@ fn put_record(
 }
 
 /// Gives the intent of the record under the token other extras.
-fn change_extras(records: &mut IndexMap<u64, Record>, token: u64, extras: List<Named>)
+fn change_extras(records: &mut IndexMap<u64, Record, InTurn>, token: u64, extras: List<Named>)
     ensures { in_order records.new.entries ≡ changed_at token (with_extras extras) (in_order records.old.entries) }
 {
     if let Some(kept) = records.get_mut(&token) {
@@ -57,7 +58,7 @@ fn change_extras(records: &mut IndexMap<u64, Record>, token: u64, extras: List<N
 }
 
 /// Adds a holder to the record under the token. Without memory all stays.
-fn hold(records: &mut IndexMap<u64, Record>, token: u64, to: u32) -> Result<(), AllocError>
+fn hold(records: &mut IndexMap<u64, Record, InTurn>, token: u64, to: u32) -> Result<(), AllocError>
     ensures ok { OnOk result (in_order records.new.entries ≡ changed_at token (held_by to) (in_order records.old.entries)) }
     ensures err { OnErr result (records.new.entries ≡ records.old.entries) }
 {
@@ -73,7 +74,7 @@ impl ByToken {
         ensures { result ≡ [] }
     {
         ByToken {
-            records: IndexMap::new(alloc),
+            records: IndexMap::with_hasher(alloc, InTurn),
         }
     }
 

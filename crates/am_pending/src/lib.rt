@@ -2,6 +2,7 @@
 #![tactic(auto)]
 
 mod by_token;
+mod in_turn;
 mod key;
 mod pendings;
 mod records;

@@ -5,7 +5,9 @@ use Rattle.am_model.specs.Broadcasts as broadcasts
 use Rattle.am_model.specs.Broadcasts.{Broadcasts, Normal, InTurn, Settled, settled, settle_foreground, settle_background, span}
 use Rattle.am_turns.specs.Counts.{Follows, queued_of, results_of}
 use Rattle.am_deliveries.specs.Kept.{normals_of}
+use Rattle.am_queue.specs.Results.{AreRising}
 use Rattle.am_queue.specs.Sound.{owed_in, has_current, IsSound, AreSound, all_of}
+use Rattle.am_queue.proofs.Rising.{settled_rising}
 use Rattle.am_queue.proofs.Soundness.{AreMild, settled_owes, settled_rises, settled_current}
 
 -- each broadcast in a queue may still take a number
@@ -38,6 +40,7 @@ sound_foreground now all sound = record {
   foreground = settled_below all.next_delivery deadline all.foreground sound.foreground;
   background = λ number free. sound.background number (omega (arith, settled_rises all.next_delivery deadline all.foreground, free));
   differ = λ number is. by number (settled_current all.next_delivery deadline all.foreground number is);
+  rising = settled_rising all.next_delivery deadline all.foreground all.results sound.rising;
 }
   where
     deadline : ℕ
@@ -55,6 +58,7 @@ sound_background now all sound = record {
   foreground = λ number free. sound.foreground number (omega (arith, settled_rises all.next_delivery deadline all.background, free));
   background = settled_below all.next_delivery deadline all.background sound.background;
   differ = λ number is. false_unless _ (λ other. by number is (settled_current all.next_delivery deadline all.background number other));
+  rising = settled_rising all.next_delivery deadline all.background all.results sound.rising;
 }
   where
     deadline : ℕ
@@ -65,27 +69,28 @@ sound_background now all sound = record {
     by number is (inr new) = not_both _ is (sound.foreground number new.0)
 
 -- all with other parts, and the queues changed mildly
-pub sound_mild : (all : Broadcasts) (normal : List Normal) (foreground background : List InTurn) (results : List broadcasts.Result) → IsSound all → AreMild all.foreground foreground → AreMild all.background background
+pub sound_mild : (all : Broadcasts) (normal : List Normal) (foreground background : List InTurn) (results : List broadcasts.Result) → IsSound all → AreRising 0 all.next_delivery results → AreMild all.foreground foreground → AreMild all.background background
     → IsSound (all_of normal foreground background results all.next_broadcast all.next_delivery)
-sound_mild all normal foreground background results sound first second = record {
+sound_mild all normal foreground background results sound rising first second = record {
   numbers = omega (arith, sound.numbers, first.owe_less, second.owe_less);
   broadcasts = sound.broadcasts;
   foreground = λ number free. false_unless _ (λ is. not_both _ (first.current number is) (sound.foreground number free));
   background = λ number free. false_unless _ (λ is. not_both _ (second.current number is) (sound.background number free));
   differ = λ number is. false_unless _ (λ other. not_both _ (second.current number other) (sound.differ number (first.current number is)));
+  rising = rising;
 }
 
 -- the same, with all that the code keeps beside the broadcasts
-pub mild : (end room : ℕ) (counts counts' : List (ℕ × ℕ)) (all : Broadcasts) (normal : List Normal) (foreground background : List InTurn) (results : List broadcasts.Result)
-    → AreSound end room counts all → AreMild all.foreground foreground → AreMild all.background background
-    → length results ≤ length all.results
+pub mild : (end room room' : ℕ) (counts counts' : List (ℕ × ℕ)) (all : Broadcasts) (normal : List Normal) (foreground background : List InTurn) (results : List broadcasts.Result)
+    → AreSound end room counts all → AreRising 0 all.next_delivery results → AreMild all.foreground foreground → AreMild all.background background
+    → room ≤ room'
     → Follows counts counts' (λ uid. normals_of all.normal uid + results_of all.results uid) (λ uid. normals_of normal uid + results_of results uid)
-    → AreSound end room counts' (all_of normal foreground background results all.next_broadcast all.next_delivery)
-mild end room counts counts' all normal foreground background results sound first second fewer follows = record {
-  sound = sound_mild all normal foreground background results sound.sound first second;
+    → AreSound end room' counts' (all_of normal foreground background results all.next_broadcast all.next_delivery)
+mild end room room' counts counts' all normal foreground background results sound rising first second more follows = record {
+  sound = sound_mild all normal foreground background results sound.sound rising first second;
   counted = λ uid. omega (arith, sound.counted uid, follows uid, first.senders uid, second.senders uid);
   end_before = sound.end_before;
-  results_fit = omega (arith, sound.results_fit, first.as_many, second.as_many, fewer);
+  results_fit = omega (arith, sound.results_fit, first.as_many, second.as_many, more);
 }
 
 -- the foreground queue settled
@@ -93,14 +98,14 @@ pub foreground : (end room room' now : ℕ) (counts counts' : List (ℕ × ℕ))
     → AreSound end room counts all
     → queue ≡ (settled all.next_delivery (now + 10000) all.foreground).queue → results ≡ all.results ++ (settled all.next_delivery (now + 10000) all.foreground).results
     → next ≡ (settled all.next_delivery (now + 10000) all.foreground).next
-    → room' ≡ room → length queue + length results ≤ length all.foreground + length all.results
+    → length queue + room ≤ length all.foreground + room'
     → Follows counts counts' (λ uid. queued_of all.foreground uid + results_of all.results uid) (λ uid. queued_of queue uid + results_of results uid)
     → AreSound end room' counts' (all_of all.normal queue all.background results all.next_broadcast next)
-foreground end room room' now counts counts' all queue results next sound queue_is results_are next_is room_is fewer follows = record {
+foreground end room room' now counts counts' all queue results next sound queue_is results_are next_is fits follows = record {
   sound = rw (queue_is, results_are, next_is) (sound_foreground now all sound.sound);
   counted = λ uid. omega (arith, sound.counted uid, follows uid);
   end_before = omega (arith, sound.end_before, next_is, settled_rises all.next_delivery (now + 10000) all.foreground);
-  results_fit = omega (arith, sound.results_fit, fewer, room_is);
+  results_fit = omega (arith, sound.results_fit, fits);
 }
 
 -- the background queue settled
@@ -108,12 +113,12 @@ pub background : (end room room' now : ℕ) (counts counts' : List (ℕ × ℕ))
     → AreSound end room counts all
     → queue ≡ (settled all.next_delivery (now + 60000) all.background).queue → results ≡ all.results ++ (settled all.next_delivery (now + 60000) all.background).results
     → next ≡ (settled all.next_delivery (now + 60000) all.background).next
-    → room' ≡ room → length queue + length results ≤ length all.background + length all.results
+    → length queue + room ≤ length all.background + room'
     → Follows counts counts' (λ uid. queued_of all.background uid + results_of all.results uid) (λ uid. queued_of queue uid + results_of results uid)
     → AreSound end room' counts' (all_of all.normal all.foreground queue results all.next_broadcast next)
-background end room room' now counts counts' all queue results next sound queue_is results_are next_is room_is fewer follows = record {
+background end room room' now counts counts' all queue results next sound queue_is results_are next_is fits follows = record {
   sound = rw (queue_is, results_are, next_is) (sound_background now all sound.sound);
   counted = λ uid. omega (arith, sound.counted uid, follows uid);
   end_before = omega (arith, sound.end_before, next_is, settled_rises all.next_delivery (now + 60000) all.background);
-  results_fit = omega (arith, sound.results_fit, fewer, room_is);
+  results_fit = omega (arith, sound.results_fit, fits);
 }

@@ -1,16 +1,11 @@
 -- Items in order by number, of which only the first are kept.
-use Rattle.std.proofs.Common.{◌≡◌, ℕ, ◌+◌, ◌<◌, ◌≤◌, ◌∙◌, Bool, true, false, cond, List, [], ◌∷◌, ◌++◌, length, map, take, drop, refl, sym, ap, arith, zero, suc, add-one, append_assoc, take-append-drop, ◌⊎◌, inl, inr}
+use Rattle.std.proofs.Common.{◌≡◌, ℕ, ◌+◌, ◌<◌, ◌≤◌, ◌∙◌, Bool, true, false, cond, List, [], ◌∷◌, ◌++◌, length, take, drop, refl, sym, ap, arith, zero, suc, add-one, append_assoc, take-append-drop, ◌⊎◌, inl, inr}
 use Rattle.std.proofs.lemmas.Bool.{cases_lt}
 use Rattle.std.proofs.lemmas.Bool.Decides.{nat_tests}
 use Rattle.std.proofs.lemmas.List.{length-take-le, take_all}
-use Rattle.std.specs.Prelude.{nat_lt, insert, ⊤, ◌==◌}
-use Rattle.std.specs.List.{filter}
+use Rattle.std.specs.Prelude.{nat_lt, insert, ⊤}
 use Rattle.am_types.specs.declared.broadcast.Item.{Item}
-use Rattle.am_types.specs.declared.broadcast.ItemKind.TheVariants as kinds
-use Rattle.am_model.specs.Broadcasts as broadcasts
-use Rattle.am_model.specs.Sending.{place_item, by_number, result_items}
-use Rattle.am_turns.proofs.Counting.{count_by-cons}
-use Rattle.am_turns.specs.Counts.{results_of}
+use Rattle.am_model.specs.Sending.{place_item, by_number}
 use Rattle.am_deliveries.specs.Numbers.{Rise}
 use Rattle.am_queue.specs.Inbox.{place_of}
 
@@ -183,19 +178,3 @@ shown_of_first n items second third fourth rise =
   where
     all : (first : List Item) → ((first ++ second) ++ third) ++ fourth ≡ first ++ ((second ++ third) ++ fourth)
     all first = ap (λ l. l ++ fourth) (append_assoc first second third) ∙ append_assoc first (second ++ third) fourth
-
--- who has none counted has no result
-pub no_results : (uid : ℕ) (results : List broadcasts.Result) → results_of results uid ≡ 0 → result_items uid results ≡ []
-no_results uid [] none = refl
-no_results uid (first ∷ others) none = by (first.sender == uid) (count_by-cons (λ (r : broadcasts.Result). r.sender == uid) first others) (no_results uid others)
-  where
-    item : broadcasts.Result → Item
-    item r = record { delivery = r.delivery; broadcast = r.broadcast; what = kinds.Final r.outcome }
-
-    rest : List broadcasts.Result
-    rest = filter (λ (r : broadcasts.Result). r.sender == uid) others
-
-    by : (own : Bool) → results_of (first ∷ others) uid ≡ cond own 1 0 + results_of others uid → (results_of others uid ≡ 0 → map item rest ≡ [])
-        → map item (cond own (first ∷ rest) rest) ≡ []
-    by true is more = absurd (omega (arith, none, is))
-    by false is more = more (omega (arith, none, is))

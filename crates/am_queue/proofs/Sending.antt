@@ -3,17 +3,19 @@ use Rattle.std.proofs.Common.{◌≡◌, ℕ, ◌+◌, ◌≤◌, Bool, true, fa
 use Rattle.std.proofs.lemmas.List.Sums.{sum_by-append}
 use Rattle.std.proofs.lemmas.List.Folds.{list_any-append}
 use Rattle.std.proofs.lemmas.Bool.Decides.{nat_tests}
-use Rattle.std.specs.Prelude.{Some, None, Ok, Err, ◌==◌, nat_le, nat_lt}
+use Rattle.std.specs.Prelude.{Option, Some, None, IsSome, IfSome, Ok, Err, ◌==◌, nat_le, nat_lt}
 use Rattle.am_types.specs.declared.broadcast.SendFault.{SendFault}
 use Rattle.am_types.specs.declared.broadcast.SendFault.TheVariants.{Full, TooMany}
 use Rattle.am_queue.specs.Taken.{refusal_of}
 use Rattle.am_types.specs.declared.broadcast.Sending.{Sending}
 use Rattle.am_types.specs.declared.broadcast.Ordered.{Ordered}
+use Rattle.am_model.specs.Broadcasts as broadcasts
 use Rattle.am_model.specs.Broadcasts.{Broadcasts, Normal, InTurn}
 use Rattle.am_model.specs.Sending.{at_once, in_turn, is_current, live}
 use Rattle.am_turns.proofs.Counting.{count_by-append}
 use Rattle.am_turns.specs.Counts.{count_of, one_for, queued_of}
 use Rattle.am_queue.specs.Sound.{owed, owed_in, has_current, IsSound, AreSound, all_of}
+use Rattle.am_queue.proofs.Rising.{rising_further}
 
 -- one broadcast more of a sender
 one_for_it : (sender uid : ℕ) → cond (sender == uid) 1 0 ≡ one_for sender uid
@@ -28,6 +30,7 @@ sound_numbered all normal count sound few short = record {
   foreground = λ number free. sound.foreground number (omega (arith, free));
   background = λ number free. sound.background number (omega (arith, free));
   differ = sound.differ;
+  rising = rising_further 0 all.next_delivery (all.next_delivery + count) all.results (omega arith) sound.rising;
 }
 
 -- a normal broadcast that is sent
@@ -52,6 +55,7 @@ passed_sound end room counts all sound few = record {
     foreground = sound.sound.foreground;
     background = sound.sound.background;
     differ = sound.sound.differ;
+    rising = sound.sound.rising;
   };
   counted = sound.counted;
   end_before = sound.end_before;
@@ -85,7 +89,7 @@ module _ (queue : List InTurn) (number : ℕ) (sending : Sending) (ordered : Ord
 -- an ordered broadcast that is sent to the foreground queue
 pub foreground_sent : (end room room' : ℕ) (counts counts' : List (ℕ × ℕ)) (all : Broadcasts) (sending : Sending) (ordered : Ordered) → AreSound end room counts all → all.next_broadcast ≤ 1125899906842624
     → length sending.to ≤ 1024 → ((uid : ℕ) → count_of counts' uid ≡ count_of counts uid + one_for sending.sender uid)
-    → length all.foreground + length all.background + length all.results + 1 ≤ room'
+    → length all.foreground + length all.background + 1 ≤ room'
     → AreSound end room' counts' (all_of all.normal (all.foreground ++ in_turn all.next_broadcast sending ordered ∷ []) all.background all.results (all.next_broadcast + 1) all.next_delivery)
 foreground_sent end room room' counts counts' all sending ordered sound few short counted fits = record {
   sound = record {
@@ -94,6 +98,7 @@ foreground_sent end room room' counts counts' all sending ordered sound few shor
     foreground = λ number free. no_more_current all.foreground all.next_broadcast sending ordered number ∙ sound.sound.foreground number free;
     background = sound.sound.background;
     differ = λ number is. sound.sound.differ number (sym (no_more_current all.foreground all.next_broadcast sending ordered number) ∙ is);
+    rising = sound.sound.rising;
   };
   counted = λ uid. omega (arith, counted uid, sound.counted uid, more_queued all.foreground all.next_broadcast sending ordered uid);
   end_before = sound.end_before;
@@ -103,7 +108,7 @@ foreground_sent end room room' counts counts' all sending ordered sound few shor
 -- or to the background queue
 pub background_sent : (end room room' : ℕ) (counts counts' : List (ℕ × ℕ)) (all : Broadcasts) (sending : Sending) (ordered : Ordered) → AreSound end room counts all → all.next_broadcast ≤ 1125899906842624
     → length sending.to ≤ 1024 → ((uid : ℕ) → count_of counts' uid ≡ count_of counts uid + one_for sending.sender uid)
-    → length all.foreground + length all.background + length all.results + 1 ≤ room'
+    → length all.foreground + length all.background + 1 ≤ room'
     → AreSound end room' counts' (all_of all.normal all.foreground (all.background ++ in_turn all.next_broadcast sending ordered ∷ []) all.results (all.next_broadcast + 1) all.next_delivery)
 background_sent end room room' counts counts' all sending ordered sound few short counted fits = record {
   sound = record {
@@ -112,11 +117,32 @@ background_sent end room room' counts counts' all sending ordered sound few shor
     foreground = sound.sound.foreground;
     background = λ number free. no_more_current all.background all.next_broadcast sending ordered number ∙ sound.sound.background number free;
     differ = λ number is. no_more_current all.background all.next_broadcast sending ordered number ∙ sound.sound.differ number is;
+    rising = sound.sound.rising;
   };
   counted = λ uid. omega (arith, counted uid, sound.counted uid, more_queued all.background all.next_broadcast sending ordered uid);
   end_before = sound.end_before;
   results_fit = rw length-append (omega (arith, fits));
 }
+
+-- the same of an ordered broadcast whose start is known to stand, and of what the code keeps then
+pub foreground_put : (end room room' : ℕ) (counts counts' : List (ℕ × ℕ)) (all : Broadcasts) (sending : Sending) (queue : List InTurn) (results : List broadcasts.Result) (ordered : Option Ordered) → IsSome ordered
+    → IfSome ordered (λ ordered. queue ≡ all.foreground ++ in_turn all.next_broadcast sending ordered ∷ []) → results ≡ all.results
+    → AreSound end room counts all → all.next_broadcast ≤ 1125899906842624 → length sending.to ≤ 1024 → ((uid : ℕ) → count_of counts' uid ≡ count_of counts uid + one_for sending.sender uid)
+    → length all.foreground + length all.background + 1 ≤ room'
+    → AreSound end room' counts' (all_of all.normal queue all.background results (all.next_broadcast + 1) all.next_delivery)
+foreground_put end room room' counts counts' all sending queue results None some queue_is results_are sound few short counted fits = absurd cc
+foreground_put end room room' counts counts' all sending queue results (Some ordered) some queue_is results_are sound few short counted fits =
+    rw (queue_is, results_are) (foreground_sent end room room' counts counts' all sending ordered sound few short counted fits)
+
+-- and in the background queue
+pub background_put : (end room room' : ℕ) (counts counts' : List (ℕ × ℕ)) (all : Broadcasts) (sending : Sending) (queue : List InTurn) (results : List broadcasts.Result) (ordered : Option Ordered) → IsSome ordered
+    → IfSome ordered (λ ordered. queue ≡ all.background ++ in_turn all.next_broadcast sending ordered ∷ []) → results ≡ all.results
+    → AreSound end room counts all → all.next_broadcast ≤ 1125899906842624 → length sending.to ≤ 1024 → ((uid : ℕ) → count_of counts' uid ≡ count_of counts uid + one_for sending.sender uid)
+    → length all.foreground + length all.background + 1 ≤ room'
+    → AreSound end room' counts' (all_of all.normal all.foreground queue results (all.next_broadcast + 1) all.next_delivery)
+background_put end room room' counts counts' all sending queue results None some queue_is results_are sound few short counted fits = absurd cc
+background_put end room room' counts counts' all sending queue results (Some ordered) some queue_is results_are sound few short counted fits =
+    rw (queue_is, results_are) (background_sent end room room' counts counts' all sending ordered sound few short counted fits)
 
 -- a refusal is what the definition answers
 pub refused : {X : Type 0} (all : Broadcasts) (sender receivers : ℕ) (sent : X) (fault : SendFault) → refusal_of all sender receivers ≡ Some fault

@@ -1,3 +1,4 @@
 pub mod Inbox
+pub mod Results
 pub mod Sound
 pub mod Taken

@@ -6,6 +6,7 @@ use Rattle.am_model.specs.Broadcasts as broadcasts
 use Rattle.am_model.specs.Broadcasts.{Broadcasts, Normal, InTurn, Current, is_head_due, late_head, settle_foreground, settle_background}
 use Rattle.am_model.specs.Sending.{live, is_current}
 use Rattle.am_turns.specs.Counts.{count_of}
+use Rattle.am_queue.specs.Results.{AreRising}
 
 -- the receivers that are left and have had no delivery
 abbrev pub undelivered : List Spot → Option Current → List Spot
@@ -25,13 +26,14 @@ owed_in queue = sum_by owed queue
 abbrev pub has_current : ℕ → List InTurn → Bool
 has_current number queue = list_any (λ (b : InTurn). is_current number b.current) queue
 
--- the delivery numbers suffice, and no two deliveries in the queues have the same
+-- the delivery numbers suffice, no two deliveries in the queues have the same, and those of the results rise
 pub record IsSound (all : Broadcasts) : Type 0 where
   pub numbers : all.next_delivery + owed_in all.foreground + owed_in all.background ≤ 1025 * all.next_broadcast
   pub broadcasts : all.next_broadcast ≤ 1125899906842625
   pub foreground : (number : ℕ) → all.next_delivery ≤ number → has_current number all.foreground ≡ false
   pub background : (number : ℕ) → all.next_delivery ≤ number → has_current number all.background ≡ false
   pub differ : (number : ℕ) → has_current number all.foreground ≡ true → has_current number all.background ≡ false
+  pub rising : AreRising 0 all.next_delivery all.results
 
 -- each sender's number is that of its live broadcasts
 abbrev pub AreCounted : List (ℕ × ℕ) → Broadcasts → Type 0
@@ -48,12 +50,12 @@ all_of normal foreground background results next_broadcast next_delivery = recor
   next_delivery = next_delivery;
 }
 
--- the parts are sound, their senders' numbers count them, and there is room for the results of all that stand in the queues
+-- the parts are sound, their senders' numbers count them, and there is room for so many more results as stand in the queues
 pub record AreSound (end : ℕ) (room : ℕ) (counts : List (ℕ × ℕ)) (all : Broadcasts) : Type 0 where
   pub sound : IsSound all
   pub counted : AreCounted counts all
   pub end_before : end ≤ all.next_delivery
-  pub results_fit : length all.foreground + length all.background + length all.results ≤ room
+  pub results_fit : length all.foreground + length all.background ≤ room
 
 -- the broadcasts after the foreground queue passed a late receiver over
 abbrev pub foreground_expired : ℕ → Broadcasts → Broadcasts

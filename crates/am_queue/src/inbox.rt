@@ -1,10 +1,9 @@
 //! The items of an inbox.
 ghost use Rattle.std.specs.Prelude.{◌≡◌, ◌++◌, take, IfOk, OnOk, OnErr, vec_len};
 ghost use Rattle.std.specs.Option.{option_to_list};
-ghost use Rattle.am_model.specs.Sending.{place_item, by_number, result_items};
+ghost use Rattle.am_model.specs.Sending.{place_item, by_number};
 ghost use Rattle.am_queue.specs.Inbox.{place_of};
 
-use am_turns::Final;
 use am_types::Item;
 use std::alloc::{AllocError, Global};
 
@@ -22,22 +21,6 @@ pub(crate) fn push_item(items: &mut Vec<Item>, item: Option<Item>) -> Result<(),
             Ok(())
         }
     }
-}
-
-/// Puts the results of a uid behind other items.
-pub(crate) fn push_results(
-    items: &mut Vec<Item>,
-    results: &[Final],
-    uid: u32,
-) -> Result<(), AllocError>
-    ensures { OnOk result (items.new.items ≡ items.old.items ++ result_items uid results.now) }
-{
-    for kept in results {
-        if kept.sender() == uid {
-            items.push(kept.item()?)?;
-        }
-    }
-    Ok(())
 }
 
 /// How many items stand before those above a number.

@@ -1,12 +1,13 @@
 //! Broadcasts that are put to those that are live, with all memory that they need.
-ghost use Rattle.std.specs.Prelude.{◌≡◌, ℕ, ◌+◌, ◌^◌, ◌<◌, ◌≤◌, [], ◌∷◌, ◌++◌, false, length, vec_len, vec_capacity, IsSome, IfSome, OnOk, OnErr};
+ghost use Rattle.std.specs.Prelude.{◌≡◌, ℕ, ◌+◌, ◌^◌, ◌<◌, ◌≤◌, [], ◌∷◌, ◌++◌, false, length, IsSome, IfSome, OnOk, OnErr};
 ghost use Rattle.am_model.specs.Filters.{is_empty};
 ghost use Rattle.am_model.specs.Sending.{at_once, in_turn};
 ghost use Rattle.am_turns.specs.Counts.{count_of, one_for};
 ghost use Rattle.am_deliveries.specs.Batches.{batch_of};
 
+use crate::results::Results;
 use am_deliveries::{Batch, Deliveries};
-use am_turns::{Counts, Final, Line, Turn};
+use am_turns::{Counts, Line, Turn};
 use am_types::Sending;
 use std::alloc::{AllocError, Global};
 
@@ -92,7 +93,7 @@ fn add_turn(alloc: Global, line: &mut Line, number: u64, sending: Sending) -> Re
 pub(crate) fn put_turn(
     alloc: Global,
     line: &mut Line,
-    results: &mut Vec<Final>,
+    results: &mut Results,
     more: usize,
     live: &mut Counts,
     number: u64,
@@ -101,12 +102,12 @@ pub(crate) fn put_turn(
     requires ordered { IsSome sending.ordered }
     requires few { count_of live.old sending.sender + 1 < 2 ^ 32 }
     ensures ok { OnOk result (IfSome sending.ordered (λ ordered. line.new ≡ line.old ++ in_turn number sending ordered ∷ [])) }
-    ensures room { OnOk result (vec_len results.new + more ≤ vec_capacity results.new) }
+    ensures room { OnOk result (more ≤ results.new.room) }
     ensures counted { OnOk result ((uid : ℕ) → count_of live.new uid ≡ count_of live.old uid + one_for sending.sender uid) }
     ensures err { OnErr result (line.new ≡ line.old) }
     ensures same { OnErr result ((uid : ℕ) → count_of live.new uid ≡ count_of live.old uid) }
-    ensures results { results.new.items ≡ results.old.items }
-    ensures capacity { vec_capacity results.old ≤ vec_capacity results.new }
+    ensures results { results.new.list ≡ results.old.list }
+    ensures no_less { results.old.room ≤ results.new.room }
 {
     let sender = sending.sender;
     match room_for(results, more, live, sender) {
@@ -126,17 +127,17 @@ pub(crate) fn put_turn(
 
 /// Makes room for so many results more, and counts a broadcast of the sender.
 fn room_for(
-    results: &mut Vec<Final>,
+    results: &mut Results,
     more: usize,
     live: &mut Counts,
     sender: u32,
 ) -> Result<(), AllocError>
     requires { count_of live.old sender + 1 < 2 ^ 32 }
-    ensures room { OnOk result (vec_len results.new + more ≤ vec_capacity results.new) }
+    ensures room { OnOk result (more ≤ results.new.room) }
     ensures counted { OnOk result ((uid : ℕ) → count_of live.new uid ≡ count_of live.old uid + one_for sender uid) }
     ensures err { OnErr result (live.new ≡ live.old) }
-    ensures results { results.new.items ≡ results.old.items }
-    ensures capacity { vec_capacity results.old ≤ vec_capacity results.new }
+    ensures results { results.new.list ≡ results.old.list }
+    ensures no_less { results.old.room ≤ results.new.room }
 {
     results.reserve(more)?;
     live.raise(sender)?;

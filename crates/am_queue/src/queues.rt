@@ -12,12 +12,12 @@ ghost use Rattle.am_queue.specs.Taken.{fault_of, held_as, is_taken, refusal_of};
 ghost use Rattle.am_queue.specs.Sound.{foreground_expired, background_expired};
 ghost use Rattle.am_deliveries.specs.Kept.{deliveries_in};
 
-use crate::inbox::{SHOWN, first_by_number, push_item, push_results};
+use crate::inbox::{SHOWN, first_by_number, push_item};
 use crate::puts::{Begin, put_normal, put_turn};
-use crate::results::{self, Taken};
+use crate::results::{Results, Taken};
 use am_deliveries::Deliveries;
 use am_tally::Steps;
-use am_turns::{Counts, Deed, Final, Line, Struck};
+use am_turns::{Counts, Deed, Line, Struck};
 use am_types::{Answer, FinishFault, Item, List, NoMemory, SendFault, Sending};
 use std::alloc::{AllocError, Global};
 use std::marker::Model;
@@ -36,8 +36,8 @@ pub struct Queues {
     normals: Deliveries,
     foreground: Line,
     background: Line,
-    /// By rising delivery number, with room for those of all that stand in the queues.
-    results: Vec<Final>,
+    /// With room for those of all that stand in the queues.
+    results: Results,
     /// How many broadcasts of each sender are live.
     live: Counts,
     next_broadcast: u64,
@@ -45,17 +45,16 @@ pub struct Queues {
 }
 
 impl Model for Queues {
-    ghost use Rattle.std.specs.Prelude.{vec_capacity};
     ghost use Rattle.am_model.specs.Broadcasts.{Broadcasts};
     ghost use Rattle.am_queue.specs.Taken.{fault_of, held_as, is_taken, refusal_of};
     ghost use Rattle.am_queue.specs.Sound.{AreSound, all_of};
 
     ghost Value = { Broadcasts };
 
-    ghost view = { λ q. all_of q.normals.normal q.foreground q.background q.results.items q.next_broadcast q.next_delivery };
+    ghost view = { λ q. all_of q.normals.normal q.foreground q.background q.results.list q.next_broadcast q.next_delivery };
 
-    ghost invariant = { λ q. AreSound q.normals.end (vec_capacity q.results) q.live
-        (all_of q.normals.normal q.foreground q.background q.results.items q.next_broadcast q.next_delivery) };
+    ghost invariant = { λ q. AreSound q.normals.end q.results.room q.live
+        (all_of q.normals.normal q.foreground q.background q.results.list q.next_broadcast q.next_delivery) };
 }
 
 impl Queues {
@@ -68,7 +67,7 @@ impl Queues {
             normals: Deliveries::new(alloc),
             foreground: Line::new(alloc),
             background: Line::new(alloc),
-            results: Vec::new(alloc),
+            results: Results::new(alloc),
             live: Counts::new(alloc),
             next_broadcast: 1,
             next_delivery: 1,
@@ -289,18 +288,8 @@ impl Queues {
         let mut items = self.normals.items(alloc, uid, SHOWN)?;
         push_item(&mut items, self.foreground.item(uid)?)?;
         push_item(&mut items, self.background.item(uid)?)?;
-        self.push_results(uid, &mut items)?;
+        self.results.push_items(uid, &mut items)?;
         Ok(List::new(first_by_number(alloc, items)?))
-    }
-
-    /// Puts the results of a uid behind other items. Only a uid with a live broadcast may have one.
-    fn push_results(&self, uid: u32, items: &mut Vec<Item>) -> Result<(), AllocError>
-        ensures { OnOk result (items.new.items ≡ items.old.items ++ result_items uid self.now.results) }
-    {
-        if self.live.get(uid) == 0 {
-            return Ok(());
-        }
-        push_results(items, &self.results, uid)
     }
 
     /// Equal queues, which have taken the same memory for the course of their broadcasts.
@@ -313,7 +302,7 @@ impl Queues {
             normals: self.normals.copy()?,
             foreground: self.foreground.copy()?,
             background: self.background.copy()?,
-            results: results::copy(&self.results, waiting)?,
+            results: self.results.copy(waiting)?,
             live: self.live.copy()?,
             next_broadcast: self.next_broadcast,
             next_delivery: self.next_delivery,
@@ -325,8 +314,8 @@ impl Queues {
         requires { now ≤ 4611686018427387904 }
         ensures { self.new ≡ settle_foreground now self.old }
     {
-        self.next_delivery = self.foreground.settle(
-            &mut self.results,
+        self.next_delivery = self.results.settle(
+            &mut self.foreground,
             &mut self.live,
             self.next_delivery,
             now + FOREGROUND_SPAN,
@@ -338,8 +327,8 @@ impl Queues {
         requires { now ≤ 4611686018427387904 }
         ensures { self.new ≡ settle_background now self.old }
     {
-        self.next_delivery = self.background.settle(
-            &mut self.results,
+        self.next_delivery = self.results.settle(
+            &mut self.background,
             &mut self.live,
             self.next_delivery,
             now + BACKGROUND_SPAN,
@@ -417,7 +406,7 @@ impl Queues {
         if let Some(uid) = self.background.holder(number) {
             return Some((uid, true));
         }
-        match results::holder(&self.results, number) {
+        match self.results.holder(number) {
             None => None,
             Some(uid) => Some((uid, false)),
         }
@@ -452,7 +441,16 @@ impl Queues {
     fn take_results(&mut self, taken: &Taken)
         ensures { self.new ≡ record self.old { results = filter (λ kept. not (is_taken taken.now kept)) self.old.results } }
     {
-        results::take_out(&mut self.results, taken, &mut self.live);
+        self.results.take_out(taken, &mut self.live);
+    }
+
+    /// Takes the result of that number out, if there is one.
+    fn finish_result(&mut self, number: u64)
+        ensures { self.new ≡ record self.old { results = filter (λ kept. not (kept.delivery == number)) self.old.results } }
+    {
+        if self.results.holder(number).is_some() {
+            self.take_results(&Taken::Delivery(number));
+        }
     }
 
     /// Finishes a delivery, or takes a result: `NoDelivery` where none of that number stands,
@@ -478,7 +476,7 @@ impl Queues {
             None => {
                 self.finish_normal(delivery);
                 self.answer_head(delivery, answer);
-                self.take_results(&Taken::Delivery(delivery));
+                self.finish_result(delivery);
                 self.settle_foreground(now);
                 self.settle_background(now);
                 Ok(())

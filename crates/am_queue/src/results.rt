@@ -1,13 +1,18 @@
 //! The results that wait for their senders.
-ghost use Rattle.std.specs.Prelude.{◌≡◌, not, filter, vec_capacity, vec_len, ◌≤◌, ◌+◌, IfOk};
+ghost use Rattle.std.specs.Prelude.{◌≡◌, ℕ, ◌+◌, ◌^◌, ◌<◌, ◌≤◌, [], ◌∷◌, ◌++◌, not, filter, map, length, vec_capacity, vec_len, IfOk, OnOk, MatchOption};
 ghost use Rattle.std.specs.Option.{option_map};
-ghost use Rattle.am_model.specs.Sending.{held_in_results};
-ghost use Rattle.am_turns.specs.Counts.{Covers, Follows, results_of};
+ghost use Rattle.am_model.specs.Broadcasts.{settled};
+ghost use Rattle.am_model.specs.Sending.{held_in_results, result_items};
+ghost use Rattle.am_turns.specs.Counts.{Covers, Follows, queued_of, results_of};
+ghost use Rattle.am_turns.specs.Turns.{final_item};
 ghost use Rattle.am_deliveries.specs.Batches.{at_once_by};
-ghost use Rattle.am_queue.specs.Taken.{is_taken};
+ghost use Rattle.am_queue.specs.Results.{AreRising, BySender, IsOnly, key_of, of_number, own};
+ghost use Rattle.am_queue.specs.Taken.{is_key_taken, is_taken};
 
-use am_turns::{Counts, Final};
-use std::alloc::AllocError;
+use am_turns::{Counts, Final, Line};
+use am_types::Item;
+use std::alloc::{AllocError, Global};
+use std::marker::Model;
 
 /// Which results go.
 #[derive(Clone, Copy, Debug, PartialEq, Eq)]
@@ -27,22 +32,94 @@ impl Taken {
             Taken::Sender(uid) => kept.sender() == *uid,
         }
     }
-}
 
-/// Whose the result with that delivery number is.
-pub(crate) fn holder(results: &[Final], number: u64) -> Option<u32>
-    ensures { held_in_results number results.now ≡ option_map at_once_by result }
-{
-    for kept in results {
-        if kept.delivery() == number {
-            return Some(kept.sender());
+    fn takes_key(&self, key: &(u32, u64)) -> bool
+        ensures { result ≡ is_key_taken self.now key.now }
+    {
+        match self {
+            Taken::Delivery(number) => key.1 == *number,
+            Taken::Sender(uid) => key.0 == *uid,
         }
     }
-    None
+}
+
+/// The results that wait for their senders.
+#[derive(Debug, Drop)]
+pub(crate) struct Results {
+    /// By rising delivery number.
+    kept: Vec<Final>,
+    /// The sender and the delivery number of each, by rising sender. Each sender's are in the order
+    /// of its results.
+    keys: Vec<(u32, u64)>,
+}
+
+impl Model for Results {
+    ghost use Rattle.std.specs.Prelude.{◌-◌, vec_capacity, vec_len};
+    ghost use Rattle.am_queue.specs.Results.{AreKeys, BySender, Waiting, lesser};
+
+    ghost Value = { Waiting };
+
+    ghost view = { λ r. record {
+      list = r.kept.items;
+      room = lesser (vec_capacity r.kept - vec_len r.kept) (vec_capacity r.keys - vec_len r.keys);
+    } };
+
+    ghost invariant = { λ r. BySender 0 r.keys.items × AreKeys r.keys.items r.kept.items };
+}
+
+/// Puts the key of a result to the others.
+fn put_key(keys: &mut Vec<(u32, u64)>, kept: &Final)
+    requires order { BySender 0 keys.old.items }
+    requires room { vec_len keys.old < vec_capacity keys.old }
+    ensures order { BySender 0 keys.new.items }
+    ensures own { (uid : ℕ) → own uid keys.new.items ≡ own uid keys.old.items ++ own uid (key_of kept.now ∷ []) }
+    ensures len { vec_len keys.new ≡ vec_len keys.old + 1 }
+    ensures capacity { vec_capacity keys.new ≡ vec_capacity keys.old }
+{
+    let sender = kept.sender();
+    let place = keys.partition_point(|key| key.0 <= sender);
+    // There is room, so it can't fail.
+    drop(keys.insert(place, (sender, kept.delivery())));
+}
+
+/// Puts the keys of results to the others.
+fn put_keys(keys: &mut Vec<(u32, u64)>, more: &[Final])
+    requires order { BySender 0 keys.old.items }
+    requires room { vec_len keys.old + length more.now ≤ vec_capacity keys.old }
+    ensures order { BySender 0 keys.new.items }
+    ensures own { (uid : ℕ) → own uid keys.new.items ≡ own uid keys.old.items ++ own uid (map key_of more.now) }
+    ensures len { vec_len keys.new ≡ vec_len keys.old + length more.now }
+    ensures capacity { vec_capacity keys.new ≡ vec_capacity keys.old }
+{
+    for kept in more {
+        put_key(keys, kept);
+    }
+}
+
+/// The keys of a sender.
+fn run(keys: &[(u32, u64)], uid: u32) -> &[(u32, u64)]
+    requires { BySender 0 keys.now }
+    ensures { result.now ≡ own uid keys.now }
+{
+    let first = keys.partition_point(|key| key.0 < uid);
+    let rest = &keys[first..];
+    let count = rest.partition_point(|key| key.0 == uid);
+    &rest[..count]
+}
+
+/// The place of the result with that delivery number.
+fn place_of(kept: &[Final], number: u64) -> Option<usize>
+    requires { (end : ℕ) × AreRising 0 end kept.now }
+    ensures { MatchOption result (of_number number kept.now ≡ []) (IsOnly number kept.now) }
+{
+    match kept.binary_search_by_key(&number, |kept| kept.delivery()) {
+        Ok(place) => Some(place),
+        Err(_) => None,
+    }
 }
 
 /// Takes results out, and lowers their senders' numbers.
-pub(crate) fn take_out(results: &mut Vec<Final>, taken: &Taken, live: &mut Counts)
+fn take_kept(results: &mut Vec<Final>, taken: &Taken, live: &mut Counts)
     requires { Covers live.old (results_of results.old.items) }
     ensures left { results.new.items ≡ filter (λ kept. not (is_taken taken.now kept)) results.old.items }
     ensures live { Follows live.old live.new (results_of results.old.items) (results_of results.new.items) }
@@ -61,13 +138,112 @@ pub(crate) fn take_out(results: &mut Vec<Final>, taken: &Taken, live: &mut Count
     }
 }
 
-/// The same results, with room for so many more.
-#[tactic(auto, using(am_types::proofs::Clones::same_list))]
-pub(crate) fn copy(results: &Vec<Final>, more: usize) -> Result<Vec<Final>, AllocError>
-    ensures results { IfOk result (λ copy. copy.items ≡ results.now.items) }
-    ensures room { IfOk result (λ copy. vec_len copy + more ≤ vec_capacity copy) }
-{
-    let mut copy = results.clone()?;
-    copy.reserve(more)?;
-    Ok(copy)
+impl Results {
+    /// No result. Takes no memory.
+    pub(crate) fn new(alloc: Global) -> Self
+        ensures { result.list ≡ [] }
+    {
+        Results {
+            kept: Vec::new(alloc),
+            keys: Vec::new(alloc),
+        }
+    }
+
+    /// Makes room for so many more.
+    pub(crate) fn reserve(&mut self, more: usize) -> Result<(), AllocError>
+        ensures list { self.new.list ≡ self.old.list }
+        ensures room { OnOk result (more ≤ self.new.room) }
+        ensures no_less { self.old.room ≤ self.new.room }
+    {
+        self.kept.reserve(more)?;
+        self.keys.reserve(more)?;
+        Ok(())
+    }
+
+    /// A queue settles, and the results of its heads that are over are put to the others. Takes no
+    /// memory.
+    pub(crate) fn settle(
+        &mut self,
+        line: &mut Line,
+        live: &mut Counts,
+        next: u64,
+        deadline: u64,
+    ) -> u64
+        requires room { length line.old ≤ self.old.room }
+        requires counted { Covers live.old (queued_of line.old) }
+        requires small { next + length line.old + 1 < 2 ^ 64 }
+        ensures queue { line.new ≡ (settled next deadline line.old).queue }
+        ensures results { self.new.list ≡ self.old.list ++ (settled next deadline line.old).results }
+        ensures next { result ≡ (settled next deadline line.old).next }
+        ensures room { length line.new + self.old.room ≤ length line.old + self.new.room }
+        ensures live { Follows live.old live.new
+            (λ uid. queued_of line.old uid + results_of self.old.list uid)
+            (λ uid. queued_of line.new uid + results_of self.new.list uid) }
+    {
+        let before = self.kept.len();
+        let after = line.settle(&mut self.kept, live, next, deadline);
+        put_keys(&mut self.keys, &self.kept[before..]);
+        after
+    }
+
+    /// Whose the result with that delivery number is. Takes no memory.
+    pub(crate) fn holder(&self, number: u64) -> Option<u32>
+        requires { (end : ℕ) × AreRising 0 end self.now.list }
+        ensures { held_in_results number self.now.list ≡ option_map at_once_by result }
+    {
+        match place_of(&self.kept, number) {
+            None => None,
+            Some(place) => Some(self.kept[place].sender()),
+        }
+    }
+
+    /// Takes results out, and lowers their senders' numbers. Takes no memory.
+    pub(crate) fn take_out(&mut self, taken: &Taken, live: &mut Counts)
+        requires { Covers live.old (results_of self.old.list) }
+        ensures left { self.new.list ≡ filter (λ kept. not (is_taken taken.now kept)) self.old.list }
+        ensures live { Follows live.old live.new (results_of self.old.list) (results_of self.new.list) }
+        ensures room { self.old.room ≤ self.new.room }
+    {
+        take_kept(&mut self.kept, taken, live);
+        self.keys.retain(|key| !taken.takes_key(key));
+    }
+
+    /// Puts the result with that delivery number as an item behind others, if there is one.
+    fn push_item(&self, number: u64, items: &mut Vec<Item>) -> Result<(), AllocError>
+        requires { (end : ℕ) × AreRising 0 end self.now.list }
+        ensures { OnOk result (items.new.items ≡ items.old.items ++ map final_item (of_number number self.now.list)) }
+    {
+        match place_of(&self.kept, number) {
+            None => Ok(()),
+            Some(place) => {
+                items.push(self.kept[place].item()?)?;
+                Ok(())
+            }
+        }
+    }
+
+    /// Puts the results of a uid behind other items.
+    pub(crate) fn push_items(&self, uid: u32, items: &mut Vec<Item>) -> Result<(), AllocError>
+        requires { (end : ℕ) × AreRising 0 end self.now.list }
+        ensures { OnOk result (items.new.items ≡ items.old.items ++ result_items uid self.now.list) }
+    {
+        for key in run(&self.keys, uid) {
+            self.push_item(key.1, items)?;
+        }
+        Ok(())
+    }
+
+    /// The same results, with room for so many more.
+    #[tactic(auto, using(am_types::proofs::Clones::same_list))]
+    pub(crate) fn copy(&self, more: usize) -> Result<Self, AllocError>
+        ensures list { IfOk result (λ copy. copy.list ≡ self.now.list) }
+        ensures room { IfOk result (λ copy. more ≤ copy.room) }
+    {
+        let mut copy = Results {
+            kept: self.kept.clone()?,
+            keys: self.keys.clone()?,
+        };
+        copy.reserve(more)?;
+        Ok(copy)
+    }
 }

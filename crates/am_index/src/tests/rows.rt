@@ -18,7 +18,17 @@ receiver class=two.R;action=x.A priority=7;action=x.B priority=9
 activity class=two.Content;action=x.D type=image/*;action=x.E scheme=content
 #three
 activity class=three.A;action=x.A
-service class=three.S;action=x.A priority=8";
+service class=three.S;action=x.A priority=8
+#types
+activity class=types.Png;action=x.F type=image/png
+activity class=types.Images;action=x.F type=image/*
+activity class=types.Any;action=x.F type=*/*
+activity class=types.Text;action=x.F type=text/plain
+activity class=types.Both;action=x.F type=text/plain type=image/gif;action=x.F type=text/*
+activity class=types.AnyPng;action=x.F type=*/png
+activity class=types.Http;action=x.F scheme=http type=image/jpeg
+activity class=types.Off off;action=x.F type=text/plain
+service class=types.S;action=x.F type=audio/* priority=3";
 
 /// A query, and the classes that it finds with their places and priorities.
 pub const QUERIES: &str = "activity action=x.A | one.A:0:0 two.A:0:0 three.A:0:0 one.Less:7:-1
@@ -26,14 +36,14 @@ activity action=x.B | one.Other:5:0 two.A:0:0
 activity action=x.Z | 
 activity | one.A:0:0 one.Other:5:0 two.A:0:0 three.A:0:0 one.Less:7:-1
 activity scheme=http host=h | one.Http:2:0
-activity type=image/png | one.Image:3:0 two.Any:1:0 two.Content:2:0
+activity type=image/png | one.Image:3:0 two.Any:1:0 two.Content:2:0 types.Png:0:0 types.Images:1:0 types.Any:2:0
 activity scheme=http host=h type=image/png | one.Both:4:0
-activity scheme=content host=p type=image/png | one.Image:3:0 two.Any:1:0 two.Content:2:0
+activity scheme=content host=p type=image/png | one.Image:3:0 two.Any:1:0 two.Content:2:0 types.Png:0:0 types.Images:1:0 types.Any:2:0
 activity scheme=content host=p | two.Content:2:0
 activity action=x.A scheme=http | one.Http:2:0
 activity action=x.C scheme=http | one.Http:2:-2
 activity action=x.A type=image/* | one.Image:3:0
-activity type=*/* | one.Image:3:0 two.Any:1:0 two.Content:2:0
+activity type=*/* | one.Image:3:0 two.Any:1:0 two.Content:2:0 types.Png:0:0 types.Images:1:0 types.Any:2:0 types.Text:3:0 types.Both:4:0 types.AnyPng:5:0
 activity default type=image/png | one.Image:3:0
 activity default action=x.A | 
 activity package=two action=x.A | two.A:0:0
@@ -44,4 +54,36 @@ receiver action=x.A | two.R:0:7
 receiver | two.R:0:9
 activity component=one/one.Silent action=x.Z | one.Silent:6:0
 activity component=one/one.B | 
-service component=one/one.A | ";
+service component=one/one.A | 
+activity type=image/jpeg | two.Any:1:0 two.Content:2:0 types.Images:1:0 types.Any:2:0
+activity type=image/* | one.Image:3:0 two.Any:1:0 two.Content:2:0 types.Png:0:0 types.Images:1:0 types.Any:2:0 types.Both:4:0
+activity type=text/plain | two.Any:1:0 types.Any:2:0 types.Text:3:0 types.Both:4:0
+activity type=application/pdf | two.Any:1:0 types.Any:2:0
+activity type=*/png | two.Any:1:0 types.Any:2:0 types.AnyPng:5:0
+activity scheme=content host=p type=image/jpeg | two.Any:1:0 two.Content:2:0 types.Images:1:0 types.Any:2:0
+activity scheme=content host=p type=image/* | one.Image:3:0 two.Any:1:0 two.Content:2:0 types.Png:0:0 types.Images:1:0 types.Any:2:0 types.Both:4:0
+activity scheme=content host=p type=*/* | one.Image:3:0 two.Any:1:0 two.Content:2:0 types.Png:0:0 types.Images:1:0 types.Any:2:0 types.Text:3:0 types.Both:4:0 types.AnyPng:5:0
+activity scheme=content host=p type=text/plain | two.Any:1:0 types.Any:2:0 types.Text:3:0 types.Both:4:0
+activity scheme=content host=p type=application/pdf | two.Any:1:0 types.Any:2:0
+activity scheme=content host=p type=*/png | two.Any:1:0 types.Any:2:0 types.AnyPng:5:0
+activity scheme=http host=h type=image/jpeg | types.Http:6:0
+activity scheme=http host=h type=image/* | one.Both:4:0 types.Http:6:0
+activity scheme=http host=h type=*/* | one.Both:4:0 types.Http:6:0
+activity scheme=http host=h type=text/plain | 
+activity scheme=http host=h type=application/pdf | 
+activity scheme=http host=h type=*/png | 
+activity package=types type=text/plain | types.Any:2:0 types.Text:3:0 types.Both:4:0
+service type=audio/mp3 | types.S:0:3";
+
+/// An intent of an activity, and at how many components its filters are looked at.
+pub const LISTED: &str = "activity type=*/* | 9
+activity type=image/jpeg | 8
+activity type=text/plain | 5
+activity type=application/pdf | 3
+activity type=*/png | 3
+activity scheme=http host=h type=application/pdf | 6
+activity scheme=http host=h type=*/* | 12
+activity package=types type=image/jpeg | 5
+activity action=x.F type=image/jpeg | 7
+activity scheme=http host=h | 3
+activity component=one/one.Silent type=image/jpeg | 1";

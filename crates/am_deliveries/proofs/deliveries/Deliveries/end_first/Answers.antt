@@ -4,7 +4,7 @@ use Rattle.am_deliveries.specs.Batches.{cleared, is_live, normal_of}
 use Rattle.am_deliveries.specs.Deadlines.{is_same}
 use Rattle.am_deliveries.specs.Kept.{HasAt, NoneHas, is_kept, some_due}
 use Rattle.am_deliveries.proofs.Listing.{due_when_bare, soonest_due}
-use Rattle.am_deliveries.proofs.Keeping.{kept_somewhere, slots_within}
+use Rattle.am_deliveries.proofs.Keeping.{kept_somewhere, slots_within, firsts_same}
 use Rattle.am_deliveries.proofs.Retiring.{AreSettled, one_retired, early_batch, fewer_batch, kept_batch, live_counted}
 use Rattle.am_deliveries.proofs.Numbering.{numbered_cleared}
 use Rattle.am_deliveries.proofs.deliveries.Deliveries.end_first.Goals as goal
@@ -17,7 +17,7 @@ both false b pass = cc
 
 -- the batch that was found has the number
 there : (c : After-clear) → HasAt c.in-Some.first c.self.inside.batches.items c.in-Some-find.place
-there c = rw c.deref.ensures.value at c.in-Some-find.ensures
+there c = rw c.deref-2.ensures.value at c.in-Some-find.ensures
 
 -- and the deadline, and it is live
 kept : (c : After-clear) → is_kept c.in-Some.field-0-0 c.in-Some.first c.index_mut-batch.result.now ≡ true
@@ -51,7 +51,7 @@ returns-in_default-clause-fewer c =
 pub returns-in_default-find-clause-fewer : goal.returns-in_default-find-clause-fewer
 returns-in_default-find-clause-fewer c =
     let items = c.self.inside.batches.items in
-    let none : NoneHas c.in-Some.first items = rw c.deref.ensures.value at c.in_default-find.ensures in
+    let none : NoneHas c.in-Some.first items = rw c.deref-2.ensures.value at c.in_default-find.ensures in
     let wrong : false ≡ true =
     sym (kept_somewhere c.in-Some.field-0-0 c.in-Some.first 0 c.self.inside.end items c.self.invariant.0 none) ∙ sym (c.self.invariant.1 c.in-Some.field-0-0 c.in-Some.first) ∙ c.in-Some.ensures.0 in
     absurd cc
@@ -81,6 +81,7 @@ invariant_of-self c =
       all.apart,
       all.listed,
       numbered_cleared c.self.inside.end items c.in-Some-find.place b c.self.inside.numbers c.unlist.new.numbers c.index_mut-batch.ensures.value c.self.invariant.0 c.self.invariant.2 (there d).0 last c.unlist.ensures,
+      c.self.invariant.3 ∙ sym (firsts_same items c.in-Some-find.place b (cleared b) c.index_mut-batch.ensures.value refl),
     )
 
 pub returns-in-Some-find-clause-early : goal.returns-in-Some-find-clause-early

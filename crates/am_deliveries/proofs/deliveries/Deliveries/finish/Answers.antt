@@ -1,11 +1,11 @@
-use Rattle.std.proofs.Common.{◌≡◌, ◌<◌, ◌≤◌, ◌-◌, true, false, set, length, sym, ap, arith, length-set}
+use Rattle.std.proofs.Common.{◌≡◌, ◌<◌, ◌≤◌, ◌-◌, ◌∙◌, true, false, set, length, refl, sym, ap, arith, length-set}
 use Rattle.std.specs.Prelude.{IsSome, None}
 use Rattle.am_model.specs.Sending.{held_in_normals}
 use Rattle.am_deliveries.specs.Batches.{emptied, is_live, normal_of, slot_of}
 use Rattle.am_deliveries.specs.Kept.{HasAt, NoneHas}
 use Rattle.am_deliveries.proofs.Standing.{one_less}
 use Rattle.am_deliveries.proofs.Changes.{held_nowhere}
-use Rattle.am_deliveries.proofs.Keeping.{misses_all}
+use Rattle.am_deliveries.proofs.Keeping.{misses_all, firsts_same}
 use Rattle.am_deliveries.proofs.Retiring.{AreSettled, one_retired, finished_batch, held_by_batch, some_slot, lives_less, live_counted}
 use Rattle.am_deliveries.proofs.Numbering.{numbered_finished}
 use Rattle.am_deliveries.proofs.deliveries.Deliveries.finish.Goals as goal
@@ -13,7 +13,7 @@ use Rattle.am_deliveries.proofs.deliveries.Deliveries.finish.Goals.{After-is_liv
 
 -- the batch that was found has the number
 there : (c : After-is_live-was_live) → HasAt c.args.number c.self.inside.batches.items c.in-Some.place
-there c = rw c.deref.ensures.value at c.in-Some.ensures
+there c = rw c.deref-2.ensures.value at c.in-Some.ensures
 
 low : (c : After-is_live-was_live) → c.index_mut-batch.result.now.first ≤ c.args.number
 low c = rw (sym c.index_mut-batch.ensures.value) at ((there c).1 c.index_mut-batch.result.now).0
@@ -67,6 +67,7 @@ invariant_of-self c =
       all.apart,
       all.listed,
       numbered_finished c.args.number c.self.inside.end c.self.inside.batches.items c.in-Some.place b c.self.inside.numbers c.unlist_one.new.numbers c.index_mut-batch.ensures.value c.self.invariant.0 c.self.invariant.2 (there d).0 (low d) (high d) c.unlist_one.ensures,
+      c.self.invariant.3 ∙ sym (firsts_same c.self.inside.batches.items c.in-Some.place b (emptied c.args.number b) c.index_mut-batch.ensures.value refl),
     )
 
 pub returns-in-Some-clause-normal : goal.returns-in-Some-clause-normal
@@ -84,7 +85,7 @@ returns-in-Some-clause-live c =
 pub returns-in_default-clause-normal : goal.returns-in_default-clause-normal
 returns-in_default-clause-normal c =
     let items = c.self.inside.batches.items in
-    let none : NoneHas c.args.number items = rw c.deref.ensures.value at c.in_default.ensures in
+    let none : NoneHas c.args.number items = rw c.deref-2.ensures.value at c.in_default.ensures in
     let nobody : held_in_normals c.args.number c.args.self.now.normal ≡ None =
     rw (← c.self.view_is) (held_nowhere c.args.number items (misses_all 0 c.self.inside.end c.args.number items c.self.invariant.0 none)) in
     let wrong : false ≡ true = rw nobody at c.requires.held in

@@ -22,7 +22,7 @@ pub loop-items-preserved : goal.loop-items-preserved
 loop-items-preserved c =
     let all = items_of c.args.uid c.args.self.now.normal in
     let rise : Rise 0 all = rw (← c.self.view_is) (items_rise c.args.uid 0 c.self.inside.end c.self.inside.batches.items c.self.invariant.0) in
-    one_more_found c.loop-items.from c.in-Some.number c.args.most c.loop-items.items.items c.push_item.new.items.items all rise c.in-Some.ensures.next.0 c.in-Some.ensures.next.1
+    one_more_found c.loop-items.from c.in-Some.number c.args.most c.loop-items.items.items c.push_item.new.items.items all rise c.in-Some.ensures.next.0 c.in-Some.ensures.next.2
     c.loop-items.invariant.0 (omega arith) c.in_ok-push_item-in-Some.ensures
 
 pub returns-clause-first : goal.returns-clause-first

@@ -1,4 +1,4 @@
-use Rattle.std.proofs.Common.{◌≡◌, ◌+◌, ◌≤◌, ◌<◌, map, set, length, sym, ap, refl, arith}
+use Rattle.std.proofs.Common.{◌≡◌, ◌∙◌, ◌+◌, ◌≤◌, ◌<◌, map, set, length, sym, ap, refl, arith}
 use Rattle.std.proofs.lemmas.List.{length-map}
 use Rattle.std.proofs.lemmas.Grind.{common_steps}
 use Rattle.std.proofs.lemmas.List.Edits.{map_over_more}
@@ -6,13 +6,13 @@ use Rattle.am_turns.specs.Struck.{strikes}
 use Rattle.am_deliveries.specs.Batches.{stricken, unless_struck}
 use Rattle.am_deliveries.proofs.Changes.{all_stricken}
 use Rattle.am_deliveries.proofs.Retiring.{one_retired, settled_then, settled_at_first, lives_less, struck_fewer, live_counted}
-use Rattle.am_deliveries.proofs.Keeping.{slots_within}
+use Rattle.am_deliveries.proofs.Keeping.{slots_within, firsts_same}
 use Rattle.am_deliveries.proofs.Numbering.{numbered_stricken}
 use Rattle.am_deliveries.proofs.deliveries.Deliveries.strike.Goals as goal
 
 pub loop-place-init : goal.loop-place-init
 loop-place-init c =
-    (grind (arith, common_steps), refl, settled_at_first c.self.inside.end c.self.inside.batches.items c.self.inside.deadlines c.args.live.now c.self.invariant.0 c.self.invariant.1 (rw (← c.self.view_is) at c.requires), c.self.invariant.2)
+    (grind (arith, common_steps), refl, settled_at_first c.self.inside.end c.self.inside.batches.items c.self.inside.deadlines c.args.live.now c.self.invariant.0 c.self.invariant.1 (rw (← c.self.view_is) at c.requires), c.self.invariant.2, c.self.invariant.3)
 
 pub retire-requires-clause-only_ends : goal.retire-requires-clause-only_ends
 retire-requires-clause-only_ends c =
@@ -41,6 +41,7 @@ loop-place-preserved c =
           (lives_less (map (unless_struck struck) b.slots) b (struck_fewer struck b.slots))
           (rw (c.strike.ensures, c.is_live-was_live.ensures) at c.retire.ensures.deadlines) (rw (c.strike.ensures, c.is_live-was_live.ensures) at c.retire.ensures.live)),
       numbered_stricken struck c.loop-place.self-inside.end items c.loop-place.place b c.loop-place.self-inside.numbers c.unlist_struck.new.numbers c.index_mut-batch.ensures.value c.loop-place.invariant.2.apart c.loop-place.invariant.3 inside last c.unlist_struck.ensures,
+      c.loop-place.invariant.4 ∙ sym (firsts_same items c.loop-place.place b (stricken struck b) c.index_mut-batch.ensures.value refl),
     )
 
 pub returns-clause-normal : goal.returns-clause-normal

@@ -15,7 +15,7 @@ pub invariant_of-self : goal.invariant_of-self
 invariant_of-self c =
     let items = c.self.inside.batches.items in
     rw (left (goal.at.invariant_of-self c).After-retain)
-    (apart_live 0 c.self.inside.end items c.self.invariant.0, λ at first. c.self.invariant.1 at first ∙ sym (kept_live at first items), λ uid number. c.self.invariant.2 uid number ∙ sym (numbered_live uid number items))
+    (apart_live 0 c.self.inside.end items c.self.invariant.0, λ at first. c.self.invariant.1 at first ∙ sym (kept_live at first items), λ uid number. c.self.invariant.2 uid number ∙ sym (numbered_live uid number items), rw (c.list_firsts.ensures, c.deref.ensures.value, left (goal.at.invariant_of-self c).After-retain) refl)
 
 pub returns-then-len : goal.returns-then-len
 returns-then-len c = rw (left (goal.at.returns-then-len c).After-retain, live_live, ← c.self.view_is) refl

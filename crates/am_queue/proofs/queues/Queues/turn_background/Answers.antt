@@ -1,4 +1,4 @@
-use Rattle.std.proofs.Common.{refl, arith, vec_capacity}
+use Rattle.std.proofs.Common.{refl, arith}
 use Rattle.am_model.specs.Broadcasts.{Broadcasts}
 use Rattle.am_turns.specs.Deeds.{doing_of}
 use Rattle.am_queue.specs.Sound.{all_of}
@@ -9,6 +9,6 @@ use Rattle.am_queue.proofs.queues.Queues.turn_background.Goals as goal
 pub invariant_of-self : goal.invariant_of-self
 invariant_of-self c =
     let q = c.self.inside in
-    let all : Broadcasts = all_of q.normals.normal q.foreground q.background q.results.items q.next_broadcast q.next_delivery in
-    mild q.normals.end (vec_capacity q.results) q.live q.live all q.normals.normal q.foreground c.turn_head.new.self q.results.items c.self.invariant
+    let all : Broadcasts = all_of q.normals.normal q.foreground q.background q.results.list q.next_broadcast q.next_delivery in
+    mild q.normals.end q.results.room q.results.room q.live q.live all q.normals.normal q.foreground c.turn_head.new.self q.results.list c.self.invariant c.self.invariant.sound.rising
     (unchanged_mild q.foreground) (rw c.turn_head.ensures (head_turned_mild (doing_of c.args.deed) q.background)) (omega arith) (λ uid. refl)

@@ -1,0 +1,5 @@
+pub mod Faults
+pub mod Table
+pub mod Told
+pub mod Reading
+pub mod Honest

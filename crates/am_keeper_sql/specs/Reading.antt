@@ -1,0 +1,23 @@
+-- What a selection puts that is read one row at a time.
+use Rattle.std.specs.Prelude.{◌≡◌, Bool, true, false, Some, None}
+use Rattle.sqlite.specs.Store.{Ghosts}
+use Rattle.sqlite.specs.Order.{Row}
+use Rattle.sqlite.specs.Held.{Held}
+use Rattle.sqlite.specs.Given.{Advances}
+use Rattle.am_keeper.specs.declared.rows.Row.{Row as Kept}
+use Rattle.am_keeper.specs.declared.rows.Rows.{Rows}
+use Rattle.am_keeper.specs.Rows.{with_row}
+use Rattle.am_keeper_sql.specs.Told.{row_said}
+
+-- one more row is given, and the kept row that it says was put
+pub record PutsNext {S : Type 0} (g : Ghosts S) (old new : Held S) (was now : Rows) : Type 0 where
+  pub values : Row
+  pub row : Kept
+  pub given : Advances g old new (Some values)
+  pub says : row_said values ≡ Some row
+  pub put : now ≡ with_row was row
+
+-- the next row was put, or there was none
+abbrev pub Moves : {S : Type 0} → Ghosts S → Held S → Held S → Rows → Rows → Bool → Type 0
+Moves g old new was now true = PutsNext g old new was now
+Moves g old new was now false = Advances g old new None × (now ≡ was)

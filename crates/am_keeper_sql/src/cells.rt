@@ -1,0 +1,99 @@
+//! Rows of the database as kept rows, and back.
+ghost use Rattle.std.specs.Prelude.{◌≡◌, map, Some, IfOk, OnOk};
+ghost use Rattle.sqlite.specs.Held.{state};
+ghost use Rattle.sqlite.specs.State.{IsUnchanged};
+ghost use Rattle.sqlite.specs.Values.{bound, bound_value};
+ghost use Rattle.sqlite_value.specs.Value.{owned};
+ghost use Rattle.am_keeper_sql.specs.Told.{value_of, row_said};
+ghost use Rattle.am_keeper_sql.specs.Honest.{IsHonest, IsSettled, StaysSeen};
+ghost use Rattle.am_keeper_sql.specs.Reading.{Moves};
+
+use crate::connection::fail;
+use am_keeper::{KeepFail, Row, RowsBuilder};
+use am_rows::{Cell, RowFault, row_of};
+use am_types::{List, Text};
+use sqlite::Alter;
+use sqlite::types::ValueRef;
+use std::alloc::{AllocError, Global};
+
+/// A cell as a value of the database.
+fn value_of(cell: &Cell) -> ValueRef<'_>
+    ensures { bound_value (owned result) ≡ value_of cell.now }
+{
+    match cell {
+        Cell::Whole(number) => ValueRef::Int(*number),
+        Cell::Words(text) => ValueRef::Text(text.as_str().as_bytes()),
+    }
+}
+
+/// Cells as values of the database.
+pub(crate) fn values_of(alloc: Global, cells: &[Cell]) -> Result<Vec<ValueRef<'_>>, AllocError>
+    ensures { IfOk result (λ values. bound values.items ≡ map value_of cells.now) }
+{
+    let mut values = Vec::new(alloc);
+    for cell in cells {
+        values.push(value_of(cell))?;
+    }
+    Ok(values)
+}
+
+/// A value of the database as a cell: a number or a text.
+fn cell_of(alloc: Global, value: ValueRef<'_>) -> Result<Cell, KeepFail>
+    ensures { IfOk result (λ cell. value_of cell ≡ owned value.entry) }
+{
+    match value {
+        ValueRef::Int(number) => Ok(Cell::Whole(number)),
+        ValueRef::Text(bytes) => match std::str::from_utf8(bytes) {
+            Ok(text) => Ok(Cell::Words(Text::new(String::from_str(alloc, text)?))),
+            Err(_) => Err(KeepFail::Failed),
+        },
+        _ => Err(KeepFail::Failed),
+    }
+}
+
+fn cells_of(alloc: Global, row: &sqlite::Row) -> Result<List<Cell>, KeepFail>
+    ensures { IfOk result (λ cells. map value_of cells ≡ row.now) }
+{
+    let mut cells = Vec::with_capacity(alloc, row.column_count())?;
+    for at in 0..row.column_count() {
+        let Ok(value) = row.get_ref(at) else {
+            return Err(KeepFail::Failed);
+        };
+        cells.push(cell_of(alloc, value)?)?;
+    }
+    Ok(List::new(cells))
+}
+
+/// The kept row that a row of the database says.
+#[tactic(auto, using(crate::proofs::Rows::row_said_from))]
+fn kept_row(alloc: Global, row: &sqlite::Row) -> Result<Row, KeepFail>
+    ensures { IfOk result (λ kept. row_said row.now ≡ Some kept) }
+{
+    match row_of(&cells_of(alloc, row)?) {
+        Ok(row) => Ok(row),
+        Err(RowFault::Shape) => Err(KeepFail::Failed),
+        Err(RowFault::NoMemory) => Err(KeepFail::NoMemory),
+    }
+}
+
+/// Puts the kept row that the next row of the selection says. It answers false where there is none.
+pub(crate) fn put_next<S: Alter>(
+    alloc: Global,
+    found: &mut sqlite::Rows<'_, S>,
+    rows: &mut RowsBuilder,
+) -> Result<bool, KeepFail>
+    ensures same_reference { found.new.conn.ghost_name ≡ found.old.conn.ghost_name }
+    ensures honest { IsHonest (state S.Store found.new.conn.now) → IsHonest (state S.Store found.old.conn.now) }
+    ensures seen { IsHonest (state S.Store found.new.conn.now) → IsSettled (state S.Store found.old.conn.now) → StaysSeen (state S.Store found.old.conn.now) (state S.Store found.new.conn.now) }
+    ensures same { IsHonest (state S.Store found.new.conn.now) → OnOk result (IsUnchanged (state S.Store found.old.conn.now) (state S.Store found.new.conn.now)) }
+    ensures put { IsHonest (state S.Store found.new.conn.now) → IfOk result (Moves S.Store found.old.conn.now found.new.conn.now rows.old rows.new) }
+{
+    if let Err(error) = found.advance() {
+        return Err(fail(error));
+    }
+    let Some(row) = found.get() else {
+        return Ok(false);
+    };
+    rows.put(kept_row(alloc, row)?)?;
+    Ok(true)
+}

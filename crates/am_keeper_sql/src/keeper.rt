@@ -1,0 +1,120 @@
+//! The keeper.
+ghost use Rattle.std.specs.Prelude.{◌≡◌, ◌↔◌, ◌≤◌, Some, IsOk, IfOk};
+ghost use Rattle.am_keeper.specs.Rows.{IsInOrder, with_row};
+ghost use Rattle.am_keeper.specs.Keeping.{Puts};
+ghost use Rattle.am_keeper_sql.specs.Faults.{faults_after};
+ghost use Rattle.am_keeper_sql.specs.Honest.{IsHonest, Keeps, IsInMemory, IsHonestForGood, state_of, told_by};
+
+use crate::connection;
+use crate::database::Database;
+use am_keeper::{GrantRow, KeepFail, Keeper, LinkRow, PackageRow, Row, Rows};
+use am_types::Text;
+use sqlite::{Alter, File, FileStore};
+use sqlite_disk::Disk;
+use std::alloc::Global;
+
+/// Counts a fault, if there was one.
+fn count_fault<T>(faults: &mut u64, done: &Result<T, KeepFail>)
+    ensures counts { faults.new ≡ faults_after faults.old done.now }
+    ensures never_falls { faults.old ≤ faults.new }
+{
+    if let Err(KeepFail::Failed) = done {
+        *faults = faults.saturating_add(1);
+    }
+}
+
+/// A keeper over a SQL database, in memory or in a file over a store `F`. Its store is honest as
+/// long as the disk returns what was written and no fault has shut the connection; memory is
+/// honest for good. After a fault that shut it every further call is a fault.
+#[derive(Drop)]
+pub struct SqlKeeper<F: Alter = FileStore<File>> {
+    pub(crate) database: Database<F>,
+    pub(crate) place: Option<Text>,
+    pub(crate) faults: u64,
+    pub(crate) alloc: Global,
+    ghost keeps: { ∥ (IsHonest (state_of F.Store database) → Keeps (state_of F.Store database)) ∥₁ },
+}
+
+impl<F: Alter> SqlKeeper<F> {
+    /// How many faults there were. It stays at the greatest 64-bit number. Takes no memory.
+    pub fn faults(&self) -> u64
+        ensures { result ≡ self.now.faults }
+    {
+        self.faults
+    }
+
+    /// The rows now. The keeper is unchanged but for its count of faults.
+    pub fn told(&mut self) -> Result<Rows, KeepFail>
+        ensures rows { IsHonest (state_of F.Store self.new.database) → IfOk result (λ rows. rows ≡ told_by (state_of F.Store self.new.database)) }
+        ensures same { IsHonest (state_of F.Store self.new.database) → told_by (state_of F.Store self.new.database) ≡ told_by (state_of F.Store self.old.database) }
+        ensures honest { IsHonest (state_of F.Store self.new.database) → IsHonest (state_of F.Store self.old.database) }
+        ensures for_good { IsHonestForGood F.Store self.new.database ↔ IsHonestForGood F.Store self.old.database }
+        ensures in_order { IfOk result IsInOrder }
+        ensures place { self.new.place ≡ self.old.place }
+        ensures counts { self.new.faults ≡ faults_after self.old.faults result }
+        ensures never_falls { self.old.faults ≤ self.new.faults }
+    {
+        let told = self.database.rows(self.alloc);
+        count_fault(&mut self.faults, &told);
+        told
+    }
+
+    /// Puts a row.
+    fn put(&mut self, row: Row) -> Result<(), KeepFail>
+        ensures rows { IsHonest (state_of F.Store self.new.database)
+            → Puts (λ told. with_row told row) (Some (told_by (state_of F.Store self.old.database))) (Some (told_by (state_of F.Store self.new.database))) result }
+        ensures honest { IsHonest (state_of F.Store self.new.database) → IsHonest (state_of F.Store self.old.database) }
+        ensures for_good { IsHonestForGood F.Store self.new.database ↔ IsHonestForGood F.Store self.old.database }
+        ensures place { self.new.place ≡ self.old.place }
+        ensures counts { self.new.faults ≡ faults_after self.old.faults result }
+        ensures never_falls { self.old.faults ≤ self.new.faults }
+    {
+        let done = self.database.put(self.alloc, &row);
+        count_fault(&mut self.faults, &done);
+        done
+    }
+}
+
+impl<F: Alter + Drop + Send> Keeper for SqlKeeper<F> {
+    ghost rows = { λ k. Some (told_by (state_of F.Store k.database)) };
+
+    ghost place = { λ k. k.place };
+
+    ghost is_honest = { λ k. IsHonest (state_of F.Store k.database) };
+
+    ghost stays_honest = { λ k. IsHonestForGood F.Store k.database };
+
+    ghost faults = { λ k. k.faults };
+
+    ghost honest_by_nature = { λ k h. h.honest };
+
+    fn put_package(&mut self, row: &PackageRow) -> Result<(), KeepFail> {
+        self.put(Row::Package(row.clone()?))
+    }
+
+    fn put_grant(&mut self, row: &GrantRow) -> Result<(), KeepFail> {
+        self.put(Row::Grant(row.clone()?))
+    }
+
+    fn put_link(&mut self, row: &LinkRow) -> Result<(), KeepFail> {
+        self.put(Row::Link(row.clone()?))
+    }
+}
+
+impl<D: Disk + Drop> SqlKeeper<FileStore<D>> {
+    /// Ends the connection, so that the file alone holds the rows. Without a file it does nothing.
+    pub fn close(self) -> Result<(), KeepFail>
+        ensures { IsInMemory self.database → IsOk result }
+    {
+        let SqlKeeper {
+            database,
+            place: _,
+            faults: _,
+            alloc: _,
+        } = self;
+        match database {
+            Database::Memory(_) => Ok(()),
+            Database::File(conn) => conn.close().map_err(connection::fail),
+        }
+    }
+}

@@ -1,0 +1,16 @@
+//! A keeper over a SQL database, in memory or in a file.
+#![tactic(auto)]
+
+mod attach;
+mod cells;
+mod connection;
+mod database;
+mod keeper;
+mod shape;
+mod table;
+
+pub use attach::{attach_from, attach_sql};
+pub use keeper::SqlKeeper;
+
+#[cfg(test)]
+mod tests;

@@ -1,0 +1,8 @@
+pub mod Fields
+pub mod Names
+pub mod Intents
+pub mod Filters
+pub mod Requests
+pub mod Routes
+pub mod Rules
+pub mod Replies

@@ -1,0 +1,45 @@
+-- Names of kinds, flags, limits and placements.
+use Rattle.std.specs.Prelude.{ℕ, Bool, List, [], ◌∷◌, codes, if◌then◌else◌}
+use Rattle.am_types.specs.declared.intent.Flags.{Flags}
+use Rattle.am_types.specs.declared.pending.PendingFlags.{PendingFlags}
+use Rattle.am_types.specs.declared.manifest.Kind.{Kind}
+use Rattle.am_types.specs.declared.manifest.Kind.TheVariants.{Activity, Service, Receiver}
+use Rattle.am_types.specs.declared.task.Placed.{Placed}
+use Rattle.am_types.specs.declared.task.Placed.TheVariants.{Fresh, NewIntent, Fronted}
+
+-- a kind of component
+abbrev pub kind_name : Kind → List ℕ
+kind_name Activity = codes "activity"
+kind_name Service = codes "service"
+kind_name Receiver = codes "receiver"
+
+-- what a pending intent does
+abbrev pub pending_name : Kind → List ℕ
+pending_name Activity = codes "activity"
+pending_name Service = codes "service"
+pending_name Receiver = codes "broadcast"
+
+-- what a start did
+abbrev pub placed_name : Placed → List ℕ
+placed_name Fresh = codes "fresh"
+placed_name NewIntent = codes "new_intent"
+placed_name Fronted = codes "fronted"
+
+-- the names of those that are set
+abbrev pub names_set : List (Bool × List ℕ) → List (List ℕ)
+names_set [] = []
+names_set (first ∷ others) = if first.0 then first.1 ∷ names_set others else names_set others
+
+-- the flags of an intent with their names
+abbrev pub flags_named : Flags → List (Bool × List ℕ)
+flags_named flags =
+    (flags.new_task, codes "NEW_TASK") ∷ (flags.multiple_task, codes "MULTIPLE_TASK") ∷ (flags.clear_task, codes "CLEAR_TASK")
+    ∷ (flags.clear_top, codes "CLEAR_TOP") ∷ (flags.single_top, codes "SINGLE_TOP") ∷ (flags.reorder_to_front, codes "REORDER_TO_FRONT")
+    ∷ (flags.registered_only, codes "REGISTERED_ONLY") ∷ (flags.foreground, codes "FOREGROUND") ∷ (flags.no_abort, codes "NO_ABORT")
+    ∷ (flags.include_stopped, codes "INCLUDE_STOPPED") ∷ []
+
+-- the flags with which a pending intent is asked for, with their names
+abbrev pub pending_named : PendingFlags → List (Bool × List ℕ)
+pending_named flags =
+    (flags.one_shot, codes "ONE_SHOT") ∷ (flags.no_create, codes "NO_CREATE") ∷ (flags.cancel_current, codes "CANCEL_CURRENT")
+    ∷ (flags.update_current, codes "UPDATE_CURRENT") ∷ (flags.immutable, codes "IMMUTABLE") ∷ (flags.mutable, codes "MUTABLE") ∷ []

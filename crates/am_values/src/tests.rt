@@ -1,0 +1,4 @@
+//! Requests and replies, and how they are written.
+mod parts;
+mod replies;
+mod requests;

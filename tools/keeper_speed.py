@@ -1,0 +1,75 @@
+#!/usr/bin/env python3
+"""Compares a keeper with Python's sqlite3: 1,000 puts into a file, and the opening of 10,000 rows.
+
+    keeper_speed.py PROGRAM FILE
+
+PROGRAM is the built am_keeper_drill. sqlite3 runs in WAL with synchronous FULL. An opening reads all
+rows in their order. The last line has sqlite3 test the whole file first, as the keeper always does.
+"""
+import os
+import sqlite3
+import subprocess
+import sys
+import time
+
+CREATE = """CREATE TABLE IF NOT EXISTS kept (kind INTEGER NOT NULL, uid INTEGER NOT NULL, word TEXT NOT NULL,
+  name TEXT NOT NULL, access TEXT NOT NULL, manifest TEXT NOT NULL,
+  truth INTEGER NOT NULL, PRIMARY KEY (kind, uid, word)) STRICT"""
+PUT = """INSERT INTO kept (kind, uid, word, name, access, manifest, truth) VALUES (?, ?, ?, ?, ?, ?, ?)
+  ON CONFLICT (kind, uid, word) DO UPDATE SET name = excluded.name, access = excluded.access,
+  manifest = excluded.manifest, truth = excluded.truth"""
+ALL = "SELECT kind, uid, word, name, access, manifest, truth FROM kept ORDER BY kind, uid, word"
+
+
+def remove(path):
+    for end in ("", "-wal", "-shm"):
+        if os.path.exists(path + end):
+            os.remove(path + end)
+
+
+def by_program(program, path, count):
+    out = subprocess.run([program, path, str(count)], stdout=subprocess.PIPE, text=True, check=True)
+    opened, put = out.stdout.splitlines()[:2]
+    return int(opened.split()[3]) / 1e6, int(put.split()[3]) / 1e6
+
+
+def by_python(path, count, tests=False):
+    start = time.perf_counter()
+    base = sqlite3.connect(path, isolation_level=None)
+    base.execute("PRAGMA journal_mode = WAL")
+    base.execute("PRAGMA synchronous = FULL")
+    base.execute(CREATE)
+    if tests:
+        base.execute("PRAGMA integrity_check").fetchall()
+    base.execute(ALL).fetchall()
+    opened = time.perf_counter() - start
+    start = time.perf_counter()
+    for number in range(count):
+        base.execute(PUT, (1, number, "android.permission.CAMERA", "", "", "", 1))
+    put = time.perf_counter() - start
+    base.close()
+    return opened, put
+
+
+def report(name, pairs, total):
+    ours, theirs = total(pair[0] for pair in pairs), total(pair[1] for pair in pairs)
+    print(f"{name}: {ours:.4f} s, sqlite3 {theirs:.4f} s, ratio {ours / theirs:.2f}")
+
+
+def main():
+    """The two take turns, so that a disk or a machine that is busy for a while slows both."""
+    program, path = sys.argv[1], sys.argv[2]
+    puts = []
+    for _ in range(10):
+        remove(path)
+        remove(path + ".py")
+        puts.append((by_program(program, path, 100)[1], by_python(path + ".py", 100)[1]))
+    report("1,000 puts in ten rounds", puts, sum)
+    by_program(program, path, 10000)
+    by_python(path + ".py", 10000)
+    for name, tests in (("opening 10,000 rows, best of twenty", False), ("with integrity_check", True)):
+        opened = [(by_program(program, path, 0)[0], by_python(path + ".py", 0, tests)[0]) for _ in range(20)]
+        report(name, opened, min)
+
+
+main()
