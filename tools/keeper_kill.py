@@ -1,8 +1,8 @@
 #!/usr/bin/env python3
 """Kills a keeper with signal 9 in the middle of its puts, many times over.
 
-Each time every row that was acknowledged before has to be there at the next opening.
-At the end sqlite3 reads the file and says whether it is sound.
+Each time every row that was acknowledged has to be there at the next opening, and at most one more,
+whose put was under way. Then sqlite3 reads the file and says whether it is sound.
 
     keeper_kill.py PROGRAM FILE [TIMES]
 
@@ -24,39 +24,47 @@ def remove(path):
 
 
 def one_kill(program, path):
-    """The greatest number of rows that was seen, and how many were acknowledged."""
-    child = subprocess.Popen([program, path, "100000", "say"], stdout=subprocess.PIPE, text=True)
-    first = child.stdout.readline().split()
+    """How many rows were acknowledged before the kill."""
+    child = subprocess.Popen([program, path, "1000000", "say"], stdout=subprocess.PIPE, text=True)
+    child.stdout.readline()
     time.sleep(random.uniform(0.01, 0.25))
     child.send_signal(signal.SIGKILL)
     lines = child.stdout.read().splitlines()
     child.wait()
-    whole = [int(line) for line in lines if line.isdigit()]
-    return int(first[1]), (max(whole) + 1 if whole else 0)
+    return sum(line.isdigit() for line in lines)
 
 
-def main():
-    program, path = sys.argv[1], sys.argv[2]
-    times = int(sys.argv[3]) if len(sys.argv) > 3 else 100
-    remove(path)
-    most = acknowledged_in_all = 0
-    for turn in range(times):
-        found, acknowledged = one_kill(program, path)
-        if found < most:
-            sys.exit(f"turn {turn}: {found} rows, and {most} were acknowledged")
-        most = max(most, found, acknowledged)
-        acknowledged_in_all += acknowledged
+def found_after(program, path):
+    """How many rows the next opening finds, which recovers the file and closes it."""
     out = subprocess.run([program, path, "0"], stdout=subprocess.PIPE, text=True, check=True)
-    found = int(out.stdout.split()[1])
-    if found < most:
-        sys.exit(f"at the end: {found} rows, and {most} were acknowledged")
+    return int(out.stdout.split()[1])
+
+
+def as_sqlite3_reads(path):
     base = sqlite3.connect(path)
     count = base.execute("SELECT count(*) FROM kept").fetchone()[0]
     check = base.execute("PRAGMA integrity_check").fetchone()[0]
     base.close()
-    if count != found or check != "ok":
-        sys.exit(f"sqlite3 reads {count} rows of {found}: {check}")
-    print(f"{times} kills, {acknowledged_in_all} puts acknowledged, {found} rows, integrity {check}")
+    return count, check
+
+
+def main():
+    """Each turn has a file of its own, so that every put that was acknowledged made a row."""
+    program, path = sys.argv[1], sys.argv[2]
+    times = int(sys.argv[3]) if len(sys.argv) > 3 else 100
+    all_acknowledged = all_found = 0
+    for turn in range(times):
+        remove(path)
+        acknowledged = one_kill(program, path)
+        found = found_after(program, path)
+        if not acknowledged <= found <= acknowledged + 1:
+            sys.exit(f"turn {turn}: {found} rows, and {acknowledged} were acknowledged")
+        count, check = as_sqlite3_reads(path)
+        if count != found or check != "ok":
+            sys.exit(f"turn {turn}: sqlite3 reads {count} rows of {found}: {check}")
+        all_acknowledged += acknowledged
+        all_found += found
+    print(f"{times} kills, {all_acknowledged} puts acknowledged, {all_found} rows found, integrity ok each time")
 
 
 main()
