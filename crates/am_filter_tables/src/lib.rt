@@ -14,7 +14,8 @@ pub use fault::ReadFault;
 pub use filters::{Filters, filters_at};
 pub use place::{Spot, missing, over_limit, within_key, wrong_kind};
 pub use print::Printed;
+pub use rows::{Paths, Row, Rows, merge_rows};
 pub use tables::{
     at_most, entry_table, optional_text, optional_truth, optional_values, required_text, texts_at,
 };
-pub use text::{Form, starts_with_dot};
+pub use text::{Form, sorted, starts_with_dot};

@@ -17,30 +17,42 @@ use std::alloc::{AllocError, Global};
 use std::collections::BTreeSet;
 use toml::{Table, Value};
 
-/// The path rules of a row.
+/// The path rules of a data row: one of each kind at most.
 #[derive(Drop)]
 pub struct Paths {
+    /// The whole path.
     pub literal: Option<Text>,
+    /// What the path starts with.
     pub prefix: Option<Text>,
+    /// What the path ends with.
     pub suffix: Option<Text>,
+    /// A pattern of the whole path.
     pub pattern: Option<Glob>,
 }
 
-/// A data row.
+/// A data row of a filter.
 #[derive(Drop)]
 pub struct Row {
+    /// The scheme, if the row has one.
     pub scheme: Option<Text>,
+    /// The host with its port, if the row has a host.
     pub authority: Option<Authority>,
+    /// The path rules, in the order in which they are kept.
     pub paths: Paths,
+    /// The MIME type, if the row has one.
     pub mime: Option<Mime>,
 }
 
 /// The data rows of a filter, merged.
 #[derive(Drop)]
 pub struct Rows {
+    /// Sorted by bytes, each once.
     pub schemes: List<Text>,
+    /// In the order of the rows, repeats included.
     pub authorities: List<Authority>,
+    /// In the order of the rows, repeats included.
     pub paths: List<PathRule>,
+    /// In the order of the rows, repeats included.
     pub types: List<Mime>,
 }
 
@@ -311,8 +323,13 @@ fn with_row(rows: Merging, row: Row) -> Result<Merging, AllocError>
     })
 }
 
-/// The rows, merged.
-fn merge(alloc: Global, rows: Vec<Row>) -> Result<Rows, AllocError>
+/// The rows of a filter, merged in their order: schemes stand sorted by bytes, each once, all else in the order of the
+/// rows, repeats included.
+///
+/// # Errors
+///
+/// Only want of memory.
+pub fn merge_rows(alloc: Global, rows: Vec<Row>) -> Result<Rows, AllocError>
     ensures { IfOk result (λ all. all ≡ fold with_row no_rows rows.items) }
 {
     let mut all = Merging {
@@ -340,5 +357,5 @@ pub fn rows_at(alloc: Global, at: &str, table: &Value) -> Result<Rows, ReadFault
     let values = optional_values(alloc, at, "data", table)?;
     at_most(alloc, 64, "list", values.len())?;
     let rows = each_row(alloc, at, values)?;
-    Ok(merge(alloc, rows)?)
+    Ok(merge_rows(alloc, rows)?)
 }

@@ -4,7 +4,7 @@ pub mod FillLemmas
 pub mod FramingLemmas
 pub mod Literals
 pub mod NextLemmas
-pub mod Printed
+pub mod Phrases
 pub mod SendLemmas
 pub mod ServedLemmas
 pub mod SessionLemmas

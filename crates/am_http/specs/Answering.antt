@@ -1,10 +1,9 @@
 -- What a frame is answered, and the text that says it.
-use Rattle.std.specs.Prelude.{◌≡◌, ℕ, ◌⊎◌, List, Ok, Err, IsTrue, ⊤}
+use Rattle.std.specs.Prelude.{◌≡◌, ℕ, ◌⊎◌, List, Ok, Err}
 use Rattle.am_types.specs.declared.request.Request.{Request}
 use Rattle.am_types.specs.declared.history.Entry.{Entry}
 use Rattle.am_steps.specs.State.{State}
 use Rattle.am_steps.specs.Desks.{Shows, SeesOthers}
-use Rattle.am_wire.specs.Replies.{is_printed}
 use Rattle.am_http.specs.declared.answer.Answer.{Answer}
 use Rattle.am_http.specs.declared.answer.Answer.TheVariants.{Refused, Shown as Reply, Want}
 use Rattle.am_http.specs.Head.{Frame}
@@ -17,12 +16,6 @@ AnswersFrame start desk old new frame (Refused refusal) = (request_of frame ≡ 
 AnswersFrame start desk old new frame (Reply shown) =
     (now : ℕ) × (request : Request) × (request_of frame ≡ Ok request) × Shows start old new (call_of desk frame now request) shown
 AnswersFrame start desk old new frame Want = SeesOthers desk old new
-
--- there is a text for the answer
-abbrev pub HasText : Answer → Type 0
-HasText (Refused refusal) = ⊤
-HasText (Reply shown) = IsTrue (is_printed shown.reply)
-HasText Want = ⊤
 
 -- the text of an answer, or of want of memory where there was none to print it
 abbrev pub Says : Answer → List ℕ → Type 0

@@ -1,34 +1,45 @@
 -- What a frame asks of the manager, or why it doesn't reach it.
-use Rattle.std.specs.Prelude.{ℕ, Bool, ◌==◌, not, ◌&&◌, List, length, take_while, Option, Some, None, Result, Ok, Err, codes, bytes_eq, if◌then◌else◌}
+use Rattle.std.specs.Prelude.{ℕ, Bool, true, false, List, length, Some, None, Result, Ok, Err, codes, if◌then◌else◌}
 use Rattle.am_types.specs.declared.request.Request.{Request}
 use Rattle.am_steps.specs.Steps.{Call}
+use Rattle.am_routes.specs.declared.endpoint.Endpoint.{Endpoint}
+use Rattle.am_routes.specs.declared.endpoint.Endpoint.TheVariants as at
+use Rattle.am_routes.specs.declared.routes.RouteFault.{RouteFault}
+use Rattle.am_routes.specs.declared.routes.RouteFault.TheVariants as faults
+use Rattle.am_routes.specs.Table.{endpoint_of}
+use Rattle.am_fields.specs.declared.fault.WireFault.{WireFault}
+use Rattle.am_fields.specs.Printing.{printed}
+use Rattle.am_wire.specs.Requests.{request_of as request_at}
 use Rattle.am_http.specs.declared.answer.Refusal.{Refusal}
-use Rattle.am_http.specs.declared.answer.Refusal.TheVariants.{NoRoute, NotBuilt}
+use Rattle.am_http.specs.declared.answer.Refusal.TheVariants.{NoRoute, NoMethod, BadRequest}
 use Rattle.am_http.specs.Head.{Frame}
-use Rattle.am_wire.specs.Bodies.{query_of}
 use Rattle.am_http.specs.Responses.{refusal}
 
--- the target up to its first question mark
-abbrev pub route_of : List ℕ → List ℕ
-route_of target = take_while (λ b. not (b == 63)) target
+-- the manager serves what is asked at the endpoint
+abbrev pub is_open : Endpoint → Bool
+is_open at.Query = true
+is_open _ = false
 
--- the frame is sent to the route of queries
-abbrev pub is_query_route : Frame → Bool
-is_query_route frame = bytes_eq frame.method (codes "POST") && bytes_eq (route_of frame.target) (codes "/v1/query")
+-- the request that was read of a body, or the refusal of its first fault
+abbrev pub request_or : Result Request WireFault → Result Request Refusal
+request_or (Ok request) = Ok request
+request_or (Err fault) = Err (BadRequest fault)
 
--- the request that was read of the body, or the refusal of one that isn't read
-abbrev pub request_or : Option Request → Result Request Refusal
-request_or None = Err NotBuilt
-request_or (Some request) = Ok request
+-- the request that a body makes where a route was looked up; a route that isn't served is none
+abbrev pub asked_at : Result Endpoint RouteFault → List ℕ → Result Request Refusal
+asked_at (Ok endpoint) body = if is_open endpoint then request_or (request_at endpoint body) else Err NoRoute
+asked_at (Err (faults.NoMethod endpoint)) body = if is_open endpoint then Err NoMethod else Err NoRoute
+asked_at (Err faults.NoRoute) body = Err NoRoute
 
 -- the request that the frame makes, or why it makes none
 abbrev pub request_of : Frame → Result Request Refusal
-request_of frame = if is_query_route frame then request_or (query_of frame.body) else Err NoRoute
+request_of frame = asked_at (endpoint_of frame.method frame.target) frame.body
 
 -- the response to a frame that makes no request
 abbrev pub refusal_text : Refusal → List ℕ
 refusal_text NoRoute = refusal 404 (codes "no_route") None
-refusal_text NotBuilt = refusal 400 (codes "bad_request") (Some (codes "not_built"))
+refusal_text NoMethod = refusal 405 (codes "no_method") None
+refusal_text (BadRequest fault) = refusal 400 (codes "bad_request") (Some (printed fault))
 
 -- the call of a frame on a desk at a moment
 abbrev pub call_of : ℕ → Frame → ℕ → Request → Call

@@ -1,9 +1,9 @@
 -- The bytes of a response.
 use Rattle.std.specs.Prelude.{ℕ, Bool, ◌==◌, List, [], ◌∷◌, ◌++◌, length, Option, Some, None, IsSome, unwrap_or, codes, decimal, if◌then◌else◌}
-use Rattle.serde_json.specs.Data.{Data}
 use Rattle.serde_json.specs.Written.{compact_text}
 use Rattle.am_types.specs.declared.reply.Reply.{Reply}
-use Rattle.am_wire.specs.Replies.{reply_data, status_of, error_data, named_error_data}
+use Rattle.am_values.specs.Replies.{reply_data, status_of}
+use Rattle.am_values.specs.Rules.{error_data}
 
 -- the statuses, each with its phrase
 abbrev pub phrases : List (ℕ × List ℕ)
@@ -50,18 +50,13 @@ message status lines body = head status (length body) ++ (lines ++ (codes "\r\n"
 unfoldable pub response : ℕ → Bool → Reply → List ℕ
 response at stored reply = message (status_of reply) (place_lines at stored) (compact_text (reply_data reply))
 
--- the value of a refusal
-abbrev pub refusal_data : List ℕ → Option (List ℕ) → Data
-refusal_data error None = error_data error
-refusal_data error (Some name) = named_error_data error name
-
 -- a refusal before the manager was asked
 unfoldable pub refusal : ℕ → List ℕ → Option (List ℕ) → List ℕ
-refusal status error name = message status [] (compact_text (refusal_data error name))
+refusal status error name = message status [] (compact_text (error_data error name))
 
 -- the body where memory ran out
 unfoldable pub want_body : List ℕ
-want_body = compact_text (error_data (codes "no_memory"))
+want_body = compact_text (error_data (codes "no_memory") None)
 
 -- memory ran out before the call was made
 unfoldable pub want_before : List ℕ

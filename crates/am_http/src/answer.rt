@@ -1,26 +1,31 @@
 //! What a frame is answered.
-ghost use Rattle.std.specs.Prelude.{◌≡◌, ◌≤◌, ◌&&◌, codes, bytes_eq, length, IfOk, IsUtf8};
+ghost use Rattle.std.specs.Prelude.{◌≡◌, ◌≤◌, length, IfOk, IsUtf8};
 ghost use Rattle.am_steps.specs.Desks.{opening_of};
 ghost use Rattle.am_steps.specs.History.{IsLegal};
+ghost use Rattle.am_wire.specs.Requests.{request_of as request_at};
 ghost use Rattle.am_http.specs.FrameSpans.{frame_held};
-ghost use Rattle.am_http.specs.Requests.{route_of, request_of};
-ghost use Rattle.am_http.specs.Answering.{AnswersFrame, HasText};
+ghost use Rattle.am_http.specs.Requests.{is_open, request_of, request_or};
+ghost use Rattle.am_http.specs.Answering.{AnswersFrame};
 
 use crate::frame::WholeFrame;
+use am_fields::{Unread, WireFault};
 use am_machine::Desk;
 use am_outside::Clock;
+use am_routes::{Endpoint, RouteFault, Routes};
 use am_types::{NoMemory, Request, Shown, Text};
-use am_wire::read_query;
+use am_wire::read_request;
 use std::alloc::Global;
 use std::str;
 
 /// Why a frame makes no request of the manager. The connection goes on.
-#[derive(Clone, Copy, Debug, PartialEq, Eq)]
+#[derive(Debug, Drop)]
 pub enum Refusal {
     /// There is no such route.
     NoRoute,
-    /// The body isn't that of a query.
-    NotBuilt,
+    /// The route takes another method.
+    NoMethod,
+    /// The body makes no request at the route; the first fault of it.
+    BadRequest(WireFault),
 }
 
 /// What a frame is answered.
@@ -34,35 +39,40 @@ pub enum Answer {
     Want,
 }
 
-// The target up to its first question mark.
-fn route(target: &[u8]) -> &[u8]
-    ensures { result.now ≡ route_of target.now }
+// Whether the manager serves what is asked at the endpoint.
+fn is_open(endpoint: Endpoint) -> bool
+    ensures { result ≡ is_open endpoint }
 {
-    for (end, byte) in target.iter().enumerate() {
-        if *byte == b'?' {
-            return &target[..end];
-        }
-    }
-    target
+    matches!(endpoint, Endpoint::Query)
 }
 
-// Whether a request is sent to the route of queries.
-fn is_query_route(method: &[u8], target: &[u8]) -> bool
-    ensures { result ≡ (bytes_eq method.now (codes "POST") && bytes_eq (route_of target.now) (codes "/v1/query")) }
+// The request that the body makes at the endpoint, or why it makes none.
+fn request_at(
+    alloc: Global,
+    endpoint: Endpoint,
+    body: &[u8],
+) -> Result<Result<Request, Refusal>, NoMemory>
+    ensures { IfOk result (λ read. read ≡ request_or (request_at endpoint body.now)) }
 {
-    method == b"POST".as_slice() && route(target) == b"/v1/query".as_slice()
+    match read_request(alloc, endpoint, body) {
+        Ok(request) => Ok(Ok(request)),
+        Err(Unread::Fault(fault)) => Ok(Err(Refusal::BadRequest(fault))),
+        Err(Unread::NoMemory) => Err(NoMemory),
+    }
 }
 
 // The request that a frame makes, or why it makes none.
-fn read_request(alloc: Global, frame: &WholeFrame<'_>) -> Result<Result<Request, Refusal>, NoMemory>
+fn request_of(
+    alloc: Global,
+    routes: &Routes,
+    frame: &WholeFrame<'_>,
+) -> Result<Result<Request, Refusal>, NoMemory>
     ensures { IfOk result (λ read. read ≡ request_of (frame_held frame.now)) }
 {
-    if !is_query_route(frame.method, frame.target) {
-        return Ok(Err(Refusal::NoRoute));
-    }
-    match read_query(alloc, frame.body)? {
-        Some(request) => Ok(Ok(request)),
-        None => Ok(Err(Refusal::NotBuilt)),
+    match routes.route(frame.method, frame.target) {
+        Ok(endpoint) if is_open(endpoint) => request_at(alloc, endpoint, frame.body),
+        Err(RouteFault::NoMethod(endpoint)) if is_open(endpoint) => Ok(Err(Refusal::NoMethod)),
+        Ok(_) | Err(_) => Ok(Err(Refusal::NoRoute)),
     }
 }
 
@@ -89,7 +99,6 @@ fn call<D: Desk>(
     requires body { length (frame_held frame.now).body ≤ 65536 }
     requires request { request_of (frame_held frame.now) ≡ Ok request }
     ensures answer { AnswersFrame (opening_of (D.origin desk.old)) (D.number desk.old) (D.seen desk.old) (D.seen desk.new) (frame_held frame.now) result }
-    ensures text { HasText result }
     ensures legal { IsLegal (opening_of (D.origin desk.old)) (D.seen desk.old) → IsLegal (opening_of (D.origin desk.old)) (D.seen desk.new) }
     ensures origin { D.origin desk.new ≡ D.origin desk.old }
     ensures number { D.number desk.new ≡ D.number desk.old }
@@ -108,6 +117,7 @@ fn call<D: Desk>(
 /// Answers a frame: it asks the clock once and makes the call, where the frame makes a request.
 pub fn answer_frame<D: Desk, C: Clock>(
     alloc: Global,
+    routes: &Routes,
     desk: &mut D,
     clock: &mut C,
     frame: &WholeFrame<'_>,
@@ -115,13 +125,12 @@ pub fn answer_frame<D: Desk, C: Clock>(
     requires key { IsUtf8 (frame_held frame.now).key }
     requires body { length (frame_held frame.now).body ≤ 65536 }
     ensures answer { AnswersFrame (opening_of (D.origin desk.old)) (D.number desk.old) (D.seen desk.old) (D.seen desk.new) (frame_held frame.now) result }
-    ensures text { HasText result }
     ensures legal { IsLegal (opening_of (D.origin desk.old)) (D.seen desk.old) → IsLegal (opening_of (D.origin desk.old)) (D.seen desk.new) }
     ensures origin { D.origin desk.new ≡ D.origin desk.old }
     ensures number { D.number desk.new ≡ D.number desk.old }
     ensures sharing { D.sharing desk.new ≡ D.sharing desk.old }
 {
-    match read_request(alloc, frame) {
+    match request_of(alloc, routes, frame) {
         Err(NoMemory) => Answer::Want,
         Ok(Err(refusal)) => Answer::Refused(refusal),
         Ok(Ok(request)) => {

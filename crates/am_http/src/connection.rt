@@ -15,6 +15,7 @@ use crate::send::{write_answer, write_defect};
 use crate::window::Window;
 use am_machine::Desk;
 use am_outside::{Clock, Sink, Source};
+use am_routes::Routes;
 use std::alloc::Global;
 
 /// How many frames of a connection are answered.
@@ -38,6 +39,7 @@ fn serve_frame<D: Desk, S: Source, W: Sink, C: Clock>(
     source: &mut S,
     sink: &mut W,
     clock: &mut C,
+    routes: &Routes,
     window: &mut Window,
     room: &mut Vec<u8>,
 ) -> Turn
@@ -71,7 +73,7 @@ fn serve_frame<D: Desk, S: Source, W: Sink, C: Clock>(
             };
         }
     };
-    let answer = answer_frame(alloc, desk, clock, &spans.of(window.bytes()));
+    let answer = answer_frame(alloc, routes, desk, clock, &spans.of(window.bytes()));
     let written = write_answer(alloc, sink, room, &answer);
     drop(answer);
     if written.is_err() {
@@ -92,6 +94,7 @@ fn serve<D: Desk, S: Source, W: Sink, C: Clock>(
     source: &mut S,
     sink: &mut W,
     clock: &mut C,
+    routes: &Routes,
     window: &mut Window,
     room: &mut Vec<u8>,
 ) -> Served
@@ -111,7 +114,7 @@ fn serve<D: Desk, S: Source, W: Sink, C: Clock>(
 {
     window.clear();
     for answered in 0..MAX_FRAMES {
-        match serve_frame(alloc, desk, source, sink, clock, window, room) {
+        match serve_frame(alloc, desk, source, sink, clock, routes, window, room) {
             Turn::Went => {}
             Turn::Closed => {
                 return Served {
@@ -161,6 +164,7 @@ pub fn serve_connection<D: Desk, S: Source, W: Sink, C: Clock>(
         source,
         sink,
         clock,
+        &buffers.routes,
         &mut buffers.window,
         &mut buffers.room,
     )

@@ -1,13 +1,15 @@
 //! Whole connections over a device with one package.
-ghost use Rattle.std.specs.Prelude.{◌<◌};
+ghost use Rattle.std.specs.Prelude.{◌<◌, IfOk};
+ghost use Rattle.am_model.specs.Sound.{IsSound};
 
 mod inputs;
 
 use crate::frame_tests::spelled_out;
 use crate::{Buffers, End, Served, serve_connection};
 use am_machine::{SoleDesk, begin};
+use am_manifest::read_device;
 use am_outside::{MemorySink, MemorySource, StepClock};
-use am_types::{Device, List, NoMemory, Package, Text};
+use am_types::{Device, List, NoMemory};
 use inputs::{CLIENTS, CONNECTIONS};
 use std::alloc::Global;
 use std::str;
@@ -20,35 +22,18 @@ const QUERY: &[u8] =
 const ANSWER: &[u8] =
     b"HTTP/1.1 200 OK\r\nContent-Type: application/json\r\nContent-Length: 17\r\nAM-At: 0\r\nAM-Stored: 0\r\n\r\n{\"components\":[]}";
 
-fn text(alloc: Global, words: &str) -> Result<Text, NoMemory> {
-    Ok(Text::new(String::from_str(alloc, words)?))
-}
+/// A device with one package that has no components.
+const DEVICE: &str =
+    "system_key = \"sys\"\n[[package]]\nkey = \"k1\"\n[package.manifest]\npackage = \"com.one\"\n";
 
-fn package(alloc: Global) -> Result<Package, NoMemory> {
-    let name = text(alloc, "com.one")?;
-    let key = text(alloc, "k1")?;
-    Ok(Package {
-        uid: 10000,
-        name,
-        key,
-        stopped: false,
-        decls: List::new(Vec::new(alloc)),
-    })
-}
-
-fn device(alloc: Global) -> Result<Device, NoMemory> {
-    let system_key = text(alloc, "sys")?;
-    let packages = vec![in alloc; package(alloc)?]?;
-    Ok(Device {
-        system_key,
-        root_key: None,
-        browser: None,
-        protected: List::new(Vec::new(alloc)),
-        exempt: List::new(Vec::new(alloc)),
-        packages: List::new(packages),
-        grants: List::new(Vec::new(alloc)),
-        links: List::new(Vec::new(alloc)),
-    })
+fn device(alloc: Global) -> Result<Device, Fail>
+    ensures { IfOk result (λ device. IsSound device) }
+{
+    Ok(
+        read_device(alloc, DEVICE.as_bytes())
+            .ok()
+            .ok_or("the device is read")?,
+    )
 }
 
 /// Serves the input, `most` bytes a read and a write. The read and the write with these numbers,
@@ -59,7 +44,7 @@ fn serve(
     most: usize,
     failing_read: u32,
     failing_write: u32,
-) -> Result<(Served, MemorySink), NoMemory>
+) -> Result<(Served, MemorySink), Fail>
     requires { 0 < most }
 {
     let mut desk = SoleDesk::new(begin(alloc, device(alloc)?)?);

@@ -1,22 +1,18 @@
 //! The bytes of responses.
-ghost use Rattle.std.specs.Prelude.{◌≡◌, ◌+◌, ◌≤◌, ◌++◌, None, IfOk, IsTrue, codes, length, string_bytes, option_map, vec_len, vec_capacity};
-ghost use Rattle.serde_json.specs.View.{view};
-ghost use Rattle.am_wire.specs.Replies.{is_printed};
-ghost use Rattle.am_http.specs.Responses.{HasPhrase, phrase, head, digit, place_lines, message, response, refusal_data, refusal, want_before, want_after};
+ghost use Rattle.std.specs.Prelude.{◌≡◌, ◌+◌, ◌≤◌, ◌++◌, None, IfOk, codes, length, string_bytes, option_copied, vec_len, vec_capacity};
+ghost use Rattle.am_http.specs.Responses.{HasPhrase, phrase, head, digit, place_lines, message, response, refusal, want_before, want_after};
 
-use am_types::{NoMemory, Shown, Text};
-use am_wire::{error_value, named_error_value, reply_status, reply_text};
+use am_types::{NoMemory, Shown};
+use am_values::{error_value, reply_status, reply_text};
 use itoa::Buffer;
-use serde_json::Value;
 use std::alloc::{AllocError, Global};
 
 /// The room that the response takes where memory ran out after the call was made, in bytes.
 pub const WANT_ROOM: usize = 192;
 
-/// The response that shows a reply and its place in the history. The reply is one that is printed.
-#[tactic(auto, using(crate::proofs::Printed::every_status_has_a_phrase), unfolding(crate::specs::Responses::response))]
+/// The response that shows a reply and its place in the history.
+#[tactic(auto, using(crate::proofs::Phrases::every_status_has_a_phrase), unfolding(crate::specs::Responses::response))]
 pub fn response_bytes(alloc: Global, shown: &Shown) -> Result<Vec<u8>, NoMemory>
-    requires printed { IsTrue (is_printed shown.now.reply) }
     ensures { IfOk result (λ bytes. bytes.items ≡ response shown.now.at shown.now.stored shown.now.reply) }
 {
     let body = reply_text(alloc, &shown.reply)?;
@@ -36,25 +32,14 @@ pub fn response_bytes(alloc: Global, shown: &Shown) -> Result<Vec<u8>, NoMemory>
 pub fn refusal_bytes(
     alloc: Global,
     status: u16,
-    error: &Text,
-    name: Option<&Text>,
+    error: &str,
+    name: Option<&str>,
 ) -> Result<Vec<u8>, NoMemory>
     requires { HasPhrase status }
-    ensures { IfOk result (λ bytes.
-        bytes.items ≡ refusal status error.now (option_map (λ text. text.now) name.entry)) }
+    ensures { IfOk result (λ bytes. bytes.items ≡ refusal status error.now (option_copied name.entry)) }
 {
-    let body = refusal_value(alloc, error, name)?.to_string(alloc)?;
+    let body = error_value(alloc, error, name)?.to_string(alloc)?;
     Ok(message(alloc, status, "", body.as_str())?.into_bytes())
-}
-
-fn refusal_value(alloc: Global, error: &Text, name: Option<&Text>) -> Result<Value, AllocError>
-    ensures { IfOk result (λ value.
-        view value ≡ refusal_data error.now (option_map (λ text. text.now) name.entry)) }
-{
-    match name {
-        None => error_value(alloc, error.as_str()),
-        Some(name) => named_error_value(alloc, error.as_str(), name.as_str()),
-    }
 }
 
 #[tactic(auto, unfolding(crate::specs::Responses::message))]
@@ -214,9 +199,7 @@ mod tests {
         Ok(Text::new(String::from_str(alloc, from)?))
     }
 
-    fn found(alloc: Global, names: &[(&str, &str)]) -> Result<Reply, AllocError>
-        ensures { IfOk result (λ reply. IsTrue (is_printed reply)) }
-    {
+    fn found(alloc: Global, names: &[(&str, &str)]) -> Result<Reply, AllocError> {
         let mut components = Vec::new(alloc);
         for (package, class) in names {
             components.push(Component {
@@ -235,9 +218,7 @@ mod tests {
         stored: bool,
         reply: Reply,
         expected: &str,
-    ) -> Result<(), Fail>
-        requires { IsTrue (is_printed reply) }
-    {
+    ) -> Result<(), Fail> {
         let shown = Shown { at, stored, reply };
         let bytes = response_bytes(alloc, &shown);
         drop(shown);
@@ -287,32 +268,28 @@ mod tests {
     fn refuses(rt: HostRuntime) -> Result<(), Fail> {
         let alloc = rt.alloc();
         let cases = [
-            (
-                bad_head(),
-                refusal_bytes(alloc, 400, &text(alloc, "bad_head")?, None)?,
-            ),
+            (bad_head(), refusal_bytes(alloc, 400, "bad_head", None)?),
             (
                 head_too_large(),
-                refusal_bytes(alloc, 431, &text(alloc, "head_too_large")?, None)?,
+                refusal_bytes(alloc, 431, "head_too_large", None)?,
             ),
             (
                 transfer_encoding(),
-                refusal_bytes(alloc, 501, &text(alloc, "transfer_encoding")?, None)?,
+                refusal_bytes(alloc, 501, "transfer_encoding", None)?,
             ),
             (
                 length_required(),
-                refusal_bytes(alloc, 411, &text(alloc, "length_required")?, None)?,
+                refusal_bytes(alloc, 411, "length_required", None)?,
             ),
             (
                 body_too_large(),
-                refusal_bytes(alloc, 413, &text(alloc, "body_too_large")?, None)?,
+                refusal_bytes(alloc, 413, "body_too_large", None)?,
             ),
         ];
         for (expected, bytes) in cases {
             assert_eq!(rt; bytes.as_slice(), expected);
         }
-        let fault = text(alloc, "unknown_field a\"b")?;
-        let bytes = refusal_bytes(alloc, 400, &text(alloc, "bad_request")?, Some(&fault))?;
+        let bytes = refusal_bytes(alloc, 400, "bad_request", Some("unknown_field a\"b"))?;
         assert_eq!(rt;
             bytes.as_slice(),
             b"HTTP/1.1 400 Bad Request\r\nContent-Type: application/json\r\nContent-Length: 51\r\n\r\n{\"error\":\"bad_request\",\"name\":\"unknown_field a\\\"b\"}".as_slice()

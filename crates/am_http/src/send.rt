@@ -1,7 +1,7 @@
 //! Writing to a sink.
 ghost use Rattle.std.specs.Prelude.{◌≡◌, ℕ, ◌<◌, ◌≤◌, List, length, vec_capacity, IfOk, OnErr};
 ghost use Rattle.am_outside.specs.Counts.{HasRisen};
-ghost use Rattle.am_http.specs.Answering.{HasText, Says};
+ghost use Rattle.am_http.specs.Answering.{Says};
 ghost use Rattle.am_http.specs.Requests.{refusal_text};
 ghost use Rattle.am_http.specs.Sending.{Sends, SendsFrom};
 ghost use Rattle.am_http.specs.Sessions.{defect_text};
@@ -13,7 +13,7 @@ use crate::response::{
     response_bytes, transfer_encoding, want_before,
 };
 use am_outside::{Failed, Sink};
-use am_types::{NoMemory, Text};
+use am_types::NoMemory;
 use std::alloc::Global;
 
 // Writes once, from a place of the bytes on, and answers the place behind what was taken.
@@ -43,22 +43,17 @@ pub fn write_all<W: Sink>(sink: &mut W, bytes: &[u8]) -> Result<(), Failed>
 }
 
 // The response to a frame that makes no request.
-fn refusal_text(alloc: Global, refusal: Refusal) -> Result<Vec<u8>, NoMemory>
-    ensures { IfOk result (λ bytes. bytes.items ≡ refusal_text refusal) }
+fn refusal_text(alloc: Global, refusal: &Refusal) -> Result<Vec<u8>, NoMemory>
+    ensures { IfOk result (λ bytes. bytes.items ≡ refusal_text refusal.now) }
 {
     match refusal {
-        Refusal::NoRoute => refusal_bytes(alloc, 404, &text(alloc, "no_route")?, None),
-        Refusal::NotBuilt => {
-            let name = text(alloc, "not_built")?;
-            refusal_bytes(alloc, 400, &text(alloc, "bad_request")?, Some(&name))
+        Refusal::NoRoute => refusal_bytes(alloc, 404, "no_route", None),
+        Refusal::NoMethod => refusal_bytes(alloc, 405, "no_method", None),
+        Refusal::BadRequest(fault) => {
+            let name = format!(in alloc; "{fault}")?;
+            refusal_bytes(alloc, 400, "bad_request", Some(name.as_str()))
         }
     }
-}
-
-fn text(alloc: Global, words: &str) -> Result<Text, NoMemory>
-    ensures { IfOk result (λ text. text ≡ words.now) }
-{
-    Ok(Text::new(String::from_str(alloc, words)?))
 }
 
 /// Writes the response that says an answer, or that memory ran out where there is none to print
@@ -70,7 +65,6 @@ pub fn write_answer<W: Sink>(
     answer: &Answer,
 ) -> Result<(), Failed>
     requires room { 192 ≤ vec_capacity room.old }
-    requires text { HasText answer.now }
     ensures sent { (bytes : List ℕ) × Says answer.now bytes × Sends (W.taken sink.old) (W.taken sink.new) bytes result }
     ensures never_falls { W.faults sink.old ≤ W.faults sink.new }
     ensures failed { OnErr result (HasRisen (W.faults sink.old) (W.faults sink.new)) }
@@ -78,7 +72,7 @@ pub fn write_answer<W: Sink>(
     ensures capacity { vec_capacity room.new ≡ vec_capacity room.old }
 {
     match answer {
-        Answer::Refused(refusal) => match refusal_text(alloc, *refusal) {
+        Answer::Refused(refusal) => match refusal_text(alloc, refusal) {
             Ok(bytes) => write_all(sink, bytes.as_slice()),
             Err(NoMemory) => write_all(sink, want_before()),
         },

@@ -1,4 +1,2 @@
-pub mod Order
-pub mod Passing
-pub mod Priorities
+pub mod Held
 pub mod Shown

@@ -1,8 +1,9 @@
 //! Which caller a key stands for.
-ghost use Rattle.std.specs.Prelude.{◌≡◌};
-ghost use Rattle.am_steps.specs.State.{opening, uid_of, uid_of_package, root_or};
+ghost use Rattle.std.specs.Prelude.{◌≡◌, Some, if◌then◌else◌};
+ghost use Rattle.am_model.specs.Texts.{is_same};
+ghost use Rattle.am_steps.specs.State.{system_uid, uid_of_package, root_or};
 
-use am_types::{Device, List, Package, Text};
+use am_types::{List, Package, Text};
 
 /// The uid of the system.
 pub const SYSTEM: u32 = 1000;
@@ -10,15 +11,21 @@ pub const SYSTEM: u32 = 1000;
 /// The uid of the root.
 pub const ROOT: u32 = 0;
 
-/// The uid that has the key, if there is one. Takes no memory.
-#[tactic(auto, using(am_steps::proofs::Opening::a_key_at_opening))]
-pub fn uid_of(device: &Device, key: &Text) -> Option<u32>
-    ensures { result ≡ uid_of (opening device.now) key.now }
+/// The uid that has the key, if there is one, where these are the keys of the system and of the
+/// root, and the packages that are installed. Takes no memory.
+pub fn uid_of(
+    system_key: &Text,
+    root_key: &Option<Text>,
+    packages: &List<Package>,
+    key: &Text,
+) -> Option<u32>
+    ensures { result ≡ (if is_same system_key.now key.now then Some system_uid
+        else root_or root_key.now key.now (uid_of_package packages.now key.now)) }
 {
-    if device.system_key == *key {
+    if *system_key == *key {
         Some(SYSTEM)
     } else {
-        root_or(&device.root_key, key, uid_of_package(&device.packages, key))
+        root_or(root_key, key, uid_of_package(packages, key))
     }
 }
 

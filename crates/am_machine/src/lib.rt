@@ -2,9 +2,9 @@
 #![tactic(auto)]
 
 mod callers;
-mod candidates;
 mod desk;
 mod manager;
+mod opened;
 mod query;
 mod sole;
 

@@ -8,7 +8,7 @@ use am_types::{NoMemory, Request, Shown, Text};
 use std::marker::Model;
 
 /// The only desk of a manager. Its number is 0, and it has seen the manager's whole history.
-#[derive(Debug, Drop)]
+#[derive(Drop)]
 pub struct SoleDesk {
     manager: Manager,
     // How many entries the manager had when it was handed over. Contracts alone read it.

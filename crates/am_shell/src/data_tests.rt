@@ -48,6 +48,22 @@ data = [
     { scheme = 'http', host = 'h', port = 8080, pathPrefix = '/p/', pathSuffix = '.pdf' },
     { pathPattern = '/a.*b' },
 ]
+[[package.manifest.activity]]
+name = '.Exact'
+exported = true
+intent-filter = [{ action = ['x.Exact'], data = [{ mimeType = 'image/png' }] }]
+[[package.manifest.activity]]
+name = '.Opaque'
+exported = true
+intent-filter = [{ action = ['x.Opaque'], data = [{ scheme = 'mailto' }] }]
+[[package.manifest.activity]]
+name = '.Host'
+exported = true
+intent-filter = [{ action = ['x.Host'], data = [{ scheme = 'http', host = '[::1]', port = 80 }] }]
+[[package.manifest.activity]]
+name = '.Slash'
+exported = true
+intent-filter = [{ action = ['x.Slash'], data = [{ scheme = 'http', host = 'h', pathPrefix = '/' }] }]
 [[package.manifest.service]]
 name = '.Service'
 exported = true
@@ -71,11 +87,46 @@ const QUERIES: &str = r#"{"action":"x.Merged","data":"https://a.com/x"} -> .Merg
 {"action":"x.Image","data":"http://h/1","type":"image/png"} -> none
 {"action":"x.Image","data":"content://p/1"} -> none
 {"action":"x.Image","type":"IMAGE/png"} -> none
+{"action":"x.Exact","type":"image/*"} -> .Exact
+{"action":"x.Exact","type":"*/*"} -> .Exact
+{"action":"x.Exact","type":"IMAGE/png"} -> none
+{"action":"x.Opaque","data":"mailto:a@b.org"} -> .Opaque
+{"action":"x.Host","data":"http://u@[::1]:80/"} -> .Host
 {"action":"x.Paths","data":"http://h:8080/p/1"} -> .Paths
 {"action":"x.Paths","data":"http://h:8080/a%2Epdf"} -> .Paths
 {"action":"x.Paths","data":"http://h:8080/aab"} -> .Paths
 {"action":"x.Paths","data":"http://h/p/1"} -> none
-{"action":"x.Paths","data":"http://h:8080/x"} -> none"#;
+{"action":"x.Paths","data":"http://h:8080/x"} -> none
+{"action":"x.Slash","data":"http://h"} -> none
+{"action":"x.Slash","data":"http://h/"} -> .Slash
+{"package":"com.one","action":"x.Wild","data":"https://a.google.com"} -> .Wild
+{"package":"com.none","action":"x.Wild","data":"https://a.google.com"} -> none
+{"component":"com.one/.Wild"} -> .Wild
+{"component":"com.one/Wild"} -> none
+{"component":"com.one/.Service"} -> none
+{"action":"x.Image","type":"image/png","identifier":"i","flags":["NEW_TASK"],"extras":{"n":-1}} -> .Image"#;
+
+/// A query of each kind of component, and what it finds.
+const KINDS: &str = r#"{"kind":"activity","intent":{"action":"x.Merged"}} -> []
+{"kind":"service","intent":{"action":"x.Merged"}} -> ["com.one/com.one.Service"]
+{"kind":"receiver","intent":{"action":"x.Merged"}} -> ["com.one/com.one.Receiver"]
+{"kind":"service","intent":{"action":"x.Merged"},"defaultOnly":true} -> []
+{"kind":"service","intent":{"component":"com.one/.Service"},"defaultOnly":true} -> ["com.one/com.one.Service"]
+{"kind":"receiver","intent":{"component":"com.one/.Service"}} -> []"#;
+
+#[test]
+fn finds_each_kind(rt: HostRuntime) -> Result<(), Fail> {
+    let alloc = rt.alloc();
+    let mut rows: u32 = 0;
+    for line in KINDS.lines() {
+        let (body, found) = line.split_once(" -> ").unwrap_or((line, "no row"));
+        let wanted = format!(in alloc; "{{\"components\":{found}}}")?;
+        try_query(&rt, alloc, WHOLE, body, wanted.as_str())?;
+        rows = rows.wrapping_add(1);
+    }
+    assert_eq!(rt; rows, 6);
+    Ok(())
+}
 
 #[test]
 fn finds_by_data(rt: HostRuntime) -> Result<(), Fail> {
@@ -91,6 +142,6 @@ fn finds_by_data(rt: HostRuntime) -> Result<(), Fail> {
         try_query(&rt, alloc, WHOLE, body.as_str(), wanted.as_str())?;
         rows = rows.wrapping_add(1);
     }
-    assert_eq!(rt; rows, 18);
+    assert_eq!(rt; rows, 31);
     Ok(())
 }

@@ -1,5 +1,6 @@
 //! The device file.
 ghost use Rattle.std.specs.Prelude.{◌≡◌, ◌≤◌, IfOk};
+ghost use Rattle.am_model.specs.Sound.{IsSound};
 ghost use Rattle.am_manifest.specs.Devices.{device_of};
 ghost use Rattle.am_shell.specs.Devices.{Opens, Parses, IsRefusal};
 ghost use Rattle.am_shell.specs.Lines.{refusal_line};
@@ -10,11 +11,12 @@ use am_outside::Files;
 use am_types::{Device, ManifestFault, NoMemory, Text};
 use std::alloc::Global;
 
-/// Reads the device file of that name.
+/// Reads the device file of that name. A device that was read is sound.
 pub fn open_device<F: Files>(alloc: Global, files: &mut F, name: &Text) -> Result<Device, Outcome>
     ensures opens { Opens result name.now
         (record { files = F.files files.old; faults = F.faults files.old })
         (record { files = F.files files.new; faults = F.faults files.new }) }
+    ensures sound { IfOk result (λ device. IsSound device) }
 {
     let bytes = files.read_file(name)?;
     parse_device(alloc, bytes.as_slice())
@@ -22,7 +24,8 @@ pub fn open_device<F: Files>(alloc: Global, files: &mut F, name: &Text) -> Resul
 
 // The device that the text describes.
 fn parse_device(alloc: Global, bytes: &[u8]) -> Result<Device, Outcome>
-    ensures { Parses result (device_of bytes.now) }
+    ensures parses { Parses result (device_of bytes.now) }
+    ensures sound { IfOk result (λ device. IsSound device) }
 {
     match read_device(alloc, bytes) {
         Ok(device) => Ok(device),

@@ -1,5 +1,6 @@
 //! One session of a device over an input and an output.
 ghost use Rattle.std.specs.Prelude.{◌≡◌, ◌≤◌, [], IfOk, OnErr};
+ghost use Rattle.am_model.specs.Sound.{IsSound};
 ghost use Rattle.am_shell.specs.Outcomes.{Serves};
 
 use am_http::{Buffers, End, serve_connection};
@@ -8,7 +9,7 @@ use am_outside::{Clock, Sink, Source};
 use am_types::{Device, NoMemory};
 use std::alloc::Global;
 
-/// Serves one session from the device's opening state, and answers how it ended. After `NoMemory`
+/// Serves one session from the opening state of a sound device, and answers how it ended. After `NoMemory`
 /// nothing was read or written.
 pub fn serve_session<S: Source, W: Sink, C: Clock>(
     alloc: Global,
@@ -17,6 +18,7 @@ pub fn serve_session<S: Source, W: Sink, C: Clock>(
     output: &mut W,
     clock: &mut C,
 ) -> Result<End, NoMemory>
+    requires sound { IsSound device }
     ensures served { IfOk result (Serves device
         (record { bytes = S.left input.old; faults = S.faults input.old })
         (record { bytes = S.left input.new; faults = S.faults input.new })

@@ -120,7 +120,7 @@ fn with_fault(failing: &'static str, row: Row) -> Row {
 const QUERY: &str =
     "POST /v1/query HTTP/1.1\r\nAM-Key: k1\r\nContent-Length: 45\r\n\r\n{\"intent\":{\"action\":\"a.X\"},\"kind\":\"activity\"}";
 
-fn rows() -> [Row; 17] {
+fn rows() -> [Row; 18] {
     [
         session("", 0, "", ""),
         session(
@@ -134,6 +134,13 @@ fn rows() -> [Row; 17] {
             "GET /v1/none HTTP/1.0\r\n\r\n\r\nno frame",
             0,
             "HTTP/1.1 404 Not Found\r\nContent-Type: application/json\r\nContent-Length: 20\r\n\r\n{\"error\":\"no_route\"}",
+            "",
+        ),
+        // No route, another method, a body that is no JSON: refused before the manager, and the connection goes on.
+        session(
+            "GET /v1/none HTTP/1.1\r\n\r\nGET /v1/query HTTP/1.1\r\n\r\nPOST /v1/query HTTP/1.1\r\nContent-Length: 1\r\n\r\n{",
+            0,
+            "HTTP/1.1 404 Not Found\r\nContent-Type: application/json\r\nContent-Length: 20\r\n\r\n{\"error\":\"no_route\"}HTTP/1.1 405 Method Not Allowed\r\nContent-Type: application/json\r\nContent-Length: 21\r\n\r\n{\"error\":\"no_method\"}HTTP/1.1 400 Bad Request\r\nContent-Type: application/json\r\nContent-Length: 41\r\n\r\n{\"error\":\"bad_request\",\"name\":\"not_json\"}",
             "",
         ),
         session("POST /v1/query", 1, "", "am: session ended: cut\n"),
@@ -194,7 +201,16 @@ fn found(device: &'static str, body: &'static str, answer: &'static str) -> Exch
     }
 }
 
-fn exchanges() -> [Exchange; 7] {
+/// A query whose body has a fault.
+fn unread(body: &'static str, answer: &'static str) -> Exchange {
+    Exchange {
+        status: "400 Bad Request",
+        places: "",
+        ..found(EMPTY, body, answer)
+    }
+}
+
+fn exchanges() -> [Exchange; 14] {
     [
         found(
             FILTERS,
@@ -230,9 +246,39 @@ fn exchanges() -> [Exchange; 7] {
             ..found(
                 EMPTY,
                 "{}",
-                "{\"error\":\"bad_request\",\"name\":\"not_built\"}",
+                "{\"error\":\"bad_request\",\"name\":\"missing kind\"}",
             )
         },
+        // A URI that isn't one, by the fault's number.
+        unread(
+            "{\"kind\":\"activity\",\"intent\":{\"data\":\"http://h/a%2\"}}",
+            "{\"error\":\"bad_request\",\"name\":\"bad_uri 3\"}",
+        ),
+        unread(
+            "{\"kind\":\"activity\",\"intent\":{\"data\":\"http://h/%ff\"}}",
+            "{\"error\":\"bad_request\",\"name\":\"bad_uri 4\"}",
+        ),
+        unread(
+            "{\"kind\":\"activity\",\"intent\":{\"data\":\"http://h:1x/\"}}",
+            "{\"error\":\"bad_request\",\"name\":\"bad_uri 2\"}",
+        ),
+        unread(
+            "{\"kind\":\"activity\",\"intent\":{\"data\":\"//h/\"}}",
+            "{\"error\":\"bad_request\",\"name\":\"bad_uri 1\"}",
+        ),
+        // A MIME type that isn't one.
+        unread(
+            "{\"kind\":\"activity\",\"intent\":{\"type\":\"text\"}}",
+            "{\"error\":\"bad_request\",\"name\":\"bad_mime 1\"}",
+        ),
+        unread(
+            "{\"kind\":\"activity\",\"intent\":{\"type\":\"a/b c\"}}",
+            "{\"error\":\"bad_request\",\"name\":\"bad_mime 3\"}",
+        ),
+        unread(
+            "{\"kind\":\"activity\",\"intent\":{\"type\":\"a/\"}}",
+            "{\"error\":\"bad_request\",\"name\":\"bad_mime 2\"}",
+        ),
         Exchange {
             fields: "AM-Key: kx\r\n",
             status: "401 Unauthorized",

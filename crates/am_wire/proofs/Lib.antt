@@ -1,3 +1,0 @@
-pub mod JsonValues
-pub mod Listed
-pub mod Texts

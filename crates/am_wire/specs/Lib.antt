@@ -1,2 +1,6 @@
-pub mod Bodies
-pub mod Replies
+pub mod Words
+pub mod Activities
+pub mod Broadcasts
+pub mod Pendings
+pub mod Packages
+pub mod Requests

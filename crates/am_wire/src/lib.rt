@@ -1,8 +1,15 @@
-//! JSON as the manager speaks it: what the body of a request asks, and the text of a reply.
+//! Reads the body of a request: what a call at an endpoint asks for, or the first fault that reading meets. Nothing is
+//! guessed: an object has no other fields than its own, a number is whole and within its range, and a text or a list
+//! has no more than its limit.
 #![tactic(auto)]
 
-mod query;
-mod reply;
+mod activities;
+mod broadcasts;
+mod packages;
+mod pendings;
+mod requests;
+#[cfg(test)]
+mod tests;
+mod words;
 
-pub use query::read_query;
-pub use reply::{error_value, named_error_value, reply_status, reply_text};
+pub use requests::read_request;

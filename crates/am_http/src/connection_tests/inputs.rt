@@ -18,11 +18,13 @@ ab 2.3 with -k | GET /v1/status HTTP/1.0\r\nConnection: Keep-Alive\r\nHost: 127.
 pub const CONNECTIONS: &str = r#"nothing |  -> Input
 empty lines | \r\n -> Cut
 a frame cut off behind a whole one | GET / HTTP/1.1\r\n\r\nPOST -> 404 {"error":"no_route"}, Cut
-each refusal of a frame, and then a query | GET / HTTP/1.1\r\n\r\nPOST /v1/query HTTP/1.1\r\nContent-Length: 2\r\n\r\n{}POST /v1/query HTTP/1.1\r\nAM-Key: k9\r\nContent-Length: 31\r\n\r\n{"kind":"activity","intent":{}}POST /v1/query?a HTTP/1.1\r\nAM-Key: k1\r\nContent-Length: 31\r\n\r\n{"kind":"activity","intent":{}} -> 404 {"error":"no_route"}, 400 {"error":"bad_request","name":"not_built"}, 401 {"error":"unknown_key"}, 200 {"components":[]}, Input
+each refusal of a frame, and then a query | GET / HTTP/1.1\r\n\r\nPOST /v1/query HTTP/1.1\r\nContent-Length: 2\r\n\r\n{}GET /v1/query HTTP/1.1\r\nAM-Key: k1\r\n\r\nPOST /v1/query HTTP/1.1\r\nAM-Key: k9\r\nContent-Length: 31\r\n\r\n{"kind":"activity","intent":{}}POST /v1/query?a HTTP/1.1\r\nAM-Key: k1\r\nContent-Length: 31\r\n\r\n{"kind":"activity","intent":{}} -> 404 {"error":"no_route"}, 400 {"error":"bad_request","name":"missing kind"}, 405 {"error":"no_method"}, 401 {"error":"unknown_key"}, 200 {"components":[]}, Input
 a body that is a frame | POST / HTTP/1.1\r\nContent-Length: 18\r\n\r\nGET / HTTP/1.1\r\n\r\n -> 404 {"error":"no_route"}, Input
 an old query | POST /v1/query HTTP/1.0\r\nAM-Key: k1\r\nContent-Length: 31\r\n\r\n{"kind":"activity","intent":{}}GET / HTTP/1.1\r\n\r\n -> 200 {"components":[]}, Close
+a route that is not served | POST /v1/start HTTP/1.1\r\nContent-Length: 0\r\n\r\nPUT /v1/start HTTP/1.1\r\n\r\n -> 404 {"error":"no_route"}, 404 {"error":"no_route"}, Input
+a closing frame with another method | PUT /v1/query HTTP/1.1\r\nConnection: close\r\n\r\n -> 405 {"error":"no_method"}, Close
 a closing frame without a route | GET / HTTP/1.1\r\nConnection: close\r\n\r\nGET / HTTP/1.1\r\n\r\n -> 404 {"error":"no_route"}, Close
-a closing frame with an unread body | POST /v1/query HTTP/1.1\r\nConnection: close\r\nContent-Length: 2\r\n\r\n{}\x00 -> 400 {"error":"bad_request","name":"not_built"}, Close
+a closing frame with an unread body | POST /v1/query HTTP/1.1\r\nConnection: close\r\nContent-Length: 2\r\n\r\n{}\x00 -> 400 {"error":"bad_request","name":"missing kind"}, Close
 a defect behind a frame | GET / HTTP/1.1\r\n\r\n\x00GET / HTTP/1.1\r\n\r\n -> 404 {"error":"no_route"}, 400 {"error":"bad_head"}, Refused
 no route, and a defect | GET /none HTTP/1.1\r\nContent-Length: x\r\n\r\n -> 400 {"error":"bad_head"}, Refused
 no route, and two lengths | POST /none HTTP/1.1\r\nContent-Length: 1\r\nContent-Length: 1\r\n\r\n -> 400 {"error":"bad_head"}, Refused
@@ -31,5 +33,5 @@ no route, and too long a body | POST /none HTTP/1.1\r\nContent-Length: 65537\r\n
 no route, and a coding | GET /none HTTP/1.1\r\nTransfer-Encoding: chunked\r\n\r\n0\r\n\r\n -> 501 {"error":"transfer_encoding"}, Refused
 a query without length | POST /v1/query HTTP/1.1\r\nAM-Key: k1\r\n\r\n -> 411 {"error":"length_required"}, Refused
 a long head | <100000:a> -> 431 {"error":"head_too_large"}, Refused
-127 nested arrays | POST /v1/query HTTP/1.1\r\nContent-Length: 254\r\n\r\n<127:[><127:]> -> 400 {"error":"bad_request","name":"not_built"}, Input
-128 nested arrays | POST /v1/query HTTP/1.1\r\nContent-Length: 256\r\n\r\n<128:[><128:]> -> 400 {"error":"bad_request","name":"not_built"}, Input"#;
+127 nested arrays | POST /v1/query HTTP/1.1\r\nContent-Length: 254\r\n\r\n<127:[><127:]> -> 400 {"error":"bad_request","name":"wrong_kind body"}, Input
+128 nested arrays | POST /v1/query HTTP/1.1\r\nContent-Length: 256\r\n\r\n<128:[><128:]> -> 400 {"error":"bad_request","name":"not_json"}, Input"#;

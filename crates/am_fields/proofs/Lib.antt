@@ -1,0 +1,3 @@
+pub mod JsonValues
+pub mod Listed
+pub mod Each

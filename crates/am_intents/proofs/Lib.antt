@@ -1,0 +1,3 @@
+pub mod Entries
+pub mod Slashes
+pub mod ShortTexts

@@ -1,0 +1,16 @@
+//! Reads components, extras, flags, intents and filters out of JSON values. The answer is what was read, or the first
+//! fault that reading meets.
+#![tactic(auto)]
+
+mod components;
+mod extras;
+mod filters;
+mod flags;
+mod intents;
+mod rows;
+
+pub use components::{component_in, optional_component, required_component};
+pub use extras::{extras_in, optional_extras};
+pub use filters::{filter_in, required_filter};
+pub use flags::flags_of;
+pub use intents::{intent_in, optional_intent, required_intent};

@@ -1,0 +1,31 @@
+//! The device that a manager was opened with, for contracts alone.
+ghost use Rattle.std.specs.Prelude.{◌≡◌};
+ghost use Rattle.std.specs.Borrow.{ftrue};
+ghost use Rattle.am_types.specs.declared.device.Device.{Device};
+
+use am_types::Device;
+use std::marker::Model;
+
+/// Names the device that a manager was opened with. Contracts alone read it: it takes no bytes.
+#[derive(Drop)]
+pub struct Opened {
+    pub ghost device: { Device },
+}
+
+impl Model for Opened {
+    ghost also_owns = { λ _. ftrue };
+}
+
+// It owns nothing, so threads may pass it on and share it.
+unsafe impl Send for Opened {}
+
+unsafe impl Sync for Opened {}
+
+impl Opened {
+    /// Names that device. Takes no memory.
+    pub fn with(_device: &Device) -> Opened
+        ensures { result.device ≡ _device.now }
+    {
+        Opened {}
+    }
+}

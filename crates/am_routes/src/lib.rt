@@ -1,0 +1,10 @@
+//! The routes of the HTTP interface: which request a method and a target ask for.
+#![tactic(auto)]
+
+mod endpoint;
+mod routes;
+#[cfg(test)]
+mod tests;
+
+pub use endpoint::Endpoint;
+pub use routes::{RouteFault, Routes};

@@ -1,0 +1,73 @@
+-- Queries, activities and services.
+use Rattle.std.specs.Prelude.{ℕ, Bool, List, [], ◌∷◌, codes, Result, Ok, Err}
+use Rattle.serde_json.specs.Data.{Data}
+use Rattle.am_types.specs.declared.request.Request.{Request}
+use Rattle.am_types.specs.declared.request.Request.TheVariants as asks
+use Rattle.am_fields.specs.declared.fault.WireFault.{WireFault}
+use Rattle.am_fields.specs.Fields.{only_fields, optional_truth}
+use Rattle.am_fields.specs.Numbers.{required_natural, optional_natural}
+use Rattle.am_fields.specs.Reading.{◌>>=◌}
+use Rattle.am_intents.specs.Components.{required_component}
+use Rattle.am_intents.specs.Intents.{required_intent}
+use Rattle.am_wire.specs.Words.{kind_of}
+
+-- a body is an object with no other fields than these
+unfoldable pub fields_of : List (List ℕ) → Data → Result (Unit {0}) WireFault
+fields_of fields body = only_fields (codes "body") fields body
+
+-- a request without fields
+unfoldable pub plain_in : Request → Data → Result Request WireFault
+plain_in request body = do
+  known ← fields_of [] body
+  Ok request
+
+-- a body whose only field is a number from 0 on
+unfoldable pub number_in : List ℕ → Data → Result ℕ WireFault
+number_in name body = do
+  known ← fields_of (name ∷ []) body
+  required_natural name body
+
+-- the fields of a query
+unfoldable pub query_fields : List (List ℕ)
+query_fields = codes "kind" ∷ codes "intent" ∷ codes "defaultOnly" ∷ []
+
+-- whether a query asks only for filters that list the default category
+unfoldable pub default_only_of : Data → Result Bool WireFault
+default_only_of body = optional_truth (codes "defaultOnly") body
+
+unfoldable pub query_in : Data → Result Request WireFault
+query_in body = do
+  known ← fields_of query_fields body
+  kind ← kind_of body
+  intent ← required_intent (codes "intent") body
+  default_only ← default_only_of body
+  Ok (asks.Query kind intent default_only)
+
+unfoldable pub start_in : Data → Result Request WireFault
+start_in body = do
+  known ← fields_of (codes "intent" ∷ codes "source" ∷ []) body
+  intent ← required_intent (codes "intent") body
+  source ← optional_natural (codes "source") body
+  Ok (asks.Start intent source)
+
+unfoldable pub finish_activity_in : Data → Result Request WireFault
+finish_activity_in body = do
+  instance ← number_in (codes "instance") body
+  Ok (asks.FinishActivity instance)
+
+unfoldable pub start_service_in : Data → Result Request WireFault
+start_service_in body = do
+  known ← fields_of (codes "intent" ∷ []) body
+  intent ← required_intent (codes "intent") body
+  Ok (asks.StartService intent)
+
+unfoldable pub stop_service_in : Data → Result Request WireFault
+stop_service_in body = do
+  known ← fields_of (codes "component" ∷ []) body
+  component ← required_component (codes "component") body
+  Ok (asks.StopService component)
+
+unfoldable pub history_in : Data → Result Request WireFault
+history_in body = do
+  from ← number_in (codes "from") body
+  Ok (asks.History from)

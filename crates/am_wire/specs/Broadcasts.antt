@@ -1,0 +1,129 @@
+-- Broadcasts, registered receivers and deliveries.
+use Rattle.std.specs.Prelude.{ℕ, ℤ, pos, Bool, true, false, List, [], ◌∷◌, codes, is_some, if◌then◌else◌, Option, Some, None, Result, Ok, Err}
+use Rattle.serde_json.specs.Data.{Data}
+use Rattle.serde_json.specs.Find.{get, as_bool}
+use Rattle.am_types.specs.declared.broadcast.Answer.{Answer}
+use Rattle.am_types.specs.declared.broadcast.Ordered.{Ordered}
+use Rattle.am_types.specs.declared.broadcast.Outcome.{Outcome}
+use Rattle.am_types.specs.declared.request.Request.{Request}
+use Rattle.am_types.specs.declared.request.Request.TheVariants as asks
+use Rattle.am_filter_tables.specs.declared.text.Form.TheVariants.{Any}
+use Rattle.am_fields.specs.declared.fault.WireFault.{WireFault}
+use Rattle.am_fields.specs.Fields.{field, optional_truth}
+use Rattle.am_fields.specs.Numbers.{required_natural, required_whole, optional_whole}
+use Rattle.am_fields.specs.Texts.{optional_text}
+use Rattle.am_fields.specs.Reading.{◌>>=◌}
+use Rattle.am_intents.specs.Extras.{optional_extras}
+use Rattle.am_intents.specs.Intents.{required_intent}
+use Rattle.am_intents.specs.Filters.{required_filter}
+use Rattle.am_wire.specs.Activities.{fields_of, number_in}
+
+-- the truth is `true`, and nothing else
+abbrev pub is_true : Option Bool → Bool
+is_true None = false
+is_true (Some truth) = truth
+
+-- the value of a field, if it is a truth
+abbrev pub truth_at : Option Data → Option Bool
+truth_at None = None
+truth_at (Some value) = as_bool value
+
+-- the broadcast is an ordered one: its field says literally `true`
+unfoldable pub is_ordered : Data → Bool
+is_ordered body = is_true (truth_at (get (codes "ordered") body))
+
+-- the fields of a broadcast, which are more where it is an ordered one
+unfoldable pub send_fields : Bool → List (List ℕ)
+send_fields ordered =
+    if ordered
+    then codes "intent" ∷ codes "permission" ∷ codes "ordered" ∷ codes "code" ∷ codes "data" ∷ codes "extras" ∷ codes "result" ∷ []
+    else codes "intent" ∷ codes "permission" ∷ codes "ordered" ∷ []
+
+-- the number, or 0
+abbrev pub or_zero : Option ℤ → ℤ
+or_zero None = pos 0
+or_zero (Some n) = n
+
+-- how an ordered broadcast starts
+unfoldable pub ordered_in : Data → Result Ordered WireFault
+ordered_in body = do
+  code ← optional_whole (codes "code") body
+  text ← optional_text Any 1024 (codes "data") body
+  extras ← optional_extras body
+  wanted ← optional_truth (codes "result") body
+  Ok (record { initial = record { code = or_zero code; text = text; extras = extras }; wanted = wanted })
+
+-- how a broadcast starts, if it is an ordered one
+unfoldable pub ordered_if : Bool → Data → Result (Option Ordered) WireFault
+ordered_if false body = Ok None
+ordered_if true body = do
+  ordered ← ordered_in body
+  Ok (Some ordered)
+
+-- a broadcast that has no fields but its own
+unfoldable pub send_of : Data → Result Request WireFault
+send_of body = do
+  intent ← required_intent (codes "intent") body
+  permission ← optional_text Any 1024 (codes "permission") body
+  is_ordered ← optional_truth (codes "ordered") body
+  ordered ← ordered_if is_ordered body
+  Ok (asks.Send intent permission ordered)
+
+unfoldable pub send_in : Data → Result Request WireFault
+send_in body = do
+  known ← fields_of (send_fields (is_ordered body)) body
+  send_of body
+
+-- the fields of a receiver to be registered
+unfoldable pub register_fields : List (List ℕ)
+register_fields = codes "filter" ∷ codes "permission" ∷ []
+
+unfoldable pub register_in : Data → Result Request WireFault
+register_in body = do
+  known ← fields_of register_fields body
+  filter ← required_filter (codes "filter") body
+  permission ← optional_text Any 1024 (codes "permission") body
+  Ok (asks.Register filter permission)
+
+unfoldable pub unregister_in : Data → Result Request WireFault
+unregister_in body = do
+  number ← number_in (codes "number") body
+  Ok (asks.Unregister number)
+
+-- the answer sets an outcome: its field `code` is there
+unfoldable pub sets_outcome : Data → Bool
+sets_outcome body = is_some (field (codes "code") body)
+
+-- the fields of an answer, which are more where it sets an outcome
+unfoldable pub finish_fields : Bool → List (List ℕ)
+finish_fields sets =
+    if sets then codes "delivery" ∷ codes "abort" ∷ codes "code" ∷ codes "data" ∷ codes "extras" ∷ []
+    else codes "delivery" ∷ codes "abort" ∷ codes "code" ∷ []
+
+-- the outcome that an answer sets
+unfoldable pub outcome_in : Data → Result Outcome WireFault
+outcome_in body = do
+  code ← required_whole (codes "code") body
+  text ← optional_text Any 1024 (codes "data") body
+  extras ← optional_extras body
+  Ok (record { code = code; text = text; extras = extras })
+
+-- the outcome, if one is set
+unfoldable pub outcome_if : Bool → Data → Result (Option Outcome) WireFault
+outcome_if false body = Ok None
+outcome_if true body = do
+  outcome ← outcome_in body
+  Ok (Some outcome)
+
+-- an answer that has no fields but its own
+unfoldable pub finish_of : Data → Result Request WireFault
+finish_of body = do
+  delivery ← required_natural (codes "delivery") body
+  abort ← optional_truth (codes "abort") body
+  set ← outcome_if (sets_outcome body) body
+  Ok (asks.Finish delivery (record { set = set; abort = abort }))
+
+unfoldable pub finish_in : Data → Result Request WireFault
+finish_in body = do
+  known ← fields_of (finish_fields (sets_outcome body)) body
+  finish_of body

@@ -1,0 +1,77 @@
+-- Packages, grants and links.
+use Rattle.std.specs.Prelude.{ℕ, ◌==◌, nat_lt, List, [], ◌∷◌, length, codes, if◌then◌else◌, Option, Some, None, Result, Ok, Err}
+use Rattle.serde_json.specs.Data.{Data}
+use Rattle.serde_json.specs.Find.{as_str}
+use Rattle.am_types.specs.declared.request.Request.{Request}
+use Rattle.am_types.specs.declared.request.Request.TheVariants as asks
+use Rattle.am_model.specs.Sound.{is_visible}
+use Rattle.am_model.specs.Texts.{lowered}
+use Rattle.am_filter_tables.specs.declared.text.Form.TheVariants.{Any}
+use Rattle.am_fields.specs.declared.fault.WireFault.{WireFault}
+use Rattle.am_fields.specs.declared.fault.WireFault.TheVariants.{WrongKind, TooLong}
+use Rattle.am_fields.specs.Fields.{required, required_truth}
+use Rattle.am_fields.specs.Texts.{required_text}
+use Rattle.am_fields.specs.Reading.{◌>>=◌}
+use Rattle.am_wire.specs.Activities.{fields_of}
+
+-- a key for a package's calls: 1 to 255 visible ASCII characters
+unfoldable pub key_of : Option (List ℕ) → Result (List ℕ) WireFault
+key_of None = Err (WrongKind (codes "key"))
+key_of (Some text) =
+    if length text == 0 then Err (WrongKind (codes "key"))
+    else if is_visible text then (if nat_lt 255 (length text) then Err (TooLong (codes "key")) else Ok text)
+    else Err (WrongKind (codes "key"))
+
+-- the field `key`
+unfoldable pub key_in : Data → Result (List ℕ) WireFault
+key_in body = do
+  value ← required (codes "key") body
+  key_of (as_str value)
+
+unfoldable pub install_in : Data → Result Request WireFault
+install_in body = do
+  known ← fields_of (codes "manifest" ∷ codes "key" ∷ []) body
+  text ← required_text Any 65536 (codes "manifest") body
+  key ← key_in body
+  Ok (asks.Install text key)
+
+-- a body whose only field is a package's name
+unfoldable pub package_in : Data → Result (List ℕ) WireFault
+package_in body = do
+  known ← fields_of (codes "package" ∷ []) body
+  required_text Any 1024 (codes "package") body
+
+unfoldable pub uninstall_in : Data → Result Request WireFault
+uninstall_in body = do
+  name ← package_in body
+  Ok (asks.Uninstall name)
+
+unfoldable pub force_stop_in : Data → Result Request WireFault
+force_stop_in body = do
+  name ← package_in body
+  Ok (asks.ForceStop name)
+
+-- the fields of a grant
+unfoldable pub grant_fields : List (List ℕ)
+grant_fields = codes "package" ∷ codes "permission" ∷ codes "held" ∷ []
+
+unfoldable pub grant_in : Data → Result Request WireFault
+grant_in body = do
+  known ← fields_of grant_fields body
+  name ← required_text Any 1024 (codes "package") body
+  permission ← required_text Any 1024 (codes "permission") body
+  held ← required_truth (codes "held") body
+  Ok (asks.Grant name permission held)
+
+-- the fields of a link
+unfoldable pub link_fields : List (List ℕ)
+link_fields = codes "package" ∷ codes "host" ∷ codes "approved" ∷ []
+
+-- a link; its host is put in lower ASCII case
+unfoldable pub link_in : Data → Result Request WireFault
+link_in body = do
+  known ← fields_of link_fields body
+  name ← required_text Any 1024 (codes "package") body
+  host ← required_text Any 1024 (codes "host") body
+  approved ← required_truth (codes "approved") body
+  Ok (asks.Link name (lowered host) approved)

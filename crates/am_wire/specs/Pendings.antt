@@ -1,0 +1,46 @@
+-- Pending intents.
+use Rattle.std.specs.Prelude.{ℕ, List, [], ◌∷◌, codes, Result, Ok, Err}
+use Rattle.serde_json.specs.Data.{Data}
+use Rattle.am_types.specs.declared.request.Request.{Request}
+use Rattle.am_types.specs.declared.request.Request.TheVariants as asks
+use Rattle.am_filter_tables.specs.declared.text.Form.TheVariants.{Any}
+use Rattle.am_fields.specs.declared.fault.WireFault.{WireFault}
+use Rattle.am_fields.specs.Numbers.{required_natural, required_whole}
+use Rattle.am_fields.specs.Texts.{required_text}
+use Rattle.am_fields.specs.Reading.{◌>>=◌}
+use Rattle.am_intents.specs.Intents.{required_intent, optional_intent}
+use Rattle.am_wire.specs.Activities.{fields_of, number_in}
+use Rattle.am_wire.specs.Words.{pending_kind_of, pending_flags_of}
+
+-- a request for a pending intent that has no fields but its own
+unfoldable pub get_of : Data → Result Request WireFault
+get_of body = do
+  kind ← pending_kind_of body
+  code ← required_whole (codes "code") body
+  intent ← required_intent (codes "intent") body
+  flags ← pending_flags_of body
+  Ok (asks.PendingGet kind code intent flags)
+
+unfoldable pub pending_get_in : Data → Result Request WireFault
+pending_get_in body = do
+  known ← fields_of (codes "kind" ∷ codes "code" ∷ codes "intent" ∷ codes "flags" ∷ []) body
+  get_of body
+
+unfoldable pub pending_send_in : Data → Result Request WireFault
+pending_send_in body = do
+  known ← fields_of (codes "token" ∷ codes "fill" ∷ []) body
+  token ← required_natural (codes "token") body
+  fill ← optional_intent (codes "fill") body
+  Ok (asks.PendingSend token fill)
+
+unfoldable pub pending_cancel_in : Data → Result Request WireFault
+pending_cancel_in body = do
+  token ← number_in (codes "token") body
+  Ok (asks.PendingCancel token)
+
+unfoldable pub pending_give_in : Data → Result Request WireFault
+pending_give_in body = do
+  known ← fields_of (codes "token" ∷ codes "package" ∷ []) body
+  token ← required_natural (codes "token") body
+  name ← required_text Any 1024 (codes "package") body
+  Ok (asks.PendingGive token name)

@@ -1,0 +1,56 @@
+-- The request that a body makes at a route, or its first fault.
+use Rattle.std.specs.Prelude.{ℕ, List, Result, Ok, Err}
+use Rattle.serde_json.specs.Data.{Data}
+use Rattle.am_types.specs.declared.request.Request.{Request}
+use Rattle.am_types.specs.declared.request.Request.TheVariants as asks
+use Rattle.am_routes.specs.declared.endpoint.Endpoint.{Endpoint}
+use Rattle.am_routes.specs.declared.endpoint.Endpoint.TheVariants as at
+use Rattle.am_fields.specs.declared.fault.WireFault.{WireFault}
+use Rattle.am_fields.specs.Bodies.{value_of}
+use Rattle.am_fields.specs.Reading.{◌>>=◌}
+use Rattle.am_wire.specs.Activities.{plain_in, query_in, start_in, finish_activity_in, start_service_in, stop_service_in, history_in}
+use Rattle.am_wire.specs.Broadcasts.{send_in, register_in, unregister_in, finish_in}
+use Rattle.am_wire.specs.Pendings.{pending_get_in, pending_send_in, pending_cancel_in, pending_give_in}
+use Rattle.am_wire.specs.Packages.{install_in, uninstall_in, grant_in, link_in, force_stop_in}
+
+-- the request that a JSON value makes at a route; at a route of GET no value is looked at
+unfoldable pub request_in : Endpoint → Data → Result Request WireFault
+request_in at.Query body = query_in body
+request_in at.Start body = start_in body
+request_in at.FinishActivity body = finish_activity_in body
+request_in at.Back body = plain_in asks.Back body
+request_in at.ListTasks body = Ok asks.ListTasks
+request_in at.StartService body = start_service_in body
+request_in at.StopService body = stop_service_in body
+request_in at.Services body = Ok asks.Services
+request_in at.Send body = send_in body
+request_in at.Register body = register_in body
+request_in at.Unregister body = unregister_in body
+request_in at.Inbox body = Ok asks.Inbox
+request_in at.Finish body = finish_in body
+request_in at.PendingGet body = pending_get_in body
+request_in at.PendingSend body = pending_send_in body
+request_in at.PendingCancel body = pending_cancel_in body
+request_in at.PendingGive body = pending_give_in body
+request_in at.Install body = install_in body
+request_in at.Uninstall body = uninstall_in body
+request_in at.Grant body = grant_in body
+request_in at.Link body = link_in body
+request_in at.ForceStop body = force_stop_in body
+request_in at.Tick body = plain_in asks.Tick body
+request_in at.History body = history_in body
+request_in at.Status body = Ok asks.Status
+
+-- the request that the bytes of a body make by their JSON value
+unfoldable pub posted : Endpoint → List ℕ → Result Request WireFault
+posted endpoint body = do
+  value ← value_of body
+  request_in endpoint value
+
+-- the request that a body makes at a route; the body of a GET isn't looked at
+unfoldable pub request_of : Endpoint → List ℕ → Result Request WireFault
+request_of at.ListTasks body = Ok asks.ListTasks
+request_of at.Services body = Ok asks.Services
+request_of at.Inbox body = Ok asks.Inbox
+request_of at.Status body = Ok asks.Status
+request_of endpoint body = posted endpoint body

@@ -1,0 +1,208 @@
+//! Broadcasts, registered receivers and deliveries.
+ghost use Rattle.std.specs.Prelude.{◌≡◌};
+ghost use Rattle.serde_json.specs.View.{view};
+ghost use Rattle.am_fields.specs.Reading.{Gives};
+ghost use Rattle.am_wire.specs.Activities.{fields_of};
+ghost use Rattle.am_wire.specs.Broadcasts.{is_ordered, send_fields, ordered_in, ordered_if, send_of, send_in, register_fields, register_in, unregister_in, sets_outcome, finish_fields, outcome_in, outcome_if, finish_of, finish_in};
+
+use crate::activities::{fields_of, number_in};
+use am_fields::{
+    Unread, field, optional_text, optional_truth, optional_whole, required_natural, required_whole,
+};
+use am_filter_tables::Form;
+use am_intents::{optional_extras, required_filter, required_intent};
+use am_types::{Answer, Ordered, Outcome, Request};
+use serde_json::Value;
+use std::alloc::Global;
+
+/// Whether the field `ordered` says `true`.
+#[tactic(auto, unfolding(crate::specs::Broadcasts::is_ordered))]
+fn is_ordered(body: &Value) -> bool
+    ensures { result ≡ is_ordered (view body.now) }
+{
+    match body.get("ordered") {
+        None => false,
+        Some(value) => value.as_bool().unwrap_or(false),
+    }
+}
+
+/// Refuses a broadcast with other fields than its own, which are more where it is an ordered one.
+#[tactic(auto, unfolding(crate::specs::Broadcasts::send_fields))]
+fn only_send_fields(alloc: Global, ordered: bool, body: &Value) -> Result<(), Unread>
+    ensures { Gives result (fields_of (send_fields ordered) (view body.now)) }
+{
+    if ordered {
+        fields_of(
+            alloc,
+            &[
+                "intent",
+                "permission",
+                "ordered",
+                "code",
+                "data",
+                "extras",
+                "result",
+            ],
+            body,
+        )
+    } else {
+        fields_of(alloc, &["intent", "permission", "ordered"], body)
+    }
+}
+
+/// How an ordered broadcast starts: `code`, which is 0 where it isn't there, perhaps the text `data` and `extras`, and
+/// `result`, which says whether the sender wants the result.
+#[tactic(auto, unfolding(crate::specs::Broadcasts::ordered_in))]
+fn ordered_in(alloc: Global, body: &Value) -> Result<Ordered, Unread>
+    ensures { Gives result (ordered_in (view body.now)) }
+{
+    let code = optional_whole(alloc, "code", body)?;
+    let text = optional_text(alloc, Form::Any, 1024, "data", body)?;
+    let extras = optional_extras(alloc, body)?;
+    let wanted = optional_truth(alloc, "result", body)?;
+    Ok(Ordered {
+        initial: Outcome {
+            code: code.unwrap_or(0),
+            text,
+            extras,
+        },
+        wanted,
+    })
+}
+
+/// How a broadcast starts, if it is an ordered one.
+#[tactic(auto, unfolding(crate::specs::Broadcasts::ordered_if))]
+fn ordered_if(alloc: Global, ordered: bool, body: &Value) -> Result<Option<Ordered>, Unread>
+    ensures { Gives result (ordered_if ordered (view body.now)) }
+{
+    if !ordered {
+        return Ok(None);
+    }
+    let start = ordered_in(alloc, body)?;
+    Ok(Some(start))
+}
+
+/// A broadcast that has no fields but its own.
+#[tactic(auto, unfolding(crate::specs::Broadcasts::send_of))]
+fn send_of(alloc: Global, body: &Value) -> Result<Request, Unread>
+    ensures { Gives result (send_of (view body.now)) }
+{
+    let intent = required_intent(alloc, "intent", body)?;
+    let permission = optional_text(alloc, Form::Any, 1024, "permission", body)?;
+    let is_ordered = optional_truth(alloc, "ordered", body)?;
+    let ordered = ordered_if(alloc, is_ordered, body)?;
+    Ok(Request::Send {
+        intent,
+        permission,
+        ordered,
+    })
+}
+
+/// A broadcast: `intent`, perhaps the text `permission`, and `ordered`, which is false where it isn't there. Only where
+/// it says `true` may there be `code`, `data`, `extras` and `result`.
+#[tactic(auto, unfolding(crate::specs::Broadcasts::send_in))]
+pub fn send_in(alloc: Global, body: &Value) -> Result<Request, Unread>
+    ensures { Gives result (send_in (view body.now)) }
+{
+    only_send_fields(alloc, is_ordered(body), body)?;
+    send_of(alloc, body)
+}
+
+/// Refuses a body with other fields than those of a receiver to be registered.
+#[tactic(auto, unfolding(crate::specs::Broadcasts::register_fields))]
+fn only_register_fields(alloc: Global, body: &Value) -> Result<(), Unread>
+    ensures { Gives result (fields_of register_fields (view body.now)) }
+{
+    fields_of(alloc, &["filter", "permission"], body)
+}
+
+/// A receiver to be registered: `filter`, and perhaps the text `permission`.
+#[tactic(auto, unfolding(crate::specs::Broadcasts::register_in))]
+pub fn register_in(alloc: Global, body: &Value) -> Result<Request, Unread>
+    ensures { Gives result (register_in (view body.now)) }
+{
+    only_register_fields(alloc, body)?;
+    let filter = required_filter(alloc, "filter", body)?;
+    let permission = optional_text(alloc, Form::Any, 1024, "permission", body)?;
+    Ok(Request::Register { filter, permission })
+}
+
+/// The receiver to be taken back: its `number`.
+#[tactic(auto, unfolding(crate::specs::Broadcasts::unregister_in))]
+pub fn unregister_in(alloc: Global, body: &Value) -> Result<Request, Unread>
+    ensures { Gives result (unregister_in (view body.now)) }
+{
+    let number = number_in(alloc, "number", body)?;
+    Ok(Request::Unregister { number })
+}
+
+/// Whether an answer sets an outcome: its field `code` is there.
+#[tactic(auto, unfolding(crate::specs::Broadcasts::sets_outcome))]
+fn sets_outcome(body: &Value) -> bool
+    ensures { result ≡ sets_outcome (view body.now) }
+{
+    field("code", body).is_some()
+}
+
+/// Refuses an answer with other fields than its own, which are more where it sets an outcome.
+#[tactic(auto, unfolding(crate::specs::Broadcasts::finish_fields))]
+fn only_finish_fields(alloc: Global, sets: bool, body: &Value) -> Result<(), Unread>
+    ensures { Gives result (fields_of (finish_fields sets) (view body.now)) }
+{
+    if sets {
+        fields_of(
+            alloc,
+            &["delivery", "abort", "code", "data", "extras"],
+            body,
+        )
+    } else {
+        fields_of(alloc, &["delivery", "abort", "code"], body)
+    }
+}
+
+/// The outcome that an answer sets: `code`, and perhaps the text `data` and `extras`.
+#[tactic(auto, unfolding(crate::specs::Broadcasts::outcome_in))]
+fn outcome_in(alloc: Global, body: &Value) -> Result<Outcome, Unread>
+    ensures { Gives result (outcome_in (view body.now)) }
+{
+    let code = required_whole(alloc, "code", body)?;
+    let text = optional_text(alloc, Form::Any, 1024, "data", body)?;
+    let extras = optional_extras(alloc, body)?;
+    Ok(Outcome { code, text, extras })
+}
+
+/// The outcome that an answer sets, if it sets one.
+#[tactic(auto, unfolding(crate::specs::Broadcasts::outcome_if))]
+fn outcome_if(alloc: Global, sets: bool, body: &Value) -> Result<Option<Outcome>, Unread>
+    ensures { Gives result (outcome_if sets (view body.now)) }
+{
+    if !sets {
+        return Ok(None);
+    }
+    let outcome = outcome_in(alloc, body)?;
+    Ok(Some(outcome))
+}
+
+/// An answer that has no fields but its own.
+#[tactic(auto, unfolding(crate::specs::Broadcasts::finish_of))]
+fn finish_of(alloc: Global, body: &Value) -> Result<Request, Unread>
+    ensures { Gives result (finish_of (view body.now)) }
+{
+    let delivery = required_natural(alloc, "delivery", body)?;
+    let abort = optional_truth(alloc, "abort", body)?;
+    let set = outcome_if(alloc, sets_outcome(body), body)?;
+    Ok(Request::Finish {
+        delivery,
+        answer: Answer { set, abort },
+    })
+}
+
+/// The answer to a delivery: the number `delivery`, `abort`, which is false where it isn't there, and perhaps `code`.
+/// Only where that is there may there be `data` and `extras`.
+#[tactic(auto, unfolding(crate::specs::Broadcasts::finish_in))]
+pub fn finish_in(alloc: Global, body: &Value) -> Result<Request, Unread>
+    ensures { Gives result (finish_in (view body.now)) }
+{
+    only_finish_fields(alloc, sets_outcome(body), body)?;
+    finish_of(alloc, body)
+}

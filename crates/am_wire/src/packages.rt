@@ -1,0 +1,147 @@
+//! Packages, grants and links.
+ghost use Rattle.std.specs.Prelude.{◌≡◌, IfOk};
+ghost use Rattle.serde_json.specs.Find.{as_str};
+ghost use Rattle.serde_json.specs.View.{view};
+ghost use Rattle.am_model.specs.Sound.{is_visible};
+ghost use Rattle.am_model.specs.Texts.{lowered};
+ghost use Rattle.am_fields.specs.Reading.{Gives};
+ghost use Rattle.am_wire.specs.Activities.{fields_of};
+ghost use Rattle.am_wire.specs.Packages.{key_of, key_in, install_in, package_in, uninstall_in, force_stop_in, grant_fields, grant_in, link_fields, link_in};
+
+use crate::activities::fields_of;
+use am_fields::{Unread, required, required_text, required_truth, too_long, wrong_kind};
+use am_filter_tables::Form;
+use am_types::{Request, Text};
+use serde_json::Value;
+use std::alloc::{AllocError, Global};
+
+/// Whether each byte is a visible ASCII character.
+fn is_visible(text: &str) -> bool
+    ensures { result ≡ is_visible text.now }
+{
+    text.as_bytes().iter().all(|b| *b >= 33 && *b <= 126)
+}
+
+/// The key that a value says.
+#[tactic(auto, unfolding(crate::specs::Packages::key_of))]
+fn key_of(alloc: Global, value: &Value) -> Result<Text, Unread>
+    ensures { Gives result (key_of (as_str (view value.now))) }
+{
+    let Some(text) = value.as_str() else {
+        return Err(wrong_kind(alloc, "key"));
+    };
+    if text.is_empty() {
+        return Err(wrong_kind(alloc, "key"));
+    }
+    if !is_visible(text) {
+        return Err(wrong_kind(alloc, "key"));
+    }
+    if text.len() > 255 {
+        return Err(too_long(alloc, "key"));
+    }
+    Ok(Text::new(String::from_str(alloc, text)?))
+}
+
+/// The field `key`, which must be there: 1 to 255 visible ASCII characters.
+#[tactic(auto, unfolding(crate::specs::Packages::key_in))]
+fn key_in(alloc: Global, body: &Value) -> Result<Text, Unread>
+    ensures { Gives result (key_in (view body.now)) }
+{
+    let value = required(alloc, "key", body)?;
+    key_of(alloc, value)
+}
+
+/// A package to be installed: the text `manifest`, of at most 65,536 bytes, and `key`.
+#[tactic(auto, unfolding(crate::specs::Packages::install_in))]
+pub fn install_in(alloc: Global, body: &Value) -> Result<Request, Unread>
+    ensures { Gives result (install_in (view body.now)) }
+{
+    fields_of(alloc, &["manifest", "key"], body)?;
+    let text = required_text(alloc, Form::Any, 65536, "manifest", body)?;
+    let key = key_in(alloc, body)?;
+    Ok(Request::Install { text, key })
+}
+
+/// What a body says whose only field is the text `package`.
+#[tactic(auto, unfolding(crate::specs::Packages::package_in))]
+fn package_in(alloc: Global, body: &Value) -> Result<Text, Unread>
+    ensures { Gives result (package_in (view body.now)) }
+{
+    fields_of(alloc, &["package"], body)?;
+    required_text(alloc, Form::Any, 1024, "package", body)
+}
+
+/// A package to be removed: the text `package`.
+#[tactic(auto, unfolding(crate::specs::Packages::uninstall_in))]
+pub fn uninstall_in(alloc: Global, body: &Value) -> Result<Request, Unread>
+    ensures { Gives result (uninstall_in (view body.now)) }
+{
+    let package = package_in(alloc, body)?;
+    Ok(Request::Uninstall { package })
+}
+
+/// A package to be stopped: the text `package`.
+#[tactic(auto, unfolding(crate::specs::Packages::force_stop_in))]
+pub fn force_stop_in(alloc: Global, body: &Value) -> Result<Request, Unread>
+    ensures { Gives result (force_stop_in (view body.now)) }
+{
+    let package = package_in(alloc, body)?;
+    Ok(Request::ForceStop { package })
+}
+
+/// Refuses a body with other fields than those of a grant.
+#[tactic(auto, unfolding(crate::specs::Packages::grant_fields))]
+fn only_grant_fields(alloc: Global, body: &Value) -> Result<(), Unread>
+    ensures { Gives result (fields_of grant_fields (view body.now)) }
+{
+    fields_of(alloc, &["package", "permission", "held"], body)
+}
+
+/// A permission given or taken: the texts `package` and `permission`, and `held`.
+#[tactic(auto, unfolding(crate::specs::Packages::grant_in))]
+pub fn grant_in(alloc: Global, body: &Value) -> Result<Request, Unread>
+    ensures { Gives result (grant_in (view body.now)) }
+{
+    only_grant_fields(alloc, body)?;
+    let package = required_text(alloc, Form::Any, 1024, "package", body)?;
+    let permission = required_text(alloc, Form::Any, 1024, "permission", body)?;
+    let held = required_truth(alloc, "held", body)?;
+    Ok(Request::Grant {
+        package,
+        permission,
+        held,
+    })
+}
+
+/// The text in lower ASCII case.
+fn lowered(alloc: Global, text: &str) -> Result<Text, AllocError>
+    ensures { IfOk result (λ lower. lower ≡ lowered text.now) }
+{
+    let mut lower = String::from_str(alloc, text)?;
+    lower.make_ascii_lowercase();
+    Ok(Text::new(lower))
+}
+
+/// Refuses a body with other fields than those of a link.
+#[tactic(auto, unfolding(crate::specs::Packages::link_fields))]
+fn only_link_fields(alloc: Global, body: &Value) -> Result<(), Unread>
+    ensures { Gives result (fields_of link_fields (view body.now)) }
+{
+    fields_of(alloc, &["package", "host", "approved"], body)
+}
+
+/// A link approved or not: the texts `package` and `host`, which is put in lower ASCII case, and `approved`.
+#[tactic(auto, unfolding(crate::specs::Packages::link_in))]
+pub fn link_in(alloc: Global, body: &Value) -> Result<Request, Unread>
+    ensures { Gives result (link_in (view body.now)) }
+{
+    only_link_fields(alloc, body)?;
+    let package = required_text(alloc, Form::Any, 1024, "package", body)?;
+    let host = required_text(alloc, Form::Any, 1024, "host", body)?;
+    let approved = required_truth(alloc, "approved", body)?;
+    Ok(Request::Link {
+        package,
+        host: lowered(alloc, host.as_str())?,
+        approved,
+    })
+}

@@ -1,0 +1,113 @@
+//! The request that a body makes at an endpoint.
+ghost use Rattle.serde_json.specs.View.{view};
+ghost use Rattle.am_fields.specs.Reading.{Gives};
+ghost use Rattle.am_wire.specs.Requests.{request_in, posted, request_of};
+
+use crate::activities::{
+    finish_activity_in, history_in, plain_in, query_in, start_in, start_service_in, stop_service_in,
+};
+use crate::broadcasts::{finish_in, register_in, send_in, unregister_in};
+use crate::packages::{force_stop_in, grant_in, install_in, link_in, uninstall_in};
+use crate::pendings::{pending_cancel_in, pending_get_in, pending_give_in, pending_send_in};
+use am_fields::{Unread, json_value};
+use am_routes::Endpoint;
+use am_types::Request;
+use serde_json::Value;
+use std::alloc::Global;
+
+/// The request that a JSON value makes at an endpoint.
+#[tactic(auto, unfolding(crate::specs::Requests::request_in))]
+fn request_in(alloc: Global, endpoint: Endpoint, body: &Value) -> Result<Request, Unread>
+    ensures { Gives result (request_in endpoint (view body.now)) }
+{
+    match endpoint {
+        Endpoint::Query => query_in(alloc, body),
+        Endpoint::Start => start_in(alloc, body),
+        Endpoint::FinishActivity => finish_activity_in(alloc, body),
+        Endpoint::Back => plain_in(alloc, Request::Back, body),
+        Endpoint::ListTasks => Ok(Request::ListTasks),
+        Endpoint::StartService => start_service_in(alloc, body),
+        Endpoint::StopService => stop_service_in(alloc, body),
+        Endpoint::Services => Ok(Request::Services),
+        Endpoint::Send => send_in(alloc, body),
+        Endpoint::Register => register_in(alloc, body),
+        Endpoint::Unregister => unregister_in(alloc, body),
+        Endpoint::Inbox => Ok(Request::Inbox),
+        Endpoint::Finish => finish_in(alloc, body),
+        Endpoint::PendingGet => pending_get_in(alloc, body),
+        Endpoint::PendingSend => pending_send_in(alloc, body),
+        Endpoint::PendingCancel => pending_cancel_in(alloc, body),
+        Endpoint::PendingGive => pending_give_in(alloc, body),
+        Endpoint::Install => install_in(alloc, body),
+        Endpoint::Uninstall => uninstall_in(alloc, body),
+        Endpoint::Grant => grant_in(alloc, body),
+        Endpoint::Link => link_in(alloc, body),
+        Endpoint::ForceStop => force_stop_in(alloc, body),
+        Endpoint::Tick => plain_in(alloc, Request::Tick, body),
+        Endpoint::History => history_in(alloc, body),
+        Endpoint::Status => Ok(Request::Status),
+    }
+}
+
+/// The request that the bytes of a body make by their JSON value.
+#[tactic(auto, unfolding(crate::specs::Requests::posted))]
+fn posted(alloc: Global, endpoint: Endpoint, body: &[u8]) -> Result<Request, Unread>
+    ensures { Gives result (posted endpoint body.now) }
+{
+    let value = json_value(alloc, body)?;
+    request_in(alloc, endpoint, &value)
+}
+
+/// The request that a body makes at an endpoint.
+///
+/// At `ListTasks`, `Services`, `Inbox` and `Status` the body isn't looked at. At every other endpoint it is the UTF-8
+/// text of a JSON object with these fields and no others; those marked `?` need not be there:
+///
+/// | Endpoint | Fields, in the order in which they are read |
+/// |---|---|
+/// | `Query` | `kind` (`activity`, `service` or `receiver`), `intent`, `defaultOnly`? |
+/// | `Start` | `intent`, `source`? |
+/// | `FinishActivity` | `instance` |
+/// | `Back`, `Tick` | none |
+/// | `StartService` | `intent` |
+/// | `StopService` | `component` |
+/// | `Send` | `intent`, `permission`?, `ordered`?; where `ordered` is true also `code`?, `data`?, `extras`?, `result`? |
+/// | `Register` | `filter`, `permission`? |
+/// | `Unregister` | `number` |
+/// | `Finish` | `delivery`, `abort`?, `code`?; where `code` is there also `data`?, `extras`? |
+/// | `PendingGet` | `kind` (`activity`, `broadcast` or `service`), `code`, `intent`, `flags` |
+/// | `PendingSend` | `token`, `fill`? |
+/// | `PendingCancel` | `token` |
+/// | `PendingGive` | `token`, `package` |
+/// | `Install` | `manifest`, `key` |
+/// | `Uninstall`, `ForceStop` | `package` |
+/// | `Grant` | `package`, `permission`, `held` |
+/// | `Link` | `package`, `host`, `approved` |
+/// | `History` | `from` |
+///
+/// `source`, `instance`, `number`, `delivery`, `token` and `from` are whole numbers from 0 to
+/// 18,446,744,073,709,551,615, and `code` is one from -9,223,372,036,854,775,808 to 9,223,372,036,854,775,807, 0 where
+/// an ordered broadcast has none. `defaultOnly`, `ordered`, `result`, `abort`, `held` and `approved` are truths, false
+/// where they aren't there. `permission`, `data`, `package` and `host` are texts of at most 1,024 bytes, `manifest` is
+/// one of at most 65,536, and `key` has 1 to 255 visible ASCII characters. `flags` lists 64 names of pending flags at
+/// most. A host is put in lower ASCII case. A field that is `null` counts as absent, and of a key that stands twice in
+/// an object the last value counts.
+///
+/// # Errors
+///
+/// `Unread::Fault` with the first fault, in this order: the body is no JSON text in UTF-8; it is no object (the name of
+/// that fault is `body`); it has a key that is none of its fields, the least one by bytes; and then the first fault of
+/// its fields, in the order above. `Unread::NoMemory` where memory ran out.
+#[tactic(auto, unfolding(crate::specs::Requests::request_of))]
+pub fn read_request(alloc: Global, endpoint: Endpoint, body: &[u8]) -> Result<Request, Unread>
+    ensures { Gives result (request_of endpoint body.now) }
+{
+    let request = match endpoint {
+        Endpoint::ListTasks => Request::ListTasks,
+        Endpoint::Services => Request::Services,
+        Endpoint::Inbox => Request::Inbox,
+        Endpoint::Status => Request::Status,
+        _ => return posted(alloc, endpoint, body),
+    };
+    Ok(request)
+}

@@ -1,0 +1,148 @@
+mod rows;
+mod shown;
+
+use super::*;
+use am_fields::Unread;
+use am_routes::Endpoint;
+use rows::ROWS;
+use shown::shown;
+use std::alloc::Global;
+use std::test::Fail;
+
+/// So many entries, each this text, between brackets.
+fn push_list(all: &mut String, count: usize, entry: &str) -> Result<(), Fail> {
+    all.push_str("[")?;
+    for i in 0..count {
+        all.push_str(if i == 0 { "" } else { "," })?;
+        all.push_str(entry)?;
+    }
+    all.push_str("]")?;
+    Ok(())
+}
+
+/// So many extras, the number 1 under each key from `k10` on, with these words round each key.
+fn push_extras(all: &mut String, count: usize, front: &str, behind: &str) -> Result<(), Fail> {
+    for i in 0..count {
+        all.push_str(if front == "\"" && i > 0 { "," } else { "" })?;
+        all.push_str(front)?;
+        write!(all, "k{}", i.saturating_add(10))?;
+        all.push_str(behind)?;
+    }
+    Ok(())
+}
+
+/// The same text so often.
+fn push_often(all: &mut String, count: usize, part: &str) -> Result<(), Fail> {
+    for _ in 0..count {
+        all.push_str(part)?;
+    }
+    Ok(())
+}
+
+/// What a sign of the table stands for.
+fn push_sign(all: &mut String, sign: &str) -> Result<(), Fail> {
+    let (kind, behind) = sign.split_once(' ').ok_or("a count")?;
+    let (count, entry) = behind.split_once(' ').unwrap_or((behind, ""));
+    let count = count.parse::<usize>().ok().ok_or("a number")?;
+    match kind {
+        "text" => push_often(all, count, "a"),
+        "list" => push_list(all, count, entry),
+        "open" => push_often(all, count, "["),
+        "close" => push_often(all, count, "]"),
+        "extras" => push_extras(all, count, "\"", "\":1"),
+        "shown" => push_extras(all, count, " ", "=whole(1)"),
+        "byte" => push_often(all, count, "\u{1}"),
+        _ => Err(Fail::new("a sign")),
+    }
+}
+
+/// A part of the table with its signs spelled out.
+fn spelled_out(alloc: Global, part: &str) -> Result<String, Fail> {
+    let mut all = String::new(alloc);
+    for piece in part.split('<') {
+        match piece.split_once('>') {
+            None => all.push_str(piece)?,
+            Some((sign, behind)) => {
+                push_sign(&mut all, sign)?;
+                all.push_str(behind)?;
+            }
+        }
+    }
+    Ok(all)
+}
+
+/// Each endpoint, with the end of its path.
+const ENDPOINTS: [(&str, Endpoint); 25] = [
+    ("query", Endpoint::Query),
+    ("start", Endpoint::Start),
+    ("finish_activity", Endpoint::FinishActivity),
+    ("back", Endpoint::Back),
+    ("tasks", Endpoint::ListTasks),
+    ("start_service", Endpoint::StartService),
+    ("stop_service", Endpoint::StopService),
+    ("services", Endpoint::Services),
+    ("send", Endpoint::Send),
+    ("register", Endpoint::Register),
+    ("unregister", Endpoint::Unregister),
+    ("inbox", Endpoint::Inbox),
+    ("finish", Endpoint::Finish),
+    ("pending/get", Endpoint::PendingGet),
+    ("pending/send", Endpoint::PendingSend),
+    ("pending/cancel", Endpoint::PendingCancel),
+    ("pending/give", Endpoint::PendingGive),
+    ("install", Endpoint::Install),
+    ("uninstall", Endpoint::Uninstall),
+    ("grant", Endpoint::Grant),
+    ("link", Endpoint::Link),
+    ("force_stop", Endpoint::ForceStop),
+    ("tick", Endpoint::Tick),
+    ("history", Endpoint::History),
+    ("status", Endpoint::Status),
+];
+
+/// The endpoint whose path ends with this.
+fn endpoint_at(end: &str) -> Option<Endpoint> {
+    for (listed, endpoint) in ENDPOINTS {
+        if listed == end {
+            return Some(endpoint);
+        }
+    }
+    None
+}
+
+/// The bytes of a body. The control character 1 stands for a byte that no UTF-8 text has.
+fn bytes_of(alloc: Global, body: &str) -> Result<Vec<u8>, Fail> {
+    let mut bytes = Vec::new(alloc);
+    for byte in body.as_bytes() {
+        bytes.push(if *byte == 1 { 0xff } else { *byte })?;
+    }
+    Ok(bytes)
+}
+
+/// What becomes of a body: the printed fault, or the request that was read.
+fn outcome(alloc: Global, endpoint: Endpoint, body: &str) -> Result<String, Fail> {
+    let bytes = bytes_of(alloc, body)?;
+    match read_request(alloc, endpoint, &bytes) {
+        Ok(request) => shown(alloc, &request),
+        Err(Unread::Fault(fault)) => Ok(fault.to_string(alloc)?),
+        Err(Unread::NoMemory) => Err(Fail::new("out of memory")),
+    }
+}
+
+#[test]
+fn bodies(rt: HostRuntime) -> Result<(), Fail> {
+    let alloc = rt.alloc();
+    let mut rows: u32 = 0;
+    for row in ROWS.lines() {
+        let (end, behind) = row.split_once(' ').ok_or("an endpoint")?;
+        let (body, wanted) = behind.split_once(" -> ").ok_or("an arrow")?;
+        let endpoint = endpoint_at(end).ok_or("a path")?;
+        let body = spelled_out(alloc, body)?;
+        let found = outcome(alloc, endpoint, body.as_str())?;
+        let wanted = spelled_out(alloc, wanted)?;
+        assert_eq!(rt; found.as_str(), wanted.as_str(), "{row}");
+        rows = rows.wrapping_add(1);
+    }
+    assert_eq!(rt; rows, 593);
+    Ok(())
+}

@@ -1,0 +1,350 @@
+//! A short rendering of a request.
+use am_types::{
+    Answer, Authority, Component, Extra, Filter, Flags, Intent, Kind, List, Mime, Named, Ordered,
+    Outcome, PathRule, PendingFlags, Request, Text, Uri,
+};
+use std::alloc::{AllocError, Global};
+use std::test::Fail;
+
+/// Adds a text between these words.
+fn push_text(all: &mut String, front: &str, text: &Text) -> Result<(), AllocError> {
+    all.push_str(front)?;
+    all.push_str(text.as_str())
+}
+
+/// Adds a text behind its name, if there is one.
+fn push_optional(all: &mut String, front: &str, text: &Option<Text>) -> Result<(), AllocError> {
+    match text {
+        None => Ok(()),
+        Some(text) => push_text(all, front, text),
+    }
+}
+
+/// Adds each text behind the name.
+fn push_texts(all: &mut String, front: &str, texts: &List<Text>) -> Result<(), AllocError> {
+    for text in texts.as_slice() {
+        push_text(all, front, text)?;
+    }
+    Ok(())
+}
+
+/// Adds a word that holds.
+fn push_if(all: &mut String, word: &str, holds: bool) -> Result<(), AllocError> {
+    all.push_str(if holds { word } else { "" })
+}
+
+fn push_component(all: &mut String, component: &Component) -> Result<(), AllocError> {
+    push_text(all, " ", &component.package)?;
+    push_text(all, "/", &component.class)
+}
+
+fn push_mime(all: &mut String, mime: &Mime) -> Result<(), AllocError> {
+    push_text(all, " type=", &mime.main)?;
+    push_text(all, "|", &mime.sub)
+}
+
+fn push_port(all: &mut String, front: &str, port: Option<u32>) -> Result<(), AllocError> {
+    match port {
+        None => Ok(()),
+        Some(port) => write!(all, "{front}{port}"),
+    }
+}
+
+fn push_uri(all: &mut String, uri: &Uri) -> Result<(), AllocError> {
+    push_text(all, " uri=", &uri.text)?;
+    push_text(all, " scheme=", &uri.scheme)?;
+    push_optional(all, " host=", &uri.host)?;
+    push_port(all, " port=", uri.port)?;
+    push_text(all, " path=", &uri.path)
+}
+
+fn push_extra(all: &mut String, extra: &Extra) -> Result<(), AllocError> {
+    match extra {
+        Extra::Word(text) => write!(all, "=text({})", text.as_str()),
+        Extra::Whole(number) => write!(all, "=whole({number})"),
+        Extra::Truth(truth) => write!(all, "=truth({truth})"),
+    }
+}
+
+fn push_extras(all: &mut String, extras: &List<Named>) -> Result<(), AllocError> {
+    for named in extras.as_slice() {
+        push_text(all, " ", &named.key)?;
+        push_extra(all, &named.value)?;
+    }
+    Ok(())
+}
+
+fn push_task_flags(all: &mut String, flags: Flags) -> Result<(), AllocError> {
+    push_if(all, " NEW_TASK", flags.new_task)?;
+    push_if(all, " MULTIPLE_TASK", flags.multiple_task)?;
+    push_if(all, " CLEAR_TASK", flags.clear_task)?;
+    push_if(all, " CLEAR_TOP", flags.clear_top)?;
+    push_if(all, " SINGLE_TOP", flags.single_top)
+}
+
+fn push_flags(all: &mut String, flags: Flags) -> Result<(), AllocError> {
+    push_task_flags(all, flags)?;
+    push_if(all, " REORDER_TO_FRONT", flags.reorder_to_front)?;
+    push_if(all, " REGISTERED_ONLY", flags.registered_only)?;
+    push_if(all, " FOREGROUND", flags.foreground)?;
+    push_if(all, " NO_ABORT", flags.no_abort)?;
+    push_if(all, " INCLUDE_STOPPED", flags.include_stopped)
+}
+
+fn push_pending_flags(all: &mut String, flags: PendingFlags) -> Result<(), AllocError> {
+    push_if(all, " ONE_SHOT", flags.one_shot)?;
+    push_if(all, " NO_CREATE", flags.no_create)?;
+    push_if(all, " CANCEL_CURRENT", flags.cancel_current)?;
+    push_if(all, " UPDATE_CURRENT", flags.update_current)?;
+    push_if(all, " IMMUTABLE", flags.immutable)?;
+    push_if(all, " MUTABLE", flags.mutable)
+}
+
+/// Adds the fields of an intent from `action` to `data`.
+fn push_asked(all: &mut String, intent: &Intent) -> Result<(), AllocError> {
+    push_optional(all, " action=", &intent.action)?;
+    push_texts(all, " category=", &intent.categories)?;
+    if let Some(component) = &intent.component {
+        push_component(all, component)?;
+    }
+    if let Some(uri) = &intent.uri {
+        push_uri(all, uri)?;
+    }
+    Ok(())
+}
+
+/// Adds the fields of an intent from `extras` to `type`.
+fn push_carried(all: &mut String, intent: &Intent) -> Result<(), AllocError> {
+    push_extras(all, &intent.extras)?;
+    push_flags(all, intent.flags)?;
+    push_optional(all, " identifier=", &intent.identifier)?;
+    push_optional(all, " package=", &intent.package)?;
+    if let Some(mime) = &intent.mime {
+        push_mime(all, mime)?;
+    }
+    Ok(())
+}
+
+fn push_intent(all: &mut String, intent: &Intent) -> Result<(), AllocError> {
+    all.push_str(" [")?;
+    push_asked(all, intent)?;
+    push_carried(all, intent)?;
+    all.push_str(" ]")
+}
+
+fn push_kind(all: &mut String, kind: Kind) -> Result<(), AllocError> {
+    all.push_str(match kind {
+        Kind::Activity => " activity",
+        Kind::Service => " service",
+        Kind::Receiver => " receiver",
+    })
+}
+
+fn push_outcome(all: &mut String, outcome: &Outcome) -> Result<(), AllocError> {
+    write!(all, " code={}", outcome.code)?;
+    push_optional(all, " data=", &outcome.text)?;
+    push_extras(all, &outcome.extras)
+}
+
+fn push_ordered(all: &mut String, ordered: &Option<Ordered>) -> Result<(), AllocError> {
+    let Some(ordered) = ordered else {
+        return Ok(());
+    };
+    all.push_str(" ordered")?;
+    push_outcome(all, &ordered.initial)?;
+    push_if(all, " wanted", ordered.wanted)
+}
+
+fn push_answer(all: &mut String, answer: &Answer) -> Result<(), AllocError> {
+    push_if(all, " abort", answer.abort)?;
+    match &answer.set {
+        None => Ok(()),
+        Some(outcome) => push_outcome(all, outcome),
+    }
+}
+
+fn push_authorities(all: &mut String, authorities: &List<Authority>) -> Result<(), AllocError> {
+    for authority in authorities.as_slice() {
+        push_text(all, " host=", &authority.host)?;
+        push_port(all, ":", authority.port)?;
+    }
+    Ok(())
+}
+
+fn push_path(all: &mut String, path: &PathRule) -> Result<(), AllocError> {
+    match path {
+        PathRule::Literal(text) => push_text(all, " is=", text),
+        PathRule::Prefix(text) => push_text(all, " starts=", text),
+        PathRule::Suffix(text) => push_text(all, " ends=", text),
+        PathRule::Pattern(glob) => push_text(all, " matches=", glob.text()),
+    }
+}
+
+fn push_rows(all: &mut String, filter: &Filter) -> Result<(), AllocError> {
+    push_texts(all, " scheme=", &filter.schemes)?;
+    push_authorities(all, &filter.authorities)?;
+    for path in filter.paths.as_slice() {
+        push_path(all, path)?;
+    }
+    for mime in filter.types.as_slice() {
+        push_mime(all, mime)?;
+    }
+    Ok(())
+}
+
+fn push_filter(all: &mut String, filter: &Filter) -> Result<(), AllocError> {
+    push_texts(all, " action=", &filter.actions)?;
+    push_texts(all, " category=", &filter.categories)?;
+    push_rows(all, filter)?;
+    write!(all, " priority={}", filter.priority)
+}
+
+/// Adds a request about an activity or a service.
+fn push_activity(all: &mut String, request: &Request) -> Result<(), AllocError> {
+    match request {
+        Request::Query {
+            kind,
+            intent,
+            default_only,
+        } => {
+            push_kind(all, *kind)?;
+            push_intent(all, intent)?;
+            push_if(all, " defaultOnly", *default_only)
+        }
+        Request::Start { intent, source } => {
+            push_intent(all, intent)?;
+            match source {
+                None => Ok(()),
+                Some(source) => write!(all, " source={source}"),
+            }
+        }
+        Request::FinishActivity { instance } => write!(all, " {instance}"),
+        Request::StartService { intent } => push_intent(all, intent),
+        Request::StopService { component } => push_component(all, component),
+        _ => push_broadcast(all, request),
+    }
+}
+
+/// Adds a request about a broadcast.
+fn push_broadcast(all: &mut String, request: &Request) -> Result<(), AllocError> {
+    match request {
+        Request::Send {
+            intent,
+            permission,
+            ordered,
+        } => {
+            push_intent(all, intent)?;
+            push_optional(all, " permission=", permission)?;
+            push_ordered(all, ordered)
+        }
+        Request::Register { filter, permission } => {
+            push_filter(all, filter)?;
+            push_optional(all, " permission=", permission)
+        }
+        Request::Unregister { number } => write!(all, " {number}"),
+        Request::Finish { delivery, answer } => {
+            write!(all, " {delivery}")?;
+            push_answer(all, answer)
+        }
+        _ => push_pending(all, request),
+    }
+}
+
+/// Adds a request about a pending intent.
+fn push_pending(all: &mut String, request: &Request) -> Result<(), AllocError> {
+    match request {
+        Request::PendingGet {
+            kind,
+            code,
+            intent,
+            flags,
+        } => {
+            push_kind(all, *kind)?;
+            write!(all, " {code}")?;
+            push_intent(all, intent)?;
+            push_pending_flags(all, *flags)
+        }
+        Request::PendingSend { token, fill } => {
+            write!(all, " {token}")?;
+            match fill {
+                None => Ok(()),
+                Some(intent) => push_intent(all, intent),
+            }
+        }
+        Request::PendingCancel { token } => write!(all, " {token}"),
+        Request::PendingGive { token, package } => {
+            write!(all, " {token}")?;
+            push_text(all, " package=", package)
+        }
+        _ => push_package(all, request),
+    }
+}
+
+/// Adds a request about a package or the history.
+fn push_package(all: &mut String, request: &Request) -> Result<(), AllocError> {
+    match request {
+        Request::Install { text, key } => {
+            push_text(all, " text=", text)?;
+            push_text(all, " key=", key)
+        }
+        Request::Uninstall { package } => push_text(all, " ", package),
+        Request::Grant {
+            package,
+            permission,
+            held,
+        } => {
+            push_text(all, " ", package)?;
+            push_text(all, " ", permission)?;
+            write!(all, " {held}")
+        }
+        Request::Link {
+            package,
+            host,
+            approved,
+        } => {
+            push_text(all, " ", package)?;
+            push_text(all, " ", host)?;
+            write!(all, " {approved}")
+        }
+        Request::ForceStop { package } => push_text(all, " ", package),
+        Request::History { from } => write!(all, " {from}"),
+        _ => Ok(()),
+    }
+}
+
+fn name_of(request: &Request) -> &'static str {
+    match request {
+        Request::Query { .. } => "Query",
+        Request::Start { .. } => "Start",
+        Request::FinishActivity { .. } => "FinishActivity",
+        Request::Back => "Back",
+        Request::ListTasks => "ListTasks",
+        Request::StartService { .. } => "StartService",
+        Request::StopService { .. } => "StopService",
+        Request::Services => "Services",
+        Request::Send { .. } => "Send",
+        Request::Register { .. } => "Register",
+        Request::Unregister { .. } => "Unregister",
+        Request::Inbox => "Inbox",
+        Request::Finish { .. } => "Finish",
+        Request::PendingGet { .. } => "PendingGet",
+        Request::PendingSend { .. } => "PendingSend",
+        Request::PendingCancel { .. } => "PendingCancel",
+        Request::PendingGive { .. } => "PendingGive",
+        Request::Install { .. } => "Install",
+        Request::Uninstall { .. } => "Uninstall",
+        Request::Grant { .. } => "Grant",
+        Request::Link { .. } => "Link",
+        Request::ForceStop { .. } => "ForceStop",
+        Request::Tick => "Tick",
+        Request::History { .. } => "History",
+        Request::Status => "Status",
+    }
+}
+
+/// The name of the request, and then what it has.
+pub fn shown(alloc: Global, request: &Request) -> Result<String, Fail> {
+    let mut all = String::from_str(alloc, name_of(request))?;
+    push_activity(&mut all, request)?;
+    Ok(all)
+}

@@ -1,0 +1,106 @@
+//! The words of kinds and of pending flags.
+ghost use Rattle.std.specs.Prelude.{◌≡◌, codes, map};
+ghost use Rattle.serde_json.specs.View.{view};
+ghost use Rattle.am_fields.specs.Reading.{Gives, GivesBy};
+ghost use Rattle.am_fields.specs.Lists.{word_in, words_in};
+ghost use Rattle.am_wire.specs.Words.{kind_words, kind_named, kind_of, pending_words, pending_kind_of, pending_flag_names, pending_flags_listed, pending_flags_of};
+
+use am_fields::{Unread, is_listed, list_in, required, word_in, words_in};
+use am_types::{Kind, PendingFlags};
+use serde_json::Value;
+use std::alloc::Global;
+
+/// The kind that a word names. A broadcast reaches receivers.
+fn kind_named(word: &str) -> Kind
+    ensures { result ≡ kind_named word.now }
+{
+    match word {
+        "activity" => Kind::Activity,
+        "service" => Kind::Service,
+        _ => Kind::Receiver,
+    }
+}
+
+/// The word for a kind of component that a value says.
+#[tactic(auto, unfolding(crate::specs::Words::kind_words))]
+fn kind_word<'v>(alloc: Global, value: &'v Value) -> Result<&'v str, Unread>
+    ensures { GivesBy (λ word. word.now) result (word_in kind_words (codes "kind") (view value.now)) }
+{
+    word_in(alloc, &["activity", "service", "receiver"], "kind", value)
+}
+
+/// The kind of component that the field `kind` asks for: `activity`, `service` or `receiver`.
+#[tactic(auto, unfolding(crate::specs::Words::kind_of))]
+pub fn kind_of(alloc: Global, body: &Value) -> Result<Kind, Unread>
+    ensures { Gives result (kind_of (view body.now)) }
+{
+    let value = required(alloc, "kind", body)?;
+    let word = kind_word(alloc, value)?;
+    Ok(kind_named(word))
+}
+
+/// The word for what a pending intent does that a value says.
+#[tactic(auto, unfolding(crate::specs::Words::pending_words))]
+fn pending_word<'v>(alloc: Global, value: &'v Value) -> Result<&'v str, Unread>
+    ensures { GivesBy (λ word. word.now) result
+        (word_in pending_words (codes "kind") (view value.now)) }
+{
+    word_in(alloc, &["activity", "broadcast", "service"], "kind", value)
+}
+
+/// The kind of component that a pending intent reaches, from its field `kind`: `activity`, `broadcast` or `service`.
+#[tactic(auto, unfolding(crate::specs::Words::pending_kind_of))]
+pub fn pending_kind_of(alloc: Global, body: &Value) -> Result<Kind, Unread>
+    ensures { Gives result (pending_kind_of (view body.now)) }
+{
+    let value = required(alloc, "kind", body)?;
+    let word = pending_word(alloc, value)?;
+    Ok(kind_named(word))
+}
+
+/// The flags whose names are listed, once or more often.
+#[tactic(auto, unfolding(crate::specs::Words::pending_flags_listed))]
+fn pending_flags_listed(names: &[&str]) -> PendingFlags
+    ensures { result ≡ pending_flags_listed (map (λ name. name.now) names.now) }
+{
+    PendingFlags {
+        one_shot: is_listed(names, "ONE_SHOT"),
+        no_create: is_listed(names, "NO_CREATE"),
+        cancel_current: is_listed(names, "CANCEL_CURRENT"),
+        update_current: is_listed(names, "UPDATE_CURRENT"),
+        immutable: is_listed(names, "IMMUTABLE"),
+        mutable: is_listed(names, "MUTABLE"),
+    }
+}
+
+/// The names of pending flags that values say.
+#[tactic(auto, unfolding(crate::specs::Words::pending_flag_names))]
+fn names_in<'v>(alloc: Global, values: &'v [Value]) -> Result<Vec<&'v str>, Unread>
+    ensures { GivesBy (λ names. map (λ name. name.now) names.items) result
+        (words_in pending_flag_names (codes "flags") (map view values.now)) }
+{
+    words_in(
+        alloc,
+        &[
+            "ONE_SHOT",
+            "NO_CREATE",
+            "CANCEL_CURRENT",
+            "UPDATE_CURRENT",
+            "IMMUTABLE",
+            "MUTABLE",
+        ],
+        "flags",
+        values,
+    )
+}
+
+/// The flags that the field `flags` lists by their names, 64 at most, each once or more often. It must be there.
+#[tactic(auto, unfolding(crate::specs::Words::pending_flags_of))]
+pub fn pending_flags_of(alloc: Global, body: &Value) -> Result<PendingFlags, Unread>
+    ensures { Gives result (pending_flags_of (view body.now)) }
+{
+    let value = required(alloc, "flags", body)?;
+    let values = list_in(alloc, "flags", value)?;
+    let names = names_in(alloc, values)?;
+    Ok(pending_flags_listed(&names))
+}
