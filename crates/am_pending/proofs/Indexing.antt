@@ -2,6 +2,7 @@
 use Rattle.std.proofs.Common.{◌≡◌, ℕ, ◌+◌, ◌-◌, ◌==◌, Bool, true, false, not, ◌||◌, cond, List, [], ◌∷◌, ◌++◌, map, filter, Option, Some, None, option_map, refl, sym, ap, ◌∙◌, arith}
 use Rattle.std.specs.List.{find, list_any}
 use Rattle.std.specs.Option.{option_or}
+use Rattle.std.specs.Map.{lookup}
 use Rattle.std.specs.Cmp.{nat_eq_equiv, first_so, unsigned_Decides}
 use Rattle.std.proofs.lemmas.List.Folds.{find-append}
 use Rattle.std.proofs.lemmas.List.Sums.{sum_by_push, sum_by-cons}
@@ -11,7 +12,7 @@ use Rattle.am_pending.specs.declared.key.Key.{Key}
 use Rattle.am_pending.specs.Keys.{asked_by, is_same_key}
 use Rattle.am_pending.specs.KeyLaws.{same_equiv}
 use Rattle.am_pending.specs.Once.{AtMostOne}
-use Rattle.am_pending.specs.Records.{Indexes, token_in, record_in}
+use Rattle.am_pending.specs.Records.{Indexes, token_at, token_in, record_in}
 use Rattle.am_pending.proofs.Lists.{any-none, most-kept, most-push, find-without, count-without, find-filter, count-filter}
 use Rattle.am_pending.proofs.Changes.{is_token}
 
@@ -45,6 +46,13 @@ has-creator key kept h = first_so _ _ (first_so _ _ (first_so _ _ (first_so _ _ 
 -- so they find the same record
 pub token-same : (key other : Key) (records : List Pending) → is_same_key key other ≡ true → token_in other records ≡ token_in key records
 token-same key other records h = λ i. option_map (λ (kept : Pending). kept.token) (find (λ kept. has-same key other h kept i) records)
+
+-- and the same token in a table
+pub token_same : (ts : List (Key × ℕ)) (key other : Key) → is_same_key other key ≡ true → token_at ts other ≡ token_at ts key
+token_same ts key other h = λ i. lookup (λ (k : Key). kept k i) ts
+  where
+    kept : (k : Key) → is_same_key k other ≡ is_same_key k key
+    kept k = same_equiv.symm k other ∙ same_equiv.congr other key k h ∙ same_equiv.symm key k
 
 mapped-none : {X Y : Type 0} (f : X → Y) (o : Option X) → option_map f o ≡ None → o ≡ None
 mapped-none f None h = refl

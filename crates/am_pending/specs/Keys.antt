@@ -1,5 +1,6 @@
 -- What tells one pending intent from another.
-use Rattle.std.specs.Prelude.{Bool, false, ◌&&◌, ◌==◌, []}
+use Rattle.std.specs.Prelude.{Bool, false, ◌&&◌, ◌==◌, List}
+use Rattle.am_types.specs.declared.intent.Named.{Named}
 use Rattle.std.specs.Ordering.{int_eq}
 use Rattle.am_pending.specs.declared.key.Key.{Key}
 use Rattle.am_model.specs.Candidates.{is_kind}
@@ -35,9 +36,9 @@ key_for asked = record {
   intent = asked.intent;
 }
 
--- the key, without extras of its intent
-abbrev pub bare : Key → Key
-bare key = record key { intent = record (key.intent) { extras = [] } }
+-- the key, with other extras of its intent
+abbrev pub keyed : List Named → Key → Key
+keyed extras key = record key { intent = record (key.intent) { extras = extras } }
 
 -- two keys are the same: extras and flags of their intents don't count
 abbrev pub is_same_key : Key → Key → Bool

@@ -8,7 +8,7 @@ use Rattle.std.specs.BTreeMap.{insert_entry}
 use Rattle.std.specs.Ordering.{nat_cmp}
 use Rattle.am_model.specs.Pendings.{Pending, count_of, has_key}
 use Rattle.am_pending.specs.declared.key.Key.{Key}
-use Rattle.am_pending.specs.Keys.{asked_by, is_same_key}
+use Rattle.am_pending.specs.Keys.{asked_by, is_same_key, keyed}
 use Rattle.am_pending.specs.Once.{AtMostOne}
 
 -- a record: its key, with the whole intent, and those besides the creator who hold its token
@@ -56,7 +56,7 @@ dropped_at token entries = filter (λ (e : ℕ × Kept). not (e.0 == token)) ent
 
 -- the record with other extras
 abbrev pub with_extras : List Named → Kept → Kept
-with_extras extras kept = record kept { key = record (kept.key) { intent = record (kept.key.intent) { extras = extras } } }
+with_extras extras kept = record kept { key = keyed extras kept.key }
 
 -- the record with one more holder
 abbrev pub held_by : ℕ → Kept → Kept

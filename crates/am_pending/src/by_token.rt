@@ -1,5 +1,5 @@
 //! Live records, found by their tokens.
-ghost use Rattle.std.specs.Prelude.{◌≡◌, [], OnOk, OnErr};
+ghost use Rattle.std.specs.Prelude.{◌≡◌, [], IfOk, OnOk, OnErr};
 ghost use Rattle.std.specs.Option.{option_copied};
 ghost use Rattle.std.specs.Map.{lookup};
 ghost use Rattle.std.specs.Ordering.{nat_cmp};
@@ -7,7 +7,7 @@ ghost use Rattle.std.specs.BTreeMap.{insert_entry, is_at};
 ghost use Rattle.am_pending.specs.Records.{changed_at, dropped_at, held_by, in_order, let_go_by_all, others_than, unheld, with_extras};
 
 use crate::in_turn::InTurn;
-use crate::key::Key;
+use crate::key::{Key, SharedKey};
 use crate::records::Record;
 use am_types::{List, Named};
 use indexmap::IndexMap;
@@ -48,12 +48,25 @@ fn put_record(
     }
 }
 
-/// Gives the intent of the record under the token other extras.
-fn change_extras(records: &mut IndexMap<u64, Record, InTurn>, token: u64, extras: List<Named>)
-    ensures { in_order records.new.entries ≡ changed_at token (with_extras extras) (in_order records.old.entries) }
+/// Gives the intent of the record under the token other extras, and tells its new key. Without memory all stays.
+fn change_extras(
+    records: &mut IndexMap<u64, Record, InTurn>,
+    alloc: Global,
+    token: u64,
+    extras: List<Named>,
+) -> Result<Option<SharedKey>, AllocError>
+    ensures ok { OnOk result (in_order records.new.entries ≡ changed_at token (with_extras extras) (in_order records.old.entries)) }
+    ensures err { OnErr result (records.new.entries ≡ records.old.entries) }
 {
-    if let Some(kept) = records.get_mut(&token) {
-        kept.set_extras(extras);
+    match records.get_mut(&token) {
+        Some(kept) => match kept.set_extras(alloc, extras) {
+            Ok(key) => Ok(Some(key)),
+            Err(error) => Err(error),
+        },
+        None => {
+            drop(extras);
+            Ok(None)
+        }
     }
 }
 
@@ -85,22 +98,31 @@ impl ByToken {
         self.records.get(&token)
     }
 
-    /// Puts a record without holders under a token. Without memory all stays.
-    pub fn put(&mut self, alloc: Global, token: u64, key: &Key) -> Result<(), AllocError>
-        ensures ok { OnOk result (self.new ≡ insert_entry nat_cmp self.old token (unheld key.now)) }
+    /// Puts a record without holders under a token, and gives the key back for its other owner. Without memory all stays.
+    pub fn put(&mut self, alloc: Global, token: u64, key: Key) -> Result<SharedKey, AllocError>
+        ensures key { IfOk result (λ shared. shared ≡ key) }
+        ensures ok { OnOk result (self.new ≡ insert_entry nat_cmp self.old token (unheld key)) }
         ensures err { OnErr result (self.new ≡ self.old) }
     {
-        match key.clone() {
-            Ok(key) => put_record(&mut self.records, token, Record::new(alloc, key)),
-            Err(_) => Err(AllocError),
+        let (key, other) = SharedKey::pair(alloc, key)?;
+        match put_record(&mut self.records, token, Record::new(alloc, key)) {
+            Ok(()) => Ok(other),
+            Err(error) => Err(error),
         }
     }
 
-    /// Gives the intent of the record under the token other extras. Takes no memory.
-    pub fn set_extras(&mut self, token: u64, extras: List<Named>)
-        ensures { self.new ≡ changed_at token (with_extras extras) self.old }
+    /// Gives the intent of the record under the token other extras, and tells its new key for its other owner. Without
+    /// memory all stays.
+    pub fn set_extras(
+        &mut self,
+        alloc: Global,
+        token: u64,
+        extras: List<Named>,
+    ) -> Result<Option<SharedKey>, AllocError>
+        ensures ok { OnOk result (self.new ≡ changed_at token (with_extras extras) self.old) }
+        ensures err { OnErr result (self.new ≡ self.old) }
     {
-        change_extras(&mut self.records, token, extras);
+        change_extras(&mut self.records, alloc, token, extras)
     }
 
     /// Adds a holder to the record under the token. Without memory all stays.

@@ -1,16 +1,19 @@
 //! What tells one pending intent from another.
-ghost use Rattle.std.specs.Prelude.{◌≡◌, option_map};
+ghost use Rattle.std.specs.Prelude.{◌≡◌, IfOk, option_map};
 ghost use Rattle.std.specs.Option.{option_copied};
 ghost use Rattle.std.specs.Cmp.{partial_equiv_from_equiv};
 ghost use Rattle.am_types.specs.declared.uri.Uri.{Uri};
 ghost use Rattle.am_model.specs.Candidates.{is_kind};
 ghost use Rattle.am_model.specs.Pendings.{is_same_truth};
-ghost use Rattle.am_pending.specs.Keys.{bare, key_for};
+ghost use Rattle.am_pending.specs.Keys.{key_for, keyed};
 
 use am_filter::filter_equals;
 use am_types::{Intent, Kind, List, Named, PendingFlags, Text, Uri};
+use indexmap::Equivalent;
 use std::alloc::{AllocError, Global};
 use std::hash::{Hash, Hasher};
+use std::marker::Model;
+use std::sync::Arc;
 
 /// Who made a pending intent and what for: the key of its record. Extras and flags of the intent don't count.
 #[derive(Debug, Drop)]
@@ -62,13 +65,20 @@ impl Key {
         }
     }
 
-    /// The same key, without extras, which don't count. Takes no memory.
-    pub fn without_extras(self, alloc: Global) -> Key
-        ensures { result ≡ bare self }
+    /// The same key, with other extras.
+    pub fn with_extras(&self, extras: List<Named>) -> Result<Key, AllocError>
+        ensures { IfOk result (λ key. key ≡ keyed extras self.now) }
     {
-        let mut key = self;
-        key.intent.extras = List::new(Vec::new(alloc));
-        key
+        match self.clone() {
+            Ok(mut key) => {
+                key.intent.extras = extras;
+                Ok(key)
+            }
+            Err(error) => {
+                drop(extras);
+                Err(error)
+            }
+        }
     }
 
     /// The extras of the intent. Takes no memory.
@@ -137,5 +147,91 @@ impl Hash for Key {
         self.intent.identifier.hash(state);
         self.intent.package.hash(state);
         self.intent.component.hash(state);
+    }
+}
+
+/// A key that a record and the table of tokens have together, so that its texts are kept once.
+#[derive(Debug, Drop)]
+pub struct SharedKey {
+    key: Arc<Key, Global>,
+}
+
+impl Model for SharedKey {
+    ghost use Rattle.std.specs.Arc.{arc_value};
+    ghost use Rattle.am_pending.specs.declared.key.Key as keys;
+
+    ghost Value = { keys.Key };
+
+    ghost view = { λ shared. arc_value shared.key };
+}
+
+impl SharedKey {
+    /// The key with its two owners. Without memory it is dropped.
+    pub fn pair(alloc: Global, key: Key) -> Result<(SharedKey, SharedKey), AllocError>
+        ensures { IfOk result (λ both. (both.0 ≡ key) × (both.1 ≡ key)) }
+    {
+        match Arc::new(alloc, key) {
+            Ok(key) => {
+                let other = Arc::try_clone(&key)?;
+                Ok((SharedKey { key }, SharedKey { key: other }))
+            }
+            Err(failed) => {
+                drop(failed);
+                Err(AllocError)
+            }
+        }
+    }
+
+    /// The key.
+    pub fn get(&self) -> &Key
+        ensures { result.now ≡ self.now }
+    {
+        &*self.key
+    }
+}
+
+impl PartialEq for SharedKey {
+    ghost use Rattle.am_pending.specs.Keys.{is_same_key};
+    ghost use Rattle.am_pending.specs.KeyLaws.{key_equiv};
+
+    ghost eq = { λ x y. is_same_key y x };
+
+    ghost laws = { partial_equiv_from_equiv key_equiv };
+
+    fn eq(&self, other: &Self) -> bool {
+        *self.get() == *other.get()
+    }
+}
+
+impl Eq for SharedKey {
+    ghost use Rattle.am_pending.specs.KeyLaws.{key_equiv};
+
+    ghost laws = { key_equiv };
+}
+
+impl Hash for SharedKey {
+    ghost use Rattle.am_pending.specs.KeyLaws.{fed_by, key_fed};
+
+    ghost hash_input = { fed_by };
+
+    ghost respects_eq = { key_fed };
+
+    fn hash<H: Hasher>(&self, state: &mut H) {
+        self.get().hash(state)
+    }
+}
+
+impl Equivalent<SharedKey> for &Key {
+    ghost use Rattle.am_pending.specs.Keys.{is_same_key};
+    ghost use Rattle.am_pending.specs.KeyLaws.{key_equiv, key_fed};
+
+    ghost equivalent = { λ q k. is_same_key k q.now };
+
+    ghost respects_hash = { λ q. key_fed q.now };
+
+    ghost respects_eq = { λ q. key_equiv.congr q.now };
+
+    fn equivalent(&self, key: &SharedKey) -> bool {
+        **self == *key.get()
     }
 }

@@ -1,5 +1,5 @@
 //! The calls on pending intents.
-ghost use Rattle.std.specs.Prelude.{◌≡◌, ◌≤◌, ◌+◌, if◌then◌else◌, ◌==◌, ◌||◌, map, IfOk, IsOk, None, Some, Ok, Err};
+ghost use Rattle.std.specs.Prelude.{◌≡◌, ◌≤◌, ◌+◌, if◌then◌else◌, ◌==◌, ◌||◌, map, IfOk, IsOk, None, Some, Ok, Err, OnOk, OnErr};
 ghost use Rattle.std.specs.Option.{option_copied};
 ghost use Rattle.std.specs.List.{list_any};
 ghost use Rattle.am_model.specs.Pendings.{cancel, forget_uid, get, give, is_clear, lent, made, no_pendings, no_record, updated, use_token, without_token};
@@ -12,7 +12,7 @@ use crate::table::Table;
 use am_filter::fill_in;
 use am_tally::Steps;
 use am_types::{FillFault, Intent, Kind, PendingFault, PendingFlags, Used};
-use std::alloc::Global;
+use std::alloc::{AllocError, Global};
 use std::marker::Model;
 use std::sync::ledger::Ledger;
 
@@ -119,22 +119,33 @@ impl Pending {
             None => self.make(key, flags.no_create),
             Some(token) if flags.cancel_current => self.renew(token, key, flags.no_create),
             Some(token) => {
-                self.keep(token, key, flags.update_current, steps);
+                let kept = self.keep(token, key, flags.update_current, steps);
+                if kept.is_err() {
+                    return Err(PendingFault::NoMemory);
+                }
                 Ok(Some(token))
             }
         }
     }
 
-    /// Keeps the record, with the extras of the key's intent where it is to be updated.
-    fn keep<L: Ledger>(&mut self, token: u64, key: Key, update: bool, steps: &mut Steps<L>)
-        ensures kept { self.new ≡ record self.old { records = if update then map (updated token key.intent.extras) self.old.records else self.old.records } }
+    /// Keeps the record, with the extras of the key's intent where it is to be updated. Without memory all stays.
+    fn keep<L: Ledger>(
+        &mut self,
+        token: u64,
+        key: Key,
+        update: bool,
+        steps: &mut Steps<L>,
+    ) -> Result<(), AllocError>
+        ensures kept { OnOk result (self.new ≡ record self.old { records = if update then map (updated token key.intent.extras) self.old.records else self.old.records }) }
+        ensures err { OnErr result (self.new ≡ self.old) }
         ensures steps { steps.new ≤ steps.old + 1 }
     {
-        if update {
-            self.table.set_extras(token, key.into_extras(), steps);
-        } else {
+        if !update {
             drop(key);
+            return Ok(());
         }
+        self.table
+            .set_extras(self.alloc, token, key.into_extras(), steps)
     }
 
     /// Makes a record for a key that none has, unless none is to be made.

@@ -2,7 +2,7 @@
 ghost use Rattle.std.specs.Prelude.{◌≡◌, OnOk, OnErr};
 ghost use Rattle.am_pending.specs.Records.{held_by, let_go_by, unheld, with_extras};
 
-use crate::key::Key;
+use crate::key::{Key, SharedKey};
 use am_types::{List, Named};
 use std::alloc::{AllocError, Global};
 use std::marker::Model;
@@ -10,7 +10,7 @@ use std::marker::Model;
 /// A live record: its key, with the whole intent, and the uids besides the creator's that hold its token.
 #[derive(Debug, Drop)]
 pub struct Record {
-    key: Key,
+    key: SharedKey,
     holders: Vec<u32>,
 }
 
@@ -24,7 +24,7 @@ impl Model for Record {
 
 impl Record {
     /// A record without holders. Takes no memory.
-    pub fn new(alloc: Global, key: Key) -> Record
+    pub fn new(alloc: Global, key: SharedKey) -> Record
         ensures { result ≡ unheld key }
     {
         Record {
@@ -37,7 +37,7 @@ impl Record {
     pub fn key(&self) -> &Key
         ensures { result.now ≡ self.now.key }
     {
-        &self.key
+        self.key.get()
     }
 
     /// The uids besides the creator's that hold the token.
@@ -47,11 +47,18 @@ impl Record {
         self.holders.as_slice()
     }
 
-    /// Gives the intent other extras. Takes no memory.
-    pub fn set_extras(&mut self, extras: List<Named>)
-        ensures { self.new ≡ with_extras extras self.old }
+    /// Gives the intent other extras, and tells the new key for its other owner. Without memory all stays.
+    pub fn set_extras(
+        &mut self,
+        alloc: Global,
+        extras: List<Named>,
+    ) -> Result<SharedKey, AllocError>
+        ensures ok { OnOk result (self.new ≡ with_extras extras self.old) }
+        ensures err { OnErr result (self.new ≡ self.old) }
     {
-        self.key.intent.extras = extras;
+        let (key, other) = SharedKey::pair(alloc, self.key.get().with_extras(extras)?)?;
+        self.key = key;
+        Ok(other)
     }
 
     /// Adds a holder. Without memory all stays.
@@ -68,12 +75,5 @@ impl Record {
         ensures { self.new ≡ let_go_by uid self.old }
     {
         self.holders.retain(|holder| *holder != uid);
-    }
-
-    /// The key. Takes no memory.
-    pub fn into_key(self) -> Key
-        ensures { result ≡ self.key }
-    {
-        self.key
     }
 }

@@ -9,7 +9,7 @@ ghost use Rattle.am_pending.specs.Records.{count_at, pending_of, record_in, toke
 ghost use Rattle.am_pending.specs.declared.key.Key.{Key};
 
 use crate::by_token::ByToken;
-use crate::key::Key;
+use crate::key::{Key, SharedKey};
 use crate::records::Record;
 use am_tally::Steps;
 use am_types::{List, Named};
@@ -22,7 +22,7 @@ use std::sync::ledger::Ledger;
 #[derive(Debug, Drop)]
 pub struct Table {
     records: ByToken,
-    tokens: IndexMap<Key, u64>,
+    tokens: IndexMap<SharedKey, u64>,
     /// How many records each creator has.
     counts: IndexMap<u32, u32>,
 }
@@ -40,7 +40,7 @@ impl Model for Table {
 }
 
 /// Gives the key a token, where there is room for it or it has one.
-fn put_token(tokens: &mut IndexMap<Key, u64>, key: Key, token: u64)
+fn put_token(tokens: &mut IndexMap<SharedKey, u64>, key: SharedKey, token: u64)
     requires { (token_at tokens.old.entries key ≡ None) → 1 ≤ spare tokens.old }
     ensures { (other : Key) → token_at tokens.new.entries other ≡ cond (is_same_key other key) (Some token) (token_at tokens.old.entries other) }
 {
@@ -50,26 +50,40 @@ fn put_token(tokens: &mut IndexMap<Key, u64>, key: Key, token: u64)
     }
 }
 
-/// The same, and the key that is kept has no extras: the record has them.
-fn set_token(tokens: &mut IndexMap<Key, u64>, alloc: Global, key: Key, token: u64)
-    requires { (token_at tokens.old.entries key ≡ None) → 1 ≤ spare tokens.old }
-    ensures { (other : Key) → token_at tokens.new.entries other ≡ cond (is_same_key other key) (Some token) (token_at tokens.old.entries other) }
+/// Takes the key's token away.
+fn unset_token(tokens: &mut IndexMap<SharedKey, u64>, key: &Key) -> Option<u64>
+    ensures token { result ≡ token_at tokens.old.entries key.now }
+    ensures others { (other : Key) → token_at tokens.new.entries other ≡ cond (is_same_key other key.now) None (token_at tokens.old.entries other) }
+    ensures room { spare tokens.old ≤ spare tokens.new }
 {
-    put_token(tokens, key.without_extras(alloc), token);
+    tokens.swap_remove(key)
 }
 
-/// Takes the key's token away.
-fn unset_token(tokens: &mut IndexMap<Key, u64>, key: &Key)
-    ensures { (other : Key) → token_at tokens.new.entries other ≡ cond (is_same_key other key.now) None (token_at tokens.old.entries other) }
+/// Gives the key a token in the place of the one that it has, and keeps this key for it.
+fn set_token(tokens: &mut IndexMap<SharedKey, u64>, key: SharedKey, token: u64)
+    requires { 1 ≤ spare tokens.old }
+    ensures { (other : Key) → token_at tokens.new.entries other ≡ cond (is_same_key other key) (Some token) (token_at tokens.old.entries other) }
 {
-    tokens.swap_remove(key);
+    unset_token(tokens, key.get());
+    put_token(tokens, key, token);
+}
+
+/// Keeps this key in the place of the same one.
+fn keep_key(tokens: &mut IndexMap<SharedKey, u64>, key: SharedKey)
+    requires { 1 ≤ spare tokens.old }
+    ensures { (other : Key) → token_at tokens.new.entries other ≡ token_at tokens.old.entries other }
+{
+    match unset_token(tokens, key.get()) {
+        Some(token) => put_token(tokens, key, token),
+        None => drop(key),
+    }
 }
 
 /// Takes the tokens of a creator's keys away.
-fn forget_tokens(tokens: &mut IndexMap<Key, u64>, uid: u32)
+fn forget_tokens(tokens: &mut IndexMap<SharedKey, u64>, uid: u32)
     ensures { (other : Key) → token_at tokens.new.entries other ≡ cond (other.creator == uid) None (token_at tokens.old.entries other) }
 {
-    tokens.retain(|key, _| key.creator != uid);
+    tokens.retain(|key, _| key.get().creator != uid);
 }
 
 /// Takes a creator's number of records away.
@@ -81,7 +95,7 @@ fn forget_count(counts: &mut IndexMap<u32, u32>, uid: u32)
 
 /// Makes room for one more key and for its creator's number of records.
 fn make_room(
-    tokens: &mut IndexMap<Key, u64>,
+    tokens: &mut IndexMap<SharedKey, u64>,
     counts: &mut IndexMap<u32, u32>,
     creator: u32,
 ) -> Result<(), AllocError>
@@ -189,14 +203,18 @@ impl Table {
         ensures err { OnErr result (self.new ≡ self.old) }
     {
         let creator = key.creator;
-        let room = make_room(&mut self.tokens, &mut self.counts, creator);
-        if room.is_err() || self.records.put(alloc, token, &key).is_err() {
+        if make_room(&mut self.tokens, &mut self.counts, creator).is_err() {
             drop(key);
             return Err(AllocError);
         }
-        set_token(&mut self.tokens, alloc, key, token);
-        raise(&mut self.counts, creator);
-        Ok(())
+        match self.records.put(alloc, token, key) {
+            Ok(key) => {
+                put_token(&mut self.tokens, key, token);
+                raise(&mut self.counts, creator);
+                Ok(())
+            }
+            Err(error) => Err(error),
+        }
     }
 
     /// Adds a record in the place of the one with its key. Without memory all stays.
@@ -212,13 +230,18 @@ impl Table {
         ensures ok { OnOk result (self.new ≡ without_token self.old old ++ fresh token (asked_by key) ∷ []) }
         ensures err { OnErr result (self.new ≡ self.old) }
     {
-        if self.records.put(alloc, token, &key).is_err() {
+        if self.tokens.reserve(1).is_err() {
             drop(key);
             return Err(AllocError);
         }
-        self.records.discard(old);
-        set_token(&mut self.tokens, alloc, key, token);
-        Ok(())
+        match self.records.put(alloc, token, key) {
+            Ok(key) => {
+                self.records.discard(old);
+                set_token(&mut self.tokens, key, token);
+                Ok(())
+            }
+            Err(error) => Err(error),
+        }
     }
 
     /// Takes the record away. Takes no memory.
@@ -232,13 +255,31 @@ impl Table {
         }
     }
 
-    /// Gives the record's intent other extras, which is a step. Takes no memory.
-    pub fn set_extras<L: Ledger>(&mut self, token: u64, extras: List<Named>, steps: &mut Steps<L>)
-        ensures extras { self.new ≡ map (updated token extras) self.old }
+    /// Gives the record's intent other extras, which is a step. Without memory all stays.
+    pub fn set_extras<L: Ledger>(
+        &mut self,
+        alloc: Global,
+        token: u64,
+        extras: List<Named>,
+        steps: &mut Steps<L>,
+    ) -> Result<(), AllocError>
+        ensures ok { OnOk result (self.new ≡ map (updated token extras) self.old) }
+        ensures err { OnErr result (self.new ≡ self.old) }
         ensures steps { steps.new ≡ steps.old + 1 }
     {
         steps.tick();
-        self.records.set_extras(token, extras);
+        if self.tokens.reserve(1).is_err() {
+            drop(extras);
+            return Err(AllocError);
+        }
+        match self.records.set_extras(alloc, token, extras) {
+            Ok(Some(key)) => {
+                keep_key(&mut self.tokens, key);
+                Ok(())
+            }
+            Ok(None) => Ok(()),
+            Err(error) => Err(error),
+        }
     }
 
     /// Adds a holder to the record. Without memory all stays.

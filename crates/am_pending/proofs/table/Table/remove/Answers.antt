@@ -18,7 +18,7 @@ invariant_of-self c =
     let k2 = c.key-in-Some.ensures in
     taken c.self.inside.records c.take.new.self c.self.inside.tokens.entries c.unset_token.new.tokens.entries c.self.inside.counts.entries c.lower.new.counts.entries c.args.token c.in-Some.kept
     c.self.invariant (sym c.take.ensures.found ∙ c.in-Some.is) c.take.ensures.entries
-    (λ other. c.unset_token.ensures other ∙ ap (λ (key : Key). cond (is_same_key other key) None (token_at c.self.inside.tokens.entries other)) k)
+    (λ other. c.unset_token.ensures.others other ∙ ap (λ (key : Key). cond (is_same_key other key) None (token_at c.self.inside.tokens.entries other)) k)
     (λ uid. c.lower.ensures uid ∙ ap (λ (key : Key). count_at c.self.inside.counts.entries uid - cond (uid == key.creator) 1 0) k2)
 
 pub invariant_of-self-in_default : goal.invariant_of-self-in_default
