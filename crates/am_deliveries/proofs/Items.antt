@@ -336,14 +336,14 @@ all_found most items left all is none few =
     sym (ap (take most) (sym is ∙ ap (λ l. items ++ l) none ∙ append-nil items) ∙ take_all most items few)
 
 -- what the numbers tell of the next delivery
-pub next_shown : (uid from : ℕ) (batches : List Batch) (numbers : List (ℕ × ℕ)) (next : Option ℕ) → AreNumbered numbers batches
+pub next_shown : (uid from : ℕ) (batches : List Batch) (numbers : List (ℕ × List ℕ)) (next : Option ℕ) → AreNumbered numbers batches
     → MatchOption next (HasNone numbers uid from) (IsNext numbers uid from) → MatchOption next (NoneFrom (live_of batches) uid from) (IsNextOf (live_of batches) uid from)
 next_shown uid from batches numbers None numbered is = λ number low. found_nowhere uid number batches (sym (numbered uid number) ∙ is number low)
 next_shown uid from batches numbers (Some next) numbered is =
     (is.0, found_somewhere uid next batches (sym (numbered uid next) ∙ is.1), λ number low before. found_nowhere uid number batches (sym (numbered uid number) ∙ is.2 number low before))
 
 -- it has a number below the end
-pub next_before : (uid from end : ℕ) (batches : List Batch) (numbers : List (ℕ × ℕ)) (next : Option ℕ) → AreApart 0 end batches → AreNumbered numbers batches
+pub next_before : (uid from end : ℕ) (batches : List Batch) (numbers : List (ℕ × List ℕ)) (next : Option ℕ) → AreApart 0 end batches → AreNumbered numbers batches
     → MatchOption next (HasNone numbers uid from) (IsNext numbers uid from) → IfSome next (λ number. number < end)
 next_before uid from end batches numbers None apart numbered is = _
 next_before uid from end batches numbers (Some next) apart numbered is = stands_before uid next end batches apart (sym (numbered uid next) ∙ is.1)

@@ -3,6 +3,7 @@ pub mod Finding
 pub mod Items
 pub mod Keeping
 pub mod Keys
+pub mod Owns
 pub mod Listing
 pub mod Numbering
 pub mod Retiring

@@ -9,9 +9,8 @@ use Rattle.std.specs.List.{filter, list_any}
 use Rattle.am_types.specs.declared.broadcast.Spot.{Spot}
 use Rattle.am_model.specs.Filters.{is_empty}
 use Rattle.am_deliveries.specs.Batches.{Batch, standing, normal_of, is_live, slot_of, spot_in, emptied, cleared, stricken, unless_struck}
-use Rattle.am_deliveries.specs.Deadlines.{has}
 use Rattle.am_deliveries.specs.Kept.{AreApart}
-use Rattle.am_deliveries.specs.Numbers.{is_to, stands_in, stands, if_struck, goes, AreNumbered}
+use Rattle.am_deliveries.specs.Numbers.{is_to, stands_in, stands, if_struck, goes, AreNumbered, lists}
 use Rattle.am_deliveries.proofs.Changes.{begins_from, Misses}
 
 below_differs : (n number : ℕ) → number < n → n == number ≡ false
@@ -169,9 +168,9 @@ changed_at true uid number from end (b ∷ others) (suc i) d b' apart within its
 changed_at false uid number from end (b ∷ others) (suc i) d b' apart within its change =
     ap (λ x. stands uid number b || x) (changed_at false uid number b.end end others i d b' apart.3 (omega arith) its change)
 
-numbered_at : (g : ℕ → ℕ → Bool) (end : ℕ) (batches : List Batch) (i : ℕ) (d b' : Batch) (numbers numbers' : List (ℕ × ℕ))
+numbered_at : (g : ℕ → ℕ → Bool) (end : ℕ) (batches : List Batch) (i : ℕ) (d b' : Batch) (numbers numbers' : List (ℕ × List ℕ))
     → AreApart 0 end batches → AreNumbered numbers batches → i < length batches
-    → ((uid number : ℕ) → has numbers' uid number ≡ (not (g uid number) && has numbers uid number))
+    → ((uid number : ℕ) → lists numbers' uid number ≡ (not (g uid number) && lists numbers uid number))
     → ((uid number : ℕ) → g uid number ≡ true → ((get_or batches i d).first ≤ number) × (number < (get_or batches i d).end))
     → ((uid number : ℕ) → stands uid number b' ≡ (not (g uid number) && stands uid number (get_or batches i d)))
     → AreNumbered numbers' (set batches i b')
@@ -180,10 +179,10 @@ numbered_at g end batches i d b' numbers numbers' apart numbered within taken it
     ∙ sym (changed_at (g uid number) uid number 0 end batches i d b' apart within (its uid number) (change uid number))
 
 -- the numbers follow a batch of which some deliveries go
-pub one_numbered : (g : ℕ → ℕ → Bool) (end : ℕ) (batches : List Batch) (i : ℕ) (b b' : Batch) (numbers numbers' : List (ℕ × ℕ))
+pub one_numbered : (g : ℕ → ℕ → Bool) (end : ℕ) (batches : List Batch) (i : ℕ) (b b' : Batch) (numbers numbers' : List (ℕ × List ℕ))
     → b ≡ get_or batches i b
     → AreApart 0 end batches → AreNumbered numbers batches → i < length batches
-    → ((uid number : ℕ) → has numbers' uid number ≡ (not (g uid number) && has numbers uid number))
+    → ((uid number : ℕ) → lists numbers' uid number ≡ (not (g uid number) && lists numbers uid number))
     → ((uid number : ℕ) → g uid number ≡ true → (b.first ≤ number) × (number < b.end))
     → ((uid number : ℕ) → stands uid number b' ≡ (not (g uid number) && stands uid number b))
     → AreNumbered numbers' (set batches i b')
@@ -194,9 +193,9 @@ one_numbered g end batches i b b' numbers numbers' at apart numbered within take
     (sym at) (numbered_at g end batches i b b' numbers numbers' apart numbered within taken)
 
 -- a delivery is finished
-pub numbered_finished : (done end : ℕ) (batches : List Batch) (i : ℕ) (b : Batch) (numbers numbers' : List (ℕ × ℕ))
+pub numbered_finished : (done end : ℕ) (batches : List Batch) (i : ℕ) (b : Batch) (numbers numbers' : List (ℕ × List ℕ))
     → b ≡ get_or batches i b → AreApart 0 end batches → AreNumbered numbers batches → i < length batches → b.first ≤ done → done < b.end
-    → ((uid number : ℕ) → has numbers' uid number ≡ (not (is_to uid (slot_of done b) && done == number) && has numbers uid number))
+    → ((uid number : ℕ) → lists numbers' uid number ≡ (not (is_to uid (slot_of done b) && done == number) && lists numbers uid number))
     → AreNumbered numbers' (set batches i (emptied done b))
 numbered_finished done end batches i b numbers numbers' at apart numbered within low high taken =
     one_numbered (λ uid number. is_to uid (slot_of done b) && done == number) end batches i b (emptied done b) numbers numbers' at apart numbered within taken
@@ -213,9 +212,9 @@ numbered_finished done end batches i b numbers numbers' at apart numbered within
         (stands_without uid number b.first (done - b.first) b.slots)
 
 -- all deliveries of a batch go
-pub numbered_cleared : (end : ℕ) (batches : List Batch) (i : ℕ) (b : Batch) (numbers numbers' : List (ℕ × ℕ))
+pub numbered_cleared : (end : ℕ) (batches : List Batch) (i : ℕ) (b : Batch) (numbers numbers' : List (ℕ × List ℕ))
     → b ≡ get_or batches i b → AreApart 0 end batches → AreNumbered numbers batches → i < length batches → b.first + length b.slots ≤ b.end
-    → ((uid number : ℕ) → has numbers' uid number ≡ (not (stands uid number b) && has numbers uid number))
+    → ((uid number : ℕ) → lists numbers' uid number ≡ (not (stands uid number b) && lists numbers uid number))
     → AreNumbered numbers' (set batches i (cleared b))
 numbered_cleared end batches i b numbers numbers' at apart numbered within last taken =
     one_numbered (λ uid number. stands uid number b) end batches i b (cleared b) numbers numbers' at apart numbered within taken
@@ -226,9 +225,9 @@ numbered_cleared end batches i b numbers numbers' at apart numbered within last 
     none false = refl
 
 -- the deliveries to struck receivers go
-pub numbered_stricken : (struck : Spot → Bool) (end : ℕ) (batches : List Batch) (i : ℕ) (b : Batch) (numbers numbers' : List (ℕ × ℕ))
+pub numbered_stricken : (struck : Spot → Bool) (end : ℕ) (batches : List Batch) (i : ℕ) (b : Batch) (numbers numbers' : List (ℕ × List ℕ))
     → b ≡ get_or batches i b → AreApart 0 end batches → AreNumbered numbers batches → i < length batches → b.first + length b.slots ≤ b.end
-    → ((uid number : ℕ) → has numbers' uid number ≡ (not (goes struck uid number b) && has numbers uid number))
+    → ((uid number : ℕ) → lists numbers' uid number ≡ (not (goes struck uid number b) && lists numbers uid number))
     → AreNumbered numbers' (set batches i (stricken struck b))
 numbered_stricken struck end batches i b numbers numbers' at apart numbered within last taken =
     one_numbered (λ uid number. goes struck uid number b) end batches i b (stricken struck b) numbers numbers' at apart numbered within taken
@@ -238,8 +237,8 @@ numbered_stricken struck end batches i b numbers numbers' at apart numbered with
     its uid number is = (is.0, omega (arith, is.1, last, length-map {B = Option Spot} b.slots (if_struck struck)))
 
 -- one more batch
-pub numbered_more : (batches : List Batch) (b : Batch) (numbers numbers' : List (ℕ × ℕ)) → AreNumbered numbers batches
-    → ((uid number : ℕ) → has numbers' uid number ≡ (stands uid number b || has numbers uid number))
+pub numbered_more : (batches : List Batch) (b : Batch) (numbers numbers' : List (ℕ × List ℕ)) → AreNumbered numbers batches
+    → ((uid number : ℕ) → lists numbers' uid number ≡ (stands uid number b || lists numbers uid number))
     → AreNumbered numbers' (batches ++ b ∷ [])
 numbered_more batches b numbers numbers' numbered put = λ uid number.
     put uid number ∙ ap (λ x. stands uid number b || x) (numbered uid number)
@@ -252,14 +251,14 @@ numbered_more batches b numbers numbers' numbered put = λ uid number.
     swapped false false = refl
 
 -- a batch that wasn't put after all
-pub numbered_again : (end : ℕ) (batches : List Batch) (b : Batch) (numbers numbers' numbers'' : List (ℕ × ℕ)) → AreApart 0 end batches → end ≤ b.first → AreNumbered numbers batches
-    → ((uid number : ℕ) → stands uid number b ≡ false → has numbers' uid number ≡ has numbers uid number)
-    → ((uid number : ℕ) → has numbers'' uid number ≡ (not (stands uid number b) && has numbers' uid number))
+pub numbered_again : (end : ℕ) (batches : List Batch) (b : Batch) (numbers numbers' numbers'' : List (ℕ × List ℕ)) → AreApart 0 end batches → end ≤ b.first → AreNumbered numbers batches
+    → ((uid number : ℕ) → stands uid number b ≡ false → lists numbers' uid number ≡ lists numbers uid number)
+    → ((uid number : ℕ) → lists numbers'' uid number ≡ (not (stands uid number b) && lists numbers' uid number))
     → AreNumbered numbers'' batches
 numbered_again end batches b numbers numbers' numbers'' apart after numbered others taken = λ uid number.
     by uid number (stands uid number b) refl
   where
-    by : (uid number : ℕ) (c : Bool) → stands uid number b ≡ c → has numbers'' uid number ≡ list_any (stands uid number) batches
+    by : (uid number : ℕ) (c : Bool) → stands uid number b ≡ c → lists numbers'' uid number ≡ list_any (stands uid number) batches
     by uid number true is =
         taken uid number ∙ rw is (sym (none_past uid number 0 end batches apart (omega (arith, after, (within_slots uid number b.first b.slots is).0))))
     by uid number false is = taken uid number ∙ rw is (others uid number is) ∙ numbered uid number

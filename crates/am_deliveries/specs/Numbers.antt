@@ -1,5 +1,5 @@
 -- The numbers of deliveries by uid, and the items of an inbox by number.
-use Rattle.std.specs.Prelude.{⊤, ◌≡◌, ℕ, ◌+◌, ◌≤◌, ◌<◌, Bool, true, false, ◌&&◌, ◌||◌, ◌==◌, List, [], ◌∷◌, filter, map, Option, Some, None, if◌then◌else◌}
+use Rattle.std.specs.Prelude.{⊤, ◌≡◌, ℕ, ◌+◌, ◌≤◌, ◌<◌, Bool, true, false, ◌&&◌, ◌||◌, ◌==◌, List, [], ◌∷◌, filter, map, Option, Some, None, if◌then◌else◌, nat_eq}
 use Rattle.std.specs.List.{flat_map, list_any}
 use Rattle.am_types.specs.declared.broadcast.Spot.{Spot}
 use Rattle.am_types.specs.declared.broadcast.Item.{Item}
@@ -8,16 +8,39 @@ use Rattle.am_model.specs.Filters.{is_empty}
 use Rattle.am_model.specs.Broadcasts.{Normal}
 use Rattle.am_model.specs.Sending.{normal_items}
 use Rattle.am_deliveries.specs.Batches.{Batch}
-use Rattle.am_deliveries.specs.Deadlines.{has}
+use Rattle.std.specs.Map.{lookup}
+use Rattle.std.specs.Ordering.{nat_cmp}
+use Rattle.std.specs.BTreeMap.{is_at}
+
+-- the number stands there
+abbrev pub holds : List ℕ → ℕ → Bool
+holds own number = list_any (is_at (nat_cmp number)) own
+
+-- the number stands there, if anything does
+abbrev pub holds_any : Option (List ℕ) → ℕ → Bool
+holds_any None number = false
+holds_any (Some own) number = holds own number
+
+-- the number stands there among those of the uid
+unfoldable pub lists : List (ℕ × List ℕ) → ℕ → ℕ → Bool
+lists numbers uid number = holds_any (lookup (nat_eq uid) numbers) number
+
+-- no number stands there from one on
+abbrev pub IsPast : List ℕ → ℕ → Type 0
+IsPast own from = (number : ℕ) → from ≤ number → holds own number ≡ false
+
+-- the number is the least there from one on
+abbrev pub IsFirst : List ℕ → ℕ → ℕ → Type 0
+IsFirst own from next = (from ≤ next) × (holds own next ≡ true) × ((number : ℕ) → from ≤ number → number < next → holds own number ≡ false)
 
 -- no number of the uid stands there from one on
-abbrev pub HasNone : List (ℕ × ℕ) → ℕ → ℕ → Type 0
-HasNone numbers uid from = (number : ℕ) → from ≤ number → has numbers uid number ≡ false
+abbrev pub HasNone : List (ℕ × List ℕ) → ℕ → ℕ → Type 0
+HasNone numbers uid from = (number : ℕ) → from ≤ number → lists numbers uid number ≡ false
 
 -- the number is the uid's least from one on
-abbrev pub IsNext : List (ℕ × ℕ) → ℕ → ℕ → ℕ → Type 0
+abbrev pub IsNext : List (ℕ × List ℕ) → ℕ → ℕ → ℕ → Type 0
 IsNext numbers uid from next =
-    (from ≤ next) × (has numbers uid next ≡ true) × ((number : ℕ) → from ≤ number → number < next → has numbers uid number ≡ false)
+    (from ≤ next) × (lists numbers uid next ≡ true) × ((number : ℕ) → from ≤ number → number < next → lists numbers uid number ≡ false)
 
 -- the receiver in a slot is the uid's
 abbrev pub is_to : ℕ → Option Spot → Bool
@@ -43,8 +66,8 @@ abbrev pub goes : (Spot → Bool) → ℕ → ℕ → Batch → Bool
 goes struck uid number batch = stands_in uid number batch.first (map (if_struck struck) batch.slots)
 
 -- the numbers are those of all deliveries that stand in the batches
-abbrev pub AreNumbered : List (ℕ × ℕ) → List Batch → Type 0
-AreNumbered numbers batches = (uid number : ℕ) → has numbers uid number ≡ list_any (stands uid number) batches
+abbrev pub AreNumbered : List (ℕ × List ℕ) → List Batch → Type 0
+AreNumbered numbers batches = (uid number : ℕ) → lists numbers uid number ≡ list_any (stands uid number) batches
 
 -- the item of a delivery to the uid, if its slot has a receiver of the uid
 abbrev pub item_in : ℕ → Batch → ℕ → Option Spot → List Item

@@ -2,8 +2,7 @@
 ghost use Rattle.std.specs.Prelude.{◌≡◌, ℕ, ◌+◌, ◌-◌, ◌^◌, ◌<◌, ◌≤◌, ◌&&◌, ◌||◌, true, false, Some, map, not, ◌==◌, IfOk, IsSome, IsTrue, vec_len, length, ◌++◌, OnOk, OnErr};
 ghost use Rattle.std.specs.Option.{option_map};
 ghost use Rattle.am_deliveries.specs.Batches.{batch_of, cleared, emptied, is_live, left_in, normal_of, slot_of, stricken, unless_struck};
-ghost use Rattle.am_deliveries.specs.Deadlines.{has};
-ghost use Rattle.am_deliveries.specs.Numbers.{goes, if_struck, is_to, item_in, stands};
+ghost use Rattle.am_deliveries.specs.Numbers.{goes, if_struck, is_to, item_in, lists, stands};
 ghost use Rattle.am_turns.specs.Struck.{strikes};
 
 use crate::Numbers;
@@ -84,7 +83,7 @@ fn strike_slots(slots: &mut Vec<Option<Spot>>, struck: &Struck)
 
 /// Puts a delivery's number to the others, if there is a receiver.
 fn list_slot(slot: &Option<Spot>, number: u64, numbers: &mut Numbers) -> Result<(), AllocError>
-    ensures ok { OnOk result ((uid other : ℕ) → has numbers.new uid other ≡ ((is_to uid slot.now && number == other) || has numbers.old uid other)) }
+    ensures ok { OnOk result ((uid other : ℕ) → lists numbers.new uid other ≡ ((is_to uid slot.now && number == other) || lists numbers.old uid other)) }
     ensures err { OnErr result (numbers.new ≡ numbers.old) }
 {
     match slot {
@@ -95,7 +94,7 @@ fn list_slot(slot: &Option<Spot>, number: u64, numbers: &mut Numbers) -> Result<
 
 /// Takes a delivery's number out, if there is a receiver.
 fn unlist_slot(slot: &Option<Spot>, number: u64, numbers: &mut Numbers)
-    ensures { (uid other : ℕ) → has numbers.new uid other ≡ (not (is_to uid slot.now && number == other) && has numbers.old uid other) }
+    ensures { (uid other : ℕ) → lists numbers.new uid other ≡ (not (is_to uid slot.now && number == other) && lists numbers.old uid other) }
 {
     if let Some(spot) = slot {
         numbers.remove(spot.uid, number);
@@ -104,7 +103,7 @@ fn unlist_slot(slot: &Option<Spot>, number: u64, numbers: &mut Numbers)
 
 /// Takes a delivery's number out, if there is a receiver that is struck.
 fn unlist_if_struck(slot: &Option<Spot>, number: u64, struck: &Struck, numbers: &mut Numbers)
-    ensures { (uid other : ℕ) → has numbers.new uid other ≡ (not (is_to uid (if_struck (strikes struck.now) slot.now) && number == other) && has numbers.old uid other) }
+    ensures { (uid other : ℕ) → lists numbers.new uid other ≡ (not (is_to uid (if_struck (strikes struck.now) slot.now) && number == other) && lists numbers.old uid other) }
 {
     if let Some(spot) = slot {
         if struck.strikes(spot) {
@@ -264,8 +263,8 @@ impl Batch {
 
     /// Puts the numbers of its deliveries to those of others. Without memory only its own change.
     pub fn list(&self, numbers: &mut Numbers) -> Result<(), AllocError>
-        ensures ok { OnOk result ((uid number : ℕ) → has numbers.new uid number ≡ (stands uid number self.now || has numbers.old uid number)) }
-        ensures others { (uid number : ℕ) → stands uid number self.now ≡ false → has numbers.new uid number ≡ has numbers.old uid number }
+        ensures ok { OnOk result ((uid number : ℕ) → lists numbers.new uid number ≡ (stands uid number self.now || lists numbers.old uid number)) }
+        ensures others { (uid number : ℕ) → stands uid number self.now ≡ false → lists numbers.new uid number ≡ lists numbers.old uid number }
     {
         // All its numbers are below this one.
         let _end = self.end;
@@ -277,7 +276,7 @@ impl Batch {
 
     /// Takes the numbers of its deliveries out. Takes no memory.
     pub fn unlist(&self, numbers: &mut Numbers)
-        ensures { (uid number : ℕ) → has numbers.new uid number ≡ (not (stands uid number self.now) && has numbers.old uid number) }
+        ensures { (uid number : ℕ) → lists numbers.new uid number ≡ (not (stands uid number self.now) && lists numbers.old uid number) }
     {
         // All its numbers are below this one.
         let _end = self.end;
@@ -288,7 +287,7 @@ impl Batch {
 
     /// Takes the numbers of its deliveries to struck receivers out. Takes no memory.
     pub fn unlist_struck(&self, struck: &Struck, numbers: &mut Numbers)
-        ensures { (uid number : ℕ) → has numbers.new uid number ≡ (not (goes (strikes struck.now) uid number self.now) && has numbers.old uid number) }
+        ensures { (uid number : ℕ) → lists numbers.new uid number ≡ (not (goes (strikes struck.now) uid number self.now) && lists numbers.old uid number) }
     {
         // All its numbers are below this one.
         let _end = self.end;
@@ -305,7 +304,7 @@ impl Batch {
     /// Takes the number of one delivery out, if it stands. Takes no memory.
     pub fn unlist_one(&self, number: u64, numbers: &mut Numbers)
         requires { self.now.first ≤ number }
-        ensures { (uid other : ℕ) → has numbers.new uid other ≡ (not (is_to uid (slot_of number self.now) && number == other) && has numbers.old uid other) }
+        ensures { (uid other : ℕ) → lists numbers.new uid other ≡ (not (is_to uid (slot_of number self.now) && number == other) && lists numbers.old uid other) }
     {
         if let Some(slot) = self.slots.get((number - self.first) as usize) {
             unlist_slot(slot, number, numbers);

@@ -8,7 +8,7 @@ ghost use Rattle.am_turns.specs.Counts.{count_of, Covers, Follows};
 ghost use Rattle.am_turns.specs.Struck.{strikes};
 ghost use Rattle.am_deliveries.specs.Batches.{at_once_by, batch_of, is_live, normal_of};
 ghost use Rattle.am_deliveries.specs.Deadlines.{has, is_same};
-ghost use Rattle.am_deliveries.specs.Numbers.{IsNextOf, NoneFrom, Rise, found, items_of, stands};
+ghost use Rattle.am_deliveries.specs.Numbers.{IsNextOf, NoneFrom, Rise, found, items_of, lists, stands};
 ghost use Rattle.am_deliveries.specs.Kept.{AllLive, AreApart, HasAt, NoneHas, counts_live, deliveries_in, firsts_of, has_gone, is_early, normals_of, some_due};
 
 use crate::{Batch, Deadlines, Numbers};
@@ -92,9 +92,9 @@ fn make_room(
     ensures room { OnOk result (vec_len batches.new < vec_capacity batches.new) }
     ensures room_of_firsts { OnOk result (vec_len firsts.new < vec_capacity firsts.new) }
     ensures deadlines { OnOk result ((at first : ℕ) → has deadlines.new at first ≡ (is_same batch.now.deadline batch.now.first at first || has deadlines.old at first)) }
-    ensures numbers { OnOk result ((uid number : ℕ) → has numbers.new uid number ≡ (stands uid number batch.now || has numbers.old uid number)) }
+    ensures numbers { OnOk result ((uid number : ℕ) → lists numbers.new uid number ≡ (stands uid number batch.now || lists numbers.old uid number)) }
     ensures err { OnErr result (deadlines.new ≡ deadlines.old) }
-    ensures others { (uid number : ℕ) → stands uid number batch.now ≡ false → has numbers.new uid number ≡ has numbers.old uid number }
+    ensures others { (uid number : ℕ) → stands uid number batch.now ≡ false → lists numbers.new uid number ≡ lists numbers.old uid number }
 {
     batches.reserve(1)?;
     firsts.reserve(1)?;

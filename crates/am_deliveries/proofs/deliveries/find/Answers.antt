@@ -5,7 +5,6 @@ use Rattle.std.specs.List.{AllWithin}
 use Rattle.std.specs.List.Sorted.{IsPartitionPoint}
 use Rattle.std.specs.Prelude.{nat_le}
 use Rattle.am_deliveries.specs.Batches.{Batch}
-use Rattle.am_deliveries.specs.Kept.{firsts_of}
 use Rattle.am_deliveries.proofs.Finding.{begins_by, firsts_in_order, within_of, none_begins, last_ended, last_has}
 use Rattle.am_deliveries.proofs.deliveries.find.Goals as goal
 use Rattle.am_deliveries.proofs.deliveries.find.Goals.{After-partition_point-after}

@@ -1,11 +1,10 @@
 use Rattle.std.proofs.Common.{◌≡◌, ℕ, ◌+◌, not, ◌&&◌, drop, map}
 use Rattle.am_turns.specs.Struck.{strikes}
-use Rattle.am_deliveries.specs.Deadlines.{has}
-use Rattle.am_deliveries.specs.Numbers.{stands_in, if_struck}
+use Rattle.am_deliveries.specs.Numbers.{lists, stands_in, if_struck}
 use Rattle.am_deliveries.proofs.batch.Batch.unlist_struck.Given as goal
 
 -- once those from here on are taken out too, all are
 abbrev pub invariant-loop-place : goal.invariant-loop-place
 invariant-loop-place l = (uid number : ℕ) →
-    not (stands_in uid number (l.self.first + l.place) (map (if_struck (strikes l.struck)) (drop l.place l.self.slots))) && has l.numbers uid number
-    ≡ not (stands_in uid number l.self.first (map (if_struck (strikes l.struck)) l.self.slots)) && has l.initial.numbers uid number
+    not (stands_in uid number (l.self.first + l.place) (map (if_struck (strikes l.struck)) (drop l.place l.self.slots))) && lists l.numbers uid number
+    ≡ not (stands_in uid number l.self.first (map (if_struck (strikes l.struck)) l.self.slots)) && lists l.initial.numbers uid number

@@ -1,12 +1,14 @@
-use Rattle.am_deliveries.proofs.Keys.{no_number, least_number}
+use Rattle.std.proofs.Common.{◌∙◌, ap, sym}
+use Rattle.std.specs.Option.{option_copied}
+use Rattle.am_deliveries.specs.Numbers.{holds_any, lists}
+use Rattle.am_deliveries.proofs.Owns.{next_own}
 use Rattle.am_deliveries.proofs.numbers.Numbers.next.Goals as goal
 
 pub returns-in-None : goal.returns-in-None
+unfolding lists
 returns-in-None c =
-    rw (← c.self.view_is) (no_number c.self.inside.keys.keys c.args.uid c.args.from (λ q up. (c.range.ensures.in_range _).5 c.in-None.ensures.steps.0 q (up, _)))
+    rw (← c.self.view_is) (λ number up. ap (λ o. holds_any o number) (sym c.get.ensures.value ∙ ap option_copied c.in-None.is))
 
 pub returns-in-Some : goal.returns-in-Some
 returns-in-Some c =
-    let all = rw c.in-Some.ensures.steps at (c.range.ensures.in_range _) in
-    rw (← c.self.view_is, c.of_uid.ensures)
-    (least_number c.self.inside.keys.keys c.args.uid c.args.from c.in-Some.key.now.0 c.in-Some.key.now.1 all.1.0.0 all.1.1 (λ q up there. all.2 q (up, _) there))
+    rw (← c.self.view_is) (next_own c.self.inside.by_uid.entries c.args.uid c.args.from c.in-Some.own.now c.next.result (sym c.get.ensures.value ∙ ap option_copied c.in-Some.is) c.next.ensures)
