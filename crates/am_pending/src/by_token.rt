@@ -154,7 +154,7 @@ impl ByToken {
     {
         // Its clause says that no two stand under the same token.
         let _all = self.records.len();
-        self.records.retain(|_, kept| kept.key().creator != uid);
+        self.records.retain(|_, kept| kept.creator() != uid);
     }
 
     /// Takes a holder away from each record.

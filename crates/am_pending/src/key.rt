@@ -154,6 +154,8 @@ impl Hash for Key {
 #[derive(Debug, Drop)]
 pub struct SharedKey {
     key: Arc<Key, Global>,
+    /// The key's creator once more, so that who may cancel or give a token is told without the key.
+    creator: u32,
 }
 
 impl Model for SharedKey {
@@ -163,6 +165,10 @@ impl Model for SharedKey {
     ghost Value = { keys.Key };
 
     ghost view = { λ shared. arc_value shared.key };
+
+    ghost use Rattle.std.specs.Prelude.{◌≡◌};
+
+    ghost invariant = { λ shared. shared.creator ≡ (arc_value shared.key).creator };
 }
 
 impl SharedKey {
@@ -170,10 +176,14 @@ impl SharedKey {
     pub fn pair(alloc: Global, key: Key) -> Result<(SharedKey, SharedKey), AllocError>
         ensures { IfOk result (λ both. (both.0 ≡ key) × (both.1 ≡ key)) }
     {
+        let creator = key.creator;
         match Arc::new(alloc, key) {
             Ok(key) => {
-                let other = Arc::try_clone(&key)?;
-                Ok((SharedKey { key }, SharedKey { key: other }))
+                let other = SharedKey {
+                    key: Arc::try_clone(&key)?,
+                    creator,
+                };
+                Ok((SharedKey { key, creator }, other))
             }
             Err(failed) => {
                 drop(failed);
@@ -187,6 +197,13 @@ impl SharedKey {
         ensures { result.now ≡ self.now }
     {
         &*self.key
+    }
+
+    /// The key's creator.
+    pub fn creator(&self) -> u32
+        ensures { result ≡ self.now.creator }
+    {
+        self.creator
     }
 }
 

@@ -52,7 +52,7 @@ fn is_clear(flags: PendingFlags) -> bool
 fn is_holder(kept: &Record, uid: u32) -> bool
     ensures { result ≡ ((kept.now.key.creator == uid) || list_any (λ holder. holder == uid) kept.now.holders) }
 {
-    kept.key().creator == uid || was_given(kept.holders(), uid)
+    kept.creator() == uid || was_given(kept.holders(), uid)
 }
 
 /// The uid is among the holders.
@@ -238,7 +238,7 @@ impl Pending {
         let Some(kept) = self.table.read(token, steps) else {
             return Err(PendingFault::NoToken);
         };
-        if kept.key().creator != uid {
+        if kept.creator() != uid {
             return Err(PendingFault::NotCreator);
         }
         if is_holder(kept, to) {
@@ -280,7 +280,7 @@ impl Pending {
             Err(FillFault::NoMemory) => return Err(PendingFault::NoMemory),
         };
         Ok(Used {
-            creator: kept.key().creator,
+            creator: kept.creator(),
             kind: kept.key().kind,
             intent,
             one_shot: kept.key().one_shot,

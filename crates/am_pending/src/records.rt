@@ -40,6 +40,13 @@ impl Record {
         self.key.get()
     }
 
+    /// The uid that made the record.
+    pub fn creator(&self) -> u32
+        ensures { result ≡ self.now.key.creator }
+    {
+        self.key.creator()
+    }
+
     /// The uids besides the creator's that hold the token.
     pub fn holders(&self) -> &[u32]
         ensures { result.now ≡ self.now.holders }

@@ -83,7 +83,7 @@ fn keep_key(tokens: &mut IndexMap<SharedKey, u64>, key: SharedKey)
 fn forget_tokens(tokens: &mut IndexMap<SharedKey, u64>, uid: u32)
     ensures { (other : Key) → token_at tokens.new.entries other ≡ cond (other.creator == uid) None (token_at tokens.old.entries other) }
 {
-    tokens.retain(|key, _| key.get().creator != uid);
+    tokens.retain(|key, _| key.creator() != uid);
 }
 
 /// Takes a creator's number of records away.
@@ -174,7 +174,7 @@ impl Table {
         ensures steps { steps.new ≡ steps.old + 1 }
     {
         match self.read(token, steps) {
-            Some(kept) => Some(kept.key().creator),
+            Some(kept) => Some(kept.creator()),
             None => None,
         }
     }
@@ -250,7 +250,7 @@ impl Table {
     {
         if let Some(kept) = self.records.take(token) {
             unset_token(&mut self.tokens, kept.key());
-            lower(&mut self.counts, kept.key().creator);
+            lower(&mut self.counts, kept.creator());
             drop(kept);
         }
     }

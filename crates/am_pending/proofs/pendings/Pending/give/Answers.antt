@@ -25,13 +25,13 @@ returns-in_default-clause-answer g c =
     let none : record_in c.args.token c.self.inside.table ≡ None = sym c.read.ensures.found ∙ ap (λ o. option_map (pending_of c.args.token) (option_copied o)) c.in_default.is in
     (give_none c.args.self.now c.args.token c.args.uid c.args.to (ap (record_in c.args.token) (sym records) ∙ none), refl)
 
-pub returns-then-key-uid-clause-answer : goal.returns-then-key-uid-clause-answer
-returns-then-key-uid-clause-answer g c =
+pub returns-then-creator-uid-clause-answer : goal.returns-then-creator-uid-clause-answer
+returns-then-creator-uid-clause-answer g c =
     let records = ap (λ all. all.records) c.self.view_is in
     let kept : Pending = pending_of c.args.token c.in-Some.kept.now in
     let is : record_in c.args.token c.self.inside.table ≡ Some kept = sym c.read.ensures.found ∙ ap (λ o. option_map (pending_of c.args.token) (option_copied o)) c.in-Some.is in (
       give_other c.args.self.now c.args.token c.args.uid c.args.to kept (ap (record_in c.args.token) (sym records) ∙ is)
-          (apart kept.creator c.args.uid (λ e. c.if-key-uid.true (ap (λ k. k.creator) c.key.ensures ∙ e))),
+          (apart kept.creator c.args.uid (λ e. c.if-creator-uid.true (c.creator.ensures ∙ e))),
       refl,
     )
 
@@ -41,7 +41,7 @@ returns-then-is_holder-clause-answer g c =
     let kept : Pending = pending_of c.args.token c.in-Some.kept.now in
     let is : record_in c.args.token c.self.inside.table ≡ Some kept = sym c.read.ensures.found ∙ ap (λ o. option_map (pending_of c.args.token) (option_copied o)) c.in-Some.is in
     give_again c.args.self.now c.args.token c.args.uid c.args.to kept (ap (record_in c.args.token) (sym records) ∙ is)
-    (same kept.creator c.args.uid (ap (λ k. k.creator) (sym c.key.ensures) ∙ c.if-key-uid.false)) (sym c.is_holder.ensures ∙ c.if-is_holder.true)
+    (same kept.creator c.args.uid (sym c.creator.ensures ∙ c.if-creator-uid.false)) (sym c.is_holder.ensures ∙ c.if-is_holder.true)
 
 pub returns-then-holders-ge-MOST_HOLDERS-clause-answer : goal.returns-then-holders-ge-MOST_HOLDERS-clause-answer
 returns-then-holders-ge-MOST_HOLDERS-clause-answer g c =
@@ -49,7 +49,7 @@ returns-then-holders-ge-MOST_HOLDERS-clause-answer g c =
     let kept : Pending = pending_of c.args.token c.in-Some.kept.now in
     let is : record_in c.args.token c.self.inside.table ≡ Some kept = sym c.read.ensures.found ∙ ap (λ o. option_map (pending_of c.args.token) (option_copied o)) c.in-Some.is in (
       give_full c.args.self.now c.args.token c.args.uid c.args.to kept (ap (record_in c.args.token) (sym records) ∙ is)
-          (same kept.creator c.args.uid (ap (λ k. k.creator) (sym c.key.ensures) ∙ c.if-key-uid.false)) (sym c.is_holder.ensures ∙ c.if-is_holder.false)
+          (same kept.creator c.args.uid (sym c.creator.ensures ∙ c.if-creator-uid.false)) (sym c.is_holder.ensures ∙ c.if-is_holder.false)
           (many _ (length kept.holders) (ap length c.holders.ensures) c.if-holders-ge-MOST_HOLDERS.true),
       refl,
     )
@@ -68,7 +68,7 @@ returns-clause-answer g c =
     let kept : Pending = pending_of c.args.token c.in-Some.kept.now in
     let is : record_in c.args.token c.self.inside.table ≡ Some kept = sym c.read.ensures.found ∙ ap (λ o. option_map (pending_of c.args.token) (option_copied o)) c.in-Some.is in
     give_new c.args.self.now c.args.token c.args.uid c.args.to kept (ap (record_in c.args.token) (sym records) ∙ is)
-    (same kept.creator c.args.uid (ap (λ k. k.creator) (sym c.key.ensures) ∙ c.if-key-uid.false)) (sym c.is_holder.ensures ∙ c.if-is_holder.false)
+    (same kept.creator c.args.uid (sym c.creator.ensures ∙ c.if-creator-uid.false)) (sym c.is_holder.ensures ∙ c.if-is_holder.false)
     (few _ (length kept.holders) (ap length c.holders.ensures) c.if-holders-ge-MOST_HOLDERS.false)
     ∙ ap Ok (all_same _ _ (ap (map (with_holder c.args.token c.args.to)) (sym records) ∙ sym (from_ok c.add_holder.result c.add_holder.ensures.ok (sym c.is_err.ensures.value ∙ c.if-is_err.false))) (ap (λ all. all.next) (sym c.self.view_is)))
 
@@ -79,6 +79,6 @@ returns-then-is_err-clause-wanting g c want =
     let is : record_in c.args.token c.self.inside.table ≡ Some kept = sym c.read.ensures.found ∙ ap (λ o. option_map (pending_of c.args.token) (option_copied o)) c.in-Some.is in
     subst IsOk
     (sym (give_new c.args.self.now c.args.token c.args.uid c.args.to kept (ap (record_in c.args.token) (sym records) ∙ is)
-    (same kept.creator c.args.uid (ap (λ k. k.creator) (sym c.key.ensures) ∙ c.if-key-uid.false)) (sym c.is_holder.ensures ∙ c.if-is_holder.false)
+    (same kept.creator c.args.uid (sym c.creator.ensures ∙ c.if-creator-uid.false)) (sym c.is_holder.ensures ∙ c.if-is_holder.false)
     (few _ (length kept.holders) (ap length c.holders.ensures) c.if-holders-ge-MOST_HOLDERS.false)))
     refl

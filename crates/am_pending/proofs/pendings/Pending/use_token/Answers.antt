@@ -47,7 +47,7 @@ returns-clause-answer g c =
     let kept : Pending = pending_of c.args.token c.in-Some.kept.now in
     let is : record_in c.args.token c.self.inside.table ≡ Some kept = sym c.read.ensures.found ∙ ap (λ o. option_map (pending_of c.args.token) (option_copied o)) c.in-Some.is in
     use_own c.args.self.now c.args.token c.args.uid (option_copied c.args.fill) kept (ap (record_in c.args.token) (sym records) ∙ is) (Ok c.in-Ok.intent) (sym c.is_holder.ensures ∙ c.if-not-is_holder.false) c.in-Ok.ensures.ok
-    ∙ (λ i. let used : Used = record { creator = (sym c.key.ensures i).creator; kind = (sym c.key-2.ensures i).kind; intent = c.in-Ok.intent; one_shot = (sym c.key-3.ensures i).one_shot } in Ok used)
+    ∙ (λ i. let used : Used = record { creator = sym c.creator.ensures i; kind = (sym c.key.ensures i).kind; intent = c.in-Ok.intent; one_shot = (sym c.key-2.ensures i).one_shot } in Ok used)
 
 pub returns-in-Err-NoMemory-clause-wanting : goal.returns-in-Err-NoMemory-clause-wanting
 returns-in-Err-NoMemory-clause-wanting g c want =

@@ -9,17 +9,17 @@ use Rattle.am_pending.proofs.table.Table.remove.Goals as goal
 
 pub lower-requires : goal.lower-requires
 lower-requires c =
-    subst (λ (key : Key). 0 < count_at c.self.inside.counts.entries key.creator) (sym c.key-in-Some.ensures)
+    subst (λ (creator : ℕ). 0 < count_at c.self.inside.counts.entries creator) (sym c.creator.ensures)
     (has_one c.self.inside.records c.self.inside.tokens.entries c.self.inside.counts.entries c.args.token c.in-Some.kept c.self.invariant (sym c.take.ensures.found ∙ c.in-Some.is))
 
 pub invariant_of-self : goal.invariant_of-self
 invariant_of-self c =
     let k = c.key.ensures in
-    let k2 = c.key-in-Some.ensures in
+    let made = c.creator.ensures in
     taken c.self.inside.records c.take.new.self c.self.inside.tokens.entries c.unset_token.new.tokens.entries c.self.inside.counts.entries c.lower.new.counts.entries c.args.token c.in-Some.kept
     c.self.invariant (sym c.take.ensures.found ∙ c.in-Some.is) c.take.ensures.entries
     (λ other. c.unset_token.ensures.others other ∙ ap (λ (key : Key). cond (is_same_key other key) None (token_at c.self.inside.tokens.entries other)) k)
-    (λ uid. c.lower.ensures uid ∙ ap (λ (key : Key). count_at c.self.inside.counts.entries uid - cond (uid == key.creator) 1 0) k2)
+    (λ uid. c.lower.ensures uid ∙ ap (λ (creator : ℕ). count_at c.self.inside.counts.entries uid - cond (uid == creator) 1 0) made)
 
 pub invariant_of-self-in_default : goal.invariant_of-self-in_default
 invariant_of-self-in_default c =
