@@ -1,6 +1,5 @@
 -- What stays true of all batches while one is put to them, changes, or is left out.
 use Rattle.std.proofs.Common.{◌≡◌, ℕ, ◌+◌, ◌<◌, ◌≤◌, Bool, true, false, not, ◌&&◌, ◌||◌, cond, List, [], ◌∷◌, ◌++◌, length, map, set, get_or, refl, sym, ap, ◌∙◌, arith, zero, suc, subst}
-use Rattle.std.proofs.Math.Seq.{map-set_same}
 use Rattle.std.specs.Prelude.{Some}
 use Rattle.std.specs.List.{filter, list_any, list_all}
 use Rattle.am_types.specs.declared.broadcast.Spot.{Spot}
@@ -10,7 +9,7 @@ use Rattle.am_model.specs.Broadcasts.{Normal, span}
 use Rattle.am_model.specs.Sending.{at_once, deliveries_from}
 use Rattle.am_deliveries.specs.Batches.{Batch, standing, normal_of, is_live, batch_of}
 use Rattle.am_deliveries.specs.Deadlines.{is_same}
-use Rattle.am_deliveries.specs.Kept.{live_of, AreApart, firsts_of, is_kept, AllLive, NoneHas}
+use Rattle.am_deliveries.specs.Kept.{live_of, AreApart, is_kept, AllLive, NoneHas}
 use Rattle.am_deliveries.proofs.Listing.{not_same, same_first, none_kept_below}
 use Rattle.am_deliveries.proofs.Changes.{begins_from, Misses}
 
@@ -126,10 +125,6 @@ ends_rise from end [] i j d apart less within = absurd (omega arith)
 ends_rise from end (b ∷ others) i zero d apart less within = absurd (omega arith)
 ends_rise from end (b ∷ others) zero (suc j) d apart less within = begins_from b.end end others j d apart.3 (omega arith)
 ends_rise from end (b ∷ others) (suc i) (suc j) d apart less within = ends_rise b.end end others i j d apart.3 (omega arith) (omega arith)
-
--- a change of one batch that keeps its first number keeps all first numbers
-pub firsts_same : (batches : List Batch) (i : ℕ) (b b' : Batch) → b ≡ get_or batches i b → b'.first ≡ b.first → firsts_of (set batches i b') ≡ firsts_of batches
-firsts_same batches i b b' at same = map-set_same (λ (x : Batch). x.first) batches i b' b (same ∙ ap (λ (x : Batch). x.first) at)
 
 -- a number that no batch has is in no slot
 pub misses_all : (from end number : ℕ) (batches : List Batch) → AreApart from end batches → NoneHas number batches

@@ -3,9 +3,10 @@ pub mod Finding
 pub mod Items
 pub mod Keeping
 pub mod Keys
-pub mod Owns
 pub mod Listing
 pub mod Numbering
+pub mod Owns
 pub mod Retiring
+pub mod Shown
 pub mod Slots
 pub mod Standing

@@ -2,6 +2,7 @@
 use Rattle.std.proofs.Common.{◌≡◌, ℕ, ◌+◌, ◌-◌, ◌<◌, ◌≤◌, Bool, true, false, not, ◌&&◌, ◌||◌, cond, List, [], ◌∷◌, ◌++◌, length, map, set, get_or, drop, refl, sym, ap, ◌∙◌, arith, zero, suc, add-one, subst, ◌⊎◌, inl, inr}
 use Rattle.std.proofs.lemmas.Bool.{cases_lt}
 use Rattle.std.proofs.lemmas.Bool.Decides.{nat_tests}
+use Rattle.std.proofs.Math.Seq.{drop-cons}
 use Rattle.std.proofs.lemmas.List.{length-map}
 use Rattle.std.proofs.lemmas.List.Folds.{list_any-append}
 use Rattle.std.specs.Prelude.{Option, Some, None, ◌==◌, slice_get}
@@ -333,3 +334,19 @@ missed_at uid number n (suc i) (first ∷ others) slot within at none =
     by : (own : Bool) → own || stands_in uid number (n + 1) others ≡ false → stands_in uid number (n + 1) others ≡ false
     by true none = cc
     by false none = none
+
+-- once the number of one more delivery to a struck receiver is taken out, those of the rest are left
+pub unlisted_next : (struck : Spot → Bool) (uid number first place : ℕ) (slots : List (Option Spot)) (receiver : Option Spot) (before after : Bool) → place < length slots → receiver ≡ get_or slots place receiver
+    → after ≡ not (is_to uid (if_struck struck receiver) && first + place == number) && before
+    → not (stands_in uid number (first + (place + 1)) (map (if_struck struck) (drop (place + 1) slots))) && after
+    ≡ not (stands_in uid number (first + place) (map (if_struck struck) (drop place slots))) && before
+unlisted_next struck uid number first place slots receiver before after within at is =
+    let e : drop place slots ≡ receiver ∷ drop (place + 1) slots =
+    drop-cons slots place receiver within ∙ ap (λ (x : Option Spot). x ∷ drop (suc place) slots) (sym at) ∙ ap (λ n. receiver ∷ drop n slots) (sym (add-one place)) in
+    let f : first + (place + 1) ≡ first + place + 1 = omega arith in
+    rw (is, e, f) (split (is_to uid (if_struck struck receiver) && first + place == number) (stands_in uid number (first + place + 1) (map (if_struck struck) (drop (place + 1) slots))) before)
+  where
+    split : (one rest was : Bool) → not rest && (not one && was) ≡ not (one || rest) && was
+    split true true was = refl
+    split true false was = refl
+    split false rest was = refl

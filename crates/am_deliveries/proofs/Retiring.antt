@@ -1,5 +1,5 @@
--- One batch that changed, whose deadline and sender's number went where it ended by that.
-use Rattle.std.proofs.Common.{◌≡◌, ℕ, ◌+◌, ◌<◌, ◌≤◌, Bool, true, false, not, ◌&&◌, cond, List, [], ◌∷◌, length, map, set, get_or, refl, sym, ap, ◌∙◌, arith, zero, suc, subst, rules}
+-- One batch that changed, whose sender's number was lowered where it ended by that.
+use Rattle.std.proofs.Common.{◌≡◌, ℕ, ◌+◌, ◌<◌, ◌≤◌, Bool, true, false, not, ◌&&◌, cond, List, [], ◌∷◌, length, map, set, get_or, refl, sym, ◌∙◌, arith, zero, suc, subst, rules}
 use Rattle.std.proofs.lemmas.Bool.Decides.{nat_tests}
 use Rattle.std.specs.Prelude.{Option, Some, None, IsSome, ◌==◌}
 use Rattle.std.specs.Option.{option_map}
@@ -10,15 +10,15 @@ use Rattle.am_model.specs.Sending.{Held, held_in_normals}
 use Rattle.am_turns.specs.Counts.{count_of, Covers, Follows}
 use Rattle.am_turns.proofs.Counting.{count_by-cons}
 use Rattle.am_deliveries.specs.Batches.{Batch, normal_of, is_live, left_in, slot_of, emptied, cleared, unless_struck, at_once_by}
-use Rattle.am_deliveries.specs.Deadlines.{has, is_same}
-use Rattle.am_deliveries.specs.Kept.{live_of, AreApart, AreListed, is_kept, is_early, normals_of, deliveries_in, has_gone, counts_live}
+use Rattle.am_deliveries.specs.Deadlines.{is_same}
+use Rattle.am_deliveries.specs.Kept.{live_of, AreApart, AreListed, BeginLive, is_kept, is_early, normals_of, deliveries_in, has_gone, counts_live}
 use Rattle.am_deliveries.proofs.Standing.{live_standing}
 use Rattle.am_deliveries.proofs.Slots.{other_than}
 use Rattle.am_deliveries.proofs.Changes.{count_changed, finished_at, held_in_batch, early_without, fewer_without}
-use Rattle.am_deliveries.proofs.Listing.{listed_changed}
+use Rattle.am_deliveries.proofs.Listing.{begin_changed, listed_changed}
 use Rattle.am_deliveries.proofs.Keeping.{apart_changed, kept_at}
 
--- the batches stay apart, their deadlines are listed, and the senders' numbers followed
+-- the batches stay apart, the deadlines of those that are live are listed, and the senders' numbers followed
 pub record AreSettled (end : ℕ) (before batches : List Batch) (deadlines : List (ℕ × ℕ)) (live' live : List (ℕ × ℕ)) : Type 0 where
   pub apart : AreApart 0 end batches
   pub listed : AreListed deadlines batches
@@ -56,41 +56,52 @@ live_counted live batches i b counted within at is =
     let one : counts_live (is_live (normal_of b)) b.sender b.sender ≡ 1 = rw (is, own) refl in
     omega (arith, there, one, counted b.sender)
 
-retired_at : (end : ℕ) (batches : List Batch) (i : ℕ) (d : Batch) (slots : List (Option Spot)) (deadlines deadlines' live live' : List (ℕ × ℕ))
+retired_at : (end : ℕ) (batches : List Batch) (i : ℕ) (d : Batch) (slots : List (Option Spot)) (deadlines live live' : List (ℕ × ℕ))
     → AreApart 0 end batches → AreListed deadlines batches → Covers live (normals_of (live_of batches)) → i < length batches
     → length slots ≤ length (get_or batches i d).slots
     → (is_live (normal_of (with_slots slots (get_or batches i d))) ≡ true → is_live (normal_of (get_or batches i d)) ≡ true)
-    → ((at first : ℕ) → has deadlines' at first
-    ≡ (not (has_gone (is_live (normal_of (get_or batches i d))) (with_slots slots (get_or batches i d)) && is_same (get_or batches i d).deadline (get_or batches i d).first at first) && has deadlines at first))
     → ((uid : ℕ) → count_of live' uid + counts_live (is_live (normal_of (get_or batches i d))) uid (get_or batches i d).sender
     ≡ count_of live uid + counts_live (is_live (normal_of (with_slots slots (get_or batches i d)))) uid (get_or batches i d).sender)
-    → AreSettled end batches (set batches i (with_slots slots (get_or batches i d))) deadlines' live live'
-retired_at end batches i d slots deadlines deadlines' live live' apart listed counted within fewer ends taken lowered = record {
+    → AreSettled end batches (set batches i (with_slots slots (get_or batches i d))) deadlines live live'
+retired_at end batches i d slots deadlines live live' apart listed counted within fewer ends lowered = record {
   apart = apart_changed 0 end batches i d (with_slots slots (get_or batches i d)) apart within refl refl fewer;
-  listed = λ at first.
-      taken at first
-      ∙ ap (λ x. not (has_gone (is_live (normal_of (get_or batches i d))) (with_slots slots (get_or batches i d)) && is_same (get_or batches i d).deadline (get_or batches i d).first at first) && x) (listed at first)
-      ∙ sym (listed_changed at first 0 end batches i d (with_slots slots (get_or batches i d)) apart within refl refl ends);
+  listed = λ at first kept.
+      listed at first (second (not (has_gone (is_live (normal_of (get_or batches i d))) (with_slots slots (get_or batches i d)) && is_same (get_or batches i d).deadline (get_or batches i d).first at first)) (list_any (is_kept at first) batches)
+      (sym (listed_changed at first 0 end batches i d (with_slots slots (get_or batches i d)) apart within refl refl ends) ∙ kept));
   follows = λ uid. omega (arith, lowered uid, count_changed uid batches i d (with_slots slots (get_or batches i d)) within refl);
   counted = λ uid. omega (arith, lowered uid, count_changed uid batches i d (with_slots slots (get_or batches i d)) within refl, counted uid);
 }
+  where
+    second : (x y : Bool) → x && y ≡ true → y ≡ true
+    second true y both = both
+    second false y both = cc
 
 -- a batch whose slots changed
-pub one_retired : (end : ℕ) (batches : List Batch) (i : ℕ) (b : Batch) (slots : List (Option Spot)) (deadlines deadlines' live live' : List (ℕ × ℕ))
+pub one_retired : (end : ℕ) (batches : List Batch) (i : ℕ) (b : Batch) (slots : List (Option Spot)) (deadlines live live' : List (ℕ × ℕ))
     → b ≡ get_or batches i b
     → AreApart 0 end batches → AreListed deadlines batches → Covers live (normals_of (live_of batches)) → i < length batches
     → length slots ≤ length b.slots
     → (is_live (normal_of (with_slots slots b)) ≡ true → is_live (normal_of b) ≡ true)
-    → ((at first : ℕ) → has deadlines' at first ≡ (not (has_gone (is_live (normal_of b)) (with_slots slots b) && is_same b.deadline b.first at first) && has deadlines at first))
     → ((uid : ℕ) → count_of live' uid + counts_live (is_live (normal_of b)) uid b.sender ≡ count_of live uid + counts_live (is_live (normal_of (with_slots slots b))) uid b.sender)
-    → AreSettled end batches (set batches i (with_slots slots b)) deadlines' live live'
-one_retired end batches i b slots deadlines deadlines' live live' at apart listed counted within =
+    → AreSettled end batches (set batches i (with_slots slots b)) deadlines live live'
+one_retired end batches i b slots deadlines live live' at apart listed counted within =
     subst (λ (x : Batch). length slots ≤ length x.slots
     → (is_live (normal_of (with_slots slots x)) ≡ true → is_live (normal_of x) ≡ true)
-    → ((at first : ℕ) → has deadlines' at first ≡ (not (has_gone (is_live (normal_of x)) (with_slots slots x) && is_same x.deadline x.first at first) && has deadlines at first))
     → ((uid : ℕ) → count_of live' uid + counts_live (is_live (normal_of x)) uid x.sender ≡ count_of live uid + counts_live (is_live (normal_of (with_slots slots x))) uid x.sender)
-    → AreSettled end batches (set batches i (with_slots slots x)) deadlines' live live')
-    (sym at) (retired_at end batches i b slots deadlines deadlines' live live' apart listed counted within)
+    → AreSettled end batches (set batches i (with_slots slots x)) deadlines live live')
+    (sym at) (retired_at end batches i b slots deadlines live live' apart listed counted within)
+
+-- one that didn't end leaves the soonest deadline a live batch's
+pub begin_kept : (end : ℕ) (deadlines : List (ℕ × ℕ)) (batches : List Batch) (i : ℕ) (b : Batch) (slots : List (Option Spot))
+    → b ≡ get_or batches i b → AreApart 0 end batches → BeginLive deadlines batches → i < length batches
+    → (is_live (normal_of (with_slots slots b)) ≡ true → is_live (normal_of b) ≡ true)
+    → has_gone (is_live (normal_of b)) (with_slots slots b) ≡ false
+    → BeginLive deadlines (set batches i (with_slots slots b))
+begin_kept end deadlines batches i b slots at apart begin within =
+    subst (λ (x : Batch). (is_live (normal_of (with_slots slots x)) ≡ true → is_live (normal_of x) ≡ true)
+    → has_gone (is_live (normal_of x)) (with_slots slots x) ≡ false
+    → BeginLive deadlines (set batches i (with_slots slots x)))
+    (sym at) (begin_changed end deadlines batches i b (with_slots slots (get_or batches i b)) apart begin within refl refl)
 
 -- without the delivery of a number
 pub finished_batch : (end number : ℕ) (batches : List Batch) (i : ℕ) (b : Batch) → b ≡ get_or batches i b → AreApart 0 end batches → i < length batches → b.first ≤ number → number < b.end
@@ -154,9 +165,9 @@ struck_fewer struck (Some spot ∷ others) = by (struck spot) (struck_fewer stru
     by false less = rw (count_by-cons, count_by-cons) (omega (arith, less))
 
 -- one settling after another
-pub settled_then : (end : ℕ) (first second third : List Batch) (deadlines' deadlines live'' live' live : List (ℕ × ℕ))
-    → AreSettled end first second deadlines' live'' live' → AreSettled end second third deadlines live' live → AreSettled end first third deadlines live'' live
-settled_then end first second third deadlines' deadlines live'' live' live before after = record {
+pub settled_then : (end : ℕ) (first second third : List Batch) (deadlines live'' live' live : List (ℕ × ℕ))
+    → AreSettled end first second deadlines live'' live' → AreSettled end second third deadlines live' live → AreSettled end first third deadlines live'' live
+settled_then end first second third deadlines live'' live' live before after = record {
   apart = after.apart;
   listed = after.listed;
   follows = λ uid. omega (arith, before.follows uid, after.follows uid);

@@ -1,11 +1,12 @@
 -- The deliveries of a normal broadcast as the code keeps them: a slot for each number, empty once its delivery is finished.
-use Rattle.std.specs.Prelude.{ℕ, ◌+◌, ◌-◌, Bool, false, not, ◌==◌, List, [], ◌∷◌, length, map, filter, if◌then◌else◌, Option, Some, None, is_some, slice_set, slice_get}
+use Rattle.std.specs.Prelude.{⊤, ◌≡◌, ℕ, ◌+◌, ◌-◌, Bool, true, false, not, ◌==◌, List, [], ◌∷◌, length, map, filter, if◌then◌else◌, Option, Some, None, is_some, slice_set, slice_get}
 use Rattle.std.specs.List.{count_by}
 use Rattle.am_types.specs.declared.intent.Intent.{Intent}
 use Rattle.am_types.specs.declared.broadcast.Spot.{Spot}
 use Rattle.am_types.specs.declared.broadcast.Sending.{Sending}
 use Rattle.am_types.specs.declared.broadcast.Item.{Item}
 use Rattle.am_types.specs.declared.broadcast.ItemKind.TheVariants as kinds
+use Rattle.am_deliveries.specs.declared.batch.Slot.{Slot}
 use Rattle.am_model.specs.Filters.{is_empty}
 use Rattle.am_model.specs.Broadcasts.{Normal, Delivery, span}
 use Rattle.am_model.specs.Sending.{Held}
@@ -20,6 +21,40 @@ pub record Batch : Type 0 where
   pub end : ℕ
   pub deadline : ℕ
   pub slots : List (Option Spot)
+
+-- the slot of a receiver whose delivery stands
+abbrev pub slot_for : Spot → Slot
+slot_for spot = record { uid = spot.uid; stands = true }
+
+-- the receiver of a slot, if its delivery stands
+abbrev pub receiver_of : Slot → Spot → Option Spot
+receiver_of slot spot = if slot.stands then Some spot else None
+
+-- the receivers of slots, where their deliveries stand
+abbrev pub shown : List Slot → List Spot → List (Option Spot)
+shown [] to = []
+shown (slot ∷ slots) [] = []
+shown (slot ∷ slots) (spot ∷ to) = receiver_of slot spot ∷ shown slots to
+
+-- each slot has its receiver's uid
+abbrev pub AreTo : List Slot → List Spot → Type 0
+AreTo [] to = ⊤
+AreTo (slot ∷ slots) [] = ⊥
+AreTo (slot ∷ slots) (spot ∷ to) = (slot.uid ≡ spot.uid) × AreTo slots to
+
+-- the uid in a slot, if its delivery stands
+abbrev pub uid_in : Slot → Option ℕ
+uid_in slot = if slot.stands then Some slot.uid else None
+
+-- the slot once its delivery is finished
+abbrev pub ended : Slot → Slot
+ended slot = record slot { stands = false }
+
+-- the slots once the deliveries to struck receivers are finished
+abbrev pub struck_slots : (Spot → Bool) → List Slot → List Spot → List Slot
+struck_slots struck [] to = []
+struck_slots struck (slot ∷ slots) [] = slot ∷ slots
+struck_slots struck (slot ∷ slots) (spot ∷ to) = (if struck spot then ended slot else slot) ∷ struck_slots struck slots to
 
 -- the deliveries that stand in slots, whose numbers rise from one on
 abbrev pub standing : ℕ → ℕ → List (Option Spot) → List Delivery

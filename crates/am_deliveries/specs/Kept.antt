@@ -4,7 +4,7 @@ use Rattle.std.specs.List.{list_any, list_all, count_by, sum_by}
 use Rattle.am_model.specs.Filters.{is_empty}
 use Rattle.am_model.specs.Broadcasts.{Normal, Delivery, is_delivery_due}
 use Rattle.am_deliveries.specs.Batches.{Batch, normal_of, is_live}
-use Rattle.am_deliveries.specs.Deadlines.{has, is_same}
+use Rattle.am_deliveries.specs.Deadlines.{has, is_same, IsSoonest}
 
 -- the normal broadcasts that are live, and a number above those of all their deliveries
 pub record Kept : Type 0 where
@@ -21,17 +21,17 @@ AreApart from end [] = from ≤ end
 AreApart from end (batch ∷ others) =
     (from ≤ batch.first) × (batch.first < batch.end) × (batch.first + length batch.slots ≤ batch.end) × AreApart batch.end end others
 
--- the numbers of the first deliveries
-abbrev pub firsts_of : List Batch → List ℕ
-firsts_of batches = map (λ (b : Batch). b.first) batches
-
 -- the batch is live, and has that deadline and that first number
 abbrev pub is_kept : ℕ → ℕ → Batch → Bool
 is_kept at first batch = is_live (normal_of batch) && is_same batch.deadline batch.first at first
 
--- the deadlines are those of the batches that are live
+-- each batch that is live has its deadline there
 abbrev pub AreListed : List (ℕ × ℕ) → List Batch → Type 0
-AreListed deadlines batches = (at first : ℕ) → has deadlines at first ≡ list_any (is_kept at first) batches
+AreListed deadlines batches = (at first : ℕ) → list_any (is_kept at first) batches ≡ true → has deadlines at first ≡ true
+
+-- and the soonest deadline there is that of one
+abbrev pub BeginLive : List (ℕ × ℕ) → List Batch → Type 0
+BeginLive deadlines batches = (soonest : ℕ × ℕ) → IsSoonest deadlines soonest → list_any (is_kept soonest.0 soonest.1) batches ≡ true
 
 -- some delivery is due
 abbrev pub some_due : List Normal → ℕ → Bool

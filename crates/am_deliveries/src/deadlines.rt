@@ -1,7 +1,11 @@
 //! Deadlines in order.
-ghost use Rattle.std.specs.Prelude.{◌≡◌, ℕ, ◌≤◌, ◌&&◌, ◌||◌, not, [], IfOk, OnOk, OnErr, MatchOption};
+ghost use Rattle.std.specs.Prelude.{◌≡◌, ℕ, ◌<◌, ◌&&◌, ◌||◌, not, true, [], length, IfOk, OnOk, OnErr, MatchOption};
+ghost use Rattle.std.specs.List.{list_any};
 ghost use Rattle.am_deliveries.specs.Deadlines.{has, is_same, IsBare, IsSoonest};
+ghost use Rattle.am_deliveries.specs.Kept.{AreApart, is_kept};
 
+use crate::Batch;
+use crate::places::is_live_at;
 use std::alloc::{AllocError, Global};
 use std::collections::BTreeSet;
 use std::marker::Model;
@@ -39,11 +43,20 @@ impl Deadlines {
         Ok(())
     }
 
-    /// Takes a deadline out. Takes no memory.
+    /// Takes a deadline out, if it is there. Takes no memory.
     pub fn remove(&mut self, at: u64, first: u64)
-        ensures { (at' first' : ℕ) → has self.new at' first' ≡ (not (is_same at first at' first') && has self.old at' first') }
+        ensures others { (at' first' : ℕ) → has self.new at' first' ≡ (not (is_same at first at' first') && has self.old at' first') }
+        ensures fewer { has self.old at first ≡ true → length self.new < length self.old }
     {
         self.keys.remove(&(at, first));
+    }
+
+    /// Takes out those that no live batch has. Takes no memory.
+    pub fn keep_live(&mut self, batches: &[Batch])
+        requires { (end : ℕ) × AreApart 0 end batches.now }
+        ensures { (at first : ℕ) → has self.new at first ≡ (list_any (is_kept at first) batches.now && has self.old at first) }
+    {
+        self.keys.retain(|key| is_live_at(batches, key.0, key.1));
     }
 
     /// The soonest. Takes no memory.
@@ -54,11 +67,6 @@ impl Deadlines {
             None => None,
             Some(key) => Some(*key),
         }
-    }
-
-    /// How many there are. Takes no memory.
-    pub fn len(&self) -> usize {
-        self.keys.len()
     }
 
     /// The same deadlines.

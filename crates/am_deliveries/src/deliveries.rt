@@ -6,11 +6,12 @@ ghost use Rattle.am_model.specs.Broadcasts.{is_delivery_due, normals_keeping};
 ghost use Rattle.am_model.specs.Sending.{held_in_normals};
 ghost use Rattle.am_turns.specs.Counts.{count_of, Covers, Follows};
 ghost use Rattle.am_turns.specs.Struck.{strikes};
-ghost use Rattle.am_deliveries.specs.Batches.{at_once_by, batch_of, is_live, normal_of};
+ghost use Rattle.am_deliveries.specs.Batches.{at_once_by, is_live, normal_of, stricken};
 ghost use Rattle.am_deliveries.specs.Deadlines.{has, is_same};
-ghost use Rattle.am_deliveries.specs.Numbers.{IsNextOf, NoneFrom, Rise, found, items_of, lists, stands};
-ghost use Rattle.am_deliveries.specs.Kept.{AllLive, AreApart, HasAt, NoneHas, counts_live, deliveries_in, firsts_of, has_gone, is_early, normals_of, some_due};
+ghost use Rattle.am_deliveries.specs.Numbers.{IsNextOf, NoneFrom, Rise, found, goes, items_of, lists, stands};
+ghost use Rattle.am_deliveries.specs.Kept.{AllLive, AreApart, AreListed, BeginLive, counts_live, deliveries_in, has_gone, is_early, normals_of, some_due};
 
+use crate::places::{is_live_at, place_of};
 use crate::{Batch, Deadlines, Numbers};
 use am_tally::Steps;
 use am_turns::{Counts, Struck};
@@ -24,57 +25,67 @@ use std::sync::ledger::Ledger;
 pub struct Deliveries {
     /// By rising delivery numbers. Those that ended stay here for a while.
     batches: Vec<Batch>,
-    /// The number of each batch's first delivery. A search reads these, which lie close together.
-    firsts: Vec<u64>,
-    /// Those of the batches that are live.
+    /// Those of the batches that are live, and of some that ended. The soonest is that of one that is live.
     deadlines: Deadlines,
     /// Those of the deliveries that stand.
     numbers: Numbers,
     /// A number above those of all deliveries.
     end: u64,
+    /// How many batches there were when those that had ended were last left out.
+    kept: usize,
 }
 
 impl Model for Deliveries {
-    ghost use Rattle.std.specs.Prelude.{◌≡◌};
-    ghost use Rattle.am_deliveries.specs.Kept.{AreApart, AreListed, Kept, firsts_of, live_of};
+    ghost use Rattle.am_deliveries.specs.Kept.{AreApart, AreListed, BeginLive, Kept, live_of};
     ghost use Rattle.am_deliveries.specs.Numbers.{AreNumbered};
 
     ghost Value = { Kept };
 
     ghost view = { λ d. record { normal = live_of d.batches.items; end = d.end } };
 
-    ghost invariant = { λ d. AreApart 0 d.end d.batches.items × AreListed d.deadlines d.batches.items × AreNumbered d.numbers d.batches.items × (d.firsts.items ≡ firsts_of d.batches.items) };
+    ghost invariant = { λ d. AreApart 0 d.end d.batches.items × AreListed d.deadlines d.batches.items × BeginLive d.deadlines d.batches.items × AreNumbered d.numbers d.batches.items };
 }
 
-/// The place of the batch that has a delivery of that number, or had one.
-fn find(firsts: &[u64], batches: &[Batch], number: u64) -> Option<usize>
-    requires apart { (end : ℕ) × AreApart 0 end batches.now }
-    requires firsts { firsts.now ≡ firsts_of batches.now }
-    ensures { MatchOption result (NoneHas number batches.now) (HasAt number batches.now) }
-{
-    let after = firsts.partition_point(|first| *first <= number);
-    if after == 0 {
-        return None;
-    }
-    if number < batches[after - 1].end() {
-        Some(after - 1)
-    } else {
-        None
-    }
-}
-
-/// Takes a batch's deadline out, and lowers its sender's number, if it was live and isn't any more.
-fn retire(was_live: bool, batch: &Batch, deadlines: &mut Deadlines, live: &mut Counts)
+/// Lowers the number of a batch's sender, if the batch was live and isn't any more, and tells that.
+fn retire(was_live: bool, batch: &Batch, live: &mut Counts) -> bool
     requires only_ends { is_live (normal_of batch.now) ≡ true → was_live ≡ true }
     requires counted { was_live ≡ true → 0 < count_of live.old batch.now.sender }
-    ensures deadlines { (at first : ℕ) → has deadlines.new at first
-        ≡ (not (has_gone was_live batch.now && is_same batch.now.deadline batch.now.first at first) && has deadlines.old at first) }
+    ensures ended { result ≡ has_gone was_live batch.now }
     ensures live { (uid : ℕ) → count_of live.new uid + counts_live was_live uid batch.now.sender
         ≡ count_of live.old uid + counts_live (is_live (normal_of batch.now)) uid batch.now.sender }
 {
-    if was_live && !batch.is_live() {
-        deadlines.remove(batch.deadline(), batch.first());
+    let ended = was_live && !batch.is_live();
+    if ended {
         live.lower(batch.sender());
+    }
+    ended
+}
+
+/// Takes the soonest deadlines out up to that of a batch that is live. Takes no memory.
+fn pass_ended(deadlines: &mut Deadlines, batches: &[Batch])
+    requires apart { (end : ℕ) × AreApart 0 end batches.now }
+    requires listed { AreListed deadlines.old batches.now }
+    ensures listed { AreListed deadlines.new batches.now }
+    ensures first { BeginLive deadlines.new batches.now }
+{
+    while let Some((at, first)) = deadlines.soonest() {
+        if is_live_at(batches, at, first) {
+            return;
+        }
+        deadlines.remove(at, first);
+    }
+}
+
+/// The same where a batch ended. Else that deadline is the soonest already.
+fn settle(ended: bool, deadlines: &mut Deadlines, batches: &[Batch])
+    requires apart { (end : ℕ) × AreApart 0 end batches.now }
+    requires listed { AreListed deadlines.old batches.now }
+    requires first { ended ≡ false → BeginLive deadlines.old batches.now }
+    ensures listed { AreListed deadlines.new batches.now }
+    ensures first { BeginLive deadlines.new batches.now }
+{
+    if ended {
+        pass_ended(deadlines, batches);
     }
 }
 
@@ -82,36 +93,35 @@ fn retire(was_live: bool, batch: &Batch, deadlines: &mut Deadlines, live: &mut C
 /// alone may have changed.
 fn make_room(
     batches: &mut Vec<Batch>,
-    firsts: &mut Vec<u64>,
     deadlines: &mut Deadlines,
     numbers: &mut Numbers,
     batch: &Batch,
 ) -> Result<(), AllocError>
     ensures batches { batches.new.items ≡ batches.old.items }
-    ensures firsts { firsts.new.items ≡ firsts.old.items }
     ensures room { OnOk result (vec_len batches.new < vec_capacity batches.new) }
-    ensures room_of_firsts { OnOk result (vec_len firsts.new < vec_capacity firsts.new) }
     ensures deadlines { OnOk result ((at first : ℕ) → has deadlines.new at first ≡ (is_same batch.now.deadline batch.now.first at first || has deadlines.old at first)) }
     ensures numbers { OnOk result ((uid number : ℕ) → lists numbers.new uid number ≡ (stands uid number batch.now || lists numbers.old uid number)) }
     ensures err { OnErr result (deadlines.new ≡ deadlines.old) }
     ensures others { (uid number : ℕ) → stands uid number batch.now ≡ false → lists numbers.new uid number ≡ lists numbers.old uid number }
 {
     batches.reserve(1)?;
-    firsts.reserve(1)?;
     batch.list(numbers)?;
     deadlines.add(batch.deadline(), batch.first())?;
     Ok(())
 }
 
-/// The numbers of the first deliveries again, once batches were left out.
-fn list_firsts(firsts: &mut Vec<u64>, batches: &[Batch])
-    requires { length batches.now ≤ vec_len firsts.old }
-    ensures { firsts.new.items ≡ firsts_of batches.now }
+/// Strikes the receivers of a batch, whose sender's number is lowered where that ends it. Takes no memory.
+fn strike_batch(batch: &mut Batch, struck: &Struck, numbers: &mut Numbers, live: &mut Counts)
+    requires { is_live (normal_of batch.old) ≡ true → 0 < count_of live.old batch.old.sender }
+    ensures batch { batch.new ≡ stricken (strikes struck.now) batch.old }
+    ensures numbers { (uid number : ℕ) → lists numbers.new uid number ≡ (not (goes (strikes struck.now) uid number batch.old) && lists numbers.old uid number) }
+    ensures live { (uid : ℕ) → count_of live.new uid + counts_live (is_live (normal_of batch.old)) uid batch.old.sender
+        ≡ count_of live.old uid + counts_live (is_live (normal_of batch.new)) uid batch.old.sender }
 {
-    firsts.clear();
-    for batch in batches {
-        firsts.push_reserved(batch.first());
-    }
+    let was_live = batch.is_live();
+    batch.unlist_struck(struck, numbers);
+    batch.strike(struck);
+    retire(was_live, batch, live);
 }
 
 impl Deliveries {
@@ -121,10 +131,10 @@ impl Deliveries {
     {
         Deliveries {
             batches: Vec::new(alloc),
-            firsts: Vec::new(alloc),
             deadlines: Deadlines::new(alloc),
             numbers: Numbers::new(alloc),
             end: 0,
+            kept: 0,
         }
     }
 
@@ -133,7 +143,7 @@ impl Deliveries {
         ensures held { held_in_normals number self.now.normal ≡ option_map at_once_by result }
         ensures live { AllLive self.now.normal }
     {
-        match find(&self.firsts, &self.batches, number) {
+        match place_of(&self.batches, number) {
             None => None,
             Some(place) => self.batches[place].holder(number),
         }
@@ -161,12 +171,13 @@ impl Deliveries {
         ensures normal { self.new ≡ record self.old { normal = normals_keeping (λ delivery. not (delivery.number == number)) self.old.normal } }
         ensures live { Follows live.old live.new (normals_of self.old.normal) (normals_of self.new.normal) }
     {
-        if let Some(place) = find(&self.firsts, &self.batches, number) {
+        if let Some(place) = place_of(&self.batches, number) {
             let batch = &mut self.batches[place];
             let was_live = batch.is_live();
             batch.unlist_one(number, &mut self.numbers);
             batch.take(number);
-            retire(was_live, batch, &mut self.deadlines, live);
+            let ended = retire(was_live, batch, live);
+            settle(ended, &mut self.deadlines, &self.batches);
         }
     }
 
@@ -182,11 +193,12 @@ impl Deliveries {
         let Some((_, first)) = self.deadlines.soonest() else {
             return;
         };
-        if let Some(place) = find(&self.firsts, &self.batches, first) {
+        if let Some(place) = place_of(&self.batches, first) {
             let batch = &mut self.batches[place];
             batch.unlist(&mut self.numbers);
             batch.clear();
-            retire(true, batch, &mut self.deadlines, live);
+            retire(true, batch, live);
+            pass_ended(&mut self.deadlines, &self.batches);
         }
     }
 
@@ -209,21 +221,19 @@ impl Deliveries {
         ensures live { Follows live.old live.new (normals_of self.old.normal) (normals_of self.new.normal) }
     {
         for place in 0..self.batches.len() {
-            let batch = &mut self.batches[place];
-            let was_live = batch.is_live();
-            batch.unlist_struck(struck, &mut self.numbers);
-            batch.strike(struck);
-            retire(was_live, batch, &mut self.deadlines, live);
+            strike_batch(&mut self.batches[place], struck, &mut self.numbers, live);
         }
+        pass_ended(&mut self.deadlines, &self.batches);
     }
 
-    /// Leaves out the batches that ended, once they are more than those that are live.
+    /// Leaves out the batches that ended, once there are twice as many as the last time.
     fn tidy(&mut self)
         ensures { self.new ≡ self.old }
     {
-        if self.batches.len() / 2 > self.deadlines.len() {
+        if self.batches.len() / 2 > self.kept {
             self.batches.retain(|batch| batch.is_live());
-            list_firsts(&mut self.firsts, &self.batches);
+            self.deadlines.keep_live(&self.batches);
+            self.kept = self.batches.len();
         }
     }
 
@@ -236,12 +246,14 @@ impl Deliveries {
         ensures err { OnErr result (self.new ≡ self.old) }
     {
         self.tidy();
-        let (batches, firsts) = (&mut self.batches, &mut self.firsts);
-        let (deadlines, numbers) = (&mut self.deadlines, &mut self.numbers);
-        match make_room(batches, firsts, deadlines, numbers, &batch) {
+        let (batches, deadlines, numbers) = (
+            &mut self.batches,
+            &mut self.deadlines,
+            &mut self.numbers,
+        );
+        match make_room(batches, deadlines, numbers, &batch) {
             Ok(()) => {
                 self.end = batch.end();
-                self.firsts.push_reserved(batch.first());
                 self.batches.push_reserved(batch);
                 Ok(())
             }
@@ -257,7 +269,7 @@ impl Deliveries {
     fn push_item(&self, uid: u32, number: u64, items: &mut Vec<Item>) -> Result<(), AllocError>
         ensures { OnOk result (items.new.items ≡ items.old.items ++ found uid number self.now.normal) }
     {
-        match find(&self.firsts, &self.batches, number) {
+        match place_of(&self.batches, number) {
             None => Ok(()),
             Some(place) => self.batches[place].push_item(uid, number, items),
         }
@@ -298,10 +310,10 @@ impl Deliveries {
     {
         Ok(Deliveries {
             batches: self.batches.clone()?,
-            firsts: self.firsts.clone()?,
             deadlines: self.deadlines.copy()?,
             numbers: self.numbers.copy()?,
             end: self.end,
+            kept: self.kept,
         })
     }
 }

@@ -5,6 +5,7 @@ mod batch;
 mod deadlines;
 mod deliveries;
 mod numbers;
+mod places;
 
 pub use batch::Batch;
 pub use deadlines::Deadlines;

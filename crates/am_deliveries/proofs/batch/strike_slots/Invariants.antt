@@ -1,9 +1,7 @@
-use Rattle.std.proofs.Common.{◌≡◌, ◌++◌, map, take, drop}
 use Rattle.am_turns.specs.Struck.{strikes}
-use Rattle.am_deliveries.specs.Batches.{unless_struck}
+use Rattle.am_deliveries.proofs.Shown.{Striking}
 use Rattle.am_deliveries.proofs.batch.strike_slots.Given as goal
 
--- the slots up to here are changed, and the rest isn't
+-- the deliveries up to here are finished, and once the rest is too, all are
 abbrev pub invariant-loop-place : goal.invariant-loop-place
-invariant-loop-place l =
-    l.slots.items ≡ map (unless_struck (strikes l.struck)) (take l.place l.initial.slots.items) ++ drop l.place l.initial.slots.items
+invariant-loop-place l = Striking (strikes l.struck) l.to l.initial.slots.items l.slots.items l.place

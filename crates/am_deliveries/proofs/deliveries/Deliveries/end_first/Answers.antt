@@ -4,7 +4,7 @@ use Rattle.am_deliveries.specs.Batches.{cleared, is_live, normal_of}
 use Rattle.am_deliveries.specs.Deadlines.{is_same}
 use Rattle.am_deliveries.specs.Kept.{HasAt, NoneHas, is_kept, some_due}
 use Rattle.am_deliveries.proofs.Listing.{due_when_bare, soonest_due}
-use Rattle.am_deliveries.proofs.Keeping.{kept_somewhere, slots_within, firsts_same}
+use Rattle.am_deliveries.proofs.Keeping.{kept_somewhere, slots_within}
 use Rattle.am_deliveries.proofs.Retiring.{AreSettled, one_retired, early_batch, fewer_batch, kept_batch, live_counted}
 use Rattle.am_deliveries.proofs.Numbering.{numbered_cleared}
 use Rattle.am_deliveries.proofs.deliveries.Deliveries.end_first.Goals as goal
@@ -16,16 +16,16 @@ both true b pass = (refl, pass)
 both false b pass = cc
 
 -- the batch that was found has the number
-there : (c : After-clear) → HasAt c.in-Some.first c.self.inside.batches.items c.in-Some-find.place
-there c = rw c.deref-2.ensures.value at c.in-Some-find.ensures
+there : (c : After-clear) → HasAt c.in-Some.first c.self.inside.batches.items c.in-Some-place_of.place
+there c = rw c.deref.ensures.value at c.in-Some-place_of.ensures
 
 -- and the deadline, and it is live
 kept : (c : After-clear) → is_kept c.in-Some.field-0-0 c.in-Some.first c.index_mut-batch.result.now ≡ true
 kept c =
     let b = c.index_mut-batch.result.now in
-    kept_batch c.in-Some.field-0-0 c.in-Some.first c.self.inside.end c.self.inside.batches.items c.in-Some-find.place b c.index_mut-batch.ensures.value c.self.invariant.0 (there c).0
+    kept_batch c.in-Some.field-0-0 c.in-Some.first c.self.inside.end c.self.inside.batches.items c.in-Some-place_of.place b c.index_mut-batch.ensures.value c.self.invariant.0 (there c).0
     (rw (sym c.index_mut-batch.ensures.value) at ((there c).1 b).0) (rw (sym c.index_mut-batch.ensures.value) at ((there c).1 b).1)
-    (sym (c.self.invariant.1 c.in-Some.field-0-0 c.in-Some.first) ∙ c.in-Some.ensures.0)
+    (c.self.invariant.2 (c.in-Some.field-0-0, c.in-Some.first) c.in-Some.ensures)
 
 lives : (c : After-clear) → is_live (normal_of c.index_mut-batch.result.now) ≡ true
 lives c = (both _ (is_same c.index_mut-batch.result.now.deadline c.index_mut-batch.result.now.first c.in-Some.field-0-0 c.in-Some.first) (kept c)).0
@@ -36,7 +36,7 @@ is_due c =
     let b = c.index_mut-batch.result.now in
     let same = (both (is_live (normal_of b)) (is_same b.deadline b.first c.in-Some.field-0-0 c.in-Some.first) (kept c)).1 in
     at_most b.deadline b.first c.in-Some.field-0-0 c.in-Some.first c.args.now same
-    (soonest_due c.args.now c.self.inside.batches.items c.self.inside.deadlines (c.in-Some.field-0-0, c.in-Some.first) c.self.invariant.1 c.in-Some.ensures (rw (← c.self.view_is) at c.requires.due))
+    (soonest_due c.args.now c.self.inside.batches.items c.self.inside.deadlines (c.in-Some.field-0-0, c.in-Some.first) c.self.invariant.1 c.self.invariant.2 c.in-Some.ensures (rw (← c.self.view_is) at c.requires.due))
   where
     at_most : (at first at' first' now : ℕ) → is_same at first at' first' ≡ true → at' ≤ now → at ≤ now
     at_most at first at' first' now same due = grind (arith, nat_tests)
@@ -48,53 +48,62 @@ returns-in_default-clause-fewer c =
     let wrong : false ≡ true = sym none ∙ c.requires.due in
     absurd cc
 
-pub returns-in_default-find-clause-fewer : goal.returns-in_default-find-clause-fewer
-returns-in_default-find-clause-fewer c =
+pub returns-in_default-place_of-clause-fewer : goal.returns-in_default-place_of-clause-fewer
+returns-in_default-place_of-clause-fewer c =
     let items = c.self.inside.batches.items in
-    let none : NoneHas c.in-Some.first items = rw c.deref-2.ensures.value at c.in_default-find.ensures in
+    let none : NoneHas c.in-Some.first items = rw c.deref.ensures.value at c.in_default-place_of.ensures in
     let wrong : false ≡ true =
-    sym (kept_somewhere c.in-Some.field-0-0 c.in-Some.first 0 c.self.inside.end items c.self.invariant.0 none) ∙ sym (c.self.invariant.1 c.in-Some.field-0-0 c.in-Some.first) ∙ c.in-Some.ensures.0 in
+    sym (kept_somewhere c.in-Some.field-0-0 c.in-Some.first 0 c.self.inside.end items c.self.invariant.0 none) ∙ c.self.invariant.2 (c.in-Some.field-0-0, c.in-Some.first) c.in-Some.ensures in
     absurd cc
 
 pub retire-requires-clause-counted : goal.retire-requires-clause-counted
 retire-requires-clause-counted c =
     let d = (goal.at.retire-requires-clause-counted c).After-clear in
-    rw c.clear.ensures (λ _. live_counted c.args.live.now c.self.inside.batches.items c.in-Some-find.place c.index_mut-batch.result.now (rw (← c.self.view_is) at c.requires.counted) (there d).0 c.index_mut-batch.ensures.value (lives d))
+    rw c.clear.ensures (λ _. live_counted c.args.live.now c.self.inside.batches.items c.in-Some-place_of.place c.index_mut-batch.result.now (rw (← c.self.view_is) at c.requires.counted) (there d).0 c.index_mut-batch.ensures.value (lives d))
 
 -- the batches are settled without this one
-settled : (c : After-retire) → c.in-Some-find.place < length c.self.inside.batches.items → is_live (normal_of c.index_mut-batch.result.now) ≡ true
-    → AreSettled c.self.inside.end c.self.inside.batches.items (set c.self.inside.batches.items c.in-Some-find.place (cleared c.index_mut-batch.result.now)) c.retire.new.deadlines c.args.live.now c.retire.new.live
+settled : (c : After-retire) → c.in-Some-place_of.place < length c.self.inside.batches.items → is_live (normal_of c.index_mut-batch.result.now) ≡ true
+    → AreSettled c.self.inside.end c.self.inside.batches.items (set c.self.inside.batches.items c.in-Some-place_of.place (cleared c.index_mut-batch.result.now)) c.self.inside.deadlines c.args.live.now c.retire.new.live
 settled c within live =
     let b = c.index_mut-batch.result.now in
-    one_retired c.self.inside.end c.self.inside.batches.items c.in-Some-find.place b [] c.self.inside.deadlines c.retire.new.deadlines c.args.live.now c.retire.new.live
+    one_retired c.self.inside.end c.self.inside.batches.items c.in-Some-place_of.place b [] c.self.inside.deadlines c.args.live.now c.retire.new.live
     c.index_mut-batch.ensures.value c.self.invariant.0 c.self.invariant.1 (rw (← c.self.view_is) at c.requires.counted) within (omega arith) (λ _. live)
-    (rw live (rw c.clear.ensures at c.retire.ensures.deadlines)) (rw live (rw c.clear.ensures at c.retire.ensures.live))
+    (rw live (rw c.clear.ensures at c.retire.ensures.live))
+
+pub pass_ended-requires-clause-apart : goal.pass_ended-requires-clause-apart
+pass_ended-requires-clause-apart c =
+    let d = (goal.at.pass_ended-requires-clause-apart c).After-clear in
+    (c.self.inside.end, rw (c.deref-in-Some-place_of.ensures.value, c.clear.ensures) (settled (goal.at.pass_ended-requires-clause-apart c).After-retire (there d).0 (lives d)).apart)
+
+pub pass_ended-requires-clause-listed : goal.pass_ended-requires-clause-listed
+pass_ended-requires-clause-listed c =
+    let d = (goal.at.pass_ended-requires-clause-listed c).After-clear in
+    rw (c.deref-in-Some-place_of.ensures.value, c.clear.ensures) (settled (goal.at.pass_ended-requires-clause-listed c).After-retire (there d).0 (lives d)).listed
 
 pub invariant_of-self : goal.invariant_of-self
 invariant_of-self c =
     let d = (goal.at.invariant_of-self c).After-clear in
-    let all = settled (goal.at.invariant_of-self c).After-retire (there d).0 (lives d) in
     let b = c.index_mut-batch.result.now in
     let items = c.self.inside.batches.items in
-    let last : b.first + length b.slots ≤ b.end = rw (sym c.index_mut-batch.ensures.value) at (slots_within 0 c.self.inside.end items c.in-Some-find.place b c.self.invariant.0 (there d).0).1 in
+    let last : b.first + length b.slots ≤ b.end = rw (sym c.index_mut-batch.ensures.value) at (slots_within 0 c.self.inside.end items c.in-Some-place_of.place b c.self.invariant.0 (there d).0).1 in
     rw c.clear.ensures (
-      all.apart,
-      all.listed,
-      numbered_cleared c.self.inside.end items c.in-Some-find.place b c.self.inside.numbers c.unlist.new.numbers c.index_mut-batch.ensures.value c.self.invariant.0 c.self.invariant.2 (there d).0 last c.unlist.ensures,
-      c.self.invariant.3 ∙ sym (firsts_same items c.in-Some-find.place b (cleared b) c.index_mut-batch.ensures.value refl),
+      (settled (goal.at.invariant_of-self c).After-retire (there d).0 (lives d)).apart,
+      rw (c.deref-in-Some-place_of.ensures.value, c.clear.ensures) at c.pass_ended.ensures.listed,
+      rw (c.deref-in-Some-place_of.ensures.value, c.clear.ensures) at c.pass_ended.ensures.first,
+      numbered_cleared c.self.inside.end items c.in-Some-place_of.place b c.self.inside.numbers c.unlist.new.numbers c.index_mut-batch.ensures.value c.self.invariant.0 c.self.invariant.3 (there d).0 last c.unlist.ensures,
     )
 
-pub returns-in-Some-find-clause-early : goal.returns-in-Some-find-clause-early
-returns-in-Some-find-clause-early c =
-    let d = (goal.at.returns-in-Some-find-clause-early c).After-clear in
-    rw (c.clear.ensures, ← c.self.view_is) (early_batch c.args.now c.self.inside.batches.items c.in-Some-find.place c.index_mut-batch.result.now c.index_mut-batch.ensures.value (there d).0 (is_due d))
+pub returns-in-Some-place_of-clause-early : goal.returns-in-Some-place_of-clause-early
+returns-in-Some-place_of-clause-early c =
+    let d = (goal.at.returns-in-Some-place_of-clause-early c).After-clear in
+    rw (c.clear.ensures, ← c.self.view_is) (early_batch c.args.now c.self.inside.batches.items c.in-Some-place_of.place c.index_mut-batch.result.now c.index_mut-batch.ensures.value (there d).0 (is_due d))
 
-pub returns-in-Some-find-clause-fewer : goal.returns-in-Some-find-clause-fewer
-returns-in-Some-find-clause-fewer c =
-    let d = (goal.at.returns-in-Some-find-clause-fewer c).After-clear in
-    rw (c.clear.ensures, ← c.self.view_is) (fewer_batch c.self.inside.batches.items c.in-Some-find.place c.index_mut-batch.result.now c.index_mut-batch.ensures.value (there d).0 (lives d))
+pub returns-in-Some-place_of-clause-fewer : goal.returns-in-Some-place_of-clause-fewer
+returns-in-Some-place_of-clause-fewer c =
+    let d = (goal.at.returns-in-Some-place_of-clause-fewer c).After-clear in
+    rw (c.clear.ensures, ← c.self.view_is) (fewer_batch c.self.inside.batches.items c.in-Some-place_of.place c.index_mut-batch.result.now c.index_mut-batch.ensures.value (there d).0 (lives d))
 
-pub returns-in-Some-find-clause-live : goal.returns-in-Some-find-clause-live
-returns-in-Some-find-clause-live c =
-    let d = (goal.at.returns-in-Some-find-clause-live c).After-clear in
-    rw (c.clear.ensures, ← c.self.view_is) (settled (goal.at.returns-in-Some-find-clause-live c).After-retire (there d).0 (lives d)).follows
+pub returns-in-Some-place_of-clause-live : goal.returns-in-Some-place_of-clause-live
+returns-in-Some-place_of-clause-live c =
+    let d = (goal.at.returns-in-Some-place_of-clause-live c).After-clear in
+    rw (c.clear.ensures, ← c.self.view_is) (settled (goal.at.returns-in-Some-place_of-clause-live c).After-retire (there d).0 (lives d)).follows

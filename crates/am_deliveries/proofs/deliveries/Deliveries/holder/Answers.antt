@@ -17,13 +17,13 @@ mapped (Some spot) = refl
 pub returns-in-None-clause-held : goal.returns-in-None-clause-held
 returns-in-None-clause-held c =
     let items = c.self.inside.batches.items in
-    let none : NoneHas c.args.number items = rw c.deref-2.ensures.value at c.in-None.ensures in
+    let none : NoneHas c.args.number items = rw c.deref.ensures.value at c.in-None.ensures in
     rw (← c.self.view_is) (held_nowhere c.args.number items (misses_all 0 c.self.inside.end c.args.number items c.self.invariant.0 none))
 
 pub returns-in-Some-clause-held : goal.returns-in-Some-clause-held
 returns-in-Some-clause-held c =
     let items = c.self.inside.batches.items in
-    let there : HasAt c.args.number items c.in-Some.place = rw c.deref-2.ensures.value at c.in-Some.ensures in
+    let there : HasAt c.args.number items c.in-Some.place = rw c.deref.ensures.value at c.in-Some.ensures in
     let b = c.index.result.now in
     let low = rw (sym c.index.ensures) at (there.1 b).0 in
     let high = rw (sym c.index.ensures) at (there.1 b).1 in

@@ -10,7 +10,7 @@ pub returns-in-None-clause-live : goal.returns-in-None-clause-live
 returns-in-None-clause-live g c = rw (← c.self.view_is) (live_all c.self.inside.batches.items)
 
 pub returns-in-Some-clause-due : goal.returns-in-Some-clause-due
-returns-in-Some-clause-due g c = rw (← c.self.view_is) (sym (due_by_soonest c.args.now c.self.inside.batches.items c.self.inside.deadlines (c.in-Some.at, c.in-Some.field-0-1) c.self.invariant.1 c.in-Some.ensures))
+returns-in-Some-clause-due g c = rw (← c.self.view_is) (sym (due_by_soonest c.args.now c.self.inside.batches.items c.self.inside.deadlines (c.in-Some.at, c.in-Some.field-0-1) c.self.invariant.1 c.self.invariant.2 c.in-Some.ensures))
 
 pub returns-in-Some-clause-live : goal.returns-in-Some-clause-live
 returns-in-Some-clause-live g c = rw (← c.self.view_is) (live_all c.self.inside.batches.items)

@@ -1,7 +1,6 @@
 use Rattle.std.proofs.Common.{◌≡◌, ◌++◌, map, take, drop}
 use Rattle.am_turns.specs.Struck.{strikes}
 use Rattle.am_deliveries.specs.Batches.{stricken}
-use Rattle.am_deliveries.specs.Kept.{firsts_of}
 use Rattle.am_deliveries.proofs.Retiring.{AreSettled}
 use Rattle.am_deliveries.specs.Numbers.{AreNumbered}
 use Rattle.am_deliveries.proofs.deliveries.Deliveries.strike.Given as goal
@@ -11,6 +10,6 @@ abbrev pub invariant-loop-place : goal.invariant-loop-place
 invariant-loop-place l =
     (l.self-inside.batches.items ≡ map (stricken (strikes l.struck)) (take l.place l.initial.self-inside.batches.items) ++ drop l.place l.initial.self-inside.batches.items)
     × (l.self-inside.end ≡ l.initial.self-inside.end)
-    × AreSettled l.self-inside.end l.initial.self-inside.batches.items l.self-inside.batches.items l.self-inside.deadlines l.initial.live l.live
+    × AreSettled l.self-inside.end l.initial.self-inside.batches.items l.self-inside.batches.items l.initial.self-inside.deadlines l.initial.live l.live
+    × (l.self-inside.deadlines ≡ l.initial.self-inside.deadlines)
     × AreNumbered l.self-inside.numbers l.self-inside.batches.items
-    × (l.self-inside.firsts.items ≡ firsts_of l.self-inside.batches.items)

@@ -1,8 +1,11 @@
-use Rattle.std.proofs.Common.{◌≡◌, ◌∙◌, sym, refl, rules}
-use Rattle.std.specs.List.{filter}
+use Rattle.std.proofs.Common.{◌≡◌, ◌∙◌, ◌&&◌, ℕ, sym, refl, rules}
+use Rattle.std.specs.List.{filter, list_any}
 use Rattle.std.proofs.lemmas.Fn.{filter_same}
 use Rattle.am_deliveries.specs.Batches.{Batch, is_live, normal_of}
+use Rattle.am_deliveries.specs.Deadlines.{has}
+use Rattle.am_deliveries.specs.Kept.{is_kept}
 use Rattle.am_deliveries.proofs.Keeping.{apart_live, kept_live, live_live}
+use Rattle.am_deliveries.proofs.Listing.{begin_live, listed_live}
 use Rattle.am_deliveries.proofs.Numbering.{numbered_live}
 use Rattle.am_deliveries.proofs.deliveries.Deliveries.tidy.Goals as goal
 use Rattle.am_deliveries.proofs.deliveries.Deliveries.tidy.Goals.{After-retain}
@@ -14,8 +17,20 @@ left c = filter_same _ (λ (b : Batch). is_live (normal_of b)) _ (λ x b f' k. s
 pub invariant_of-self : goal.invariant_of-self
 invariant_of-self c =
     let items = c.self.inside.batches.items in
-    rw (left (goal.at.invariant_of-self c).After-retain)
-    (apart_live 0 c.self.inside.end items c.self.invariant.0, λ at first. c.self.invariant.1 at first ∙ sym (kept_live at first items), λ uid number. c.self.invariant.2 uid number ∙ sym (numbered_live uid number items), rw (c.list_firsts.ensures, c.deref.ensures.value, left (goal.at.invariant_of-self c).After-retain) refl)
+    let d = (goal.at.invariant_of-self c).After-retain in
+    let kept : (at first : ℕ) → has c.keep_live.new.self at first ≡ list_any (is_kept at first) (filter (λ (b : Batch). is_live (normal_of b)) items) && has c.self.inside.deadlines at first =
+    rw (c.deref.ensures.value, left d) at c.keep_live.ensures in
+    let live = filter (λ (b : Batch). is_live (normal_of b)) items in
+    rw (left d) (
+      apart_live 0 c.self.inside.end items c.self.invariant.0,
+      listed_live c.self.inside.deadlines c.keep_live.new.self live (λ at first is. c.self.invariant.1 at first (sym (kept_live at first items) ∙ is)) kept,
+      begin_live c.self.inside.deadlines c.keep_live.new.self live kept,
+      λ uid number. c.self.invariant.3 uid number ∙ sym (numbered_live uid number items),
+    )
 
-pub returns-then-len : goal.returns-then-len
-returns-then-len c = rw (left (goal.at.returns-then-len c).After-retain, live_live, ← c.self.view_is) refl
+pub keep_live-requires : goal.keep_live-requires
+keep_live-requires c =
+    (c.self.inside.end, rw (c.deref.ensures.value, left (goal.at.keep_live-requires c).After-retain) (apart_live 0 c.self.inside.end c.self.inside.batches.items c.self.invariant.0))
+
+pub returns-then-len-self : goal.returns-then-len-self
+returns-then-len-self c = rw (left (goal.at.returns-then-len-self c).After-retain, live_live, ← c.self.view_is) refl
