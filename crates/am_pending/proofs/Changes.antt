@@ -1,19 +1,19 @@
 -- What changes of the table of records do to the records as the definitions see them.
-use Rattle.std.proofs.Common.{◌≡◌, ℕ, ◌<◌, ◌==◌, Bool, true, false, not, ◌||◌, cond, List, [], ◌∷◌, ◌++◌, map, filter, All, Some, None, refl, sym, ap, ◌∙◌, true≢false, arith}
+use Rattle.std.proofs.Common.{◌≡◌, ℕ, ◌<◌, ◌==◌, Bool, true, false, not, ◌||◌, cond, List, [], ◌∷◌, ◌++◌, map, filter, All, Some, None, refl, sym, ap, ◌∙◌, arith}
 use Rattle.std.specs.List.{AllByRecursion, list_any}
 use Rattle.std.specs.List.Sorted.{IsStrictlySortedBy}
-use Rattle.std.specs.Map.{keys_of, lookup, remove_entry, set_value}
+use Rattle.std.specs.Map.{keys_of, lookup}
 use Rattle.std.specs.BTreeMap.{insert_entry, is_at}
 use Rattle.std.specs.Ordering.{nat_cmp, match_ordering}
 use Rattle.std.specs.declared.cmp.Ordering.TheVariants.{Less, Greater}
-use Rattle.std.specs.Option.{unwrap_or}
 use Rattle.std.specs.Cmp.{nat_cmp_is, ranked, unsigned_Decides}
-use Rattle.std.proofs.lemmas.List.Elements.{All-head, All-tail}
+use Rattle.std.proofs.lemmas.List.Elements.{All-head, All-map, All-tail, All-weaker}
 use Rattle.std.proofs.lemmas.Bool.Decides.{nat_tests}
 use Rattle.am_types.specs.declared.intent.Named.{Named}
 use Rattle.am_model.specs.Pendings.{Pending, updated, with_holder, without_holder, without_token}
+use Rattle.am_pending.specs.declared.key.Key.{Key}
 use Rattle.am_pending.specs.Once.{AtMostOne}
-use Rattle.am_pending.specs.Records.{Kept, pending_of, pendings_of, changed_at, dropped_at, with_extras, held_by, let_go_by_all, others_than}
+use Rattle.am_pending.specs.Records.{Kept, pending_of, pendings_of, live, live_of, changed_at, ended, with_extras, held_by, let_go_by, let_go_by_all, others_than, unheld}
 use Rattle.am_pending.proofs.Lookups.{at-token}
 
 -- the record has that token
@@ -37,50 +37,6 @@ unfolding IsStrictlySortedBy
 once [] t s = tt
 once (e ∷ es) t s = ((λ h. none_later e.0 t es h s.0), once es t s.1)
 
--- where none stands under the token, none is dropped and none changed
--- where none stands under the token, none is dropped
-pub dropped-none : (t : ℕ) (es : List (ℕ × Kept)) → list_any (is_token t) (pendings_of es) ≡ false → dropped_at t es ≡ es
-dropped-none t [] h = refl
-dropped-none t (e ∷ es) h = by (e.0 == t) h (λ k. dropped-none t es k)
-  where
-    by : (b : Bool) → (b || list_any (is_token t) (pendings_of es)) ≡ false → (list_any (is_token t) (pendings_of es) ≡ false → dropped_at t es ≡ es) → cond (not b) (e ∷ dropped_at t es) (dropped_at t es) ≡ e ∷ es
-    by true h rest = absurd (true≢false h)
-    by false h rest = ap (λ l. e ∷ l) (rest h)
-
-changed-none : (t : ℕ) (f : Kept → Kept) (es : List (ℕ × Kept)) → list_any (is_token t) (pendings_of es) ≡ false → changed_at t f es ≡ es
-changed-none t f [] h = refl
-changed-none t f (e ∷ es) h = by (e.0 == t) h (λ k. changed-none t f es k)
-  where
-    by : (b : Bool) → (b || list_any (is_token t) (pendings_of es)) ≡ false → (list_any (is_token t) (pendings_of es) ≡ false → changed_at t f es ≡ es) → cond b (e.0, f e.1) e ∷ changed_at t f es ≡ e ∷ es
-    by true h rest = absurd (true≢false h)
-    by false h rest = ap (λ l. e ∷ l) (rest h)
-
--- the entry under a token is removed
-pub removed : (t : ℕ) (es : List (ℕ × Kept)) → IsStrictlySortedBy nat_cmp (keys_of es) → remove_entry (is_at (nat_cmp t)) es ≡ dropped_at t es
-unfolding IsStrictlySortedBy
-removed t [] s = refl
-removed t (e ∷ es) s =
-    ap (λ b. cond b es (e ∷ remove_entry (is_at (nat_cmp t)) es)) (at-token t e.0)
-    ∙ by (e.0 == t) (λ h. dropped-none t es (none_later e.0 t es h s.0)) refl (removed t es s.1)
-  where
-    by : (b : Bool) → ((e.0 == t) ≡ true → dropped_at t es ≡ es) → (e.0 == t) ≡ b → remove_entry (is_at (nat_cmp t)) es ≡ dropped_at t es → cond b es (e ∷ remove_entry (is_at (nat_cmp t)) es) ≡ cond (not b) (e ∷ dropped_at t es) (dropped_at t es)
-    by true none h rest = sym (none h)
-    by false none h rest = ap (λ l. e ∷ l) rest
-
--- the record under a token is changed
-pub changed : (t : ℕ) (f : Kept → Kept) (v : Kept) (es : List (ℕ × Kept)) → IsStrictlySortedBy nat_cmp (keys_of es) → lookup (is_at (nat_cmp t)) es ≡ Some v → set_value (is_at (nat_cmp t)) es (f v) ≡ changed_at t f es
-unfolding IsStrictlySortedBy
-changed t f v [] s h = cc
-changed t f v (e ∷ es) s h =
-    ap (λ b. cond b ((e.0, f v) ∷ es) (e ∷ set_value (is_at (nat_cmp t)) es (f v))) (at-token t e.0)
-    ∙ by (e.0 == t) (λ k. changed-none t f es (none_later e.0 t es k s.0)) refl (sym (ap (λ b. cond b (Some e.1) (lookup (is_at (nat_cmp t)) es)) (at-token t e.0)) ∙ h) (λ k. changed t f v es s.1 k)
-  where
-    by : (b : Bool) → ((e.0 == t) ≡ true → changed_at t f es ≡ es) → (e.0 == t) ≡ b → cond b (Some e.1) (lookup (is_at (nat_cmp t)) es) ≡ Some v → (lookup (is_at (nat_cmp t)) es ≡ Some v → set_value (is_at (nat_cmp t)) es (f v) ≡ changed_at t f es) → cond b ((e.0, f v) ∷ es) (e ∷ set_value (is_at (nat_cmp t)) es (f v)) ≡ cond b (e.0, f e.1) e ∷ changed_at t f es
-    by true none k h rest =
-        let same : e.1 ≡ v = ap (λ o. unwrap_or o e.1) h in
-        λ i. (e.0, f (sym same i)) ∷ sym (none k) i
-    by false none k h rest = ap (λ l. e ∷ l) (rest h)
-
 -- where no record stands under the token, none is changed
 pub unchanged : (t : ℕ) (f : Kept → Kept) (es : List (ℕ × Kept)) → lookup (is_at (nat_cmp t)) es ≡ None → changed_at t f es ≡ es
 unchanged t f [] h = refl
@@ -91,12 +47,12 @@ unchanged t f (e ∷ es) h = by (e.0 == t) (sym (ap (λ b. cond b (Some e.1) (lo
     by false h rest = ap (λ l. e ∷ l) (rest h)
 
 -- a record under a token above all others goes last
-pub inserted : (t : ℕ) (v : Kept) (es : List (ℕ × Kept)) → All (λ (kept : Pending). kept.token < t) (pendings_of es) → insert_entry nat_cmp es t v ≡ es ++ (t, v) ∷ []
+pub inserted : (t : ℕ) (v : Kept) (es : List (ℕ × Kept)) → All (λ (e : ℕ × Kept). e.0 < t) es → insert_entry nat_cmp es t v ≡ es ++ (t, v) ∷ []
 inserted t v [] h = refl
 inserted t v (e ∷ es) h =
-    let above : e.0 < t = All-head (λ (kept : Pending). kept.token < t) (pending_of e.0 e.1) (pendings_of es) h in
+    let above : e.0 < t = All-head (λ (e : ℕ × Kept). e.0 < t) e es h in
     ap (λ o. match_ordering o ((t, v) ∷ e ∷ es) ((e.0, v) ∷ es) (e ∷ insert_entry nat_cmp es t v)) (sym (nat_cmp_is t e.0 Greater above))
-    ∙ ap (λ l. e ∷ l) (inserted t v es (All-tail (λ (kept : Pending). kept.token < t) (pending_of e.0 e.1) (pendings_of es) h))
+    ∙ ap (λ l. e ∷ l) (inserted t v es (All-tail (λ (e : ℕ × Kept). e.0 < t) e es h))
 
 -- the tokens stay where records are changed
 pub keys-changed : (t : ℕ) (f : Kept → Kept) (es : List (ℕ × Kept)) → keys_of (changed_at t f es) ≡ keys_of es
@@ -111,13 +67,82 @@ pub pendings-push : (es : List (ℕ × Kept)) (t : ℕ) (v : Kept) → pendings_
 pendings-push [] t v = refl
 pendings-push (e ∷ es) t v = ap (λ l. pending_of e.0 e.1 ∷ l) (pendings-push es t v)
 
-pub pendings-dropped : (t : ℕ) (es : List (ℕ × Kept)) → pendings_of (dropped_at t es) ≡ without_token (pendings_of es) t
-pendings-dropped t [] = refl
-pendings-dropped t (e ∷ es) = by (e.0 == t) (pendings-dropped t es)
+-- the tokens of records that are changed stay below the next one
+pub below-changed : (n t : ℕ) (f : Kept → Kept) (es : List (ℕ × Kept)) → All (λ (e : ℕ × Kept). e.0 < n) es → All (λ (e : ℕ × Kept). e.0 < n) (changed_at t f es)
+below-changed n t f es h =
+    All-map (λ (e : ℕ × Kept). e.0 < n) (λ (e : ℕ × Kept). cond (e.0 == t) (e.0, f e.1) e) es
+    (All-weaker (λ (e : ℕ × Kept). e.0 < n) (λ (e : ℕ × Kept). (cond (e.0 == t) (e.0, f e.1) e).0 < n) (λ e l. by e (e.0 == t) l) es h)
   where
-    by : (b : Bool) → pendings_of (dropped_at t es) ≡ without_token (pendings_of es) t → pendings_of (cond (not b) (e ∷ dropped_at t es) (dropped_at t es)) ≡ cond (not b) (pending_of e.0 e.1 ∷ without_token (pendings_of es) t) (without_token (pendings_of es) t)
+    by : (e : ℕ × Kept) (b : Bool) → e.0 < n → (cond b (e.0, f e.1) e).0 < n
+    by e true l = l
+    by e false l = l
+
+-- a record that ends is no live one any more
+pub live-ended : (t : ℕ) (es : List (ℕ × Kept)) → live_of (changed_at t ended es) ≡ without_token (live_of es) t
+live-ended t [] = refl
+live-ended t (e ∷ es) = changed_first (e.0 == t) ∙ rest e.1.ended (e.0 == t) (live-ended t es) ∙ sym (without_first e.1.ended)
+  where
+    here : Pending
+    here = pending_of e.0 e.1
+
+    others : List (ℕ × Kept)
+    others = live (changed_at t ended es)
+
+    left : List Pending
+    left = without_token (live_of es) t
+
+    alike : (c : Bool) (l : List Pending) → l ≡ cond (not c) l l
+    alike true l = refl
+    alike false l = refl
+
+    same_first : (c : Bool) → pendings_of (cond (not c) (e ∷ others) others) ≡ cond (not c) (here ∷ pendings_of others) (pendings_of others)
+    same_first true = refl
+    same_first false = refl
+
+    changed_first : (b : Bool) → pendings_of (cond (not (cond b (e.0, ended e.1) e).1.ended) (cond b (e.0, ended e.1) e ∷ others) others) ≡ cond (not e.1.ended) (cond (not b) (here ∷ pendings_of others) (pendings_of others)) (pendings_of others)
+    changed_first true = alike e.1.ended (pendings_of others)
+    changed_first false = same_first e.1.ended
+
+    rest : (c b : Bool) → pendings_of others ≡ left → cond (not c) (cond (not b) (here ∷ pendings_of others) (pendings_of others)) (pendings_of others) ≡ cond (not c) (cond (not b) (here ∷ left) left) left
+    rest c b is = λ i. cond (not c) (cond (not b) (here ∷ is i) (is i)) (is i)
+
+    without_first : (c : Bool) → without_token (pendings_of (cond (not c) (e ∷ live es) (live es))) t ≡ cond (not c) (cond (not (e.0 == t)) (here ∷ left) left) left
+    without_first true = refl
+    without_first false = refl
+
+-- a change that ends none changes the same ones of those that are live
+pub live-changed : (t : ℕ) (f : Kept → Kept) (es : List (ℕ × Kept)) → ((kept : Kept) → (f kept).ended ≡ kept.ended) → live (changed_at t f es) ≡ changed_at t f (live es)
+live-changed t f [] h = refl
+live-changed t f (e ∷ es) h =
+    ap (λ b. cond (not b) (one (e.0 == t) ∷ live (changed_at t f es)) (live (changed_at t f es))) (same_ended (e.0 == t))
+    ∙ by e.1.ended (live-changed t f es h)
+  where
+    one : Bool → ℕ × Kept
+    one b = cond b (e.0, f e.1) e
+
+    same_ended : (b : Bool) → (one b).1.ended ≡ e.1.ended
+    same_ended true = h e.1
+    same_ended false = refl
+
+    by : (c : Bool) → live (changed_at t f es) ≡ changed_at t f (live es) → cond (not c) (one (e.0 == t) ∷ live (changed_at t f es)) (live (changed_at t f es)) ≡ changed_at t f (cond (not c) (e ∷ live es) (live es))
     by true rest = rest
-    by false rest = ap (λ l. pending_of e.0 e.1 ∷ l) rest
+    by false rest = ap (λ l. one (e.0 == t) ∷ l) rest
+
+pub live-push : (es : List (ℕ × Kept)) (t : ℕ) (key : Key) → live (es ++ (t, unheld key) ∷ []) ≡ live es ++ (t, unheld key) ∷ []
+live-push [] t key = refl
+live-push (e ∷ es) t key = by e.1.ended (live-push es t key)
+  where
+    by : (c : Bool) → live (es ++ (t, unheld key) ∷ []) ≡ live es ++ (t, unheld key) ∷ [] → cond (not c) (e ∷ live (es ++ (t, unheld key) ∷ [])) (live (es ++ (t, unheld key) ∷ [])) ≡ cond (not c) (e ∷ live es) (live es) ++ (t, unheld key) ∷ []
+    by true rest = rest
+    by false rest = ap (λ l. e ∷ l) rest
+
+pub live-let_go : (uid : ℕ) (es : List (ℕ × Kept)) → live (let_go_by_all uid es) ≡ let_go_by_all uid (live es)
+live-let_go uid [] = refl
+live-let_go uid (e ∷ es) = by e.1.ended (live-let_go uid es)
+  where
+    by : (c : Bool) → live (let_go_by_all uid es) ≡ let_go_by_all uid (live es) → cond (not c) ((e.0, let_go_by uid e.1) ∷ live (let_go_by_all uid es)) (live (let_go_by_all uid es)) ≡ let_go_by_all uid (cond (not c) (e ∷ live es) (live es))
+    by true rest = rest
+    by false rest = ap (λ l. (e.0, let_go_by uid e.1) ∷ l) rest
 
 -- what a change of the record under a token does to the records as the definitions see them
 pub pendings-changed : (t : ℕ) (f : Kept → Kept) (g : Pending → Pending) (es : List (ℕ × Kept)) → ((e : ℕ × Kept) → g (pending_of e.0 e.1) ≡ cond (e.0 == t) (pending_of e.0 (f e.1)) (pending_of e.0 e.1)) → pendings_of (changed_at t f es) ≡ map g (pendings_of es)

@@ -1,5 +1,5 @@
 -- What filters and additions leave to be found and counted.
-use Rattle.std.proofs.Common.{◌≡◌, ℕ, ◌+◌, Bool, true, false, not, ◌||◌, cond, List, [], ◌∷◌, ◌++◌, filter, count_by, All, Option, Some, None, refl, sym, ap, ◌∙◌, subst, true≢false, arith}
+use Rattle.std.proofs.Common.{◌≡◌, ℕ, ◌+◌, Bool, true, false, not, ◌||◌, cond, List, [], ◌∷◌, ◌++◌, filter, count_by, All, Some, None, refl, sym, ap, ◌∙◌, subst, true≢false, arith}
 use Rattle.std.specs.List.{find, list_any}
 use Rattle.std.specs.Option.{unwrap_or}
 use Rattle.std.proofs.lemmas.List.Elements.{All-head, All-tail}
@@ -118,29 +118,49 @@ module _ {X : Type 0} where
       first : p x ≡ true → list_any p (xs ++ y ∷ []) ≡ false
       first e = any-push p xs y ∙ or_none (list_any p xs) (p y) (m.0 e) (not_both (p y) e refl)
 
-  without_here : (q : X → Bool) (x : X) (xs : List X) (c : Bool) → AtMostOne q (x ∷ xs) → q x ≡ c → find q xs ≡ cond c None (cond c (Some x) (find q xs))
-  without_here q x xs true n e = find-none q xs (n.0 e)
-  without_here q x xs false n e = refl
+  -- where none is found, none is among those kept
+  pub none-kept : (q keep : X → Bool) (xs : List X) → find q xs ≡ None → find q (filter keep xs) ≡ None
+  none-kept q keep xs h = find-none q (filter keep xs) (any-kept q keep xs (any-none q xs h))
 
-  without_there : (r q : X → Bool) (x : X) (xs : List X) (y : X) (o : Option X) (c d : Bool) → AtMostOne q (x ∷ xs) → q x ≡ c → q y ≡ d → find r xs ≡ Some y → o ≡ cond d None (find q xs) → cond c (Some x) o ≡ cond d None (cond c (Some x) (find q xs))
-  without_there r q x xs y o true true n e f h rest = absurd (true≢false (sym f ∙ found-not r q xs y h (n.0 e)))
-  without_there r q x xs y o true false n e f h rest = refl
-  without_there r q x xs y o false d n e f h rest = rest
-
-  -- what is found without the one that is taken away
-  pub find-without : (r q : X → Bool) (xs : List X) (y : X) → find r xs ≡ Some y → AtMostOne r xs → AtMostOne q xs → find q (filter (λ x. not (r x)) xs) ≡ cond (q y) None (find q xs)
-  find-without r q [] y h m n = cc
-  find-without r q (x ∷ xs) y h m n = by (r x) refl h (λ k. find-without r q xs y k m.1 n.1)
+  -- the only one that passes is found among those kept, if it is
+  pub find-kept : (q keep : X → Bool) (xs : List X) (y : X) → find q xs ≡ Some y → AtMostOne q xs → find q (filter keep xs) ≡ cond (keep y) (Some y) None
+  find-kept q keep [] y h m = cc
+  find-kept q keep (x ∷ xs) y h m = by (q x) (keep x) refl refl h (λ k. find-kept q keep xs y k m.1)
     where
       others : List X
-      others = filter (λ x. not (r x)) xs
+      others = filter keep xs
 
-      by : (b : Bool) → r x ≡ b → cond b (Some x) (find r xs) ≡ Some y → (find r xs ≡ Some y → find q others ≡ cond (q y) None (find q xs)) → find q (cond (not b) (x ∷ others) others) ≡ cond (q y) None (cond (q x) (Some x) (find q xs))
-      by true e h rest =
-          ap (find q) (filter-none r xs (m.0 e))
-          ∙ without_here q x xs (q x) n refl
-          ∙ ap (λ z. cond (q z) None (cond (q x) (Some x) (find q xs))) (some_same x y h)
-      by false e h rest = without_there r q x xs y (find q others) (q x) (q y) n refl refl h (rest h)
+      by : (b c : Bool) → q x ≡ b → keep x ≡ c → cond b (Some x) (find q xs) ≡ Some y → (find q xs ≡ Some y → find q others ≡ cond (keep y) (Some y) None) → find q (cond c (x ∷ others) others) ≡ cond (keep y) (Some y) None
+      by true true e f h rest =
+          ap (λ a. cond a (Some x) (find q others)) e ∙ h
+          ∙ sym (ap (λ a. cond a (Some y) None) (ap keep (sym (some_same x y h)) ∙ f))
+      by true false e f h rest =
+          find-none q others (any-kept q keep xs (m.0 e))
+          ∙ sym (ap (λ a. cond a (Some y) None) (ap keep (sym (some_same x y h)) ∙ f))
+      by false true e f h rest = ap (λ a. cond a (Some x) (find q others)) e ∙ rest h
+      by false false e f h rest = rest h
+
+  -- of two filters either may come first
+  pub filter-swap : (p q : X → Bool) (xs : List X) → filter p (filter q xs) ≡ filter q (filter p xs)
+  filter-swap p q [] = refl
+  filter-swap p q (x ∷ xs) = by (p x) (q x) refl refl (filter-swap p q xs)
+    where
+      by : (b c : Bool) → p x ≡ b → q x ≡ c → filter p (filter q xs) ≡ filter q (filter p xs) → filter p (cond c (x ∷ filter q xs) (filter q xs)) ≡ filter q (cond b (x ∷ filter p xs) (filter p xs))
+      by true true e f rest =
+          ap (λ a. cond a (x ∷ filter p (filter q xs)) (filter p (filter q xs))) e ∙ ap (λ l. x ∷ l) rest
+          ∙ sym (ap (λ a. cond a (x ∷ filter q (filter p xs)) (filter q (filter p xs))) f)
+      by true false e f rest = rest ∙ sym (ap (λ a. cond a (x ∷ filter q (filter p xs)) (filter q (filter p xs))) f)
+      by false true e f rest = ap (λ a. cond a (x ∷ filter p (filter q xs)) (filter p (filter q xs))) e ∙ rest
+      by false false e f rest = rest
+
+  -- a filter over what passed it changes nothing
+  pub filter-twice : (p : X → Bool) (xs : List X) → filter p (filter p xs) ≡ filter p xs
+  filter-twice p [] = refl
+  filter-twice p (x ∷ xs) = by (p x) refl (filter-twice p xs)
+    where
+      by : (b : Bool) → p x ≡ b → filter p (filter p xs) ≡ filter p xs → filter p (cond b (x ∷ filter p xs) (filter p xs)) ≡ cond b (x ∷ filter p xs) (filter p xs)
+      by true e rest = ap (λ a. cond a (x ∷ filter p (filter p xs)) (filter p (filter p xs))) e ∙ ap (λ l. x ∷ l) rest
+      by false e rest = rest
 
   count_by-cons : (s : X → Bool) (x : X) (xs : List X) → count_by s (x ∷ xs) ≡ cond (s x) 1 0 + count_by s xs
   count_by-cons s x xs = sum_by-cons (λ x. cond (s x) 1 0) x xs
@@ -164,20 +184,6 @@ module _ {X : Type 0} where
           let c = rest h in
           let d = count_by-cons s x xs in
           omega (arith, a, c, d)
-
-  -- what is found among those kept, by a test that tells which are kept
-  pub find-filter : (q keep : X → Bool) (kept : Bool) → ((x : X) → q x ≡ true → keep x ≡ kept) → (xs : List X) → find q (filter keep xs) ≡ cond kept (find q xs) None
-  find-filter q keep true h [] = refl
-  find-filter q keep false h [] = refl
-  find-filter q keep kept h (x ∷ xs) = by (keep x) (q x) kept refl refl (h x) (find-filter q keep kept h xs)
-    where
-      by : (b c k : Bool) → keep x ≡ b → q x ≡ c → (q x ≡ true → keep x ≡ k) → find q (filter keep xs) ≡ cond k (find q xs) None → find q (cond b (x ∷ filter keep xs) (filter keep xs)) ≡ cond k (cond c (Some x) (find q xs)) None
-      by true true true e f says rest = ap (λ a. cond a (Some x) (find q (filter keep xs))) f
-      by true true false e f says rest = absurd (true≢false (sym e ∙ says f))
-      by true false k e f says rest = ap (λ a. cond a (Some x) (find q (filter keep xs))) f ∙ rest
-      by false true true e f says rest = absurd (true≢false (sym (says f) ∙ e))
-      by false true false e f says rest = rest
-      by false false k e f says rest = rest
 
   -- how many pass of those kept, by a test that tells which are kept
   pub count-filter : (s keep : X → Bool) (kept : Bool) → ((x : X) → s x ≡ true → keep x ≡ kept) → (xs : List X) → count_by s (filter keep xs) ≡ cond kept (count_by s xs) 0

@@ -10,9 +10,9 @@ use Rattle.std.specs.declared.cmp.Ordering.TheVariants.{Less, Equal, Greater}
 use Rattle.std.specs.Option.{unwrap_or}
 use Rattle.std.specs.Prelude.{nat_eq}
 use Rattle.std.specs.Cmp.{nat_cmp_is, nat_eq_equiv, nat_cmp_total, eq_by_cmp_equiv, ranked, unsigned_tied, unsigned_Decides}
-use Rattle.std.proofs.lemmas.Map.Entries.{lookup-filter-keys, lookup-filter-values, option_filter}
+use Rattle.std.proofs.lemmas.Map.Entries.{lookup-filter-values, option_filter}
 use Rattle.std.proofs.lemmas.Map.Keys.{IsDistinct-from_sorted}
-use Rattle.am_pending.specs.Records.{Kept, changed_at, dropped_at, in_order, let_go_by, let_go_by_all, others_than}
+use Rattle.am_pending.specs.Records.{Kept, changed_at, in_order, let_go_by, let_go_by_all, live, others_than}
 use Rattle.am_pending.proofs.Changes.{keys-changed, unchanged}
 
 -- what stands under a token
@@ -183,25 +183,6 @@ rises-filter p (e ∷ es) s = by (p e) (rises-filter p es s.1)
     by true rest = (below-filter e.0 p es s.0, rest)
     by false rest = rest
 
-under-dropped : (t k : ℕ) (es : List (ℕ × Kept)) → under t (dropped_at k es) ≡ cond (not (t == k)) (under t es) None
-under-dropped t k es =
-    lookup-filter-keys (is_at (nat_cmp t)) (λ n. not (n == k)) (not (t == k))
-    (λ n h. ap (λ m. not (m == k)) (sym ((unsigned_Decides t n).0 (sym (unsigned_tied t n) ∙ h)))) es
-
--- a record taken away
-pub take-order : (k : ℕ) (es es' : List (ℕ × Kept)) → ((t : ℕ) → lookup (nat_eq t) es' ≡ cond (nat_eq k t) None (lookup (nat_eq t) es)) → in_order es' ≡ dropped_at k (in_order es)
-take-order k es es' h =
-    same (in_order es') (dropped_at k (in_order es)) (rises es') (rises-filter _ (in_order es) (rises es))
-    (λ t. under-order t es' ∙ under-eq t es' ∙ h t
-    ∙ ap (λ b. cond b None (lookup (nat_eq t) es)) (nat_eq_equiv.symm k t)
-    ∙ flipped (t == k) (lookup (nat_eq t) es)
-    ∙ ap (λ o. cond (not (t == k)) o None) (sym (under-order t es ∙ under-eq t es))
-    ∙ sym (under-dropped t k (in_order es)))
-  where
-    flipped : (b : Bool) (o : Option Kept) → cond b None o ≡ cond (not b) o None
-    flipped true o = refl
-    flipped false o = refl
-
 under-changed : (t k : ℕ) (f : Kept → Kept) (es : List (ℕ × Kept)) → under t (changed_at k f es) ≡ cond (t == k) (option_map f (under t es)) (under t es)
 under-changed t k f [] = none (t == k)
   where
@@ -253,6 +234,26 @@ others-order uid es d =
   where
     stays : Kept → Bool
     stays kept = not (kept.key.creator == uid)
+
+-- what stands under a token among those that haven't ended
+under-live : (t : ℕ) (es : List (ℕ × Kept)) → Rises es → under t (live es) ≡ option_filter (λ (kept : Kept). not kept.ended) (under t es)
+under-live t es s = lookup-filter-values (eq_by_cmp_equiv nat_cmp_total) (λ (kept : Kept). not kept.ended) t es (IsDistinct-from_sorted nat_cmp (keys_of es) s)
+
+-- what stands under a token among those in order that haven't ended
+pub live-under : (t : ℕ) (es now : List (ℕ × Kept)) → in_order es ≡ now → under t (live now) ≡ option_filter (λ (kept : Kept). not kept.ended) (lookup (nat_eq t) es)
+live-under t es now is =
+    ap (λ l. under t (live l)) (sym is)
+    ∙ under-live t (in_order es) (rises es)
+    ∙ ap (option_filter (λ (kept : Kept). not kept.ended)) (under-order t es ∙ under-eq t es)
+
+-- those in order that haven't ended
+pub live-order : (es : List (ℕ × Kept)) → IsDistinct nat_eq (keys_of es) → in_order (live es) ≡ live (in_order es)
+live-order es d =
+    same (in_order (live es)) (live (in_order es)) (rises (live es)) (rises-filter _ (in_order es) (rises es))
+    (λ t. under-order t (live es) ∙ under-eq t (live es)
+    ∙ lookup-filter-values nat_eq_equiv (λ (kept : Kept). not kept.ended) t es d
+    ∙ ap (option_filter (λ (kept : Kept). not kept.ended)) (sym (under-order t es ∙ under-eq t es))
+    ∙ sym (under-live t (in_order es) (rises es)))
 
 under-map : (t : ℕ) (f : Kept → Kept) (es : List (ℕ × Kept)) → under t (map (λ (e : ℕ × Kept). (e.0, f e.1)) es) ≡ option_map f (under t es)
 under-map t f [] = refl

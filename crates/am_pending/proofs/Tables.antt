@@ -1,6 +1,6 @@
 -- What stays true of the three tables together when a record comes, goes or takes another's place.
-use Rattle.std.proofs.Common.{◌≡◌, ℕ, ◌+◌, ◌-◌, ◌<◌, ◌==◌, Bool, true, false, not, cond, List, [], ◌∷◌, ◌++◌, All, Option, Some, None, Result, Ok, Err, option_map, refl, sym, ap, ◌∙◌, subst, true≢false, arith}
-use Rattle.std.specs.Prelude.{OnOk, OnErr}
+use Rattle.std.proofs.Common.{◌≡◌, ℕ, ◌+◌, ◌-◌, ◌<◌, ◌==◌, Bool, true, false, not, cond, List, [], ◌∷◌, ◌++◌, map, All, Option, Some, None, Result, Ok, Err, option_map, refl, sym, ap, ◌∙◌, subst, true≢false, arith}
+use Rattle.std.specs.Prelude.{OnOk}
 use Rattle.std.specs.Result.{is_err}
 use Rattle.std.specs.Option.{unwrap_or}
 use Rattle.std.specs.List.{find}
@@ -9,82 +9,154 @@ use Rattle.std.specs.Map.{lookup}
 use Rattle.std.specs.BTreeMap.{insert_entry, is_at}
 use Rattle.std.specs.Ordering.{nat_cmp}
 use Rattle.std.specs.Cmp.{nat_eq_equiv, unsigned_Decides}
-use Rattle.std.proofs.lemmas.Bool.Decides.{nat_tests}
+use Rattle.std.proofs.lemmas.List.Elements.{All-filter, All-map, All-nil, All-push, All-weaker}
 use Rattle.am_model.specs.Pendings.{Pending, count_of, fresh, has_key, without_token}
 use Rattle.am_pending.specs.declared.key.Key.{Key}
 use Rattle.am_pending.specs.Keys.{asked_by, is_same_key}
-use Rattle.am_pending.specs.KeyLaws.{same_equiv}
-use Rattle.am_pending.specs.Records.{Indexes, IsIndexed, Kept, pending_of, pendings_of, dropped_at, token_at, count_at, token_in, record_in, unheld}
-use Rattle.am_pending.proofs.Lists.{any-none, count-without, found-has, found-otherwise, found-passes}
+use Rattle.am_pending.specs.Once.{AtMostOne}
+use Rattle.am_pending.specs.Records.{Indexes, IsIndexed, Kept, changed_at, count_at, ended, live, live_of, live_token, pending_of, pendings_of, record_in, token_at, token_in, unheld}
+use Rattle.am_pending.proofs.Lists.{any-none, count-without, filter-none, filter-twice, find-kept, found-has, found-otherwise, found-passes}
 use Rattle.am_pending.proofs.Lookups.{lookup-records}
-use Rattle.am_pending.proofs.Changes.{dropped-none, inserted, once, is_token, pendings-dropped, pendings-push}
+use Rattle.am_pending.proofs.Changes.{below-changed, inserted, is_token, keys-changed, live-changed, live-ended, live-push, once, pendings-push}
 use Rattle.am_pending.proofs.Orders.{Rises, rises-filter, rises-insert}
-use Rattle.am_pending.proofs.Indexing.{indexes-same, indexes-push, indexes-without, has-creator, has-other}
-
-pub from_err : {T E P : Type 0} (r : Result T E) → OnErr r P → is_err r ≡ true → P
-from_err (Ok x) h e = absurd (true≢false (sym e))
-from_err (Err y) h e = h
+use Rattle.am_pending.proofs.Indexing.{Leaves, has-creator, indexes-map, indexes-push, indexes-same, indexes-tidied, indexes-without, other_token, the_one}
 
 pub from_ok : {T E P : Type 0} (r : Result T E) → OnOk r P → is_err r ≡ false → P
 from_ok (Ok x) h e = h
 from_ok (Err y) h e = absurd (true≢false e)
 
-empty_indexed : IsIndexed [] [] []
+empty_indexed : IsIndexed [] [] [] 1
 unfolding IsStrictlySortedBy
-empty_indexed = record { rising = tt; indexes = record { found = λ key. refl; apart = λ key. tt; counted = λ uid. refl } }
+empty_indexed = record {
+  rising = tt;
+  below = All-nil (λ (e : ℕ × Kept). e.0 < 1);
+  known = λ key token is. cc;
+  indexes = record { found = λ key. refl; apart = λ key. tt; counted = λ uid. refl };
+}
 
 -- where nothing stands, nothing is indexed
-pub none_indexed : (es : List (ℕ × Kept)) (ts : List (Key × ℕ)) (cs : List (ℕ × ℕ)) → es ≡ [] → ts ≡ [] → cs ≡ [] → IsIndexed es ts cs
+pub none_indexed : (es : List (ℕ × Kept)) (ts : List (Key × ℕ)) (cs : List (ℕ × ℕ)) → es ≡ [] → ts ≡ [] → cs ≡ [] → IsIndexed es ts cs 1
 none_indexed es ts cs e t s =
-    subst (λ (all : List (ℕ × Kept)). IsIndexed all ts cs) (sym e)
-    (subst (λ (all : List (Key × ℕ)). IsIndexed [] all cs) (sym t) (subst (λ (all : List (ℕ × ℕ)). IsIndexed [] [] all) (sym s) empty_indexed))
+    subst (λ (all : List (ℕ × Kept)). IsIndexed all ts cs 1) (sym e)
+    (subst (λ (all : List (Key × ℕ)). IsIndexed [] all cs 1) (sym t) (subst (λ (all : List (ℕ × ℕ)). IsIndexed [] [] all 1) (sym s) empty_indexed))
+
+-- each token stands for one live record at most
+pub once_live : (es : List (ℕ × Kept)) (ts : List (Key × ℕ)) (cs : List (ℕ × ℕ)) (n : ℕ) → IsIndexed es ts cs n → (t : ℕ) → AtMostOne (is_token t) (live_of es)
+once_live es ts cs n h t = once (live es) t (rises-filter _ es h.rising)
+
+-- the record that is found
+pub record_is : (token : ℕ) (es : List (ℕ × Kept)) (kept : Kept) → lookup (is_at (nat_cmp token)) (live es) ≡ Some kept → record_in token (live_of es) ≡ Some (pending_of token kept)
+record_is token es kept h = sym (lookup-records token (live es)) ∙ ap (option_map (pending_of token)) h
+
+-- the same tables, found otherwise
+pub same_tables : (es es' : List (ℕ × Kept)) (ts ts' : List (Key × ℕ)) (cs cs' : List (ℕ × ℕ)) (n : ℕ) → IsIndexed es ts cs n → es' ≡ es → ((key : Key) → token_at ts' key ≡ token_at ts key) → ((uid : ℕ) → count_at cs' uid ≡ count_at cs uid) → IsIndexed es' ts' cs' n
+same_tables es es' ts ts' cs cs' n h e t s =
+    subst (λ (all : List (ℕ × Kept)). IsIndexed all ts' cs' n) (sym e)
+    (record {
+      rising = h.rising;
+      below = h.below;
+      known = λ key token is. h.known key token (sym (t key) ∙ is);
+      indexes = indexes-same (live_of es) (token_at ts) (token_at ts') (count_at cs) (count_at cs') h.indexes t s;
+    })
 
 -- a record that is added stands last
-pub added_view : (es : List (ℕ × Kept)) (key : Key) (token : ℕ) → All (λ (kept : Pending). kept.token < token) (pendings_of es) → pendings_of (insert_entry nat_cmp es token (unheld key)) ≡ pendings_of es ++ fresh token (asked_by key) ∷ []
-added_view es key token above = ap pendings_of (inserted token (unheld key) es above) ∙ pendings-push es token (unheld key)
+pub added_view : (es : List (ℕ × Kept)) (key : Key) (n : ℕ) → All (λ (e : ℕ × Kept). e.0 < n) es → live_of (insert_entry nat_cmp es n (unheld key)) ≡ live_of es ++ fresh n (asked_by key) ∷ []
+added_view es key n below = ap live_of (inserted n (unheld key) es below) ∙ ap pendings_of (live-push es n key) ∙ pendings-push (live es) n (unheld key)
+
+-- the tokens of one more record are below the one after it
+added_below : (es : List (ℕ × Kept)) (key : Key) (n : ℕ) → All (λ (e : ℕ × Kept). e.0 < n) es → All (λ (e : ℕ × Kept). e.0 < n + 1) (insert_entry nat_cmp es n (unheld key))
+added_below es key n below =
+    subst (All (λ (e : ℕ × Kept). e.0 < n + 1)) (sym (inserted n (unheld key) es below))
+    (All-push (λ (e : ℕ × Kept). e.0 < n + 1) es (n, unheld key)
+    (All-weaker (λ (e : ℕ × Kept). e.0 < n) (λ (e : ℕ × Kept). e.0 < n + 1) (λ e l. omega (arith, l)) es below) (omega arith))
+
+added_known : (ts ts' : List (Key × ℕ)) (key : Key) (n : ℕ) → ((other : Key) (t : ℕ) → token_at ts other ≡ Some t → t < n) → ((other : Key) → token_at ts' other ≡ cond (is_same_key other key) (Some n) (token_at ts other)) → (other : Key) (t : ℕ) → token_at ts' other ≡ Some t → t < n + 1
+added_known ts ts' key n known tokens other t is = by (is_same_key other key) (sym (tokens other) ∙ is)
+  where
+    by : (b : Bool) → cond b (Some n) (token_at ts other) ≡ Some t → t < n + 1
+    by true e = let same : n ≡ t = ap (λ o. unwrap_or o n) e in omega (arith, same)
+    by false e = let l = known other t e in omega (arith, l)
 
 -- one more record, of a key that none has
-pub added : (es es' : List (ℕ × Kept)) (ts ts' : List (Key × ℕ)) (cs cs' : List (ℕ × ℕ)) (key : Key) (token : ℕ) → IsIndexed es ts cs → All (λ (kept : Pending). kept.token < token) (pendings_of es) → token_in key (pendings_of es) ≡ None →
-    es' ≡ insert_entry nat_cmp es token (unheld key) → ((other : Key) → token_at ts' other ≡ cond (is_same_key other key) (Some token) (token_at ts other)) → ((uid : ℕ) → count_at cs' uid ≡ count_at cs uid + cond (uid == key.creator) 1 0) → IsIndexed es' ts' cs'
-added es es' ts ts' cs cs' key token h above absent is t s = record {
-  rising = subst Rises (sym is) (rises-insert token (unheld key) es h.rising);
+pub added : (es es' : List (ℕ × Kept)) (ts ts' : List (Key × ℕ)) (cs cs' : List (ℕ × ℕ)) (key : Key) (n : ℕ) → IsIndexed es ts cs n → token_in key (live_of es) ≡ None →
+    es' ≡ insert_entry nat_cmp es n (unheld key) → ((other : Key) → token_at ts' other ≡ cond (is_same_key other key) (Some n) (token_at ts other)) → ((uid : ℕ) → count_at cs' uid ≡ count_at cs uid + cond (uid == key.creator) 1 0) → IsIndexed es' ts' cs' (n + 1)
+added es es' ts ts' cs cs' key n h absent is t s = record {
+  rising = subst Rises (sym is) (rises-insert n (unheld key) es h.rising);
+  below = subst (All (λ (e : ℕ × Kept). e.0 < n + 1)) (sym is) (added_below es key n h.below);
+  known = added_known ts ts' key n h.known t;
   indexes =
-      subst (λ (ps : List Pending). Indexes ps (token_at ts') (count_at cs')) (sym (ap pendings_of is ∙ added_view es key token above))
-      (indexes-same _ _ (token_at ts') _ (count_at cs') (indexes-push (pendings_of es) (token_at ts) (count_at cs) key token h.indexes absent) t s);
+      subst (λ (ps : List Pending). Indexes ps (token_at ts') (count_at cs')) (sym (ap live_of is ∙ added_view es key n h.below))
+      (indexes-same _ _ (token_at ts') _ (count_at cs') (indexes-push (live_of es) (token_at ts) (count_at cs) key n h.indexes h.known absent) t s);
 }
 
-record_is : (token : ℕ) (es : List (ℕ × Kept)) (kept : Kept) → lookup (is_at (nat_cmp token)) es ≡ Some kept → record_in token (pendings_of es) ≡ Some (pending_of token kept)
-record_is token es kept h = sym (lookup-records token es) ∙ ap (option_map (pending_of token)) h
-
--- a record taken away
-pub taken : (es es' : List (ℕ × Kept)) (ts ts' : List (Key × ℕ)) (cs cs' : List (ℕ × ℕ)) (token : ℕ) (kept : Kept) → IsIndexed es ts cs → lookup (is_at (nat_cmp token)) es ≡ Some kept →
-    es' ≡ dropped_at token es → ((other : Key) → token_at ts' other ≡ cond (is_same_key other kept.key) None (token_at ts other)) → ((uid : ℕ) → count_at cs' uid ≡ count_at cs uid - cond (uid == kept.key.creator) 1 0) → IsIndexed es' ts' cs'
-taken es es' ts ts' cs cs' token kept h found is t s = record {
-  rising = subst Rises (sym is) (rises-filter _ es h.rising);
+-- a record that ends
+pub ended_one : (es es' : List (ℕ × Kept)) (ts : List (Key × ℕ)) (cs cs' : List (ℕ × ℕ)) (n token : ℕ) (kept : Kept) → IsIndexed es ts cs n → lookup (is_at (nat_cmp token)) (live es) ≡ Some kept →
+    es' ≡ changed_at token ended es → ((uid : ℕ) → count_at cs' uid ≡ count_at cs uid - cond (uid == kept.key.creator) 1 0) → IsIndexed es' ts cs' n
+ended_one es es' ts cs cs' n token kept h found is s = record {
+  rising = subst Rises (sym is) (subst (IsStrictlySortedBy nat_cmp) (sym (keys-changed token ended es)) h.rising);
+  below = subst (All (λ (e : ℕ × Kept). e.0 < n)) (sym is) (below-changed n token ended es h.below);
+  known = h.known;
   indexes =
-      subst (λ (ps : List Pending). Indexes ps (token_at ts') (count_at cs')) (sym (ap pendings_of is ∙ pendings-dropped token es))
-      (indexes-same _ _ (token_at ts') _ (count_at cs')
-      (indexes-without (pendings_of es) (token_at ts) (count_at cs) token (pending_of token kept) h.indexes (once es token h.rising) (record_is token es kept found))
-      (λ other. t other ∙ ap (λ b. cond b None (token_at ts other)) (same_equiv.symm other kept.key)) s);
+      subst (λ (ps : List Pending). Indexes ps (token_at ts) (count_at cs')) (sym (ap live_of is ∙ live-ended token es))
+      (indexes-same _ _ (token_at ts) _ (count_at cs')
+      (indexes-without (live_of es) (token_at ts) (count_at cs) token (pending_of token kept) h.indexes (once_live es ts cs n h) (record_is token es kept found))
+      (λ other. refl) s);
 }
 
--- where no record stands under the token, none is taken away
-pub none_taken : (token : ℕ) (es : List (ℕ × Kept)) → lookup (is_at (nat_cmp token)) es ≡ None → dropped_at token es ≡ es
-none_taken token es h =
-    dropped-none token es
-    (any-none (is_token token) (pendings_of es) (sym (lookup-records token es) ∙ ap (option_map (pending_of token)) h))
+-- a change of a record that leaves its key and ends none
+pub changed_view : (es es' : List (ℕ × Kept)) (token : ℕ) (f : Kept → Kept) (g : Pending → Pending) → ((kept : Kept) → (f kept).ended ≡ kept.ended) → ((all : List (ℕ × Kept)) → pendings_of (changed_at token f all) ≡ map g (pendings_of all)) → es' ≡ changed_at token f es → live_of es' ≡ map g (live_of es)
+changed_view es es' token f g stays alike is = ap live_of is ∙ ap pendings_of (live-changed token f es stays) ∙ alike (live es)
+
+pub changed_one : (es es' : List (ℕ × Kept)) (ts ts' : List (Key × ℕ)) (cs : List (ℕ × ℕ)) (n token : ℕ) (f : Kept → Kept) (g : Pending → Pending) → IsIndexed es ts cs n → ((kept : Kept) → (f kept).ended ≡ kept.ended) → Leaves g →
+    ((all : List (ℕ × Kept)) → pendings_of (changed_at token f all) ≡ map g (pendings_of all)) → es' ≡ changed_at token f es → ((other : Key) → token_at ts' other ≡ token_at ts other) → IsIndexed es' ts' cs n
+changed_one es es' ts ts' cs n token f g h stays leaves alike is t = record {
+  rising = subst Rises (sym is) (subst (IsStrictlySortedBy nat_cmp) (sym (keys-changed token f es)) h.rising);
+  below = subst (All (λ (e : ℕ × Kept). e.0 < n)) (sym is) (below-changed n token f es h.below);
+  known = λ other old e. h.known other old (sym (t other) ∙ e);
+  indexes =
+      subst (λ (ps : List Pending). Indexes ps (token_at ts') (count_at cs)) (sym (changed_view es es' token f g stays alike is))
+      (indexes-same _ _ (token_at ts') (count_at cs) (count_at cs) (indexes-map g leaves (live_of es) (token_at ts) (count_at cs) h.indexes) t (λ uid. refl));
+}
+
+-- the live ones of those that are live
+pub tidied_view : (es es' : List (ℕ × Kept)) → es' ≡ live es → live_of es' ≡ live_of es
+tidied_view es es' is = ap live_of is ∙ ap pendings_of (filter-twice (λ (e : ℕ × Kept). not e.1.ended) es)
+
+-- only what is live
+pub tidied : (es es' : List (ℕ × Kept)) (ts ts' : List (Key × ℕ)) (cs : List (ℕ × ℕ)) (n : ℕ) → IsIndexed es ts cs n → es' ≡ live es → ((other : Key) → token_at ts' other ≡ live_token (live_of es) (token_at ts other)) → IsIndexed es' ts' cs n
+tidied es es' ts ts' cs n h is t =
+    record {
+      rising = subst Rises (sym is) (rises-filter _ es h.rising);
+      below = subst (All (λ (e : ℕ × Kept). e.0 < n)) (sym is) (All-filter (λ (e : ℕ × Kept). not e.1.ended) (λ (e : ℕ × Kept). e.0 < n) es h.below);
+      known = known;
+      indexes =
+          subst (λ (ps : List Pending). Indexes ps (token_at ts') (count_at cs)) (sym (tidied_view es es' is))
+          (indexes-tidied (live_of es) (token_at ts) (token_at ts') (count_at cs) h.indexes t);
+    }
+  where
+    by : (other : Key) (token : ℕ) (o : Option ℕ) → token_at ts other ≡ o → live_token (live_of es) o ≡ Some token → token < n
+    by other token None e l = cc
+    by other token (Some old) e l =
+        let one = the_one (record_in old (live_of es)) token l in
+        let same : one.0.token ≡ old = (unsigned_Decides one.0.token old).0 (found-passes (is_token old) (live_of es) one.0 one.1) in
+        subst (λ m. m < n) (sym same ∙ one.2) (h.known other old e)
+
+    known : (other : Key) (token : ℕ) → token_at ts' other ≡ Some token → token < n
+    known other token e = by other token (token_at ts other) refl (sym (t other) ∙ e)
 
 -- a creator of a record has one at least
-pub has_one : (es : List (ℕ × Kept)) (ts : List (Key × ℕ)) (cs : List (ℕ × ℕ)) (token : ℕ) (kept : Kept) → IsIndexed es ts cs → lookup (is_at (nat_cmp token)) es ≡ Some kept → 0 < count_at cs kept.key.creator
-has_one es ts cs token kept h found =
-    let e = count-without (is_token token) (λ (p : Pending). p.creator == kept.key.creator) (pendings_of es) (pending_of token kept) (record_is token es kept found) (once es token h.rising) in
+pub has_one : (es : List (ℕ × Kept)) (ts : List (Key × ℕ)) (cs : List (ℕ × ℕ)) (n token : ℕ) (kept : Kept) → IsIndexed es ts cs n → lookup (is_at (nat_cmp token)) (live es) ≡ Some kept → 0 < count_at cs kept.key.creator
+has_one es ts cs n token kept h found =
+    let e = count-without (is_token token) (λ (p : Pending). p.creator == kept.key.creator) (live_of es) (pending_of token kept) (record_is token es kept found) (once_live es ts cs n h token) in
     let a = ap {B = ℕ} (λ b. cond b 1 0) (nat_eq_equiv.refl kept.key.creator) in
     let b = h.indexes.counted kept.key.creator in
     omega (arith, a, b, e)
 
--- a later token is another
-other_token : (old token : ℕ) → old < token → (token == old) ≡ false
-other_token old token l = grind (arith, nat_tests)
+-- where no live record stands under the token, none is taken away
+pub none_taken : (token : ℕ) (es : List (ℕ × Kept)) → lookup (is_at (nat_cmp token)) (live es) ≡ None → without_token (live_of es) token ≡ live_of es
+none_taken token es h =
+    filter-none (is_token token) (live_of es)
+    (any-none (is_token token) (live_of es) (sym (lookup-records token (live es)) ∙ ap (option_map (pending_of token)) h))
 
 -- a record taken away from among some and one more under another token
 without-push : (ps : List Pending) (one : Pending) (old : ℕ) → (one.token == old) ≡ false → without_token (ps ++ one ∷ []) old ≡ without_token ps old ++ one ∷ []
@@ -95,59 +167,72 @@ without-push (p ∷ ps) one old h = by (p.token == old) (without-push ps one old
     by true rest = rest
     by false rest = ap (λ l. p ∷ l) rest
 
+-- the tokens of live records are below the next one
+below_pendings : (es : List (ℕ × Kept)) (n : ℕ) → All (λ (e : ℕ × Kept). e.0 < n) es → All (λ (kept : Pending). kept.token < n) (pendings_of es)
+below_pendings es n h = All-map (λ (kept : Pending). kept.token < n) (λ (e : ℕ × Kept). pending_of e.0 e.1) es h
+
+below_live : (es : List (ℕ × Kept)) (n : ℕ) → All (λ (e : ℕ × Kept). e.0 < n) es → All (λ (kept : Pending). kept.token < n) (live_of es)
+below_live es n h = below_pendings (live es) n (All-filter (λ (e : ℕ × Kept). not e.1.ended) (λ (e : ℕ × Kept). e.0 < n) es h)
+
 -- a record in the place of the one with its key
-module _ (es : List (ℕ × Kept)) (ts : List (Key × ℕ)) (cs : List (ℕ × ℕ)) (key : Key) (old token : ℕ) (h : IsIndexed es ts cs) (above : All (λ (kept : Pending). kept.token < token) (pendings_of es)) (gone : Pending) (is : find (has_key (asked_by key)) (pendings_of es) ≡ Some gone) (its : gone.token ≡ old) where
-  old_below : old < token
-  old_below = subst (λ n. n < token) its (found-has (λ (kept : Pending). kept.token < token) (has_key (asked_by key)) (pendings_of es) gone is above)
+module _ (es : List (ℕ × Kept)) (ts : List (Key × ℕ)) (cs : List (ℕ × ℕ)) (key : Key) (old n : ℕ) (h : IsIndexed es ts cs n) (has : token_in key (live_of es) ≡ Some old) where
+  gone_there : (gone : Pending) × (find (has_key (asked_by key)) (live_of es) ≡ Some gone) × (gone.token ≡ old)
+  gone_there = the_one (find (has_key (asked_by key)) (live_of es)) old has
 
-  pub replaced_view : pendings_of (dropped_at old (insert_entry nat_cmp es token (unheld key))) ≡ without_token (pendings_of es) old ++ fresh token (asked_by key) ∷ []
-  replaced_view =
-      pendings-dropped old (insert_entry nat_cmp es token (unheld key))
-      ∙ ap (λ ps. without_token ps old) (added_view es key token above)
-      ∙ without-push (pendings_of es) (fresh token (asked_by key)) old (other_token old token old_below)
-
-  old_found : record_in old (pendings_of es) ≡ Some gone
-  old_found =
-      found-otherwise (has_key (asked_by key)) (is_token old) (pendings_of es) gone is
-      (ap (λ n. n == old) its ∙ nat_eq_equiv.refl old) (once es old h.rising)
+  gone : Pending
+  gone = gone_there.0
 
   gone_has : has_key (asked_by key) gone ≡ true
-  gone_has = found-passes (has_key (asked_by key)) (pendings_of es) gone is
+  unfolding gone
+  gone_has = found-passes (has_key (asked_by key)) (live_of es) gone_there.0 gone_there.1
 
-  pub replaced_indexes : Indexes (without_token (pendings_of es) old ++ fresh token (asked_by key) ∷ []) (λ other. cond (is_same_key other key) (Some token) (token_at ts other)) (count_at cs)
+  old_found : record_in old (live_of es) ≡ Some gone
+  unfolding gone
+  old_found =
+      found-otherwise (has_key (asked_by key)) (is_token old) (live_of es) gone_there.0 gone_there.1
+      (ap (λ n. n == old) gone_there.2 ∙ nat_eq_equiv.refl old) (once_live es ts cs n h old)
+
+  old_below : old < n
+  old_below = subst (λ m. m < n) gone_there.2 (found-has (λ (kept : Pending). kept.token < n) (has_key (asked_by key)) (live_of es) gone_there.0 gone_there.1 (below_live es n h.below))
+
+  pub replaced_view : live_of (changed_at old ended (insert_entry nat_cmp es n (unheld key))) ≡ without_token (live_of es) old ++ fresh n (asked_by key) ∷ []
+  replaced_view =
+      live-ended old (insert_entry nat_cmp es n (unheld key))
+      ∙ ap (λ ps. without_token ps old) (added_view es key n h.below)
+      ∙ without-push (live_of es) (fresh n (asked_by key)) old (other_token old n old_below)
+
+  replaced_indexes : Indexes (without_token (live_of es) old ++ fresh n (asked_by key) ∷ []) (λ other. cond (is_same_key other key) (Some n) (token_at ts other)) (count_at cs)
   replaced_indexes =
-      let one = indexes-without (pendings_of es) (token_at ts) (count_at cs) old gone h.indexes (once es old h.rising) old_found in
-      let absent : token_in key (without_token (pendings_of es) old) ≡ None = sym (one.found key) ∙ ap (λ b. cond b None (token_at ts key)) gone_has in
-      indexes-same _ _ _ _ _ (indexes-push (without_token (pendings_of es) old) _ _ key token one absent) tokens counts
+      let one = indexes-without (live_of es) (token_at ts) (count_at cs) old gone h.indexes (once_live es ts cs n h) old_found in
+      indexes-same _ _ _ _ _ (indexes-push (without_token (live_of es) old) _ _ key n one h.known absent) (λ other. refl) counts
     where
-      not_gone : (other : Key) → is_same_key other key ≡ false → has_key (asked_by other) gone ≡ false
-      not_gone other e = has-other key other gone gone_has (same_equiv.symm key other ∙ e)
-
-      by : (other : Key) (b : Bool) → is_same_key other key ≡ b → cond b (Some token) (token_at ts other) ≡ cond b (Some token) (cond (has_key (asked_by other) gone) None (token_at ts other))
-      by other true e = refl
-      by other false e = sym (ap (λ b. cond b None (token_at ts other)) (not_gone other e))
-
-      tokens : (other : Key) → cond (is_same_key other key) (Some token) (token_at ts other) ≡ cond (is_same_key other key) (Some token) (cond (has_key (asked_by other) gone) None (token_at ts other))
-      tokens other = by other (is_same_key other key) refl
+      absent : token_in key (without_token (live_of es) old) ≡ None
+      absent =
+          ap (option_map (λ (kept : Pending). kept.token))
+          (find-kept (has_key (asked_by key)) (λ (kept : Pending). not (kept.token == old)) (live_of es) gone_there.0 gone_there.1 (h.indexes.apart key)
+          ∙ ap (λ b. cond (not b) (Some gone_there.0) None) (ap (λ m. m == old) gone_there.2 ∙ nat_eq_equiv.refl old))
 
       counts : (uid : ℕ) → count_at cs uid ≡ count_at cs uid - cond (uid == gone.creator) 1 0 + cond (uid == key.creator) 1 0
       counts uid =
-          let e = count-without (is_token old) (λ (p : Pending). p.creator == uid) (pendings_of es) gone old_found (once es old h.rising) in
+          let e = count-without (is_token old) (λ (p : Pending). p.creator == uid) (live_of es) gone old_found (once_live es ts cs n h old) in
           let a = ap {B = ℕ} (λ b. cond b 1 0) (nat_eq_equiv.symm uid gone.creator) in
           let b = h.indexes.counted uid in
           let d = ap {B = ℕ} (λ creator. cond (uid == creator) 1 0) ((unsigned_Decides gone.creator key.creator).0 (has-creator key gone gone_has)) in
           omega (arith, a, b, d, e)
 
--- the record that has the key
-pub the_one : (o : Option Pending) (old : ℕ) → option_map (λ (kept : Pending). kept.token) o ≡ Some old → (gone : Pending) × (o ≡ Some gone) × (gone.token ≡ old)
-the_one None old h = cc
-the_one (Some gone) old h = (gone, refl, ap (λ n. unwrap_or n gone.token) h)
+  pub replaced : (es' : List (ℕ × Kept)) (ts' : List (Key × ℕ)) → es' ≡ changed_at old ended (insert_entry nat_cmp es n (unheld key)) → ((other : Key) → token_at ts' other ≡ cond (is_same_key other key) (Some n) (token_at ts other)) → IsIndexed es' ts' cs (n + 1)
+  replaced es' ts' is t = record {
+    rising = subst Rises (sym is) (subst (IsStrictlySortedBy nat_cmp) (sym (keys-changed old ended (insert_entry nat_cmp es n (unheld key)))) (rises-insert n (unheld key) es h.rising));
+    below = subst (All (λ (e : ℕ × Kept). e.0 < n + 1)) (sym is) (below-changed (n + 1) old ended (insert_entry nat_cmp es n (unheld key)) (added_below es key n h.below));
+    known = added_known ts ts' key n h.known t;
+    indexes =
+        subst (λ (ps : List Pending). Indexes ps (token_at ts') (count_at cs)) (sym (ap live_of is ∙ replaced_view))
+        (indexes-same _ _ (token_at ts') (count_at cs) (count_at cs) replaced_indexes t (λ uid. refl));
+  }
 
--- how many records the creator of a key has besides the one that has the key
-pub besides : (es : List (ℕ × Kept)) (ts : List (Key × ℕ)) (cs : List (ℕ × ℕ)) (key : Key) (old : ℕ) → IsIndexed es ts cs → token_in key (pendings_of es) ≡ Some old → count_of (without_token (pendings_of es) old) key.creator + 1 ≡ count_of (pendings_of es) key.creator
-besides es ts cs key old h has =
-    let one = the_one (find (has_key (asked_by key)) (pendings_of es)) old has in
-    let found = found-otherwise (has_key (asked_by key)) (is_token old) (pendings_of es) one.0 one.1 (ap (λ n. n == old) one.2 ∙ nat_eq_equiv.refl old) (once es old h.rising) in
-    let e = count-without (is_token old) (λ (p : Pending). p.creator == key.creator) (pendings_of es) one.0 found (once es old h.rising) in
-    let a = ap {B = ℕ} (λ b. cond b 1 0) (has-creator key one.0 (found-passes (has_key (asked_by key)) (pendings_of es) one.0 one.1)) in
-    omega (arith, a, e)
+  -- how many records the creator of the key has besides the one that has it
+  pub besides : count_of (without_token (live_of es) old) key.creator + 1 ≡ count_of (live_of es) key.creator
+  besides =
+      let e = count-without (is_token old) (λ (p : Pending). p.creator == key.creator) (live_of es) gone old_found (once_live es ts cs n h old) in
+      let a = ap {B = ℕ} (λ b. cond b 1 0) (has-creator key gone gone_has) in
+      omega (arith, a, e)

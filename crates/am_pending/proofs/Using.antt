@@ -27,10 +27,6 @@ same x y e = grind (arith, nat_tests)
 pub apart : (x y : ℕ) → (x ≡ y → ⊥) → (x == y) ≡ false
 apart x y e = grind (arith, nat_tests)
 
--- all is the same where the records and the next token are
-pub all_same : (all other : Pendings) → all.records ≡ other.records → all.next ≡ other.next → all ≡ other
-all_same all other r n = λ i. record { records = r i; next = n i }
-
 module _ (all : Pendings) (token uid : ℕ) where
   pub cancel_none : record_in token all.records ≡ None → cancel all token uid ≡ Err NoToken
   unfolding cancel

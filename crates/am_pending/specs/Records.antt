@@ -1,5 +1,6 @@
--- Live records as a table keeps them: by token, with the token of each key and each creator's number of records.
-use Rattle.std.specs.Prelude.{◌≡◌, ℕ, ◌==◌, not, List, [], ◌∷◌, ◌++◌, map, filter, nat_eq, unwrap_or, if◌then◌else◌, Option, option_map}
+-- Records as a table keeps them: by token, with the token of each key and each creator's number of live records. A record that
+-- ended stays for a while, marked as such; it is no record any more for the definitions.
+use Rattle.std.specs.Prelude.{◌≡◌, ℕ, ◌<◌, ◌==◌, Bool, true, false, not, List, [], ◌∷◌, ◌++◌, All, map, filter, nat_eq, unwrap_or, if◌then◌else◌, Option, Some, None, option_map}
 use Rattle.am_types.specs.declared.intent.Named.{Named}
 use Rattle.std.specs.List.{find}
 use Rattle.std.specs.List.Sorted.{IsStrictlySortedBy}
@@ -11,14 +12,19 @@ use Rattle.am_pending.specs.declared.key.Key.{Key}
 use Rattle.am_pending.specs.Keys.{asked_by, is_same_key, keyed}
 use Rattle.am_pending.specs.Once.{AtMostOne}
 
--- a record: its key, with the whole intent, and those besides the creator who hold its token
+-- a record: its key, with the whole intent, those besides the creator who hold its token, and whether it ended
 pub record Kept : Type 0 where
   pub key : Key
   pub holders : List ℕ
+  pub ended : Bool
 
--- a record without holders
+-- a live record without holders
 abbrev pub unheld : Key → Kept
-unheld key = record { key = key; holders = [] }
+unheld key = record { key = key; holders = []; ended = false }
+
+-- the record, ended
+abbrev pub ended : Kept → Kept
+ended kept = record kept { ended = true }
 
 -- a record under its token, as the definitions see it
 abbrev pub pending_of : ℕ → Kept → Pending
@@ -38,6 +44,14 @@ pending_of token kept = record {
 abbrev pub pendings_of : List (ℕ × Kept) → List Pending
 pendings_of entries = map (λ (e : ℕ × Kept). pending_of e.0 e.1) entries
 
+-- the records that haven't ended
+abbrev pub live : List (ℕ × Kept) → List (ℕ × Kept)
+live entries = filter (λ (e : ℕ × Kept). not e.1.ended) entries
+
+-- the records as the definitions see them
+abbrev pub live_of : List (ℕ × Kept) → List Pending
+live_of entries = pendings_of (live entries)
+
 -- the token of the record that has the key, if there is one
 abbrev pub token_in : Key → List Pending → Option ℕ
 token_in key records = option_map (λ (kept : Pending). kept.token) (find (has_key (asked_by key)) records)
@@ -46,13 +60,14 @@ token_in key records = option_map (λ (kept : Pending). kept.token) (find (has_k
 abbrev pub record_in : ℕ → List Pending → Option Pending
 record_in token records = find (λ (kept : Pending). kept.token == token) records
 
+-- a token, if there is a record of it
+abbrev pub live_token : List Pending → Option ℕ → Option ℕ
+live_token records None = None
+live_token records (Some token) = option_map (λ (kept : Pending). kept.token) (record_in token records)
+
 -- the records, with another in the place of the one under the token
 abbrev pub changed_at : ℕ → (Kept → Kept) → List (ℕ × Kept) → List (ℕ × Kept)
 changed_at token change entries = map (λ (e : ℕ × Kept). if e.0 == token then (e.0, change e.1) else e) entries
-
--- the records without the one under the token
-abbrev pub dropped_at : ℕ → List (ℕ × Kept) → List (ℕ × Kept)
-dropped_at token entries = filter (λ (e : ℕ × Kept). not (e.0 == token)) entries
 
 -- the record with other extras
 abbrev pub with_extras : List Named → Kept → Kept
@@ -87,13 +102,16 @@ token_at tokens key = lookup (λ k. is_same_key k key) tokens
 abbrev pub count_at : List (ℕ × ℕ) → ℕ → ℕ
 count_at counts uid = unwrap_or (lookup (nat_eq uid) counts) 0
 
--- each key has the token of its record, no two records have the same key, and each creator has its number of records
+-- each key has the token of its record, beside tokens without a record; no two records have the same key, and each creator has
+-- its number of records
 pub record Indexes (records : List Pending) (tokens : Key → Option ℕ) (counts : ℕ → ℕ) : Type 0 where
-  pub found : (key : Key) → tokens key ≡ token_in key records
+  pub found : (key : Key) → live_token records (tokens key) ≡ token_in key records
   pub apart : (key : Key) → AtMostOne (has_key (asked_by key)) records
   pub counted : (uid : ℕ) → counts uid ≡ count_of records uid
 
--- the records stand in the order of their tokens, and the two other tables are theirs
-pub record IsIndexed (records : List (ℕ × Kept)) (tokens : List (Key × ℕ)) (counts : List (ℕ × ℕ)) : Type 0 where
+-- the records stand in the order of their tokens, the two other tables are theirs, and all tokens are below the next one
+pub record IsIndexed (records : List (ℕ × Kept)) (tokens : List (Key × ℕ)) (counts : List (ℕ × ℕ)) (next : ℕ) : Type 0 where
   pub rising : IsStrictlySortedBy nat_cmp (keys_of records)
-  pub indexes : Indexes (pendings_of records) (token_at tokens) (count_at counts)
+  pub below : All (λ (e : ℕ × Kept). e.0 < next) records
+  pub known : (key : Key) (token : ℕ) → token_at tokens key ≡ Some token → token < next
+  pub indexes : Indexes (live_of records) (token_at tokens) (count_at counts)

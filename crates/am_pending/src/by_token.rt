@@ -1,10 +1,10 @@
-//! Live records, found by their tokens.
+//! Records, found by their tokens.
 ghost use Rattle.std.specs.Prelude.{◌≡◌, [], IfOk, OnOk, OnErr};
 ghost use Rattle.std.specs.Option.{option_copied};
 ghost use Rattle.std.specs.Map.{lookup};
 ghost use Rattle.std.specs.Ordering.{nat_cmp};
 ghost use Rattle.std.specs.BTreeMap.{insert_entry, is_at};
-ghost use Rattle.am_pending.specs.Records.{changed_at, dropped_at, held_by, in_order, let_go_by_all, others_than, unheld, with_extras};
+ghost use Rattle.am_pending.specs.Records.{changed_at, ended, held_by, in_order, let_go_by_all, live, others_than, unheld, with_extras};
 
 use crate::in_turn::InTurn;
 use crate::key::{Key, SharedKey};
@@ -14,8 +14,8 @@ use indexmap::IndexMap;
 use std::alloc::{AllocError, Global};
 use std::marker::Model;
 
-/// Live records under their tokens. They stand side by side, so that taking one out moves one other at most. Contracts see
-/// them in the order of their tokens.
+/// Records under their tokens, with those that ended until these are tidied away together, so that ending one moves none.
+/// Contracts see all of them in the order of their tokens.
 #[derive(Debug, Drop)]
 pub struct ByToken {
     records: IndexMap<u64, Record, InTurn>,
@@ -81,6 +81,16 @@ fn hold(records: &mut IndexMap<u64, Record, InTurn>, token: u64, to: u32) -> Res
     }
 }
 
+/// Ends the record under the token.
+fn end_record(records: &mut IndexMap<u64, Record, InTurn>, token: u64)
+    ensures { in_order records.new.entries ≡ changed_at token ended (in_order records.old.entries) }
+{
+    match records.get_mut(&token) {
+        Some(kept) => kept.end(),
+        None => {}
+    }
+}
+
 impl ByToken {
     /// No record. Takes no memory.
     pub fn new(alloc: Global) -> ByToken
@@ -91,11 +101,17 @@ impl ByToken {
         }
     }
 
-    /// The record under the token.
+    /// The record under the token, unless it ended.
     pub fn get(&self, token: u64) -> Option<&Record>
-        ensures { option_copied result ≡ lookup (is_at (nat_cmp token)) self.now }
+        ensures { option_copied result ≡ lookup (is_at (nat_cmp token)) (live self.now) }
     {
-        self.records.get(&token)
+        let Some(kept) = self.records.get(&token) else {
+            return None;
+        };
+        if kept.has_ended() {
+            return None;
+        }
+        Some(kept)
     }
 
     /// Puts a record without holders under a token, and gives the key back for its other owner. Without memory all stays.
@@ -133,19 +149,20 @@ impl ByToken {
         hold(&mut self.records, token, to)
     }
 
-    /// Takes the record under the token away. Takes no memory.
-    pub fn take(&mut self, token: u64) -> Option<Record>
-        ensures found { result ≡ lookup (is_at (nat_cmp token)) self.old }
-        ensures entries { self.new ≡ dropped_at token self.old }
+    /// Ends the record under the token. Takes no memory.
+    pub fn end(&mut self, token: u64)
+        ensures { self.new ≡ changed_at token ended self.old }
     {
-        self.records.swap_remove(&token)
+        end_record(&mut self.records, token);
     }
 
-    /// Takes the record under the token away and drops it.
-    pub fn discard(&mut self, token: u64)
-        ensures { self.new ≡ dropped_at token self.old }
+    /// Takes the records that ended away. Takes no memory.
+    pub fn tidy(&mut self)
+        ensures { self.new ≡ live self.old }
     {
-        drop(self.take(token));
+        // Its clause says that no two stand under the same token.
+        let _all = self.records.len();
+        self.records.retain(|_, kept| !kept.has_ended());
     }
 
     /// Takes the records of a creator away.

@@ -27,18 +27,14 @@ const MOST_HOLDERS: usize = 64;
 pub struct Pending {
     alloc: Global,
     table: Table,
-    next: u64,
 }
 
 impl Model for Pending {
-    ghost use Rattle.std.specs.Prelude.{◌<◌, All};
-    ghost use Rattle.am_model.specs.Pendings.{Pending as Record, Pendings};
+    ghost use Rattle.am_model.specs.Pendings.{Pendings};
 
     ghost Value = { Pendings };
 
-    ghost view = { λ p. record { records = p.table; next = p.next } };
-
-    ghost invariant = { λ p. All (λ (kept : Record). kept.token < p.next) p.table };
+    ghost view = { λ p. p.table };
 }
 
 /// Exactly one of mutable and immutable is given.
@@ -86,7 +82,6 @@ impl Pending {
         Pending {
             alloc,
             table: Table::new(alloc),
-            next: 1,
         }
     }
 
@@ -115,7 +110,7 @@ impl Pending {
             return Err(PendingFault::Mutability);
         }
         let key = Key::asked(creator, kind, code, intent, flags);
-        match self.table.find(&key) {
+        match self.table.find(&key, steps) {
             None => self.make(key, flags.no_create),
             Some(token) if flags.cancel_current => self.renew(token, key, flags.no_create),
             Some(token) => {
@@ -164,12 +159,10 @@ impl Pending {
             drop(key);
             return Err(PendingFault::Full);
         }
-        let token = self.next;
-        if self.table.add(self.alloc, token, key).is_err() {
-            return Err(PendingFault::NoMemory);
+        match self.table.add(self.alloc, key) {
+            Ok(token) => Ok(Some(token)),
+            Err(_) => Err(PendingFault::NoMemory),
         }
-        self.next += 1;
-        Ok(Some(token))
     }
 
     /// Ends the record that has the key, and makes another in its place unless none is to be made.
@@ -189,12 +182,10 @@ impl Pending {
             drop(key);
             return Err(PendingFault::Full);
         }
-        let token = self.next;
-        if self.table.replace(self.alloc, old, token, key).is_err() {
-            return Err(PendingFault::NoMemory);
+        match self.table.replace(self.alloc, old, key) {
+            Ok(token) => Ok(Some(token)),
+            Err(_) => Err(PendingFault::NoMemory),
         }
-        self.next += 1;
-        Ok(Some(token))
     }
 
     /// Ends a token by its creator. Refusals: `NoToken` where the token isn't live; `NotCreator`. A step is one reading of a
@@ -291,7 +282,7 @@ impl Pending {
     fn no_record(&self, token: u64) -> PendingFault
         ensures { result ≡ no_record self.now token }
     {
-        if token == 0 || token >= self.next {
+        if token == 0 || token >= self.table.next() {
             PendingFault::NoToken
         } else {
             PendingFault::Canceled

@@ -1,17 +1,18 @@
-//! Live records.
+//! Records of pending intents.
 ghost use Rattle.std.specs.Prelude.{◌≡◌, OnOk, OnErr};
-ghost use Rattle.am_pending.specs.Records.{held_by, let_go_by, unheld, with_extras};
+ghost use Rattle.am_pending.specs.Records.{ended, held_by, let_go_by, unheld, with_extras};
 
 use crate::key::{Key, SharedKey};
 use am_types::{List, Named};
 use std::alloc::{AllocError, Global};
 use std::marker::Model;
 
-/// A live record: its key, with the whole intent, and the uids besides the creator's that hold its token.
+/// A record: its key, with the whole intent, the uids besides the creator's that hold its token, and whether it ended.
 #[derive(Debug, Drop)]
 pub struct Record {
     key: SharedKey,
     holders: Vec<u32>,
+    ended: bool,
 }
 
 impl Model for Record {
@@ -19,17 +20,18 @@ impl Model for Record {
 
     ghost Value = { Kept };
 
-    ghost view = { λ r. record { key = r.key; holders = r.holders.items } };
+    ghost view = { λ r. record { key = r.key; holders = r.holders.items; ended = r.ended } };
 }
 
 impl Record {
-    /// A record without holders. Takes no memory.
+    /// A live record without holders. Takes no memory.
     pub fn new(alloc: Global, key: SharedKey) -> Record
         ensures { result ≡ unheld key }
     {
         Record {
             key,
             holders: Vec::new(alloc),
+            ended: false,
         }
     }
 
@@ -52,6 +54,20 @@ impl Record {
         ensures { result.now ≡ self.now.holders }
     {
         self.holders.as_slice()
+    }
+
+    /// Whether the record ended.
+    pub fn has_ended(&self) -> bool
+        ensures { result ≡ self.now.ended }
+    {
+        self.ended
+    }
+
+    /// Ends the record. Takes no memory.
+    pub fn end(&mut self)
+        ensures { self.new ≡ ended self.old }
+    {
+        self.ended = true;
     }
 
     /// Gives the intent other extras, and tells the new key for its other owner. Without memory all stays.

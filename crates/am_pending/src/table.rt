@@ -1,11 +1,11 @@
 //! Live records, found by token and by key.
-ghost use Rattle.std.specs.Prelude.{◌≡◌, ℕ, ◌+◌, ◌-◌, cond, ◌<◌, ◌≤◌, ◌==◌, ◌∷◌, ◌++◌, [], not, map, filter, All, None, Some, OnOk, OnErr, IsSome, nat_eq, option_map};
+ghost use Rattle.std.specs.Prelude.{◌≡◌, ℕ, ◌+◌, ◌-◌, cond, ◌<◌, ◌≤◌, ◌==◌, ◌∷◌, ◌++◌, [], not, map, filter, None, Some, OnOk, OnErr, IfOk, IsSome, nat_eq, option_map};
 ghost use Rattle.std.specs.Option.{option_copied};
 ghost use Rattle.std.specs.Map.{lookup};
 ghost use Rattle.indexmap.specs.IndexMap.{spare};
-ghost use Rattle.am_model.specs.Pendings.{Pending, count_of, fresh, updated, with_holder, without_holder, without_token};
+ghost use Rattle.am_model.specs.Pendings.{Pending, count_of, forget_uid, fresh, no_pendings, updated, with_holder, without_token};
 ghost use Rattle.am_pending.specs.Keys.{asked_by, is_same_key};
-ghost use Rattle.am_pending.specs.Records.{count_at, pending_of, record_in, token_at, token_in};
+ghost use Rattle.am_pending.specs.Records.{count_at, live_of, live_token, pending_of, record_in, token_at, token_in};
 ghost use Rattle.am_pending.specs.declared.key.Key.{Key};
 
 use crate::by_token::ByToken;
@@ -18,25 +18,29 @@ use std::alloc::{AllocError, Global};
 use std::marker::Model;
 use std::sync::ledger::Ledger;
 
-/// Live records. Contracts see them in the order of their tokens.
+/// The live records and the next token. Records that ended, and the tokens of their keys, stay until there are about as many as
+/// live ones, so that ending one reads no other and no key. Contracts don't see them, and see the live ones in the order of their
+/// tokens.
 #[derive(Debug, Drop)]
 pub struct Table {
     records: ByToken,
     tokens: IndexMap<SharedKey, u64>,
-    /// How many records each creator has.
+    /// How many live records each creator has.
     counts: IndexMap<u32, u32>,
+    next: u64,
+    /// How many records ended since these were last tidied away.
+    ended: usize,
 }
 
 impl Model for Table {
-    ghost use Rattle.std.specs.Prelude.{List};
-    ghost use Rattle.am_model.specs.Pendings.{Pending};
-    ghost use Rattle.am_pending.specs.Records.{IsIndexed, pendings_of};
+    ghost use Rattle.am_model.specs.Pendings.{Pendings};
+    ghost use Rattle.am_pending.specs.Records.{IsIndexed, live_of};
 
-    ghost Value = { List Pending };
+    ghost Value = { Pendings };
 
-    ghost view = { λ t. pendings_of t.records };
+    ghost view = { λ t. record { records = live_of t.records; next = t.next } };
 
-    ghost invariant = { λ t. IsIndexed t.records t.tokens.entries t.counts.entries };
+    ghost invariant = { λ t. IsIndexed t.records t.tokens.entries t.counts.entries t.next };
 }
 
 /// Gives the key a token, where there is room for it or it has one.
@@ -59,7 +63,7 @@ fn unset_token(tokens: &mut IndexMap<SharedKey, u64>, key: &Key) -> Option<u64>
     tokens.swap_remove(key)
 }
 
-/// Gives the key a token in the place of the one that it has, and keeps this key for it.
+/// Gives the key a token in the place of the one that it may have, and keeps this key for it.
 fn set_token(tokens: &mut IndexMap<SharedKey, u64>, key: SharedKey, token: u64)
     requires { 1 ≤ spare tokens.old }
     ensures { (other : Key) → token_at tokens.new.entries other ≡ cond (is_same_key other key) (Some token) (token_at tokens.old.entries other) }
@@ -79,11 +83,13 @@ fn keep_key(tokens: &mut IndexMap<SharedKey, u64>, key: SharedKey)
     }
 }
 
-/// Takes the tokens of a creator's keys away.
-fn forget_tokens(tokens: &mut IndexMap<SharedKey, u64>, uid: u32)
-    ensures { (other : Key) → token_at tokens.new.entries other ≡ cond (other.creator == uid) None (token_at tokens.old.entries other) }
+/// Takes the tokens without a live record away.
+fn keep_live(tokens: &mut IndexMap<SharedKey, u64>, records: &ByToken)
+    ensures { (other : Key) → token_at tokens.new.entries other ≡ live_token (live_of records.now) (token_at tokens.old.entries other) }
 {
-    tokens.retain(|key, _| key.creator() != uid);
+    // Its clause says that no key has two tokens.
+    let _all = tokens.len();
+    tokens.retain(|_, token| records.get(*token).is_some());
 }
 
 /// Takes a creator's number of records away.
@@ -141,27 +147,51 @@ fn count_of(counts: &IndexMap<u32, u32>, creator: u32) -> u32
 }
 
 impl Table {
-    /// No record. Takes no memory.
+    /// No record; the next token is 1. Takes no memory.
     pub fn new(alloc: Global) -> Table
-        ensures { result ≡ [] }
+        ensures { result ≡ no_pendings }
     {
         Table {
             records: ByToken::new(alloc),
             tokens: IndexMap::new(alloc),
             counts: IndexMap::new(alloc),
+            next: 1,
+            ended: 0,
         }
     }
 
-    /// The token of the record that has the key.
-    pub fn find(&self, key: &Key) -> Option<u64>
-        ensures { result ≡ token_in key.now self.now }
+    /// The next token.
+    pub fn next(&self) -> u64
+        ensures { result ≡ self.now.next }
     {
-        self.tokens.get(key).copied()
+        self.next
+    }
+
+    /// The token of the record that has the key. A step is one reading of a record.
+    pub fn find<L: Ledger>(&self, key: &Key, steps: &mut Steps<L>) -> Option<u64>
+        ensures found { result ≡ token_in key.now self.now.records }
+        ensures steps { steps.new ≤ steps.old + 1 }
+    {
+        match self.tokens.get(key).copied() {
+            Some(token) => self.if_live(token, steps),
+            None => None,
+        }
+    }
+
+    /// The token, if there is a record of it, which is a step.
+    fn if_live<L: Ledger>(&self, token: u64, steps: &mut Steps<L>) -> Option<u64>
+        ensures live { result ≡ live_token self.now.records (Some token) }
+        ensures steps { steps.new ≡ steps.old + 1 }
+    {
+        match self.read(token, steps) {
+            Some(_) => Some(token),
+            None => None,
+        }
     }
 
     /// The record of the token. A step is one such reading.
     pub fn read<L: Ledger>(&self, token: u64, steps: &mut Steps<L>) -> Option<&Record>
-        ensures found { option_map (pending_of token) (option_copied result) ≡ record_in token self.now }
+        ensures found { option_map (pending_of token) (option_copied result) ≡ record_in token self.now.records }
         ensures steps { steps.new ≡ steps.old + 1 }
     {
         steps.tick();
@@ -170,7 +200,7 @@ impl Table {
 
     /// The creator of the token's record, which is a step.
     pub fn creator<L: Ledger>(&self, token: u64, steps: &mut Steps<L>) -> Option<u32>
-        ensures found { result ≡ option_map (λ (kept : Pending). kept.creator) (record_in token self.now) }
+        ensures found { result ≡ option_map (λ (kept : Pending). kept.creator) (record_in token self.now.records) }
         ensures steps { steps.new ≡ steps.old + 1 }
     {
         match self.read(token, steps) {
@@ -181,25 +211,58 @@ impl Table {
 
     /// How many records the creator has.
     pub fn live(&self, creator: u32) -> u32
-        ensures { result ≡ count_of self.now creator }
+        ensures { result ≡ count_of self.now.records creator }
     {
         count_of(&self.counts, creator)
     }
 
     /// How many records the key's creator has besides the one that has the key.
     pub fn live_besides(&self, old: u64, key: &Key) -> u32
-        requires { token_in key.now self.now ≡ Some old }
-        ensures { result ≡ count_of (without_token self.now old) key.now.creator }
+        requires { token_in key.now self.now.records ≡ Some old }
+        ensures { result ≡ count_of (without_token self.now.records old) key.now.creator }
     {
         count_of(&self.counts, key.creator) - 1
     }
 
-    /// Adds a record without holders under a token above all others. Without memory all stays.
-    pub fn add(&mut self, alloc: Global, token: u64, key: Key) -> Result<(), AllocError>
-        requires above { All (λ (kept : Pending). kept.token < token) self.old }
-        requires absent { token_in key self.old ≡ None }
-        requires few { count_of self.old key.creator < 1024 }
-        ensures ok { OnOk result (self.new ≡ self.old ++ fresh token (asked_by key) ∷ []) }
+    /// Takes what ended away. Takes no memory.
+    fn tidy(&mut self)
+        ensures { self.new ≡ self.old }
+    {
+        keep_live(&mut self.tokens, &self.records);
+        self.records.tidy();
+        self.ended = 0;
+    }
+
+    /// Takes what ended away, if that is about as much as what is live: over all calls a few looks for each record that ends.
+    /// Takes no memory.
+    fn tidy_at_times(&mut self)
+        ensures { self.new ≡ self.old }
+    {
+        if self.ended > 32 + self.tokens.len() / 2 {
+            self.tidy();
+        }
+    }
+
+    /// Adds a record without holders under the next token, which it tells. Without memory all stays.
+    pub fn add(&mut self, alloc: Global, key: Key) -> Result<u64, AllocError>
+        requires next { self.old.next ≤ 1125899906842624 }
+        requires absent { token_in key self.old.records ≡ None }
+        requires few { count_of self.old.records key.creator < 1024 }
+        ensures token { IfOk result (λ token. token ≡ self.old.next) }
+        ensures ok { OnOk result (self.new ≡ record { records = self.old.records ++ fresh self.old.next (asked_by key) ∷ []; next = self.old.next + 1 }) }
+        ensures err { OnErr result (self.new ≡ self.old) }
+    {
+        self.tidy_at_times();
+        self.put(alloc, key)
+    }
+
+    /// Adds a record without holders under the next token, which it tells. Without memory all stays.
+    fn put(&mut self, alloc: Global, key: Key) -> Result<u64, AllocError>
+        requires next { self.old.next ≤ 1125899906842624 }
+        requires absent { token_in key self.old.records ≡ None }
+        requires few { count_of self.old.records key.creator < 1024 }
+        ensures token { IfOk result (λ token. token ≡ self.old.next) }
+        ensures ok { OnOk result (self.new ≡ record { records = self.old.records ++ fresh self.old.next (asked_by key) ∷ []; next = self.old.next + 1 }) }
         ensures err { OnErr result (self.new ≡ self.old) }
     {
         let creator = key.creator;
@@ -207,51 +270,64 @@ impl Table {
             drop(key);
             return Err(AllocError);
         }
+        let token = self.next;
         match self.records.put(alloc, token, key) {
             Ok(key) => {
-                put_token(&mut self.tokens, key, token);
+                set_token(&mut self.tokens, key, token);
                 raise(&mut self.counts, creator);
-                Ok(())
+                self.next += 1;
+                Ok(token)
             }
             Err(error) => Err(error),
         }
     }
 
-    /// Adds a record in the place of the one with its key. Without memory all stays.
-    pub fn replace(
-        &mut self,
-        alloc: Global,
-        old: u64,
-        token: u64,
-        key: Key,
-    ) -> Result<(), AllocError>
-        requires above { All (λ (kept : Pending). kept.token < token) self.old }
-        requires found { token_in key self.old ≡ Some old }
-        ensures ok { OnOk result (self.new ≡ without_token self.old old ++ fresh token (asked_by key) ∷ []) }
+    /// Adds a record under the next token, which it tells, in the place of the one with its key. Without memory all stays.
+    pub fn replace(&mut self, alloc: Global, old: u64, key: Key) -> Result<u64, AllocError>
+        requires next { self.old.next ≤ 1125899906842624 }
+        requires found { token_in key self.old.records ≡ Some old }
+        ensures token { IfOk result (λ token. token ≡ self.old.next) }
+        ensures ok { OnOk result (self.new ≡ record { records = without_token self.old.records old ++ fresh self.old.next (asked_by key) ∷ []; next = self.old.next + 1 }) }
+        ensures err { OnErr result (self.new ≡ self.old) }
+    {
+        self.tidy_at_times();
+        self.put_for(alloc, old, key)
+    }
+
+    /// Adds a record under the next token, which it tells, in the place of the one with its key. Without memory all stays.
+    fn put_for(&mut self, alloc: Global, old: u64, key: Key) -> Result<u64, AllocError>
+        requires next { self.old.next ≤ 1125899906842624 }
+        requires found { token_in key self.old.records ≡ Some old }
+        ensures token { IfOk result (λ token. token ≡ self.old.next) }
+        ensures ok { OnOk result (self.new ≡ record { records = without_token self.old.records old ++ fresh self.old.next (asked_by key) ∷ []; next = self.old.next + 1 }) }
         ensures err { OnErr result (self.new ≡ self.old) }
     {
         if self.tokens.reserve(1).is_err() {
             drop(key);
             return Err(AllocError);
         }
+        let token = self.next;
         match self.records.put(alloc, token, key) {
             Ok(key) => {
-                self.records.discard(old);
+                self.records.end(old);
+                self.ended = self.ended.saturating_add(1);
                 set_token(&mut self.tokens, key, token);
-                Ok(())
+                self.next += 1;
+                Ok(token)
             }
             Err(error) => Err(error),
         }
     }
 
-    /// Takes the record away. Takes no memory.
+    /// Ends the record. Takes no memory.
     pub fn remove(&mut self, token: u64)
-        ensures { self.new ≡ without_token self.old token }
+        ensures { self.new ≡ record self.old { records = without_token self.old.records token } }
     {
-        if let Some(kept) = self.records.take(token) {
-            unset_token(&mut self.tokens, kept.key());
-            lower(&mut self.counts, kept.creator());
-            drop(kept);
+        if let Some(kept) = self.records.get(token) {
+            let creator = kept.creator();
+            self.records.end(token);
+            self.ended = self.ended.saturating_add(1);
+            lower(&mut self.counts, creator);
         }
     }
 
@@ -263,7 +339,7 @@ impl Table {
         extras: List<Named>,
         steps: &mut Steps<L>,
     ) -> Result<(), AllocError>
-        ensures ok { OnOk result (self.new ≡ map (updated token extras) self.old) }
+        ensures ok { OnOk result (self.new ≡ record self.old { records = map (updated token extras) self.old.records }) }
         ensures err { OnErr result (self.new ≡ self.old) }
         ensures steps { steps.new ≡ steps.old + 1 }
     {
@@ -284,7 +360,7 @@ impl Table {
 
     /// Adds a holder to the record. Without memory all stays.
     pub fn add_holder(&mut self, token: u64, to: u32) -> Result<(), AllocError>
-        ensures ok { OnOk result (self.new ≡ map (with_holder token to) self.old) }
+        ensures ok { OnOk result (self.new ≡ record self.old { records = map (with_holder token to) self.old.records }) }
         ensures err { OnErr result (self.new ≡ self.old) }
     {
         self.records.add_holder(token, to)
@@ -292,11 +368,11 @@ impl Table {
 
     /// Takes the records of a creator away, and that uid as a holder of the others. Takes no memory.
     pub fn forget(&mut self, uid: u32)
-        ensures { self.new ≡ map (without_holder uid) (filter (λ (kept : Pending). not (kept.creator == uid)) self.old) }
+        ensures { self.new ≡ forget_uid self.old uid }
     {
         self.records.forget_creator(uid);
         self.records.forget_holder(uid);
-        forget_tokens(&mut self.tokens, uid);
         forget_count(&mut self.counts, uid);
+        self.tidy();
     }
 }

@@ -323,3 +323,43 @@ fn limits(rt: HostRuntime) -> Result<(), Fail> {
     assert_eq!(rt; held, 64);
     Ok(())
 }
+
+/// Steps after 2,000 records that ended.
+const AFTER_THEM: &str =
+    "use 7 10000 -;get 10000 nm 7 x.P -;get 10000 m 7 x.P a=1;use 8 10000 -;use 2001 10000 -";
+
+/// How many of 2,000 records are made and ended in turn, and what is then said to the steps after them.
+fn ended_in_turn<L: Ledger>(alloc: Global, blank: Blank) -> Result<(u32, String), AllocError>
+    requires name { blank.name ≡ L.name }
+    requires parts { blank.parts ≡ L.parts }
+    requires some { 0 < blank.parts }
+{
+    let mut steps = Steps::<L>::new(blank);
+    let mut pending = Pending::new(alloc);
+    let mut ended = 0u32;
+    for code in 0..2000u32 {
+        let made = is_made(alloc, &mut pending, code, &mut steps)?;
+        let token = u64::from(code) + 1;
+        if made && pending.cancel(token, 10000, &mut steps).is_ok() {
+            ended += 1;
+        }
+    }
+    let mut all = String::new(alloc);
+    for i in 0..5 {
+        let line = AFTER_THEM.split(';').nth(i).unwrap_or("");
+        all.push_str(said(alloc, &mut pending, line, &mut steps)?.as_str())?;
+        all.push_str(";")?;
+    }
+    Ok((ended, all))
+}
+
+#[test]
+fn records_end(rt: HostRuntime) -> Result<(), Fail> {
+    let (made, all) = ended_in_turn::<Brand>(rt.alloc(), Blank::new(1))?;
+    assert_eq!(rt; made, 2000);
+    assert!(rt;
+        all.as_str() == "canceled;none;2001;canceled;10000 a=1;",
+        "it says {all}"
+    );
+    Ok(())
+}

@@ -64,6 +64,11 @@ o:0:p f:1:p:1 f:2:p:2 c:2:s:2:7 f:2:s:2 => 1 + y o +
 o:0:p c:1:p:1:7 n:2:s i:s => 1 + 2 2.1f7,3.2n
 o:0:pq o:0:q f:1:p:1 i:q => 1 2 + 2.1o1
 n:5:p n:0:q d:60000 e:60000 i:p i:q => 1 2 due 1.1n -
+o:0:pqr f:1:p:0 b:2:q:0:7 i:r i:s => 1 + + - 3.1f7
+u:0:pqr f:1:p:0 b:2:q:0:7 i:r f:3:r:0 i:s => 1 + + 3.1o7 + 4.1f7
+O:0:p f:1:p:9999 i:s => 1 + 2.1f1
+O:0:p e:10000 i:p f:1:p:20000 i:s => 1 - d 2.1f1
+o:0:p w:0:p i:p f:1:p:0 i:s i:p O:0:p i:p => 1 2 1.1o1 + 2.1f1 3.2o1 3 3.2o1,4.3o1
 ";
 
 /// The moments that the queues take.
@@ -370,6 +375,18 @@ fn a_sender_has_64_live_broadcasts(rt: HostRuntime) -> Result<(), Fail> {
         let again = call(alloc, &mut queues, word)?;
         assert!(rt; again.as_str() == "65", "{word} shows {again}");
     }
+    Ok(())
+}
+
+#[test]
+fn a_sender_sends_again_once_its_broadcasts_are_late(rt: HostRuntime) -> Result<(), Fail> {
+    let alloc = rt.alloc();
+    let mut queues = Queues::new(alloc);
+    let last = last_sent(alloc, &mut queues, "n:0:p", 64)?;
+    assert!(rt; last.as_str() == "64", "the last shows {last}");
+    let history = "e:59999 n:59999:p e:60000 n:60000:p";
+    let shown = seen(alloc, &mut queues, history, false)?;
+    assert!(rt; shown.as_str() == "full 65", "{history} shows {shown}");
     Ok(())
 }
 

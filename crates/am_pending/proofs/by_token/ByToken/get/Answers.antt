@@ -1,9 +1,29 @@
-use Rattle.std.proofs.Common.{◌∙◌, ap, sym}
-use Rattle.am_pending.proofs.Orders.{under, under-eq, under-order}
+use Rattle.std.proofs.Common.{Bool, ap, cond, not, sym, ◌∙◌, Some, None}
+use Rattle.std.proofs.lemmas.Map.Entries.{option_filter}
+use Rattle.std.specs.Option.{option_copied}
+use Rattle.am_pending.specs.Records.{Kept}
+use Rattle.am_pending.proofs.Orders.{live-under}
 use Rattle.am_pending.proofs.by_token.ByToken.get.Goals as goal
 
+stays : Kept → Bool
+stays kept = not kept.ended
+
+pub returns-in_default : goal.returns-in_default
+unfolding stays
+returns-in_default c =
+    sym (live-under c.args.token c.self.inside.records.entries c.args.self.now c.self.view_is
+    ∙ ap (option_filter stays) (sym c.get.ensures.value ∙ ap option_copied c.in_default.is))
+
+pub returns-then-has_ended : goal.returns-then-has_ended
+unfolding stays
+returns-then-has_ended c =
+    sym (live-under c.args.token c.self.inside.records.entries c.args.self.now c.self.view_is
+    ∙ ap (option_filter stays) (sym c.get.ensures.value ∙ ap option_copied c.in-Some.is)
+    ∙ ap (λ b. cond (not b) (Some c.in-Some.kept.now) None) (sym c.has_ended.ensures ∙ c.if-has_ended.true))
+
 pub returns : goal.returns
+unfolding stays
 returns c =
-    c.get.ensures.value
-    ∙ sym (under-order c.args.token c.self.inside.records.entries ∙ under-eq c.args.token c.self.inside.records.entries)
-    ∙ ap (under c.args.token) c.self.view_is
+    sym (live-under c.args.token c.self.inside.records.entries c.args.self.now c.self.view_is
+    ∙ ap (option_filter stays) (sym c.get.ensures.value ∙ ap option_copied c.in-Some.is)
+    ∙ ap (λ b. cond (not b) (Some c.in-Some.kept.now) None) (sym c.has_ended.ensures ∙ c.if-has_ended.false))
