@@ -13,7 +13,7 @@ use Rattle.am_types.specs.declared.intent.Named.{Named}
 use Rattle.am_model.specs.Pendings.{Pending, updated, with_holder, without_holder, without_token}
 use Rattle.am_pending.specs.declared.key.Key.{Key}
 use Rattle.am_pending.specs.Once.{AtMostOne}
-use Rattle.am_pending.specs.Records.{Kept, pending_of, pendings_of, live, live_of, changed_at, ended, with_extras, held_by, let_go_by, let_go_by_all, others_than, unheld}
+use Rattle.am_pending.specs.Records.{Kept, pending_of, pendings_of, live, live_of, changed_at, as_canceled, with_extras, held_by, let_go_by, let_go_by_all, others_than, unheld}
 use Rattle.am_pending.proofs.Lookups.{at-token}
 
 -- the record has that token
@@ -78,15 +78,15 @@ below-changed n t f es h =
     by e false l = l
 
 -- a record that ends is no live one any more
-pub live-ended : (t : ℕ) (es : List (ℕ × Kept)) → live_of (changed_at t ended es) ≡ without_token (live_of es) t
-live-ended t [] = refl
-live-ended t (e ∷ es) = changed_first (e.0 == t) ∙ rest e.1.ended (e.0 == t) (live-ended t es) ∙ sym (without_first e.1.ended)
+pub live-canceled : (t : ℕ) (es : List (ℕ × Kept)) → live_of (changed_at t as_canceled es) ≡ without_token (live_of es) t
+live-canceled t [] = refl
+live-canceled t (e ∷ es) = changed_first (e.0 == t) ∙ rest e.1.canceled (e.0 == t) (live-canceled t es) ∙ sym (without_first e.1.canceled)
   where
     here : Pending
     here = pending_of e.0 e.1
 
     others : List (ℕ × Kept)
-    others = live (changed_at t ended es)
+    others = live (changed_at t as_canceled es)
 
     left : List Pending
     left = without_token (live_of es) t
@@ -99,9 +99,9 @@ live-ended t (e ∷ es) = changed_first (e.0 == t) ∙ rest e.1.ended (e.0 == t)
     same_first true = refl
     same_first false = refl
 
-    changed_first : (b : Bool) → pendings_of (cond (not (cond b (e.0, ended e.1) e).1.ended) (cond b (e.0, ended e.1) e ∷ others) others) ≡ cond (not e.1.ended) (cond (not b) (here ∷ pendings_of others) (pendings_of others)) (pendings_of others)
-    changed_first true = alike e.1.ended (pendings_of others)
-    changed_first false = same_first e.1.ended
+    changed_first : (b : Bool) → pendings_of (cond (not (cond b (e.0, as_canceled e.1) e).1.canceled) (cond b (e.0, as_canceled e.1) e ∷ others) others) ≡ cond (not e.1.canceled) (cond (not b) (here ∷ pendings_of others) (pendings_of others)) (pendings_of others)
+    changed_first true = alike e.1.canceled (pendings_of others)
+    changed_first false = same_first e.1.canceled
 
     rest : (c b : Bool) → pendings_of others ≡ left → cond (not c) (cond (not b) (here ∷ pendings_of others) (pendings_of others)) (pendings_of others) ≡ cond (not c) (cond (not b) (here ∷ left) left) left
     rest c b is = λ i. cond (not c) (cond (not b) (here ∷ is i) (is i)) (is i)
@@ -111,18 +111,18 @@ live-ended t (e ∷ es) = changed_first (e.0 == t) ∙ rest e.1.ended (e.0 == t)
     without_first false = refl
 
 -- a change that ends none changes the same ones of those that are live
-pub live-changed : (t : ℕ) (f : Kept → Kept) (es : List (ℕ × Kept)) → ((kept : Kept) → (f kept).ended ≡ kept.ended) → live (changed_at t f es) ≡ changed_at t f (live es)
+pub live-changed : (t : ℕ) (f : Kept → Kept) (es : List (ℕ × Kept)) → ((kept : Kept) → (f kept).canceled ≡ kept.canceled) → live (changed_at t f es) ≡ changed_at t f (live es)
 live-changed t f [] h = refl
 live-changed t f (e ∷ es) h =
-    ap (λ b. cond (not b) (one (e.0 == t) ∷ live (changed_at t f es)) (live (changed_at t f es))) (same_ended (e.0 == t))
-    ∙ by e.1.ended (live-changed t f es h)
+    ap (λ b. cond (not b) (one (e.0 == t) ∷ live (changed_at t f es)) (live (changed_at t f es))) (same_mark (e.0 == t))
+    ∙ by e.1.canceled (live-changed t f es h)
   where
     one : Bool → ℕ × Kept
     one b = cond b (e.0, f e.1) e
 
-    same_ended : (b : Bool) → (one b).1.ended ≡ e.1.ended
-    same_ended true = h e.1
-    same_ended false = refl
+    same_mark : (b : Bool) → (one b).1.canceled ≡ e.1.canceled
+    same_mark true = h e.1
+    same_mark false = refl
 
     by : (c : Bool) → live (changed_at t f es) ≡ changed_at t f (live es) → cond (not c) (one (e.0 == t) ∷ live (changed_at t f es)) (live (changed_at t f es)) ≡ changed_at t f (cond (not c) (e ∷ live es) (live es))
     by true rest = rest
@@ -130,7 +130,7 @@ live-changed t f (e ∷ es) h =
 
 pub live-push : (es : List (ℕ × Kept)) (t : ℕ) (key : Key) → live (es ++ (t, unheld key) ∷ []) ≡ live es ++ (t, unheld key) ∷ []
 live-push [] t key = refl
-live-push (e ∷ es) t key = by e.1.ended (live-push es t key)
+live-push (e ∷ es) t key = by e.1.canceled (live-push es t key)
   where
     by : (c : Bool) → live (es ++ (t, unheld key) ∷ []) ≡ live es ++ (t, unheld key) ∷ [] → cond (not c) (e ∷ live (es ++ (t, unheld key) ∷ [])) (live (es ++ (t, unheld key) ∷ [])) ≡ cond (not c) (e ∷ live es) (live es) ++ (t, unheld key) ∷ []
     by true rest = rest
@@ -138,7 +138,7 @@ live-push (e ∷ es) t key = by e.1.ended (live-push es t key)
 
 pub live-let_go : (uid : ℕ) (es : List (ℕ × Kept)) → live (let_go_by_all uid es) ≡ let_go_by_all uid (live es)
 live-let_go uid [] = refl
-live-let_go uid (e ∷ es) = by e.1.ended (live-let_go uid es)
+live-let_go uid (e ∷ es) = by e.1.canceled (live-let_go uid es)
   where
     by : (c : Bool) → live (let_go_by_all uid es) ≡ let_go_by_all uid (live es) → cond (not c) ((e.0, let_go_by uid e.1) ∷ live (let_go_by_all uid es)) (live (let_go_by_all uid es)) ≡ let_go_by_all uid (cond (not c) (e ∷ live es) (live es))
     by true rest = rest

@@ -6,3 +6,4 @@ pub mod Indexing
 pub mod Tables
 pub mod Asking
 pub mod Using
+pub mod Calls

@@ -205,6 +205,33 @@ under-changed t k f (e ∷ es) = by (e.0 == k) refl (is_eq (nat_cmp t e.0)) refl
         ap (λ d. cond d (Some e.1) (under t (changed_at k f es))) q ∙ sym (ap (λ d. cond d (Some (f e.1)) (Some e.1)) n)
     by false p false q rest = ap (λ d. cond d (Some e.1) (under t (changed_at k f es))) q ∙ rest
 
+rises-changed : (k : ℕ) (f : Kept → Kept) (es : List (ℕ × Kept)) → Rises es → Rises (changed_at k f es)
+rises-changed k f es s = subst (IsStrictlySortedBy nat_cmp) (sym (keys-changed k f es)) s
+
+-- what stands under a token, put in its own place
+pub put-same : (k : ℕ) (v : Kept) (es : List (ℕ × Kept)) → Rises es → under k es ≡ Some v → changed_at k (λ old. v) es ≡ es
+put-same k v es s is =
+    same (changed_at k (λ old. v) es) es (rises-changed k (λ old. v) es s) s
+    (λ t. under-changed t k (λ old. v) es ∙ by t (t == k) refl)
+  where
+    by : (t : ℕ) (b : Bool) → (t == k) ≡ b → cond b (option_map (λ (old : Kept). v) (under t es)) (under t es) ≡ under t es
+    by t true e =
+        let found : under t es ≡ Some v = ap (λ n. under n es) ((unsigned_Decides t k).0 e) ∙ is in
+        ap (option_map (λ (old : Kept). v)) found ∙ sym found
+    by t false e = refl
+
+-- what stands under a token, put there changed
+pub put-changed : (k : ℕ) (f : Kept → Kept) (v : Kept) (es : List (ℕ × Kept)) → Rises es → under k es ≡ Some v → changed_at k (λ old. f v) es ≡ changed_at k f es
+put-changed k f v es s is =
+    same (changed_at k (λ old. f v) es) (changed_at k f es) (rises-changed k (λ old. f v) es s) (rises-changed k f es s)
+    (λ t. under-changed t k (λ old. f v) es ∙ by t (t == k) refl ∙ sym (under-changed t k f es))
+  where
+    by : (t : ℕ) (b : Bool) → (t == k) ≡ b → cond b (option_map (λ (old : Kept). f v) (under t es)) (under t es) ≡ cond b (option_map f (under t es)) (under t es)
+    by t true e =
+        let found : under t es ≡ Some v = ap (λ n. under n es) ((unsigned_Decides t k).0 e) ∙ is in
+        ap (option_map (λ (old : Kept). f v)) found ∙ sym (ap (option_map f) found)
+    by t false e = refl
+
 -- the record under a token changed
 pub change-order : (k : ℕ) (f : Kept → Kept) (v : Kept) (es es' : List (ℕ × Kept)) → lookup (nat_eq k) es ≡ Some v → ((t : ℕ) → lookup (nat_eq t) es' ≡ cond (nat_eq k t) (Some (f v)) (lookup (nat_eq t) es)) → in_order es' ≡ changed_at k f (in_order es)
 change-order k f v es es' is h =
@@ -235,24 +262,24 @@ others-order uid es d =
     stays : Kept → Bool
     stays kept = not (kept.key.creator == uid)
 
--- what stands under a token among those that haven't ended
-under-live : (t : ℕ) (es : List (ℕ × Kept)) → Rises es → under t (live es) ≡ option_filter (λ (kept : Kept). not kept.ended) (under t es)
-under-live t es s = lookup-filter-values (eq_by_cmp_equiv nat_cmp_total) (λ (kept : Kept). not kept.ended) t es (IsDistinct-from_sorted nat_cmp (keys_of es) s)
+-- what stands under a token among those that aren't canceled
+pub under-live : (t : ℕ) (es : List (ℕ × Kept)) → Rises es → under t (live es) ≡ option_filter (λ (kept : Kept). not kept.canceled) (under t es)
+under-live t es s = lookup-filter-values (eq_by_cmp_equiv nat_cmp_total) (λ (kept : Kept). not kept.canceled) t es (IsDistinct-from_sorted nat_cmp (keys_of es) s)
 
--- what stands under a token among those in order that haven't ended
-pub live-under : (t : ℕ) (es now : List (ℕ × Kept)) → in_order es ≡ now → under t (live now) ≡ option_filter (λ (kept : Kept). not kept.ended) (lookup (nat_eq t) es)
+-- what stands under a token among those in order that aren't canceled
+pub live-under : (t : ℕ) (es now : List (ℕ × Kept)) → in_order es ≡ now → under t (live now) ≡ option_filter (λ (kept : Kept). not kept.canceled) (lookup (nat_eq t) es)
 live-under t es now is =
     ap (λ l. under t (live l)) (sym is)
     ∙ under-live t (in_order es) (rises es)
-    ∙ ap (option_filter (λ (kept : Kept). not kept.ended)) (under-order t es ∙ under-eq t es)
+    ∙ ap (option_filter (λ (kept : Kept). not kept.canceled)) (under-order t es ∙ under-eq t es)
 
--- those in order that haven't ended
+-- those in order that aren't canceled
 pub live-order : (es : List (ℕ × Kept)) → IsDistinct nat_eq (keys_of es) → in_order (live es) ≡ live (in_order es)
 live-order es d =
     same (in_order (live es)) (live (in_order es)) (rises (live es)) (rises-filter _ (in_order es) (rises es))
     (λ t. under-order t (live es) ∙ under-eq t (live es)
-    ∙ lookup-filter-values nat_eq_equiv (λ (kept : Kept). not kept.ended) t es d
-    ∙ ap (option_filter (λ (kept : Kept). not kept.ended)) (sym (under-order t es ∙ under-eq t es))
+    ∙ lookup-filter-values nat_eq_equiv (λ (kept : Kept). not kept.canceled) t es d
+    ∙ ap (option_filter (λ (kept : Kept). not kept.canceled)) (sym (under-order t es ∙ under-eq t es))
     ∙ sym (under-live t (in_order es) (rises es)))
 
 under-map : (t : ℕ) (f : Kept → Kept) (es : List (ℕ × Kept)) → under t (map (λ (e : ℕ × Kept). (e.0, f e.1)) es) ≡ option_map f (under t es)

@@ -14,10 +14,10 @@ use Rattle.am_model.specs.Pendings.{Pending, count_of, fresh, has_key, without_t
 use Rattle.am_pending.specs.declared.key.Key.{Key}
 use Rattle.am_pending.specs.Keys.{asked_by, is_same_key}
 use Rattle.am_pending.specs.Once.{AtMostOne}
-use Rattle.am_pending.specs.Records.{Indexes, IsIndexed, Kept, changed_at, count_at, ended, live, live_of, live_token, pending_of, pendings_of, record_in, token_at, token_in, unheld}
-use Rattle.am_pending.proofs.Lists.{any-none, count-without, filter-none, filter-twice, find-kept, found-has, found-otherwise, found-passes}
+use Rattle.am_pending.specs.Records.{Indexes, IsIndexed, Kept, changed_at, count_at, as_canceled, live, live_of, live_token, pending_of, pendings_of, record_in, token_at, token_in, unheld}
+use Rattle.am_pending.proofs.Lists.{count-without, filter-twice, find-kept, found-has, found-otherwise, found-passes}
 use Rattle.am_pending.proofs.Lookups.{lookup-records}
-use Rattle.am_pending.proofs.Changes.{below-changed, inserted, is_token, keys-changed, live-changed, live-ended, live-push, once, pendings-push}
+use Rattle.am_pending.proofs.Changes.{below-changed, inserted, is_token, keys-changed, live-changed, live-canceled, live-push, once, pendings-push}
 use Rattle.am_pending.proofs.Orders.{Rises, rises-filter, rises-insert}
 use Rattle.am_pending.proofs.Indexing.{Leaves, has-creator, indexes-map, indexes-push, indexes-same, indexes-tidied, indexes-without, other_token, the_one}
 
@@ -90,24 +90,24 @@ added es es' ts ts' cs cs' key n h absent is t s = record {
 }
 
 -- a record that ends
-pub ended_one : (es es' : List (ℕ × Kept)) (ts : List (Key × ℕ)) (cs cs' : List (ℕ × ℕ)) (n token : ℕ) (kept : Kept) → IsIndexed es ts cs n → lookup (is_at (nat_cmp token)) (live es) ≡ Some kept →
-    es' ≡ changed_at token ended es → ((uid : ℕ) → count_at cs' uid ≡ count_at cs uid - cond (uid == kept.key.creator) 1 0) → IsIndexed es' ts cs' n
-ended_one es es' ts cs cs' n token kept h found is s = record {
-  rising = subst Rises (sym is) (subst (IsStrictlySortedBy nat_cmp) (sym (keys-changed token ended es)) h.rising);
-  below = subst (All (λ (e : ℕ × Kept). e.0 < n)) (sym is) (below-changed n token ended es h.below);
+pub canceled_one : (es es' : List (ℕ × Kept)) (ts : List (Key × ℕ)) (cs cs' : List (ℕ × ℕ)) (n token : ℕ) (kept : Kept) → IsIndexed es ts cs n → lookup (is_at (nat_cmp token)) (live es) ≡ Some kept →
+    es' ≡ changed_at token as_canceled es → ((uid : ℕ) → count_at cs' uid ≡ count_at cs uid - cond (uid == kept.key.creator) 1 0) → IsIndexed es' ts cs' n
+canceled_one es es' ts cs cs' n token kept h found is s = record {
+  rising = subst Rises (sym is) (subst (IsStrictlySortedBy nat_cmp) (sym (keys-changed token as_canceled es)) h.rising);
+  below = subst (All (λ (e : ℕ × Kept). e.0 < n)) (sym is) (below-changed n token as_canceled es h.below);
   known = h.known;
   indexes =
-      subst (λ (ps : List Pending). Indexes ps (token_at ts) (count_at cs')) (sym (ap live_of is ∙ live-ended token es))
+      subst (λ (ps : List Pending). Indexes ps (token_at ts) (count_at cs')) (sym (ap live_of is ∙ live-canceled token es))
       (indexes-same _ _ (token_at ts) _ (count_at cs')
       (indexes-without (live_of es) (token_at ts) (count_at cs) token (pending_of token kept) h.indexes (once_live es ts cs n h) (record_is token es kept found))
       (λ other. refl) s);
 }
 
 -- a change of a record that leaves its key and ends none
-pub changed_view : (es es' : List (ℕ × Kept)) (token : ℕ) (f : Kept → Kept) (g : Pending → Pending) → ((kept : Kept) → (f kept).ended ≡ kept.ended) → ((all : List (ℕ × Kept)) → pendings_of (changed_at token f all) ≡ map g (pendings_of all)) → es' ≡ changed_at token f es → live_of es' ≡ map g (live_of es)
+pub changed_view : (es es' : List (ℕ × Kept)) (token : ℕ) (f : Kept → Kept) (g : Pending → Pending) → ((kept : Kept) → (f kept).canceled ≡ kept.canceled) → ((all : List (ℕ × Kept)) → pendings_of (changed_at token f all) ≡ map g (pendings_of all)) → es' ≡ changed_at token f es → live_of es' ≡ map g (live_of es)
 changed_view es es' token f g stays alike is = ap live_of is ∙ ap pendings_of (live-changed token f es stays) ∙ alike (live es)
 
-pub changed_one : (es es' : List (ℕ × Kept)) (ts ts' : List (Key × ℕ)) (cs : List (ℕ × ℕ)) (n token : ℕ) (f : Kept → Kept) (g : Pending → Pending) → IsIndexed es ts cs n → ((kept : Kept) → (f kept).ended ≡ kept.ended) → Leaves g →
+pub changed_one : (es es' : List (ℕ × Kept)) (ts ts' : List (Key × ℕ)) (cs : List (ℕ × ℕ)) (n token : ℕ) (f : Kept → Kept) (g : Pending → Pending) → IsIndexed es ts cs n → ((kept : Kept) → (f kept).canceled ≡ kept.canceled) → Leaves g →
     ((all : List (ℕ × Kept)) → pendings_of (changed_at token f all) ≡ map g (pendings_of all)) → es' ≡ changed_at token f es → ((other : Key) → token_at ts' other ≡ token_at ts other) → IsIndexed es' ts' cs n
 changed_one es es' ts ts' cs n token f g h stays leaves alike is t = record {
   rising = subst Rises (sym is) (subst (IsStrictlySortedBy nat_cmp) (sym (keys-changed token f es)) h.rising);
@@ -120,14 +120,14 @@ changed_one es es' ts ts' cs n token f g h stays leaves alike is t = record {
 
 -- the live ones of those that are live
 pub tidied_view : (es es' : List (ℕ × Kept)) → es' ≡ live es → live_of es' ≡ live_of es
-tidied_view es es' is = ap live_of is ∙ ap pendings_of (filter-twice (λ (e : ℕ × Kept). not e.1.ended) es)
+tidied_view es es' is = ap live_of is ∙ ap pendings_of (filter-twice (λ (e : ℕ × Kept). not e.1.canceled) es)
 
 -- only what is live
 pub tidied : (es es' : List (ℕ × Kept)) (ts ts' : List (Key × ℕ)) (cs : List (ℕ × ℕ)) (n : ℕ) → IsIndexed es ts cs n → es' ≡ live es → ((other : Key) → token_at ts' other ≡ live_token (live_of es) (token_at ts other)) → IsIndexed es' ts' cs n
 tidied es es' ts ts' cs n h is t =
     record {
       rising = subst Rises (sym is) (rises-filter _ es h.rising);
-      below = subst (All (λ (e : ℕ × Kept). e.0 < n)) (sym is) (All-filter (λ (e : ℕ × Kept). not e.1.ended) (λ (e : ℕ × Kept). e.0 < n) es h.below);
+      below = subst (All (λ (e : ℕ × Kept). e.0 < n)) (sym is) (All-filter (λ (e : ℕ × Kept). not e.1.canceled) (λ (e : ℕ × Kept). e.0 < n) es h.below);
       known = known;
       indexes =
           subst (λ (ps : List Pending). Indexes ps (token_at ts') (count_at cs)) (sym (tidied_view es es' is))
@@ -152,12 +152,6 @@ has_one es ts cs n token kept h found =
     let b = h.indexes.counted kept.key.creator in
     omega (arith, a, b, e)
 
--- where no live record stands under the token, none is taken away
-pub none_taken : (token : ℕ) (es : List (ℕ × Kept)) → lookup (is_at (nat_cmp token)) (live es) ≡ None → without_token (live_of es) token ≡ live_of es
-none_taken token es h =
-    filter-none (is_token token) (live_of es)
-    (any-none (is_token token) (live_of es) (sym (lookup-records token (live es)) ∙ ap (option_map (pending_of token)) h))
-
 -- a record taken away from among some and one more under another token
 without-push : (ps : List Pending) (one : Pending) (old : ℕ) → (one.token == old) ≡ false → without_token (ps ++ one ∷ []) old ≡ without_token ps old ++ one ∷ []
 without-push [] one old h = ap (λ b. cond (not b) (one ∷ []) []) h
@@ -172,7 +166,11 @@ below_pendings : (es : List (ℕ × Kept)) (n : ℕ) → All (λ (e : ℕ × Kep
 below_pendings es n h = All-map (λ (kept : Pending). kept.token < n) (λ (e : ℕ × Kept). pending_of e.0 e.1) es h
 
 below_live : (es : List (ℕ × Kept)) (n : ℕ) → All (λ (e : ℕ × Kept). e.0 < n) es → All (λ (kept : Pending). kept.token < n) (live_of es)
-below_live es n h = below_pendings (live es) n (All-filter (λ (e : ℕ × Kept). not e.1.ended) (λ (e : ℕ × Kept). e.0 < n) es h)
+below_live es n h = below_pendings (live es) n (All-filter (λ (e : ℕ × Kept). not e.1.canceled) (λ (e : ℕ × Kept). e.0 < n) es h)
+
+the_kept : (token : ℕ) (o : Option Kept) (p : Pending) → option_map (pending_of token) o ≡ Some p → (kept : Kept) × (o ≡ Some kept) × (pending_of token kept ≡ p)
+the_kept token None p e = cc
+the_kept token (Some kept) p e = (kept, refl, ap (λ o. unwrap_or o (pending_of token kept)) e)
 
 -- a record in the place of the one with its key
 module _ (es : List (ℕ × Kept)) (ts : List (Key × ℕ)) (cs : List (ℕ × ℕ)) (key : Key) (old n : ℕ) (h : IsIndexed es ts cs n) (has : token_in key (live_of es) ≡ Some old) where
@@ -192,12 +190,18 @@ module _ (es : List (ℕ × Kept)) (ts : List (Key × ℕ)) (cs : List (ℕ × �
       found-otherwise (has_key (asked_by key)) (is_token old) (live_of es) gone_there.0 gone_there.1
       (ap (λ n. n == old) gone_there.2 ∙ nat_eq_equiv.refl old) (once_live es ts cs n h old)
 
+  -- what stands under its token, and who made it
+  pub old_stands : (kept : Kept) × (lookup (is_at (nat_cmp old)) (live es) ≡ Some kept) × (kept.key.creator ≡ key.creator)
+  old_stands =
+      let one = the_kept old (lookup (is_at (nat_cmp old)) (live es)) gone (lookup-records old (live es) ∙ old_found) in
+      (one.0, one.1, ap (λ (p : Pending). p.creator) one.2 ∙ (unsigned_Decides gone.creator key.creator).0 (has-creator key gone gone_has))
+
   old_below : old < n
   old_below = subst (λ m. m < n) gone_there.2 (found-has (λ (kept : Pending). kept.token < n) (has_key (asked_by key)) (live_of es) gone_there.0 gone_there.1 (below_live es n h.below))
 
-  pub replaced_view : live_of (changed_at old ended (insert_entry nat_cmp es n (unheld key))) ≡ without_token (live_of es) old ++ fresh n (asked_by key) ∷ []
+  pub replaced_view : live_of (changed_at old as_canceled (insert_entry nat_cmp es n (unheld key))) ≡ without_token (live_of es) old ++ fresh n (asked_by key) ∷ []
   replaced_view =
-      live-ended old (insert_entry nat_cmp es n (unheld key))
+      live-canceled old (insert_entry nat_cmp es n (unheld key))
       ∙ ap (λ ps. without_token ps old) (added_view es key n h.below)
       ∙ without-push (live_of es) (fresh n (asked_by key)) old (other_token old n old_below)
 
@@ -220,10 +224,10 @@ module _ (es : List (ℕ × Kept)) (ts : List (Key × ℕ)) (cs : List (ℕ × �
           let d = ap {B = ℕ} (λ creator. cond (uid == creator) 1 0) ((unsigned_Decides gone.creator key.creator).0 (has-creator key gone gone_has)) in
           omega (arith, a, b, d, e)
 
-  pub replaced : (es' : List (ℕ × Kept)) (ts' : List (Key × ℕ)) → es' ≡ changed_at old ended (insert_entry nat_cmp es n (unheld key)) → ((other : Key) → token_at ts' other ≡ cond (is_same_key other key) (Some n) (token_at ts other)) → IsIndexed es' ts' cs (n + 1)
+  pub replaced : (es' : List (ℕ × Kept)) (ts' : List (Key × ℕ)) → es' ≡ changed_at old as_canceled (insert_entry nat_cmp es n (unheld key)) → ((other : Key) → token_at ts' other ≡ cond (is_same_key other key) (Some n) (token_at ts other)) → IsIndexed es' ts' cs (n + 1)
   replaced es' ts' is t = record {
-    rising = subst Rises (sym is) (subst (IsStrictlySortedBy nat_cmp) (sym (keys-changed old ended (insert_entry nat_cmp es n (unheld key)))) (rises-insert n (unheld key) es h.rising));
-    below = subst (All (λ (e : ℕ × Kept). e.0 < n + 1)) (sym is) (below-changed (n + 1) old ended (insert_entry nat_cmp es n (unheld key)) (added_below es key n h.below));
+    rising = subst Rises (sym is) (subst (IsStrictlySortedBy nat_cmp) (sym (keys-changed old as_canceled (insert_entry nat_cmp es n (unheld key)))) (rises-insert n (unheld key) es h.rising));
+    below = subst (All (λ (e : ℕ × Kept). e.0 < n + 1)) (sym is) (below-changed (n + 1) old as_canceled (insert_entry nat_cmp es n (unheld key)) (added_below es key n h.below));
     known = added_known ts ts' key n h.known t;
     indexes =
         subst (λ (ps : List Pending). Indexes ps (token_at ts') (count_at cs)) (sym (ap live_of is ∙ replaced_view))

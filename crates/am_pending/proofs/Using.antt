@@ -1,8 +1,6 @@
 -- What canceling, giving and using a token come to, by the record that is found.
-use Rattle.std.proofs.Common.{◌≡◌, ℕ, ◌==◌, Bool, true, false, not, cond, length, map, Option, Some, None, Result, Ok, Err, option_map, refl, ap, ◌∙◌, arith}
+use Rattle.std.proofs.Common.{◌≡◌, ℕ, ◌==◌, Bool, true, false, not, cond, length, map, Option, Some, None, Result, Ok, Err, refl, ap, ◌∙◌}
 use Rattle.std.specs.Prelude.{IsOk, nat_le, nat_lt}
-use Rattle.std.specs.Option.{unwrap_or}
-use Rattle.std.proofs.lemmas.Bool.Decides.{nat_tests}
 use Rattle.am_types.specs.declared.intent.Intent.{Intent}
 use Rattle.am_types.specs.declared.filter.FillFault.{FillFault}
 use Rattle.am_types.specs.declared.filter.FillFault.TheVariants as fault
@@ -11,21 +9,6 @@ use Rattle.am_types.specs.declared.pending.PendingFault.TheVariants.{NoToken, No
 use Rattle.am_model.specs.Intents.{fill_in, filled, united_extras}
 use Rattle.am_model.specs.Pendings.{Pending, Pendings, cancel, canceled, give, given, is_holder, lent, no_record, use_token, used, used_as, with_holder, without_token}
 use Rattle.am_pending.specs.Records.{record_in}
-
--- what was mapped
-pub mapped : {X : Type 0} (f : X → ℕ) (o : Option X) (n : ℕ) → option_map f o ≡ Some n → (x : X) × (o ≡ Some x) × (f x ≡ n)
-mapped f None n h = cc
-mapped f (Some x) n h = (x, refl, ap (λ m. unwrap_or m (f x)) h)
-
-pub mapped_none : {X Y : Type 0} (f : X → Y) (o : Option X) → option_map f o ≡ None → o ≡ None
-mapped_none f None h = refl
-mapped_none f (Some x) h = cc
-
-pub same : (x y : ℕ) → x ≡ y → (x == y) ≡ true
-same x y e = grind (arith, nat_tests)
-
-pub apart : (x y : ℕ) → (x ≡ y → ⊥) → (x == y) ≡ false
-apart x y e = grind (arith, nat_tests)
 
 module _ (all : Pendings) (token uid : ℕ) where
   pub cancel_none : record_in token all.records ≡ None → cancel all token uid ≡ Err NoToken

@@ -1,4 +1,5 @@
 pub mod Answers
+pub mod Calls
 pub mod Keys
 pub mod InTurn
 pub mod KeyLaws

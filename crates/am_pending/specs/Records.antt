@@ -1,5 +1,5 @@
--- Records as a table keeps them: by token, with the token of each key and each creator's number of live records. A record that
--- ended stays for a while, marked as such; it is no record any more for the definitions.
+-- Records as a table keeps them: by token, with the token of each key and each creator's number of live records. A canceled
+-- record stays for a while, marked as such; it is no record any more for the definitions.
 use Rattle.std.specs.Prelude.{◌≡◌, ℕ, ◌<◌, ◌==◌, Bool, true, false, not, List, [], ◌∷◌, ◌++◌, All, map, filter, nat_eq, unwrap_or, if◌then◌else◌, Option, Some, None, option_map}
 use Rattle.am_types.specs.declared.intent.Named.{Named}
 use Rattle.std.specs.List.{find}
@@ -12,19 +12,19 @@ use Rattle.am_pending.specs.declared.key.Key.{Key}
 use Rattle.am_pending.specs.Keys.{asked_by, is_same_key, keyed}
 use Rattle.am_pending.specs.Once.{AtMostOne}
 
--- a record: its key, with the whole intent, those besides the creator who hold its token, and whether it ended
+-- a record: its key, with the whole intent, those besides the creator who hold its token, and whether it is canceled
 pub record Kept : Type 0 where
   pub key : Key
   pub holders : List ℕ
-  pub ended : Bool
+  pub canceled : Bool
 
 -- a live record without holders
 abbrev pub unheld : Key → Kept
-unheld key = record { key = key; holders = []; ended = false }
+unheld key = record { key = key; holders = []; canceled = false }
 
--- the record, ended
-abbrev pub ended : Kept → Kept
-ended kept = record kept { ended = true }
+-- the record, canceled
+abbrev pub as_canceled : Kept → Kept
+as_canceled kept = record kept { canceled = true }
 
 -- a record under its token, as the definitions see it
 abbrev pub pending_of : ℕ → Kept → Pending
@@ -44,9 +44,9 @@ pending_of token kept = record {
 abbrev pub pendings_of : List (ℕ × Kept) → List Pending
 pendings_of entries = map (λ (e : ℕ × Kept). pending_of e.0 e.1) entries
 
--- the records that haven't ended
+-- the records that aren't canceled
 abbrev pub live : List (ℕ × Kept) → List (ℕ × Kept)
-live entries = filter (λ (e : ℕ × Kept). not e.1.ended) entries
+live entries = filter (λ (e : ℕ × Kept). not e.1.canceled) entries
 
 -- the records as the definitions see them
 abbrev pub live_of : List (ℕ × Kept) → List Pending

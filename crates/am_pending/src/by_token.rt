@@ -1,20 +1,22 @@
 //! Records, found by their tokens.
-ghost use Rattle.std.specs.Prelude.{◌≡◌, [], IfOk, OnOk, OnErr};
+ghost use Rattle.std.specs.Prelude.{◌≡◌, [], Err, IfOk, IsOk, OnOk, OnErr};
 ghost use Rattle.std.specs.Option.{option_copied};
 ghost use Rattle.std.specs.Map.{lookup};
 ghost use Rattle.std.specs.Ordering.{nat_cmp};
 ghost use Rattle.std.specs.BTreeMap.{insert_entry, is_at};
-ghost use Rattle.am_pending.specs.Records.{changed_at, ended, held_by, in_order, let_go_by_all, live, others_than, unheld, with_extras};
+ghost use Rattle.am_pending.specs.Answers.{IsChange};
+ghost use Rattle.am_pending.specs.Calls.{called_at, canceled_by, given_by};
+ghost use Rattle.am_pending.specs.Records.{as_canceled, changed_at, in_order, let_go_by_all, live, others_than, unheld, with_extras};
 
 use crate::in_turn::InTurn;
 use crate::key::{Key, SharedKey};
 use crate::records::Record;
-use am_types::{List, Named};
+use am_types::{List, Named, PendingFault};
 use indexmap::IndexMap;
 use std::alloc::{AllocError, Global};
 use std::marker::Model;
 
-/// Records under their tokens, with those that ended until these are tidied away together, so that ending one moves none.
+/// Records under their tokens, with the canceled ones until these are tidied away together, so that canceling one moves none.
 /// Contracts see all of them in the order of their tokens.
 #[derive(Debug, Drop)]
 pub struct ByToken {
@@ -70,24 +72,44 @@ fn change_extras(
     }
 }
 
-/// Adds a holder to the record under the token. Without memory all stays.
-fn hold(records: &mut IndexMap<u64, Record, InTurn>, token: u64, to: u32) -> Result<(), AllocError>
-    ensures ok { OnOk result (in_order records.new.entries ≡ changed_at token (held_by to) (in_order records.old.entries)) }
-    ensures err { OnErr result (records.new.entries ≡ records.old.entries) }
+/// Marks the record under the token as canceled.
+fn mark_record(records: &mut IndexMap<u64, Record, InTurn>, token: u64)
+    ensures { in_order records.new.entries ≡ changed_at token as_canceled (in_order records.old.entries) }
 {
     match records.get_mut(&token) {
-        Some(kept) => kept.hold(to),
-        None => Ok(()),
+        Some(kept) => kept.mark_canceled(),
+        None => {}
     }
 }
 
-/// Ends the record under the token.
-fn end_record(records: &mut IndexMap<u64, Record, InTurn>, token: u64)
-    ensures { in_order records.new.entries ≡ changed_at token ended (in_order records.old.entries) }
+/// Cancels the record under the token, by its creator.
+fn cancel_record(
+    records: &mut IndexMap<u64, Record, InTurn>,
+    token: u64,
+    uid: u32,
+) -> Result<(), PendingFault>
+    ensures answer { IsChange result (in_order records.old.entries) (in_order records.new.entries) (called_at token (canceled_by uid) (in_order records.old.entries)) }
+    ensures memory { (result ≡ Err PendingFault.NoMemory) → ⊥ }
 {
     match records.get_mut(&token) {
-        Some(kept) => kept.end(),
-        None => {}
+        Some(kept) => kept.cancel(uid),
+        None => Err(PendingFault::NoToken),
+    }
+}
+
+/// Gives the token to another uid, by its creator.
+fn give_record(
+    records: &mut IndexMap<u64, Record, InTurn>,
+    token: u64,
+    uid: u32,
+    to: u32,
+) -> Result<(), PendingFault>
+    ensures answer { IsChange result (in_order records.old.entries) (in_order records.new.entries) (called_at token (given_by uid to) (in_order records.old.entries)) }
+    ensures wanting { result ≡ Err PendingFault.NoMemory → IsOk (called_at token (given_by uid to) (in_order records.old.entries)) }
+{
+    match records.get_mut(&token) {
+        Some(kept) => kept.give(uid, to),
+        None => Err(PendingFault::NoToken),
     }
 }
 
@@ -101,14 +123,14 @@ impl ByToken {
         }
     }
 
-    /// The record under the token, unless it ended.
+    /// The record under the token, unless it is canceled.
     pub fn get(&self, token: u64) -> Option<&Record>
         ensures { option_copied result ≡ lookup (is_at (nat_cmp token)) (live self.now) }
     {
         let Some(kept) = self.records.get(&token) else {
             return None;
         };
-        if kept.has_ended() {
+        if kept.is_canceled() {
             return None;
         }
         Some(kept)
@@ -141,28 +163,36 @@ impl ByToken {
         change_extras(&mut self.records, alloc, token, extras)
     }
 
-    /// Adds a holder to the record under the token. Without memory all stays.
-    pub fn add_holder(&mut self, token: u64, to: u32) -> Result<(), AllocError>
-        ensures ok { OnOk result (self.new ≡ changed_at token (held_by to) self.old) }
-        ensures err { OnErr result (self.new ≡ self.old) }
+    /// Marks the record under the token as canceled. Takes no memory.
+    pub fn mark_canceled(&mut self, token: u64)
+        ensures { self.new ≡ changed_at token as_canceled self.old }
     {
-        hold(&mut self.records, token, to)
+        mark_record(&mut self.records, token);
     }
 
-    /// Ends the record under the token. Takes no memory.
-    pub fn end(&mut self, token: u64)
-        ensures { self.new ≡ changed_at token ended self.old }
+    /// Cancels the record under the token, by its creator. Refusals: `NoToken`; `NotCreator`. Takes no memory.
+    pub fn cancel(&mut self, token: u64, uid: u32) -> Result<(), PendingFault>
+        ensures answer { IsChange result self.old self.new (called_at token (canceled_by uid) self.old) }
+        ensures memory { (result ≡ Err PendingFault.NoMemory) → ⊥ }
     {
-        end_record(&mut self.records, token);
+        cancel_record(&mut self.records, token, uid)
     }
 
-    /// Takes the records that ended away. Takes no memory.
+    /// Gives the token to another uid, by its creator. Refusals: `NoToken`; `NotCreator`; `HoldersFull`.
+    pub fn give(&mut self, token: u64, uid: u32, to: u32) -> Result<(), PendingFault>
+        ensures answer { IsChange result self.old self.new (called_at token (given_by uid to) self.old) }
+        ensures wanting { result ≡ Err PendingFault.NoMemory → IsOk (called_at token (given_by uid to) self.old) }
+    {
+        give_record(&mut self.records, token, uid, to)
+    }
+
+    /// Takes the canceled records away. Takes no memory.
     pub fn tidy(&mut self)
         ensures { self.new ≡ live self.old }
     {
         // Its clause says that no two stand under the same token.
         let _all = self.records.len();
-        self.records.retain(|_, kept| !kept.has_ended());
+        self.records.retain(|_, kept| !kept.is_canceled());
     }
 
     /// Takes the records of a creator away.

@@ -1,7 +1,6 @@
 //! The calls on pending intents.
-ghost use Rattle.std.specs.Prelude.{◌≡◌, ◌≤◌, ◌+◌, if◌then◌else◌, ◌==◌, ◌||◌, map, IfOk, IsOk, None, Some, Ok, Err, OnOk, OnErr};
+ghost use Rattle.std.specs.Prelude.{◌≡◌, ◌≤◌, ◌+◌, if◌then◌else◌, map, IfOk, IsOk, None, Some, Ok, Err, OnOk, OnErr};
 ghost use Rattle.std.specs.Option.{option_copied};
-ghost use Rattle.std.specs.List.{list_any};
 ghost use Rattle.am_model.specs.Pendings.{cancel, forget_uid, get, give, is_clear, lent, made, no_pendings, no_record, updated, use_token, without_token};
 ghost use Rattle.am_pending.specs.Answers.{IsAnswer, IsChange, IsUse, asking};
 ghost use Rattle.am_pending.specs.Records.{pending_of, token_in};
@@ -18,9 +17,6 @@ use std::sync::ledger::Ledger;
 
 /// The most live records of a creator.
 const MOST_RECORDS: u32 = 1024;
-
-/// The most holders of a token besides its creator.
-const MOST_HOLDERS: usize = 64;
 
 /// The live pending intents of all creators. Contracts see the records in the order of their tokens, and the next token.
 #[derive(Debug, Drop)]
@@ -42,20 +38,6 @@ fn is_clear(flags: PendingFlags) -> bool
     ensures { result ≡ is_clear flags }
 {
     flags.mutable != flags.immutable
-}
-
-/// The uid made the record's token or was given it.
-fn is_holder(kept: &Record, uid: u32) -> bool
-    ensures { result ≡ ((kept.now.key.creator == uid) || list_any (λ holder. holder == uid) kept.now.holders) }
-{
-    kept.creator() == uid || was_given(kept.holders(), uid)
-}
-
-/// The uid is among the holders.
-fn was_given(holders: &[u32], uid: u32) -> bool
-    ensures { result ≡ list_any (λ holder. holder == uid) holders.now }
-{
-    holders.iter().any(|holder| *holder == uid)
 }
 
 /// The record's intent, with what is filled in where it is mutable.
@@ -86,10 +68,11 @@ impl Pending {
     }
 
     /// The token of the creator's record for the intent, kind, code and flags, or none where `no_create` is given and there
-    /// is no such record. Extras and flags of the intent don't tell records apart; `cancel_current` ends the record that is
+    /// is no such record. Extras and flags of the intent don't tell records apart; `cancel_current` cancels the record that is
     /// there, and `update_current` gives it the new extras. Refusals: `Mutability` unless exactly one of `mutable` and
     /// `immutable` is given; `Full` where a record would be made and the creator has 1,024. A step is one reading of a kept
-    /// record. Memory is wanting only where nothing is refused. (`PendingIntent`; AOSP, `PendingIntentController.getIntentSender`.)
+    /// record; a call that makes one now and then goes over all records besides, to take the canceled ones away. Memory is
+    /// wanting only where nothing is refused. (`PendingIntent`; AOSP, `PendingIntentController.getIntentSender`.)
     pub fn get<L: Ledger>(
         &mut self,
         creator: u32,
@@ -112,7 +95,7 @@ impl Pending {
         let key = Key::asked(creator, kind, code, intent, flags);
         match self.table.find(&key, steps) {
             None => self.make(key, flags.no_create),
-            Some(token) if flags.cancel_current => self.renew(token, key, flags.no_create),
+            Some(token) if flags.cancel_current => self.renew(token, key, flags.no_create, steps),
             Some(token) => {
                 let kept = self.keep(token, key, flags.update_current, steps);
                 if kept.is_err() {
@@ -165,30 +148,37 @@ impl Pending {
         }
     }
 
-    /// Ends the record that has the key, and makes another in its place unless none is to be made.
-    fn renew(&mut self, old: u64, key: Key, no_create: bool) -> Result<Option<u64>, PendingFault>
+    /// Cancels the record that has the key, and makes another in its place unless none is to be made.
+    fn renew<L: Ledger>(
+        &mut self,
+        old: u64,
+        key: Key,
+        no_create: bool,
+        steps: &mut Steps<L>,
+    ) -> Result<Option<u64>, PendingFault>
         requires next { self.old.next ≤ 1125899906842624 }
         requires found { token_in key self.old.records ≡ Some old }
         ensures answer { IsAnswer result self.old self.new (made self.old (without_token self.old.records old) (asking no_create key)) }
         ensures wanting { result ≡ Err PendingFault.NoMemory → IsOk (made self.old (without_token self.old.records old) (asking no_create key)) }
         ensures next { self.new.next ≤ self.old.next + 1 }
+        ensures steps { steps.new ≤ steps.old + 1 }
     {
         if no_create {
+            self.table.cancel_found(old, &key, steps);
             drop(key);
-            self.table.remove(old);
             return Ok(None);
         }
         if self.table.live_besides(old, &key) >= MOST_RECORDS {
             drop(key);
             return Err(PendingFault::Full);
         }
-        match self.table.replace(self.alloc, old, key) {
+        match self.table.replace(self.alloc, old, key, steps) {
             Ok(token) => Ok(Some(token)),
             Err(_) => Err(PendingFault::NoMemory),
         }
     }
 
-    /// Ends a token by its creator. Refusals: `NoToken` where the token isn't live; `NotCreator`. A step is one reading of a
+    /// Cancels a token, by its creator. Refusals: `NoToken` where the token isn't live; `NotCreator`. A step is one reading of a
     /// kept record. Takes no memory. (`PendingIntent.cancel`.)
     pub fn cancel<L: Ledger>(
         &mut self,
@@ -201,14 +191,7 @@ impl Pending {
         ensures memory { (result ≡ Err PendingFault.NoMemory) → ⊥ }
         ensures steps { steps.new ≤ steps.old + 1 }
     {
-        match self.table.creator(token, steps) {
-            None => Err(PendingFault::NoToken),
-            Some(creator) if creator != uid => Err(PendingFault::NotCreator),
-            Some(_) => {
-                self.table.remove(token);
-                Ok(())
-            }
-        }
+        self.table.cancel(token, uid, steps)
     }
 
     /// Gives a token to another uid, by its creator. Refusals: `NoToken` where the token isn't live; `NotCreator`;
@@ -226,22 +209,7 @@ impl Pending {
         ensures next { self.new.next ≡ self.old.next }
         ensures steps { steps.new ≤ steps.old + 1 }
     {
-        let Some(kept) = self.table.read(token, steps) else {
-            return Err(PendingFault::NoToken);
-        };
-        if kept.creator() != uid {
-            return Err(PendingFault::NotCreator);
-        }
-        if is_holder(kept, to) {
-            return Ok(());
-        }
-        if kept.holders().len() >= MOST_HOLDERS {
-            return Err(PendingFault::HoldersFull);
-        }
-        if self.table.add_holder(token, to).is_err() {
-            return Err(PendingFault::NoMemory);
-        }
-        Ok(())
+        self.table.give(token, uid, to, steps)
     }
 
     /// What a token stands for, used by a uid: a mutable record takes what that one fills in. Nothing changes, also where
@@ -262,7 +230,7 @@ impl Pending {
         let Some(kept) = self.table.read(token, steps) else {
             return Err(self.no_record(token));
         };
-        if !is_holder(kept, uid) {
+        if !kept.is_holder(uid) {
             return Err(PendingFault::NotHolder);
         }
         let intent = match lent(self.alloc, kept, fill) {
@@ -289,7 +257,7 @@ impl Pending {
         }
     }
 
-    /// Ends the records of a uid, which then holds no token any more. Takes no memory.
+    /// Cancels the records of a uid, which then holds no token any more. Takes no memory.
     pub fn forget_uid(&mut self, uid: u32)
         ensures { self.new ≡ forget_uid self.old uid }
     {

@@ -1,18 +1,24 @@
 //! Records of pending intents.
-ghost use Rattle.std.specs.Prelude.{◌≡◌, OnOk, OnErr};
-ghost use Rattle.am_pending.specs.Records.{ended, held_by, let_go_by, unheld, with_extras};
+ghost use Rattle.std.specs.Prelude.{◌≡◌, ◌==◌, IsOk, OnOk, OnErr, Err};
+ghost use Rattle.std.specs.List.{list_any};
+ghost use Rattle.am_pending.specs.Answers.{IsChange};
+ghost use Rattle.am_pending.specs.Calls.{canceled_by, given_by, is_holder_of};
+ghost use Rattle.am_pending.specs.Records.{as_canceled, let_go_by, unheld, with_extras};
 
 use crate::key::{Key, SharedKey};
-use am_types::{List, Named};
+use am_types::{List, Named, PendingFault};
 use std::alloc::{AllocError, Global};
 use std::marker::Model;
 
-/// A record: its key, with the whole intent, the uids besides the creator's that hold its token, and whether it ended.
+/// The most holders of a token besides its creator.
+const MOST_HOLDERS: usize = 64;
+
+/// A record: its key, with the whole intent, the uids besides the creator's that hold its token, and whether it is canceled.
 #[derive(Debug, Drop)]
 pub struct Record {
     key: SharedKey,
     holders: Vec<u32>,
-    ended: bool,
+    canceled: bool,
 }
 
 impl Model for Record {
@@ -20,7 +26,14 @@ impl Model for Record {
 
     ghost Value = { Kept };
 
-    ghost view = { λ r. record { key = r.key; holders = r.holders.items; ended = r.ended } };
+    ghost view = { λ r. record { key = r.key; holders = r.holders.items; canceled = r.canceled } };
+}
+
+/// The uid is among the holders.
+fn was_given(holders: &[u32], uid: u32) -> bool
+    ensures { result ≡ list_any (λ holder. holder == uid) holders.now }
+{
+    holders.iter().any(|holder| *holder == uid)
 }
 
 impl Record {
@@ -31,7 +44,7 @@ impl Record {
         Record {
             key,
             holders: Vec::new(alloc),
-            ended: false,
+            canceled: false,
         }
     }
 
@@ -49,25 +62,64 @@ impl Record {
         self.key.creator()
     }
 
-    /// The uids besides the creator's that hold the token.
-    pub fn holders(&self) -> &[u32]
-        ensures { result.now ≡ self.now.holders }
+    /// Whether the record is canceled.
+    pub fn is_canceled(&self) -> bool
+        ensures { result ≡ self.now.canceled }
     {
-        self.holders.as_slice()
+        self.canceled
     }
 
-    /// Whether the record ended.
-    pub fn has_ended(&self) -> bool
-        ensures { result ≡ self.now.ended }
+    /// Whether the uid made the record or was given its token.
+    pub fn is_holder(&self, uid: u32) -> bool
+        ensures { result ≡ is_holder_of self.now uid }
     {
-        self.ended
+        self.creator() == uid || was_given(self.holders.as_slice(), uid)
     }
 
-    /// Ends the record. Takes no memory.
-    pub fn end(&mut self)
-        ensures { self.new ≡ ended self.old }
+    /// Marks the record as canceled. Takes no memory.
+    pub fn mark_canceled(&mut self)
+        ensures { self.new ≡ as_canceled self.old }
     {
-        self.ended = true;
+        self.canceled = true;
+    }
+
+    /// Cancels the record, by its creator. Refusals: `NoToken` where it is canceled already; `NotCreator`. Takes no memory.
+    pub fn cancel(&mut self, uid: u32) -> Result<(), PendingFault>
+        ensures answer { IsChange result self.old self.new (canceled_by uid self.old) }
+        ensures memory { (result ≡ Err PendingFault.NoMemory) → ⊥ }
+    {
+        if self.canceled {
+            return Err(PendingFault::NoToken);
+        }
+        if self.creator() != uid {
+            return Err(PendingFault::NotCreator);
+        }
+        self.canceled = true;
+        Ok(())
+    }
+
+    /// Gives the token to another uid, by the creator. Refusals: `NoToken` where the record is canceled; `NotCreator`;
+    /// `HoldersFull` at 64 holders, unless that uid is the creator or a holder already, which changes nothing.
+    pub fn give(&mut self, uid: u32, to: u32) -> Result<(), PendingFault>
+        ensures answer { IsChange result self.old self.new (given_by uid to self.old) }
+        ensures wanting { result ≡ Err PendingFault.NoMemory → IsOk (given_by uid to self.old) }
+    {
+        if self.canceled {
+            return Err(PendingFault::NoToken);
+        }
+        if self.creator() != uid {
+            return Err(PendingFault::NotCreator);
+        }
+        if self.is_holder(to) {
+            return Ok(());
+        }
+        if self.holders.len() >= MOST_HOLDERS {
+            return Err(PendingFault::HoldersFull);
+        }
+        if self.holders.push(to).is_err() {
+            return Err(PendingFault::NoMemory);
+        }
+        Ok(())
     }
 
     /// Gives the intent other extras, and tells the new key for its other owner. Without memory all stays.
@@ -82,15 +134,6 @@ impl Record {
         let (key, other) = SharedKey::pair(alloc, self.key.get().with_extras(extras)?)?;
         self.key = key;
         Ok(other)
-    }
-
-    /// Adds a holder. Without memory all stays.
-    pub fn hold(&mut self, to: u32) -> Result<(), AllocError>
-        ensures ok { OnOk result (self.new ≡ held_by to self.old) }
-        ensures err { OnErr result (self.new ≡ self.old) }
-    {
-        self.holders.push(to)?;
-        Ok(())
     }
 
     /// Takes a holder away. Takes no memory.

@@ -1,9 +1,10 @@
 //! Live records, found by token and by key.
-ghost use Rattle.std.specs.Prelude.{◌≡◌, ℕ, ◌+◌, ◌-◌, cond, ◌<◌, ◌≤◌, ◌==◌, ◌∷◌, ◌++◌, [], not, map, filter, None, Some, OnOk, OnErr, IfOk, IsSome, nat_eq, option_map};
+ghost use Rattle.std.specs.Prelude.{◌≡◌, ℕ, ◌+◌, ◌-◌, cond, ◌<◌, ◌≤◌, ◌==◌, ◌∷◌, ◌++◌, [], map, None, Some, Err, OnOk, OnErr, IfOk, IsOk, IsSome, nat_eq, option_map};
 ghost use Rattle.std.specs.Option.{option_copied};
 ghost use Rattle.std.specs.Map.{lookup};
 ghost use Rattle.indexmap.specs.IndexMap.{spare};
-ghost use Rattle.am_model.specs.Pendings.{Pending, count_of, forget_uid, fresh, no_pendings, updated, with_holder, without_token};
+ghost use Rattle.am_model.specs.Pendings.{cancel, count_of, forget_uid, fresh, give, no_pendings, updated, without_token};
+ghost use Rattle.am_pending.specs.Answers.{IsChange};
 ghost use Rattle.am_pending.specs.Keys.{asked_by, is_same_key};
 ghost use Rattle.am_pending.specs.Records.{count_at, live_of, live_token, pending_of, record_in, token_at, token_in};
 ghost use Rattle.am_pending.specs.declared.key.Key.{Key};
@@ -12,15 +13,15 @@ use crate::by_token::ByToken;
 use crate::key::{Key, SharedKey};
 use crate::records::Record;
 use am_tally::Steps;
-use am_types::{List, Named};
+use am_types::{List, Named, PendingFault};
 use indexmap::IndexMap;
 use std::alloc::{AllocError, Global};
 use std::marker::Model;
 use std::sync::ledger::Ledger;
 
-/// The live records and the next token. Records that ended, and the tokens of their keys, stay until there are about as many as
-/// live ones, so that ending one reads no other and no key. Contracts don't see them, and see the live ones in the order of their
-/// tokens.
+/// The live records and the next token. Canceled records, and the tokens of their keys, stay until there are about a third as
+/// many as live ones, so that canceling one reads no other and no key. Contracts don't see them, and see the live ones in the
+/// order of their tokens.
 #[derive(Debug, Drop)]
 pub struct Table {
     records: ByToken,
@@ -28,8 +29,8 @@ pub struct Table {
     /// How many live records each creator has.
     counts: IndexMap<u32, u32>,
     next: u64,
-    /// How many records ended since these were last tidied away.
-    ended: usize,
+    /// How many records were canceled since these were last tidied away.
+    canceled: usize,
 }
 
 impl Model for Table {
@@ -156,7 +157,7 @@ impl Table {
             tokens: IndexMap::new(alloc),
             counts: IndexMap::new(alloc),
             next: 1,
-            ended: 0,
+            canceled: 0,
         }
     }
 
@@ -198,17 +199,6 @@ impl Table {
         self.records.get(token)
     }
 
-    /// The creator of the token's record, which is a step.
-    pub fn creator<L: Ledger>(&self, token: u64, steps: &mut Steps<L>) -> Option<u32>
-        ensures found { result ≡ option_map (λ (kept : Pending). kept.creator) (record_in token self.now.records) }
-        ensures steps { steps.new ≡ steps.old + 1 }
-    {
-        match self.read(token, steps) {
-            Some(kept) => Some(kept.creator()),
-            None => None,
-        }
-    }
-
     /// How many records the creator has.
     pub fn live(&self, creator: u32) -> u32
         ensures { result ≡ count_of self.now.records creator }
@@ -224,21 +214,21 @@ impl Table {
         count_of(&self.counts, key.creator) - 1
     }
 
-    /// Takes what ended away. Takes no memory.
+    /// Takes what is canceled away. Takes no memory.
     fn tidy(&mut self)
         ensures { self.new ≡ self.old }
     {
         keep_live(&mut self.tokens, &self.records);
         self.records.tidy();
-        self.ended = 0;
+        self.canceled = 0;
     }
 
-    /// Takes what ended away, if that is about as much as what is live: over all calls a few looks for each record that ends.
-    /// Takes no memory.
+    /// Takes what is canceled away, if that is about a third as much as what is live: over all calls a few looks for each record
+    /// that is canceled. Takes no memory.
     fn tidy_at_times(&mut self)
         ensures { self.new ≡ self.old }
     {
-        if self.ended > 32 + self.tokens.len() / 2 {
+        if self.canceled > 32 + self.tokens.len() / 4 {
             self.tidy();
         }
     }
@@ -282,25 +272,41 @@ impl Table {
         }
     }
 
-    /// Adds a record under the next token, which it tells, in the place of the one with its key. Without memory all stays.
-    pub fn replace(&mut self, alloc: Global, old: u64, key: Key) -> Result<u64, AllocError>
+    /// Adds a record under the next token, which it tells, in the place of the one with its key, which is a step. Without memory
+    /// all stays.
+    pub fn replace<L: Ledger>(
+        &mut self,
+        alloc: Global,
+        old: u64,
+        key: Key,
+        steps: &mut Steps<L>,
+    ) -> Result<u64, AllocError>
         requires next { self.old.next ≤ 1125899906842624 }
         requires found { token_in key self.old.records ≡ Some old }
         ensures token { IfOk result (λ token. token ≡ self.old.next) }
         ensures ok { OnOk result (self.new ≡ record { records = without_token self.old.records old ++ fresh self.old.next (asked_by key) ∷ []; next = self.old.next + 1 }) }
         ensures err { OnErr result (self.new ≡ self.old) }
+        ensures steps { steps.new ≤ steps.old + 1 }
     {
         self.tidy_at_times();
-        self.put_for(alloc, old, key)
+        self.put_for(alloc, old, key, steps)
     }
 
-    /// Adds a record under the next token, which it tells, in the place of the one with its key. Without memory all stays.
-    fn put_for(&mut self, alloc: Global, old: u64, key: Key) -> Result<u64, AllocError>
+    /// Adds a record under the next token, which it tells, in the place of the one with its key, which is a step. Without memory
+    /// all stays.
+    fn put_for<L: Ledger>(
+        &mut self,
+        alloc: Global,
+        old: u64,
+        key: Key,
+        steps: &mut Steps<L>,
+    ) -> Result<u64, AllocError>
         requires next { self.old.next ≤ 1125899906842624 }
         requires found { token_in key self.old.records ≡ Some old }
         ensures token { IfOk result (λ token. token ≡ self.old.next) }
         ensures ok { OnOk result (self.new ≡ record { records = without_token self.old.records old ++ fresh self.old.next (asked_by key) ∷ []; next = self.old.next + 1 }) }
         ensures err { OnErr result (self.new ≡ self.old) }
+        ensures steps { steps.new ≤ steps.old + 1 }
     {
         if self.tokens.reserve(1).is_err() {
             drop(key);
@@ -309,8 +315,9 @@ impl Table {
         let token = self.next;
         match self.records.put(alloc, token, key) {
             Ok(key) => {
-                self.records.end(old);
-                self.ended = self.ended.saturating_add(1);
+                steps.tick();
+                self.records.mark_canceled(old);
+                self.canceled = self.canceled.saturating_add(1);
                 set_token(&mut self.tokens, key, token);
                 self.next += 1;
                 Ok(token)
@@ -319,16 +326,58 @@ impl Table {
         }
     }
 
-    /// Ends the record. Takes no memory.
-    pub fn remove(&mut self, token: u64)
-        ensures { self.new ≡ record self.old { records = without_token self.old.records token } }
+    /// Cancels the record that has the key, which is a step. Takes no memory.
+    pub fn cancel_found<L: Ledger>(&mut self, old: u64, key: &Key, steps: &mut Steps<L>)
+        requires found { token_in key.now self.old.records ≡ Some old }
+        ensures record { self.new ≡ record self.old { records = without_token self.old.records old } }
+        ensures steps { steps.new ≡ steps.old + 1 }
     {
-        if let Some(kept) = self.records.get(token) {
-            let creator = kept.creator();
-            self.records.end(token);
-            self.ended = self.ended.saturating_add(1);
-            lower(&mut self.counts, creator);
+        steps.tick();
+        self.records.mark_canceled(old);
+        self.canceled = self.canceled.saturating_add(1);
+        lower(&mut self.counts, key.creator);
+    }
+
+    /// Cancels the token's record, by its creator. Refusals: `NoToken`; `NotCreator`. A step is the reading of the record. Takes
+    /// no memory.
+    pub fn cancel<L: Ledger>(
+        &mut self,
+        token: u64,
+        uid: u32,
+        steps: &mut Steps<L>,
+    ) -> Result<(), PendingFault>
+        ensures answer { IsChange result self.old self.new (cancel self.old token uid) }
+        ensures next { self.new.next ≡ self.old.next }
+        ensures memory { (result ≡ Err PendingFault.NoMemory) → ⊥ }
+        ensures steps { steps.new ≡ steps.old + 1 }
+    {
+        steps.tick();
+        match self.records.cancel(token, uid) {
+            Ok(()) => {
+                self.canceled = self.canceled.saturating_add(1);
+                lower(&mut self.counts, uid);
+                Ok(())
+            }
+            Err(fault) => Err(fault),
         }
+    }
+
+    /// Gives the token to another uid, by its creator. Refusals: `NoToken`; `NotCreator`; `HoldersFull`. A step is the reading of
+    /// the record.
+    pub fn give<L: Ledger>(
+        &mut self,
+        token: u64,
+        uid: u32,
+        to: u32,
+        steps: &mut Steps<L>,
+    ) -> Result<(), PendingFault>
+        ensures answer { IsChange result self.old self.new (give self.old token uid to) }
+        ensures wanting { result ≡ Err PendingFault.NoMemory → IsOk (give self.old token uid to) }
+        ensures next { self.new.next ≡ self.old.next }
+        ensures steps { steps.new ≡ steps.old + 1 }
+    {
+        steps.tick();
+        self.records.give(token, uid, to)
     }
 
     /// Gives the record's intent other extras, which is a step. Without memory all stays.
@@ -356,14 +405,6 @@ impl Table {
             Ok(None) => Ok(()),
             Err(error) => Err(error),
         }
-    }
-
-    /// Adds a holder to the record. Without memory all stays.
-    pub fn add_holder(&mut self, token: u64, to: u32) -> Result<(), AllocError>
-        ensures ok { OnOk result (self.new ≡ record self.old { records = map (with_holder token to) self.old.records }) }
-        ensures err { OnErr result (self.new ≡ self.old) }
-    {
-        self.records.add_holder(token, to)
     }
 
     /// Takes the records of a creator away, and that uid as a holder of the others. Takes no memory.

@@ -6,7 +6,7 @@ use Rattle.am_pending.proofs.Orders.{live-under}
 use Rattle.am_pending.proofs.by_token.ByToken.get.Goals as goal
 
 stays : Kept → Bool
-stays kept = not kept.ended
+stays kept = not kept.canceled
 
 pub returns-in_default : goal.returns-in_default
 unfolding stays
@@ -14,16 +14,16 @@ returns-in_default c =
     sym (live-under c.args.token c.self.inside.records.entries c.args.self.now c.self.view_is
     ∙ ap (option_filter stays) (sym c.get.ensures.value ∙ ap option_copied c.in_default.is))
 
-pub returns-then-has_ended : goal.returns-then-has_ended
+pub returns-then-is_canceled : goal.returns-then-is_canceled
 unfolding stays
-returns-then-has_ended c =
+returns-then-is_canceled c =
     sym (live-under c.args.token c.self.inside.records.entries c.args.self.now c.self.view_is
     ∙ ap (option_filter stays) (sym c.get.ensures.value ∙ ap option_copied c.in-Some.is)
-    ∙ ap (λ b. cond (not b) (Some c.in-Some.kept.now) None) (sym c.has_ended.ensures ∙ c.if-has_ended.true))
+    ∙ ap (λ b. cond (not b) (Some c.in-Some.kept.now) None) (sym c.is_canceled.ensures ∙ c.if-is_canceled.true))
 
 pub returns : goal.returns
 unfolding stays
 returns c =
     sym (live-under c.args.token c.self.inside.records.entries c.args.self.now c.self.view_is
     ∙ ap (option_filter stays) (sym c.get.ensures.value ∙ ap option_copied c.in-Some.is)
-    ∙ ap (λ b. cond (not b) (Some c.in-Some.kept.now) None) (sym c.has_ended.ensures ∙ c.if-has_ended.false))
+    ∙ ap (λ b. cond (not b) (Some c.in-Some.kept.now) None) (sym c.is_canceled.ensures ∙ c.if-is_canceled.false))

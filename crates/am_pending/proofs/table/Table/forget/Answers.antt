@@ -20,7 +20,7 @@ view uid es es' is =
     ap live_of is
     ∙ ap pendings_of (live-let_go uid (others_than uid es))
     ∙ pendings-let_go uid (live (others_than uid es))
-    ∙ ap (λ l. map (without_holder uid) (pendings_of l)) (filter-swap (λ (e : ℕ × Kept). not e.1.ended) (λ (e : ℕ × Kept). not (e.1.key.creator == uid)) es)
+    ∙ ap (λ l. map (without_holder uid) (pendings_of l)) (filter-swap (λ (e : ℕ × Kept). not e.1.canceled) (λ (e : ℕ × Kept). not (e.1.key.creator == uid)) es)
     ∙ ap (map (without_holder uid)) (pendings-others uid (live es))
 
 pub invariant_of-self : goal.invariant_of-self
