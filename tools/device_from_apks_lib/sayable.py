@@ -1,0 +1,123 @@
+"""Which values a device file can say: a value is checked and given in its form, or refused with the reason."""
+import re
+
+from .elements import Reference
+
+TEXT_BYTES = 1024
+KEY = re.compile(r"[\x21-\x7e]{1,255}")
+SCHEME = re.compile(r"[A-Za-z][A-Za-z0-9+.-]*")
+MIME_TYPE = re.compile(r"[^/\x00-\x20\x7f]+/[^/\x00-\x20\x7f]+")
+NUMBER = re.compile(r"[+-]?[0-9]{1,20}")
+HEX_NUMBER = re.compile(r"0[xX][0-9A-Fa-f]{1,8}")
+TRUTHS = {"true": True, "false": False}
+LAUNCH_MODES = ("standard", "singleTop", "singleTask", "singleInstance", "singleInstancePerTask")
+LARGEST_PORT = 99_999
+
+
+class Unsayable(Exception):
+    """Why a device file can't say a value."""
+
+
+def any_text(value):
+    """A text of at most 1,024 bytes, which may be empty."""
+    if value is None:
+        raise Unsayable("it isn't stated")
+    if isinstance(value, Reference):
+        raise Unsayable("an unresolved reference")
+    if len(value) > TEXT_BYTES or len(value.encode(errors="surrogatepass")) > TEXT_BYTES:
+        raise Unsayable("over 1,024 bytes")
+    if any("\ud800" <= c <= "\udfff" for c in value):
+        raise Unsayable("not a text in Unicode")
+    return value
+
+
+def text(value):
+    """A text that isn't empty."""
+    if not any_text(value):
+        raise Unsayable("an empty text")
+    return value
+
+
+def matching(value, pattern, words):
+    if not pattern.fullmatch(text(value)):
+        raise Unsayable(words)
+    return value
+
+
+def scheme(value):
+    return matching(value, SCHEME, "not a URI's scheme")
+
+
+def mime_type(value):
+    return matching(value, MIME_TYPE, "not a MIME type")
+
+
+def number(value):
+    """A whole number, in decimal digits or in the hexadecimal ones of 32 bits with their sign."""
+    if HEX_NUMBER.fullmatch(text(value)):
+        bits = int(value, 16)
+        return bits - 2**32 if bits >= 2**31 else bits
+    return int(matching(value, NUMBER, "not a whole number"))
+
+
+def number_of_32_bits(value):
+    found = number(value)
+    if not -(2**31) <= found < 2**31:
+        raise Unsayable("not a whole number of 32 bits")
+    return found
+
+
+def port(value):
+    found = number(value)
+    if not 0 <= found <= LARGEST_PORT:
+        raise Unsayable("not a port from 0 to 99,999")
+    return found
+
+
+def truth(value):
+    """Whether a value is true; a number is, unless it is 0."""
+    known = TRUTHS.get(text(value).lower())
+    if known is not None:
+        return known
+    if NUMBER.fullmatch(value) or HEX_NUMBER.fullmatch(value):
+        return number(value) != 0
+    raise Unsayable("neither true nor false")
+
+
+def launch_mode(value):
+    """The name of a launch mode, given by its name or its number."""
+    if text(value) in LAUNCH_MODES:
+        return value
+    if value.isascii() and value.isdigit() and int(value) < len(LAUNCH_MODES):
+        return LAUNCH_MODES[int(value)]
+    raise Unsayable("not a launch mode")
+
+
+def name(value):
+    """A text without a slash."""
+    if "/" in text(value):
+        raise Unsayable("a name with a slash")
+    return value
+
+
+def package_name(value):
+    if name(value).startswith("."):
+        raise Unsayable("a package's name that begins with a dot")
+    return value
+
+
+def class_name(package, value):
+    """The full name of a class, as Android completes it."""
+    if value and not isinstance(value, Reference):
+        if value.startswith("."):
+            value = package + value
+        elif "." not in value:
+            value = f"{package}.{value}"
+    return name(value)
+
+
+def affinity(package, value):
+    """The full name of an affinity, which is put behind the package's name where it begins with a colon."""
+    if value and value.startswith(":") and not isinstance(value, Reference):
+        value = package + value
+    return any_text(value)
