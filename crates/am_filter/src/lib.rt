@@ -1,13 +1,14 @@
-//! The filter test, when two intents are the same for a filter, and what one fills in of another.
+//! The filter test, how the data rows of a filter merge, when two intents are the same for a filter, and what one
+//! fills in of another.
 #![tactic(auto)]
 
 mod data;
 mod equal;
 mod fill;
 mod filter;
-#[cfg(test)]
-mod tests;
+mod rows;
 
 pub use equal::filter_equals;
 pub use fill::fill_in;
 pub use filter::passes;
+pub use rows::{Paths, Row, Rows, merge_rows};

@@ -2,7 +2,5 @@
 #![tactic(auto)]
 
 mod gate;
-#[cfg(test)]
-mod tests;
 
 pub use gate::{Ruling, holds, verdict};

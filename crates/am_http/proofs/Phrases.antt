@@ -4,7 +4,7 @@ use Rattle.am_types.specs.declared.reply.Reply.{Reply}
 use Rattle.am_types.specs.declared.reply.Reply.TheVariants as says
 use Rattle.am_types.specs.declared.rule.Rule.{Rule}
 use Rattle.am_types.specs.declared.rule.Rule.TheVariants as rules
-use Rattle.am_values.specs.Replies.{status_of}
+use Rattle.am_wire_values.specs.Replies.{status_of}
 use Rattle.am_http.specs.Responses.{HasPhrase}
 
 -- the rules have statuses with phrases

@@ -3,16 +3,16 @@ use Rattle.std.proofs.Common.{◌≡◌, ℕ, Bool, true, false, List, refl, sub
 use Rattle.std.specs.Prelude.{IfOk, Result, Ok, Err, codes, if◌then◌else◌}
 use Rattle.serde_json.specs.Data.{Data}
 use Rattle.am_types.specs.declared.request.Request.{Request}
-use Rattle.am_steps.specs.Steps.{is_served}
-use Rattle.am_routes.specs.declared.endpoint.Endpoint.{Endpoint}
-use Rattle.am_routes.specs.declared.endpoint.Endpoint.TheVariants as at
-use Rattle.am_routes.specs.declared.routes.RouteFault.{RouteFault}
-use Rattle.am_routes.specs.declared.routes.RouteFault.TheVariants as faults
-use Rattle.am_routes.specs.Table.{endpoint_of}
-use Rattle.am_fields.specs.declared.fault.WireFault.{WireFault}
-use Rattle.am_fields.specs.Bodies.{value_of}
-use Rattle.am_fields.specs.Reading.{◌>>=◌}
-use Rattle.am_intents.specs.Intents.{required_intent}
+use Rattle.am_history.specs.Steps.{is_served}
+use Rattle.am_wire_routes.specs.declared.endpoint.Endpoint.{Endpoint}
+use Rattle.am_wire_routes.specs.declared.endpoint.Endpoint.TheVariants as at
+use Rattle.am_wire_routes.specs.declared.routes.RouteFault.{RouteFault}
+use Rattle.am_wire_routes.specs.declared.routes.RouteFault.TheVariants as faults
+use Rattle.am_wire_routes.specs.Table.{endpoint_of}
+use Rattle.am_wire_fields.specs.declared.fault.WireFault.{WireFault}
+use Rattle.am_wire_fields.specs.Bodies.{value_of}
+use Rattle.am_wire_fields.specs.Reading.{◌>>=◌}
+use Rattle.am_wire_intents.specs.Intents.{required_intent}
 use Rattle.am_wire.specs.Activities.{query_in, query_fields, fields_of, default_only_of}
 use Rattle.am_wire.specs.Words.{kind_of}
 use Rattle.am_wire.specs.Requests.{request_of as request_at, request_in, posted}

@@ -1,18 +1,21 @@
 -- How a connection starts, goes on and ends.
-use Rattle.std.proofs.Common.{◌≡◌, ℕ, ◌+◌, ◌<◌, false, List, [], ◌∷◌, ◌++◌, length, drop, Option, Some, None, refl, sym, ap, ◌∙◌, subst, inl, inr, arith, append_assoc, length-append, append-nil}
+use Rattle.std.proofs.Common.{◌≡◌, ℕ, suc, ◌+◌, ◌<◌, true, false, List, [], ◌∷◌, ◌++◌, length, drop, Option, Some, None, refl, sym, ap, ◌∙◌, subst, inl, inr, arith, append_assoc, length-append, append-nil}
 use Rattle.std.specs.Prelude.{IfSome}
-use Rattle.std.specs.Option.{option_map}
+use Rattle.std.specs.Option.{option_map, option_to_list}
 use Rattle.std.specs.Io.KnownBytes.{Appends, Keeps}
 use Rattle.std.proofs.lemmas.Grind.{flat_map-append}
 use Rattle.am_types.specs.declared.history.Entry.{Entry}
-use Rattle.am_steps.specs.State.{State}
+use Rattle.am_outside.specs.Clock.{IsTold}
+use Rattle.am_history.specs.Desks.{DeskView, Origin, opening_of, IsSameDesk}
+use Rattle.am_history.specs.History.{IsLegal}
 use Rattle.am_http.specs.declared.end.End.{End}
 use Rattle.am_http.specs.declared.end.End.TheVariants.{Input, Close, Refused, Cut, Limit, ReadFault, WriteFault}
 use Rattle.am_http.specs.Head.{Frame, whole}
 use Rattle.am_http.specs.Framing.{IsFraming}
 use Rattle.am_http.specs.Frames.{Splits, Leaves, Drops}
-use Rattle.am_http.specs.Exchanges.{Exchange, AreAnswered, frames_of, bytes_of}
-use Rattle.am_http.specs.Sessions.{most_frames, most_bytes, GivesAtMost, defect_text, Session, Going, Went, Closes, Stops}
+use Rattle.am_http.specs.Exchanges.{Exchange, AreAnswered, frames_of, bytes_of, moments_of}
+use Rattle.am_http.specs.Links.{Link, Midway, Server, Moments, Gives, rest_of, GoesOn, IsSameLink}
+use Rattle.am_http.specs.Sessions.{most_frames, most_bytes, GivesAtMost, StayOpen, MayGoOn, defect_text, Session, Going, Serves, Replies, IsUnasked, Stops}
 use Rattle.am_http.specs.Sending.{WritesPart}
 use Rattle.am_http.proofs.SendLemmas.{appends_trans, appends_none, appends_self}
 use Rattle.am_http.proofs.ExchangeLemmas.{stands, one_more, none_yet, all_more}
@@ -44,21 +47,49 @@ bytes_more : (es : List Exchange) (e : Exchange) → bytes_of (es ++ e ∷ []) �
 bytes_more es e =
     flat_map-append (λ (x : Exchange). x.bytes) es (e ∷ []) ∙ ap (λ bs. bytes_of es ++ bs) (append-nil e.bytes)
 
-leaves_self : (input : Option (List ℕ)) → Leaves input [] input
+-- a connection that begins, with an empty window
+pub going_none : (first : Link) (w : List ℕ) → Leaves first.source.left [] (rest_of (record { link = first; window = w }))
+    → Going first (record { link = first; window = w }) 0
+going_none first w leaves =
+    record {
+      exchanges = [];
+      answers = none_yet first.server.desk;
+      moments = λ calls. refl;
+      frames = leaves;
+      stays = tt;
+      output = appends_self first.sink.taken;
+      counted = refl;
+    }
+
+pub leaves_self : (input : Option (List ℕ)) → Leaves input [] input
 leaves_self None = tt
 leaves_self (Some input) = refl
 
--- a connection that begins
-pub going_none : (start : State) (desk : ℕ) (seen : List Entry) (input old : Option (List ℕ)) → Going start desk seen seen input input old old 0
-going_none start desk seen input old =
-    record {
-      exchanges = [];
-      answers = none_yet start desk seen;
-      frames = leaves_self input;
-      stays = tt;
-      output = appends_self old;
-      counted = refl;
-    }
+-- what a clock gave, and then gave further
+gives_as : (a b : Moments) (ms : List ℕ) (c : Moments) → ((calls : ℕ) → b calls ≡ a calls) → Gives b ms c → Gives a ms c
+gives_as a b [] c same gives = λ calls. gives calls ∙ same calls
+gives_as a b (m ∷ ms) c same gives = (
+  subst (λ told. IsTold told m) (same 0) gives.0,
+  gives_as (λ calls. a (suc calls)) (λ calls. b (suc calls)) ms c (λ calls. same (suc calls)) gives.1,
+)
+
+gives_trans : (a : Moments) (xs : List ℕ) (b : Moments) (ys : List ℕ) (c : Moments) → Gives a xs b → Gives b ys c → Gives a (xs ++ ys) c
+gives_trans a [] b ys c first next = gives_as a b ys c first next
+gives_trans a (x ∷ xs) b ys c first next = (first.0, gives_trans (λ calls. a (suc calls)) xs b ys c first.1 next)
+
+moments_more : (es : List Exchange) (e : Exchange) → moments_of (es ++ e ∷ []) ≡ moments_of es ++ option_to_list e.now
+moments_more es e =
+    flat_map-append (λ (x : Exchange). option_to_list x.now) es (e ∷ [])
+    ∙ ap (λ ms. moments_of es ++ ms) (append-nil (option_to_list e.now))
+
+more_moments : (a b c : Moments) (es : List Exchange) (e : Exchange)
+    → Gives a (moments_of es) b → Gives b (option_to_list e.now) c → Gives a (moments_of (es ++ e ∷ [])) c
+more_moments a b c es e so_far next =
+    subst (λ ms. Gives a ms c) (sym (moments_more es e)) (gives_trans a (moments_of es) b (option_to_list e.now) c so_far next)
+
+unasked_moments : (a b c : Moments) (ms : List ℕ) → Gives a ms b → Gives b [] c → Gives a ms c
+unasked_moments a b c ms so_far none =
+    subst (λ xs. Gives a xs c) (append-nil ms) (gives_trans a ms b [] c so_far none)
 
 -- the exchanges so far and one more, with their output
 more_frames : (input rest after : Option (List ℕ)) (es : List Exchange) (e : Exchange)
@@ -74,56 +105,71 @@ more_output old mid new es e so_far next =
 more_count : (es : List Exchange) (e : Exchange) (count : ℕ) → length es ≡ count → length (es ++ e ∷ []) ≡ count + 1
 more_count es e count h = omega (arith, h, length-append es (e ∷ []))
 
+-- the exchanges so far and one more that a desk answered
+more_answers : (first : Link) (mid : Midway) (new : Server) (es : List Exchange) (e : Exchange)
+    → IsSameDesk first.server.desk mid.link.server.desk → AreAnswered first.server.desk mid.link.server.desk es
+    → Serves mid.link.server new e → AreAnswered first.server.desk new.desk (es ++ e ∷ [])
+more_answers first mid new es e same so_far next =
+    one_more first.server.desk mid.link.server.desk new.desk es e same so_far
+    (stands mid.link.server.desk new.desk e next.answer)
+
 -- a connection that goes on
-pub going_more : (start : State) (desk : ℕ) (seen mid new : List Entry) (input rest after old half now : Option (List ℕ)) (count : ℕ)
-    → Going start desk seen mid input rest old half count → Went start desk mid new rest after half now
-    → Going start desk seen new input after old now (count + 1)
-going_more start desk seen mid new input rest after old half now count so_far next =
+pub going_more : (first : Link) (mid new : Midway) (count : ℕ) → IsSameDesk first.server.desk mid.link.server.desk
+    → Going first mid count → Replies false mid new → Going first new (count + 1)
+going_more first mid new count same so_far next =
     record {
       exchanges = so_far.exchanges ++ next.exchange ∷ [];
-      answers = one_more start desk seen mid new so_far.exchanges next.exchange so_far.answers (stands start desk mid new next.exchange next.answer);
-      frames = more_frames input rest after so_far.exchanges next.exchange so_far.frames next.frame;
-      stays = all_more (λ (e : Exchange). e.frame.close ≡ false) so_far.exchanges next.exchange so_far.stays next.stays;
-      output = more_output old half now so_far.exchanges next.exchange so_far.output next.output;
+      answers = more_answers first mid new.link.server so_far.exchanges next.exchange same so_far.answers next.served;
+      moments = more_moments first.server.clock mid.link.server.clock new.link.server.clock so_far.exchanges next.exchange
+          so_far.moments next.served.moment;
+      frames = more_frames first.source.left (rest_of mid) (rest_of new) so_far.exchanges next.exchange so_far.frames next.frame;
+      stays = all_more (λ (e : Exchange). e.frame.close ≡ false) so_far.exchanges next.exchange so_far.stays next.closes;
+      output = more_output first.sink.taken mid.link.sink.taken new.link.sink.taken so_far.exchanges next.exchange
+          so_far.output next.output;
       counted = more_count so_far.exchanges next.exchange count so_far.counted;
     }
 
 -- a connection that the peer closes
-pub session_close : (start : State) (desk : ℕ) (seen mid new : List Entry) (input rest after left old half now : Option (List ℕ)) (count : ℕ)
-    → count < most_frames → GivesAtMost most_bytes input left
-    → Going start desk seen mid input rest old half count → Closes start desk mid new rest after half now
-    → Session start desk seen new input left old now (record { end = Close; answered = count + 1 })
-session_close start desk seen mid new input rest after left old half now count below gives so_far next =
+pub session_close : (first : Link) (mid : Midway) (link : Link) (window : List ℕ) (count : ℕ) → count < most_frames
+    → GivesAtMost most_bytes first.source.left link.source.left → IsSameDesk first.server.desk mid.link.server.desk
+    → Going first mid count → Replies true mid (record { link = link; window = window })
+    → Session first link (record { end = Close; answered = count + 1 })
+session_close first mid link window count below gives same so_far next =
+    let new : Midway = record { link = link; window = window } in
+    let es = so_far.exchanges in
+    let e = next.exchange in
     record {
-      exchanges = so_far.exchanges ++ next.exchange ∷ [];
-      rest = after;
+      exchanges = es ++ e ∷ [];
+      rest = rest_of new;
       last = [];
-      answers = one_more start desk seen mid new so_far.exchanges next.exchange so_far.answers (stands start desk mid new next.exchange next.answer);
-      frames = more_frames input rest after so_far.exchanges next.exchange so_far.frames next.frame;
-      most = omega (arith, below, more_count so_far.exchanges next.exchange count so_far.counted);
+      answers = more_answers first mid new.link.server es e same so_far.answers next.served;
+      moments = more_moments first.server.clock mid.link.server.clock new.link.server.clock es e so_far.moments next.served.moment;
+      frames = more_frames first.source.left (rest_of mid) (rest_of new) es e so_far.frames next.frame;
+      most = omega (arith, below, more_count es e count so_far.counted);
       taken = gives;
-      end = ((so_far.exchanges, next.exchange, refl, so_far.stays, next.closes), refl);
-      output = subst (λ bs. Appends old now bs) (sym (append-nil (bytes_of (so_far.exchanges ++ next.exchange ∷ []))))
-          (more_output old half now so_far.exchanges next.exchange so_far.output next.output);
-      answered = sym (more_count so_far.exchanges next.exchange count so_far.counted);
+      end = (sym (more_count es e count so_far.counted), (es, e, refl, so_far.stays, next.closes), refl);
+      output = subst (λ bs. Appends first.sink.taken new.link.sink.taken bs) (sym (append-nil (bytes_of (es ++ e ∷ []))))
+          (more_output first.sink.taken mid.link.sink.taken new.link.sink.taken es e so_far.output next.output);
     }
 
 -- a connection that has had as many frames as it may
-pub session_limit : (start : State) (desk : ℕ) (seen new : List Entry) (input rest left old now : Option (List ℕ))
-    → GivesAtMost most_bytes input left → Going start desk seen new input rest old now 65536
-    → Session start desk seen new input left old now (record { end = Limit; answered = 65536 })
-session_limit start desk seen new input rest left old now gives so_far =
+pub session_limit : (first link : Link) (window : List ℕ) → GivesAtMost most_bytes first.source.left link.source.left
+    → Going first (record { link = link; window = window }) 65536
+    → Session first link (record { end = Limit; answered = 65536 })
+session_limit first link window gives so_far =
+    let mid : Midway = record { link = link; window = window } in
     record {
       exchanges = so_far.exchanges;
-      rest = rest;
+      rest = rest_of mid;
       last = [];
       answers = so_far.answers;
+      moments = so_far.moments;
       frames = so_far.frames;
       most = omega (arith, so_far.counted);
       taken = gives;
-      end = (so_far.stays, so_far.counted, refl);
-      output = subst (λ bs. Appends old now bs) (sym (append-nil (bytes_of so_far.exchanges))) so_far.output;
-      answered = sym so_far.counted;
+      end = (sym so_far.counted, so_far.stays, so_far.counted, refl);
+      output = subst (λ bs. Appends first.sink.taken mid.link.sink.taken bs) (sym (append-nil (bytes_of so_far.exchanges)))
+          so_far.output;
     }
 
 -- what is kept after the exchanges so far
@@ -148,98 +194,163 @@ unfolding rest_after
 drops_after None f h = tt
 drops_after (Some input) f h = (h, refl)
 
-same_seen : (start : State) (desk : ℕ) (seen mid new : List Entry) (es : List Exchange) → new ≡ mid
-    → AreAnswered start desk seen mid es → AreAnswered start desk seen new es
-same_seen start desk seen mid new es same so_far = subst (λ h. AreAnswered start desk seen h es) (sym same) so_far
+-- the exchanges so far, after something that no desk was asked for
+same_answers : (first mid new : DeskView) (es : List Exchange) → new.seen ≡ mid.seen → AreAnswered first mid es → AreAnswered first new es
+same_answers first mid new es same so_far =
+    let P : List Entry → Type 0 = λ (h : List Entry). AreAnswered first (record { origin = new.origin; number = new.number; sharing = new.sharing; seen = h }) es in
+    subst P (sym same)
+    (record {
+      grows = so_far.grows;
+      answers = so_far.answers;
+      in_order = so_far.in_order;
+      floor = so_far.floor;
+      own = so_far.own;
+      alone = so_far.alone;
+    })
+
+-- fewer frames were answered than a connection may have
+may_go_on : (es : List Exchange) (count : ℕ) → length es ≡ count → count < most_frames → StayOpen es → MayGoOn es
+may_go_on es count counted below stays = record { stays = stays; below = omega (arith, counted, below) }
 
 -- a connection that ends before a further frame is answered
-pub session_stop : (start : State) (desk : ℕ) (seen mid new : List Entry) (input rest left old half now : Option (List ℕ)) (count : ℕ) (end : End)
-    → count < most_frames → GivesAtMost most_bytes input left
-    → Going start desk seen mid input rest old half count → Stops end start desk mid new rest left half now
-    → Session start desk seen new input left old now (record { end = end; answered = count })
-session_stop start desk seen mid new input rest left old half now count Input below gives so_far stop =
-    record {
-      exchanges = so_far.exchanges;
-      rest = rest;
-      last = [];
-      answers = same_seen start desk seen mid new so_far.exchanges stop.0 so_far.answers;
-      frames = so_far.frames;
-      most = omega (arith, below, so_far.counted);
-      taken = gives;
-      end = (so_far.stays, stop.1, refl);
-      output = kept_output old half now (bytes_of so_far.exchanges) so_far.output stop.2;
-      answered = sym so_far.counted;
-    }
-session_stop start desk seen mid new input rest left old half now count Close below gives so_far stop = absurd stop
-session_stop start desk seen mid new input rest left old half now count Refused below gives so_far stop =
-    record {
-      exchanges = so_far.exchanges;
-      rest = rest;
-      last = defect_text stop.1.0;
-      answers = same_seen start desk seen mid new so_far.exchanges stop.0 so_far.answers;
-      frames = so_far.frames;
-      most = omega (arith, below, so_far.counted);
-      taken = gives;
-      end = (so_far.stays, (stop.1.0, stop.1.1, refl));
-      output = appends_trans old half now (bytes_of so_far.exchanges) (defect_text stop.1.0) so_far.output stop.1.2;
-      answered = sym so_far.counted;
-    }
-session_stop start desk seen mid new input rest left old half now count Cut below gives so_far stop =
-    record {
-      exchanges = so_far.exchanges;
-      rest = rest;
-      last = [];
-      answers = same_seen start desk seen mid new so_far.exchanges stop.0 so_far.answers;
-      frames = so_far.frames;
-      most = omega (arith, below, so_far.counted);
-      taken = gives;
-      end = (so_far.stays, stop.1, refl);
-      output = kept_output old half now (bytes_of so_far.exchanges) so_far.output stop.2;
-      answered = sym so_far.counted;
-    }
-session_stop start desk seen mid new input rest left old half now count Limit below gives so_far stop = absurd stop
-session_stop start desk seen mid new input rest left old half now count ReadFault below gives so_far stop =
-    record {
-      exchanges = so_far.exchanges;
-      rest = rest;
-      last = [];
-      answers = same_seen start desk seen mid new so_far.exchanges stop.0 so_far.answers;
-      frames = so_far.frames;
-      most = omega (arith, below, so_far.counted);
-      taken = gives;
-      end = (so_far.stays, stop.1, refl);
-      output = kept_output old half now (bytes_of so_far.exchanges) so_far.output stop.2;
-      answered = sym so_far.counted;
-    }
-session_stop start desk seen mid new input rest left old half now count WriteFault below gives so_far (inl (bytes, next, part)) =
-    let es = so_far.exchanges ++ next.exchange ∷ [] in
-    let text : WritesPart old now (bytes_of so_far.exchanges ++ next.exchange.bytes) =
-    part_more old half now (bytes_of so_far.exchanges) next.exchange.bytes so_far.output
-    (subst (λ bs. WritesPart half now bs) (sym next.said) part) in
+stopped : (first : Link) (mid new : Midway) (count : ℕ) (end : End) → count < most_frames
+    → GivesAtMost most_bytes first.source.left new.link.source.left → IsSameDesk first.server.desk mid.link.server.desk
+    → Going first mid count → Stops end mid new → Session first new.link (record { end = end; answered = count })
+stopped first mid new count Input below gives same so_far stop =
+    let es = so_far.exchanges in
     record {
       exchanges = es;
-      rest = rest_after rest next.exchange.frame;
+      rest = rest_of mid;
       last = [];
-      answers = one_more start desk seen mid new so_far.exchanges next.exchange so_far.answers (stands start desk mid new next.exchange next.answer);
-      frames = more_frames input rest (rest_after rest next.exchange.frame) so_far.exchanges next.exchange so_far.frames
-          (drops_after rest next.exchange.frame next.frame);
-      most = omega (arith, below, more_count so_far.exchanges next.exchange count so_far.counted);
-      taken = gives;
-      end = inl ((so_far.exchanges, next.exchange, refl, so_far.stays), refl);
-      output = subst (λ bs. WritesPart old now bs)
-          (sym (append-nil (bytes_of es) ∙ bytes_more so_far.exchanges next.exchange)) text;
-      answered = inr (sym (more_count so_far.exchanges next.exchange count so_far.counted));
-    }
-session_stop start desk seen mid new input rest left old half now count WriteFault below gives so_far (inr (same, (defect, has, part))) =
-    record {
-      exchanges = so_far.exchanges;
-      rest = rest;
-      last = defect_text defect;
-      answers = same_seen start desk seen mid new so_far.exchanges same so_far.answers;
+      answers = same_answers first.server.desk mid.link.server.desk new.link.server.desk es stop.1.unasked.seen so_far.answers;
+      moments = unasked_moments first.server.clock mid.link.server.clock new.link.server.clock (moments_of es) so_far.moments stop.1.unasked.clock;
       frames = so_far.frames;
       most = omega (arith, below, so_far.counted);
       taken = gives;
-      end = inr (so_far.stays, (defect, has, refl));
-      output = part_more old half now (bytes_of so_far.exchanges) (defect_text defect) so_far.output part;
-      answered = inl (sym so_far.counted);
+      end = (sym so_far.counted, may_go_on es count so_far.counted below so_far.stays, stop.0, refl);
+      output = kept_output first.sink.taken mid.link.sink.taken new.link.sink.taken (bytes_of es) so_far.output stop.1.output;
+    }
+stopped first mid new count Close below gives same so_far stop = absurd stop
+stopped first mid new count Refused below gives same so_far stop =
+    let es = so_far.exchanges in
+    record {
+      exchanges = es;
+      rest = rest_of mid;
+      last = defect_text stop.0;
+      answers = same_answers first.server.desk mid.link.server.desk new.link.server.desk es stop.2.unasked.seen so_far.answers;
+      moments = unasked_moments first.server.clock mid.link.server.clock new.link.server.clock (moments_of es) so_far.moments stop.2.unasked.clock;
+      frames = so_far.frames;
+      most = omega (arith, below, so_far.counted);
+      taken = gives;
+      end = (sym so_far.counted, (may_go_on es count so_far.counted below so_far.stays, (stop.0, stop.1, refl)));
+      output = appends_trans first.sink.taken mid.link.sink.taken new.link.sink.taken (bytes_of es) (defect_text stop.0) so_far.output stop.2.output;
+    }
+stopped first mid new count Cut below gives same so_far stop =
+    let es = so_far.exchanges in
+    record {
+      exchanges = es;
+      rest = rest_of mid;
+      last = [];
+      answers = same_answers first.server.desk mid.link.server.desk new.link.server.desk es stop.1.unasked.seen so_far.answers;
+      moments = unasked_moments first.server.clock mid.link.server.clock new.link.server.clock (moments_of es) so_far.moments stop.1.unasked.clock;
+      frames = so_far.frames;
+      most = omega (arith, below, so_far.counted);
+      taken = gives;
+      end = (sym so_far.counted, may_go_on es count so_far.counted below so_far.stays, stop.0, refl);
+      output = kept_output first.sink.taken mid.link.sink.taken new.link.sink.taken (bytes_of es) so_far.output stop.1.output;
+    }
+stopped first mid new count Limit below gives same so_far stop = absurd stop
+stopped first mid new count ReadFault below gives same so_far stop =
+    let es = so_far.exchanges in
+    record {
+      exchanges = es;
+      rest = rest_of mid;
+      last = [];
+      answers = same_answers first.server.desk mid.link.server.desk new.link.server.desk es stop.2.unasked.seen so_far.answers;
+      moments = unasked_moments first.server.clock mid.link.server.clock new.link.server.clock (moments_of es) so_far.moments stop.2.unasked.clock;
+      frames = so_far.frames;
+      most = omega (arith, below, so_far.counted);
+      taken = gives;
+      end = (sym so_far.counted, may_go_on es count so_far.counted below so_far.stays, (new.window, stop.0, stop.1), refl);
+      output = kept_output first.sink.taken mid.link.sink.taken new.link.sink.taken (bytes_of es) so_far.output stop.2.output;
+    }
+stopped first mid new count WriteFault below gives same so_far (inl next) =
+    let es = so_far.exchanges in
+    let e = next.exchange in
+    let more = more_count es e count so_far.counted in
+    let text : WritesPart first.sink.taken new.link.sink.taken (bytes_of es ++ e.bytes) =
+    part_more first.sink.taken mid.link.sink.taken new.link.sink.taken (bytes_of es) e.bytes so_far.output next.output in
+    record {
+      exchanges = es ++ e ∷ [];
+      rest = rest_after (rest_of mid) e.frame;
+      last = [];
+      answers = more_answers first mid new.link.server es e same so_far.answers next.served;
+      moments = more_moments first.server.clock mid.link.server.clock new.link.server.clock es e so_far.moments next.served.moment;
+      frames = more_frames first.source.left (rest_of mid) (rest_after (rest_of mid) e.frame) es e so_far.frames
+          (drops_after (rest_of mid) e.frame next.frame);
+      most = omega (arith, below, more);
+      taken = gives;
+      end = inl (sym more, (es, e, refl, so_far.stays), refl);
+      output = subst (λ bs. WritesPart first.sink.taken new.link.sink.taken bs)
+          (sym (append-nil (bytes_of (es ++ e ∷ [])) ∙ bytes_more es e)) text;
+    }
+stopped first mid new count WriteFault below gives same so_far (inr stop) =
+    let es = so_far.exchanges in
+    record {
+      exchanges = es;
+      rest = rest_of mid;
+      last = defect_text stop.0;
+      answers = same_answers first.server.desk mid.link.server.desk new.link.server.desk es stop.2.unasked.seen so_far.answers;
+      moments = unasked_moments first.server.clock mid.link.server.clock new.link.server.clock (moments_of es) so_far.moments stop.2.unasked.clock;
+      frames = so_far.frames;
+      most = omega (arith, below, so_far.counted);
+      taken = gives;
+      end = inr (sym so_far.counted, (may_go_on es count so_far.counted below so_far.stays, (stop.0, stop.1, refl)));
+      output = part_more first.sink.taken mid.link.sink.taken new.link.sink.taken (bytes_of es) (defect_text stop.0) so_far.output stop.2.output;
+    }
+
+pub session_stop : (first : Link) (mid : Midway) (link : Link) (window : List ℕ) (count : ℕ) (end : End) → count < most_frames
+    → GivesAtMost most_bytes first.source.left link.source.left → IsSameDesk first.server.desk mid.link.server.desk
+    → Going first mid count → Stops end mid (record { link = link; window = window })
+    → Session first link (record { end = end; answered = count })
+session_stop first mid link window count end below gives same so_far stop =
+    stopped first mid (record { link = link; window = window }) count end below gives same so_far stop
+
+-- what a connection is served with stays the same from turn to turn
+pub same_desk_trans : (a b c : DeskView) → IsSameDesk a b → IsSameDesk b c → IsSameDesk a c
+same_desk_trans a b c first next =
+    record {
+      origin = next.origin ∙ first.origin;
+      number = next.number ∙ first.number;
+      sharing = next.sharing ∙ first.sharing;
+    }
+
+pub goes_on_trans : (a b c : DeskView) → GoesOn a b → GoesOn b c → GoesOn a c
+goes_on_trans a b c first next =
+    let P : Origin → Type 0 = λ (o : Origin). IsLegal (opening_of o) b.seen → IsLegal (opening_of o) c.seen in
+    record {
+      desk = same_desk_trans a b c first.desk next.desk;
+      legal = λ h. subst P first.desk.origin next.legal (first.legal h);
+    }
+
+pub same_link_trans : (a b c : Link) → IsSameLink a b → IsSameLink b c → IsSameLink a c
+same_link_trans a b c first next =
+    record {
+      desk = goes_on_trans a.server.desk b.server.desk c.server.desk first.desk next.desk;
+      source = record {
+        mark = next.source.mark ∙ first.source.mark;
+        never_falls = omega (arith, first.source.never_falls, next.source.never_falls);
+      };
+      sink = record {
+        mark = next.sink.mark ∙ first.sink.mark;
+        never_falls = omega (arith, first.sink.never_falls, next.sink.never_falls);
+      };
+    }
+
+pub same_link_refl : (a : Link) → IsSameLink a a
+same_link_refl a =
+    record {
+      desk = record { desk = record { origin = refl; number = refl; sharing = refl }; legal = λ h. h };
+      source = record { mark = refl; never_falls = omega arith };
+      sink = record { mark = refl; never_falls = omega arith };
     }

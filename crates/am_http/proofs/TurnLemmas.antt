@@ -1,26 +1,27 @@
 -- One turn of a connection.
-use Rattle.std.proofs.Common.{◌≡◌, ℕ, true, false, List, [], ◌++◌, drop, Option, Some, None, refl, sym, ap, ◌∙◌, subst, inl, inr, append-nil}
+use Rattle.std.proofs.Common.{◌≡◌, ℕ, suc, Bool, true, false, List, [], ◌++◌, drop, Option, Some, None, refl, sym, ap, ◌∙◌, subst, inl, inr, append-nil}
 use Rattle.std.specs.Prelude.{IfSome, Result, Ok, Err, is_err}
 use Rattle.std.specs.Io.KnownBytes.{Appends, Keeps, prepend_known}
 use Rattle.std.proofs.lemmas.List.{drop-append-le}
-use Rattle.am_types.specs.declared.history.Entry.{Entry}
 use Rattle.am_outside.specs.declared.failure.Failed.{Failed}
-use Rattle.am_steps.specs.State.{State}
-use Rattle.am_steps.specs.History.{entries_of}
+use Rattle.am_outside.specs.Clock.{IsTold}
+use Rattle.am_history.specs.History.{entries_of}
 use Rattle.am_http.specs.declared.frame.Defect.{Defect}
 use Rattle.am_http.specs.declared.frame.FrameSpans.{FrameSpans}
 use Rattle.am_http.specs.declared.frame.Found.{Found}
 use Rattle.am_http.specs.declared.frame.Found.TheVariants as Spans
 use Rattle.am_http.specs.declared.answer.Answer.{Answer}
 use Rattle.am_http.specs.declared.answer.Answer.TheVariants.{Refused, Shown as Reply, Want}
-use Rattle.am_http.specs.Answering.{AnswersFrame, Says}
+use Rattle.am_http.specs.Answering.{AnswersAt, AnswersFrame, Says}
 use Rattle.am_http.specs.Exchanges.{Exchange, Answered, refused_at_once, replied, wanted, wanted_late}
 use Rattle.am_http.specs.FrameSpans.{outcome_at, frame_at}
 use Rattle.am_http.specs.Frames.{Drops}
 use Rattle.am_http.specs.Framing.{IsFraming}
 use Rattle.am_http.specs.Head.{Frame, empty, whole, refused, cut}
 use Rattle.am_http.specs.Sending.{WritesPart, Sends}
-use Rattle.am_http.specs.Sessions.{Went, Closes, FailsAt, HasDefect}
+use Rattle.am_http.specs.Links.{Link, Midway, Server, rest_of, Gives}
+use Rattle.am_http.specs.Requests.{request_of}
+use Rattle.am_http.specs.Sessions.{Serves, Replies, FailsAtAnswer, HasDefect}
 use Rattle.am_http.specs.Windows.{Finds}
 use Rattle.am_http.proofs.FramingLemmas.{empty_only, whole_stays, whole_fits}
 
@@ -79,79 +80,100 @@ told_frame (Some input) w None f keeps framed = absurd keeps
 told_frame (Some input) w (Some left) f keeps framed =
     subst (λ (xs : List ℕ). IsFraming xs (whole f)) keeps (whole_stays w left f framed)
 
+-- the answer to a call at the moment that the clock gave
+pub answered_at : (old new : Server) (f : Frame) (now : ℕ) (answer : Answer) → AnswersAt old.desk new.desk f now answer
+    → IsTold (old.clock 0) now → ((calls : ℕ) → new.clock calls ≡ old.clock (suc calls)) → AnswersFrame old new f answer
+answered_at old new f now (Refused refusal) answers told next = absurd answers
+answered_at old new f now (Reply shown) answers told next = (now, answers.0, answers.1, answers.2, (told, next))
+answered_at old new f now Want answers told next = (answers, (Some now, (told, next)))
+
 -- an answer with its text is an exchange
-exchange_of : (start : State) (desk : ℕ) (old new : List Entry) (f : Frame) (answer : Answer) (bytes : List ℕ)
-    → AnswersFrame start desk old new f answer → Says answer bytes
-    → (e : Exchange) × Answered start desk old new e × (e.frame ≡ f) × (e.bytes ≡ bytes)
-exchange_of start desk old new f (Refused refusal) bytes answers (inl said) =
-    (record { frame = f; now = 0; point = None; bytes = bytes }, refused_at_once refusal answers.0 refl said answers.1, refl, refl)
-exchange_of start desk old new f (Refused refusal) bytes answers (inr said) = (
-  record { frame = f; now = 0; point = None; bytes = bytes },
-  wanted (record { grows = ([], answers.1 ∙ sym (append-nil old)); others = ap (entries_of desk) answers.1 }) refl said,
+exchange_of : (old new : Server) (f : Frame) (answer : Answer) (bytes : List ℕ) → AnswersFrame old new f answer → Says answer bytes
+    → (e : Exchange) × Serves old new e × (e.frame ≡ f) × (e.bytes ≡ bytes)
+exchange_of old new f (Refused refusal) bytes answers (inl said) = (
+  record { frame = f; now = None; point = None; bytes = bytes },
+  record { answer = refused_at_once refusal answers.0 refl refl said answers.1; moment = answers.2 },
   refl,
   refl,
 )
-exchange_of start desk old new f (Reply shown) bytes answers (inl said) = (
-  record { frame = f; now = answers.0; point = Some (record { at = shown.at; stored = shown.stored }); bytes = bytes },
-  replied answers.1 shown answers.2 answers.3 refl said,
+exchange_of old new f (Refused refusal) bytes answers (inr said) = (
+  record { frame = f; now = None; point = None; bytes = bytes },
+  record {
+    answer = wanted
+        (record {
+          grows = ([], answers.1 ∙ sym (append-nil old.desk.seen));
+          others = ap (entries_of old.desk.number) answers.1;
+          alone = λ one. answers.1;
+        })
+        refl said;
+    moment = answers.2;
+  },
   refl,
   refl,
 )
-exchange_of start desk old new f (Reply shown) bytes answers (inr said) = (
-  record { frame = f; now = answers.0; point = Some (record { at = shown.at; stored = shown.stored }); bytes = bytes },
-  wanted_late answers.1 shown answers.2 answers.3 refl said,
+exchange_of old new f (Reply shown) bytes answers (inl said) = (
+  record { frame = f; now = Some answers.0; point = Some (record { at = shown.at; stored = shown.stored }); bytes = bytes },
+  record {
+    answer = replied shown
+        (record { request = answers.1; asks = answers.2; now = answers.0; asked = refl; placed = refl; shows = answers.3 }) said;
+    moment = answers.4;
+  },
   refl,
   refl,
 )
-exchange_of start desk old new f Want bytes answers said =
-    (record { frame = f; now = 0; point = None; bytes = bytes }, wanted answers refl said, refl, refl)
+exchange_of old new f (Reply shown) bytes answers (inr said) = (
+  record { frame = f; now = Some answers.0; point = Some (record { at = shown.at; stored = shown.stored }); bytes = bytes },
+  record {
+    answer = wanted_late shown
+        (record { request = answers.1; asks = answers.2; now = answers.0; asked = refl; placed = refl; shows = answers.3 }) said;
+    moment = answers.4;
+  },
+  refl,
+  refl,
+)
+exchange_of old new f Want bytes answers said = (
+  record { frame = f; now = answers.1.0; point = None; bytes = bytes },
+  record { answer = wanted answers.0 refl said; moment = answers.1.1 },
+  refl,
+  refl,
+)
 
--- the frame was answered, and the connection goes on
-pub turn_went : (start : State) (desk : ℕ) (old new : List Entry) (rest : Option (List ℕ)) (w : List ℕ) (left : Option (List ℕ))
-    (f : Frame) (answer : Answer) (bytes : List ℕ) (t t' : Option (List ℕ))
-    → Keeps rest (prepend_known w left) → IsFraming w (whole f) → AnswersFrame start desk old new f answer → Says answer bytes
-    → Appends t t' bytes → f.close ≡ false → Went start desk old new rest (prepend_known (drop f.length w) left) t t'
-turn_went start desk old new rest w left f answer bytes t t' keeps framed answers said sent stays =
-    let made = exchange_of start desk old new f answer bytes answers said in
+-- the rest of an input behind the frame that was found, and what the window then holds
+behind_frame : (rest : Option (List ℕ)) (w used : List ℕ) (left : Option (List ℕ)) (f : Frame) → Keeps rest (prepend_known w left)
+    → IsFraming w (whole f) → drop f.length w ≡ used → Drops rest f (prepend_known used left)
+behind_frame rest w used left f keeps framed is =
+    subst (λ (xs : List ℕ). Drops rest f (prepend_known xs left)) is (drops_of rest w left f keeps framed)
+
+-- the frame was answered, and its response written
+pub turn_replied : (close : Bool) (old new : Midway) (w : List ℕ) (f : Frame) (answer : Answer) (bytes : List ℕ)
+    → Keeps (rest_of old) (prepend_known w new.link.source.left) → IsFraming w (whole f) → drop f.length w ≡ new.window
+    → AnswersFrame old.link.server new.link.server f answer → Says answer bytes
+    → Appends old.link.sink.taken new.link.sink.taken bytes → f.close ≡ close → Replies close old new
+turn_replied close old new w f answer bytes keeps framed used answers said sent closes =
+    let made = exchange_of old.link.server new.link.server f answer bytes answers said in
     record {
       exchange = made.0;
-      answer = made.1;
-      frame = subst (λ (x : Frame). Drops rest x (prepend_known (drop f.length w) left)) (sym made.2) (drops_of rest w left f keeps framed);
-      stays = ap (λ (x : Frame). x.close) made.2 ∙ stays;
-      output = subst (λ (bs : List ℕ). Appends t t' bs) (sym made.3) sent;
-    }
-
-pub turn_closed : (start : State) (desk : ℕ) (old new : List Entry) (rest : Option (List ℕ)) (w : List ℕ) (left : Option (List ℕ))
-    (f : Frame) (answer : Answer) (bytes : List ℕ) (t t' : Option (List ℕ))
-    → Keeps rest (prepend_known w left) → IsFraming w (whole f) → AnswersFrame start desk old new f answer → Says answer bytes
-    → Appends t t' bytes → f.close ≡ true → Closes start desk old new rest (prepend_known (drop f.length w) left) t t'
-turn_closed start desk old new rest w left f answer bytes t t' keeps framed answers said sent closes =
-    let made = exchange_of start desk old new f answer bytes answers said in
-    record {
-      exchange = made.0;
-      answer = made.1;
-      frame = subst (λ (x : Frame). Drops rest x (prepend_known (drop f.length w) left)) (sym made.2) (drops_of rest w left f keeps framed);
+      served = made.1;
+      frame = subst (λ (x : Frame). Drops (rest_of old) x (rest_of new)) (sym made.2)
+          (behind_frame (rest_of old) w new.window new.link.source.left f keeps framed used);
       closes = ap (λ (x : Frame). x.close) made.2 ∙ closes;
-      output = subst (λ (bs : List ℕ). Appends t t' bs) (sym made.3) sent;
+      output = subst (λ (bs : List ℕ). Appends old.link.sink.taken new.link.sink.taken bs) (sym made.3) sent;
     }
 
 -- the response wasn't written whole
-pub turn_failed : (start : State) (desk : ℕ) (old new : List Entry) (rest : Option (List ℕ)) (w : List ℕ) (left : Option (List ℕ))
-    (f : Frame) (answer : Answer) (bytes : List ℕ) (t t' : Option (List ℕ))
-    → Keeps rest (prepend_known w left) → IsFraming w (whole f) → AnswersFrame start desk old new f answer → Says answer bytes
-    → WritesPart t t' bytes → FailsAt start desk old new rest t t'
-turn_failed start desk old new rest w left f answer bytes t t' keeps framed answers said part =
-    let made = exchange_of start desk old new f answer bytes answers said in
-    inl (
-      bytes,
-      record {
-        exchange = made.0;
-        answer = made.1;
-        frame = subst (λ (x : Frame). IfSome rest (λ input. IsFraming input (whole x))) (sym made.2) (told_frame rest w left f keeps framed);
-        said = made.3;
-      },
-      part,
-    )
+pub turn_failed : (old new : Midway) (w : List ℕ) (f : Frame) (answer : Answer) (bytes : List ℕ)
+    → Keeps (rest_of old) (prepend_known w new.link.source.left) → IsFraming w (whole f)
+    → AnswersFrame old.link.server new.link.server f answer → Says answer bytes
+    → WritesPart old.link.sink.taken new.link.sink.taken bytes → FailsAtAnswer old new
+turn_failed old new w f answer bytes keeps framed answers said part =
+    let made = exchange_of old.link.server new.link.server f answer bytes answers said in
+    record {
+      exchange = made.0;
+      served = made.1;
+      frame = subst (λ (x : Frame). IfSome (rest_of old) (λ input. IsFraming input (whole x))) (sym made.2)
+          (told_frame (rest_of old) w new.link.source.left f keeps framed);
+      output = subst (λ (bs : List ℕ). WritesPart old.link.sink.taken new.link.sink.taken bs) (sym made.3) part;
+    }
 
 -- the frame that slices of the window hold
 pub held_frame : (w bytes : List ℕ) (left : Option (List ℕ)) (found : Found) (spans : FrameSpans) (f : Frame)
@@ -168,10 +190,6 @@ sends_err old new text (Err e) failed sent = sent
 pub sends_ok : (old new : Option (List ℕ)) (text : List ℕ) (r : Result (Unit {0}) Failed) → false ≡ is_err r → Sends old new text r → Appends old new text
 sends_ok old new text (Ok done) fine sent = sent
 sends_ok old new text (Err e) fine sent = absurd cc
-
--- a fact of two values, at their equals
-pub at_both : {A B : Type 0} (P : A → B → Type 0) (a a' : A) (b b' : B) → a ≡ a' → b ≡ b' → P a b → P a' b'
-at_both P a a' b b' p q h = subst (λ y. P a' y) q (subst (λ x. P x b) p h)
 
 -- an empty window leaves what the source tells
 pub nothing_before : (w : List ℕ) (left : Option (List ℕ)) → w ≡ [] → left ≡ prepend_known w left

@@ -3,13 +3,14 @@ use Rattle.std.specs.Prelude.{◌≡◌, ℕ, ◌+◌, ◌≤◌, Bool, if◌the
 use Rattle.std.specs.Bool.{OnTrue}
 use Rattle.std.specs.List.{flat_map, AllByRecursion}
 use Rattle.std.specs.Option.{option_to_list}
+use Rattle.am_types.specs.declared.reply.Reply.{Reply}
 use Rattle.am_types.specs.declared.request.Request.{Request}
 use Rattle.am_types.specs.declared.history.Entry.{Entry}
 use Rattle.am_types.specs.declared.history.Shown.{Shown}
-use Rattle.am_steps.specs.State.{State}
-use Rattle.am_steps.specs.Steps.{Call}
-use Rattle.am_steps.specs.History.{replay, is_stored, reply_after, IsEntryOf, entries_of, Extends}
-use Rattle.am_steps.specs.Desks.{Shows, SeesOthers}
+use Rattle.am_history.specs.State.{State}
+use Rattle.am_history.specs.Steps.{Call}
+use Rattle.am_history.specs.History.{replay, is_stored, reply_after, IsEntryOf, entries_of, Extends}
+use Rattle.am_history.specs.Desks.{DeskView, start_of, Shows, SeesOthers}
 use Rattle.am_http.specs.declared.answer.Refusal.{Refusal}
 use Rattle.am_http.specs.Head.{Frame}
 use Rattle.am_http.specs.Requests.{request_of, refusal_text, call_of}
@@ -20,34 +21,52 @@ pub record Point : Type 0 where
   pub at : ℕ
   pub stored : Bool
 
--- a frame with the moment of its call, the call's place in the history, if it was made, and the response
+-- a frame with the moment that the clock was asked for, if it was, the call's place in the history, if it was made,
+-- and the response
 pub record Exchange : Type 0 where
   pub frame : Frame
-  pub now : ℕ
+  pub now : Option ℕ
   pub point : Option Point
   pub bytes : List ℕ
 
--- the call was made at that place of the history, and is stored there where that is so, kept or not
+-- the history has an entry at that place, and it is the one that is meant
+abbrev pub HasEntry : List Entry → ℕ → (Entry → Type 0) → Type 0
+HasEntry history at IsMeant = (entry : Entry) × (slice_get history at ≡ Some entry) × IsMeant entry
+
+-- the call was made at that place of the history, and is stored there if the point says so, kept or not
 pub record IsMarked (start : State) (history : List Entry) (call : Call) (kept : Bool) (point : Point) : Type 0 where
   pub within : point.at ≤ length history
   pub stored : point.stored ≡ is_stored (replay start (take point.at history)) (take point.at history) call
   pub entry : OnTrue point.stored
-      ((entry : Entry) × (slice_get history point.at ≡ Some entry) × IsEntryOf (replay start (take point.at history)) call kept entry)
+      (HasEntry history point.at (IsEntryOf (replay start (take point.at history)) call kept))
 
--- the response to a frame on a desk: the refusal of a frame that makes no request; the reply at the marked
--- place of the history; or want of memory, before the call or after it
+-- the request of a frame on a desk was made as a call at the exchange's moment and point
+pub record IsCalled (start : State) (desk : ℕ) (history : List Entry) (e : Exchange) : Type 0 where
+  pub request : Request
+  pub asks : request_of e.frame ≡ Ok request
+  pub now : ℕ
+  pub asked : e.now ≡ Some now
+  pub kept : Bool
+  pub point : Point
+  pub placed : e.point ≡ Some point
+  pub marked : IsMarked start history (call_of desk e.frame now request) kept point
+
+-- the reply to the call of an exchange
+abbrev pub reply_of : (start : State) (desk : ℕ) (history : List Entry) (e : Exchange)
+    → IsCalled start desk history e → Reply
+reply_of start desk history e c =
+    reply_after start (take c.point.at history) (call_of desk e.frame c.now c.request) c.kept
+
+-- the response to a frame on a desk: the refusal of a frame that makes no request; the reply at the marked place of the
+-- history; or that memory ran out, before the call or after it. A frame that makes no request asks for no moment
 pub data IsAnswer (start : State) (desk : ℕ) (history : List Entry) (e : Exchange) : Type 0 where
-  by_refusal : (refused : Refusal) → request_of e.frame ≡ Err refused → e.point ≡ None
+  by_refusal : (refused : Refusal) → request_of e.frame ≡ Err refused → e.now ≡ None → e.point ≡ None
       → e.bytes ≡ refusal_text refused → IsAnswer start desk history e
-  by_reply : (request : Request) (kept : Bool) (point : Point) → request_of e.frame ≡ Ok request → e.point ≡ Some point
-      → IsMarked start history (call_of desk e.frame e.now request) kept point
-      → e.bytes ≡ response point.at point.stored (reply_after start (take point.at history) (call_of desk e.frame e.now request) kept)
-      → IsAnswer start desk history e
+  by_reply : (c : IsCalled start desk history e)
+      → e.bytes ≡ response c.point.at c.point.stored (reply_of start desk history e c) → IsAnswer start desk history e
   by_want : e.point ≡ None → e.bytes ≡ want_before → IsAnswer start desk history e
-  by_late_want : (request : Request) (kept : Bool) (point : Point) → request_of e.frame ≡ Ok request → e.point ≡ Some point
-      → IsMarked start history (call_of desk e.frame e.now request) kept point
-      → e.bytes ≡ want_after point.at point.stored
-      → IsAnswer start desk history e
+  by_late_want : (c : IsCalled start desk history e)
+      → e.bytes ≡ want_after c.point.at c.point.stored → IsAnswer start desk history e
 
 -- the least place of a later call
 abbrev pub floor_after : ℕ → Option Point → ℕ
@@ -78,28 +97,35 @@ entry_at history (Some point) = if point.stored then option_to_list (slice_get h
 abbrev pub stored_entries : List Entry → List Exchange → List Entry
 stored_entries history es = flat_map (λ (e : Exchange). entry_at history e.point) es
 
--- each exchange is answered in the one history, which goes on from what the desk had seen; the desk's own new
--- entries are the stored calls, each once, in the order of the frames
-pub record AreAnswered (start : State) (desk : ℕ) (seen history : List Entry) (es : List Exchange) : Type 0 where
-  pub grows : Extends seen history
-  pub answers : AllByRecursion (IsAnswer start desk history) es
-  pub in_order : AreInOrder (length seen) es
-  pub floor : floor_of (length seen) es ≤ length history
-  pub own : entries_of desk history ≡ entries_of desk seen ++ stored_entries history es
+-- each exchange is answered in the one history, which goes on from what the desk had seen; the desk's own new entries
+-- are the stored calls, each once, in the order of the frames. If it has its manager for itself, these are all the
+-- new entries
+pub record AreAnswered (old new : DeskView) (es : List Exchange) : Type 0 where
+  pub grows : Extends old.seen new.seen
+  pub answers : AllByRecursion (IsAnswer (start_of old) old.number new.seen) es
+  pub in_order : AreInOrder (length old.seen) es
+  pub floor : floor_of (length old.seen) es ≤ length new.seen
+  pub own : entries_of old.number new.seen ≡ entries_of old.number old.seen ++ stored_entries new.seen es
+  pub alone : old.sharing.desks ≡ 1 → new.seen ≡ old.seen ++ stored_entries new.seen es
+
+-- what a desk showed of the call of an exchange, between what it had seen before and after it
+pub record ShowsIn (old new : DeskView) (e : Exchange) (shown : Shown) : Type 0 where
+  pub request : Request
+  pub asks : request_of e.frame ≡ Ok request
+  pub now : ℕ
+  pub asked : e.now ≡ Some now
+  pub placed : e.point ≡ Some (record { at = shown.at; stored = shown.stored })
+  pub shows : Shows old new (call_of old.number e.frame now request) shown
 
 -- one exchange, between what the desk had seen before and after it
-pub data Answered (start : State) (desk : ℕ) (old new : List Entry) (e : Exchange) : Type 0 where
-  refused_at_once : (refused : Refusal) → request_of e.frame ≡ Err refused → e.point ≡ None
-      → e.bytes ≡ refusal_text refused → new ≡ old → Answered start desk old new e
-  replied : (request : Request) (shown : Shown) → request_of e.frame ≡ Ok request
-      → Shows start old new (call_of desk e.frame e.now request) shown
-      → e.point ≡ Some (record { at = shown.at; stored = shown.stored })
-      → e.bytes ≡ response shown.at shown.stored shown.reply → Answered start desk old new e
-  wanted : SeesOthers desk old new → e.point ≡ None → e.bytes ≡ want_before → Answered start desk old new e
-  wanted_late : (request : Request) (shown : Shown) → request_of e.frame ≡ Ok request
-      → Shows start old new (call_of desk e.frame e.now request) shown
-      → e.point ≡ Some (record { at = shown.at; stored = shown.stored })
-      → e.bytes ≡ want_after shown.at shown.stored → Answered start desk old new e
+pub data Answered (old new : DeskView) (e : Exchange) : Type 0 where
+  refused_at_once : (refused : Refusal) → request_of e.frame ≡ Err refused → e.now ≡ None → e.point ≡ None
+      → e.bytes ≡ refusal_text refused → new.seen ≡ old.seen → Answered old new e
+  replied : (shown : Shown) → ShowsIn old new e shown
+      → e.bytes ≡ response shown.at shown.stored shown.reply → Answered old new e
+  wanted : SeesOthers old new.seen → e.point ≡ None → e.bytes ≡ want_before → Answered old new e
+  wanted_late : (shown : Shown) → ShowsIn old new e shown
+      → e.bytes ≡ want_after shown.at shown.stored → Answered old new e
 
 -- the frames, and the responses one after the other
 abbrev pub frames_of : List Exchange → List Frame
@@ -108,3 +134,7 @@ frames_of (first ∷ others) = first.frame ∷ frames_of others
 
 abbrev pub bytes_of : List Exchange → List ℕ
 bytes_of es = flat_map (λ (e : Exchange). e.bytes) es
+
+-- the moments that the clock was asked for, in the order of the frames
+abbrev pub moments_of : List Exchange → List ℕ
+moments_of es = flat_map (λ (e : Exchange). option_to_list e.now) es

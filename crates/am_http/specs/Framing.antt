@@ -35,7 +35,8 @@ abbrev pub without_head : List ℕ → Outcome
 without_head text =
     if length text == 8192 then refused HeadTooLarge else (if length text == 0 then empty else cut)
 
--- the first step over the input has the outcome: by its head, by a window that is dead, or by one in which a reader may wait
+-- the first step over the input has the outcome: by its head, by a window that is dead, or by one in which a reader
+-- may wait
 pub data IsFraming (bytes : List ℕ) (outcome : Outcome) : Type 0 where
   by_head : (h : RequestHead) → BeginsWithHead (window bytes) h → outcome ≡ after_head bytes (head_of h)
       → IsFraming bytes outcome

@@ -5,6 +5,7 @@ pub mod FrameSpans
 pub mod Frames
 pub mod Framing
 pub mod Head
+pub mod Links
 pub mod Requests
 pub mod Responses
 pub mod Sending

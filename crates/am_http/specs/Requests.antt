@@ -1,14 +1,14 @@
 -- What a frame asks of the manager, or why it doesn't reach it.
 use Rattle.std.specs.Prelude.{ℕ, Bool, true, false, List, length, Some, None, Result, Ok, Err, codes, if◌then◌else◌}
 use Rattle.am_types.specs.declared.request.Request.{Request}
-use Rattle.am_steps.specs.Steps.{Call}
-use Rattle.am_routes.specs.declared.endpoint.Endpoint.{Endpoint}
-use Rattle.am_routes.specs.declared.endpoint.Endpoint.TheVariants as at
-use Rattle.am_routes.specs.declared.routes.RouteFault.{RouteFault}
-use Rattle.am_routes.specs.declared.routes.RouteFault.TheVariants as faults
-use Rattle.am_routes.specs.Table.{endpoint_of}
-use Rattle.am_fields.specs.declared.fault.WireFault.{WireFault}
-use Rattle.am_fields.specs.Printing.{printed}
+use Rattle.am_history.specs.Steps.{Call}
+use Rattle.am_wire_routes.specs.declared.endpoint.Endpoint.{Endpoint}
+use Rattle.am_wire_routes.specs.declared.endpoint.Endpoint.TheVariants as at
+use Rattle.am_wire_routes.specs.declared.routes.RouteFault.{RouteFault}
+use Rattle.am_wire_routes.specs.declared.routes.RouteFault.TheVariants as faults
+use Rattle.am_wire_routes.specs.Table.{endpoint_of}
+use Rattle.am_wire_fields.specs.declared.fault.WireFault.{WireFault}
+use Rattle.am_wire_fields.specs.Printing.{printed}
 use Rattle.am_wire.specs.Requests.{request_of as request_at}
 use Rattle.am_http.specs.declared.answer.Refusal.{Refusal}
 use Rattle.am_http.specs.declared.answer.Refusal.TheVariants.{NoRoute, NoMethod, BadRequest}

@@ -2,8 +2,8 @@
 use Rattle.std.specs.Prelude.{ℕ, Bool, ◌==◌, List, [], ◌∷◌, ◌++◌, length, Option, Some, None, IsSome, unwrap_or, codes, decimal, if◌then◌else◌}
 use Rattle.serde_json.specs.Written.{compact_text}
 use Rattle.am_types.specs.declared.reply.Reply.{Reply}
-use Rattle.am_values.specs.Replies.{reply_data, status_of}
-use Rattle.am_values.specs.Rules.{error_data}
+use Rattle.am_wire_values.specs.Replies.{reply_data, status_of}
+use Rattle.am_wire_values.specs.Rules.{error_data}
 
 -- the statuses, each with its phrase
 abbrev pub phrases : List (ℕ × List ℕ)

@@ -6,7 +6,8 @@ use Rattle.am_outside.specs.declared.failure.Failed.{Failed}
 -- a part of the text was written, and some of it wasn't
 abbrev pub WritesPart : Option (List ℕ) → Option (List ℕ) → List ℕ → Type 0
 WritesPart old new text =
-    (written : List ℕ) × (missing : List ℕ) × (text ≡ written ++ missing) × (0 < length missing) × Appends old new written
+    (written : List ℕ) × (missing : List ℕ)
+    × (text ≡ written ++ missing) × (0 < length missing) × Appends old new written
 
 -- the text was written whole, or, where the sink failed, a part of it
 abbrev pub Sends : Option (List ℕ) → Option (List ℕ) → List ℕ → Result (Unit {0}) Failed → Type 0
@@ -15,5 +16,6 @@ Sends old new text (Err e) = WritesPart old new text
 
 -- some more of the text was written, up to the next place, or nothing where the sink failed
 abbrev pub SendsFrom : Option (List ℕ) → Option (List ℕ) → List ℕ → ℕ → Result ℕ Failed → Type 0
-SendsFrom old new text at (Ok next) = (at < next) × (next ≤ length text) × Appends old new (take (next - at) (drop at text))
+SendsFrom old new text at (Ok next) =
+    (at < next) × (next ≤ length text) × Appends old new (take (next - at) (drop at text))
 SendsFrom old new text at (Err e) = Keeps old new

@@ -1,10 +1,9 @@
 -- A whole connection: its frames, their responses, and how it ends.
-use Rattle.std.specs.Prelude.{◌≡◌, ℕ, ◌+◌, ◌*◌, ◌≤◌, ◌⊎◌, true, false, List, [], ◌∷◌, ◌++◌, length, Option, None, IfSome, ⊤, codes}
+use Rattle.std.specs.Prelude.{◌≡◌, ℕ, ◌+◌, ◌*◌, ◌<◌, ◌≤◌, ◌⊎◌, Bool, true, false, List, [], ◌∷◌, ◌++◌, length, Option, None, IfSome, ⊤, codes}
 use Rattle.std.specs.List.{AllByRecursion}
+use Rattle.std.specs.Option.{option_to_list}
 use Rattle.std.specs.Io.KnownBytes.{Appends, Consumes, Keeps, prepend_known}
 use Rattle.am_outside.specs.Counts.{HasRisen}
-use Rattle.am_types.specs.declared.history.Entry.{Entry}
-use Rattle.am_steps.specs.State.{State}
 use Rattle.am_http.specs.declared.frame.Defect.{Defect}
 use Rattle.am_http.specs.declared.frame.Defect.TheVariants.{BadHead, HeadTooLarge, TransferEncoding, LengthRequired, BodyTooLarge}
 use Rattle.am_http.specs.declared.end.End.{End}
@@ -13,7 +12,8 @@ use Rattle.am_http.specs.declared.end.Served.{Served}
 use Rattle.am_http.specs.Head.{empty, whole, refused, cut}
 use Rattle.am_http.specs.Framing.{IsFraming}
 use Rattle.am_http.specs.Frames.{Leaves, Drops}
-use Rattle.am_http.specs.Exchanges.{Exchange, AreAnswered, Answered, frames_of, bytes_of}
+use Rattle.am_http.specs.Exchanges.{Exchange, AreAnswered, Answered, frames_of, bytes_of, moments_of}
+use Rattle.am_http.specs.Links.{Link, Midway, Server, rest_of, Gives}
 use Rattle.am_http.specs.Responses.{refusal}
 use Rattle.am_http.specs.Sending.{WritesPart}
 
@@ -37,9 +37,14 @@ defect_text TransferEncoding = refusal 501 (codes "transfer_encoding") None
 defect_text LengthRequired = refusal 411 (codes "length_required") None
 defect_text BodyTooLarge = refusal 413 (codes "body_too_large") None
 
--- no frame but the last asks to close
+-- no frame asks to close
 abbrev pub StayOpen : List Exchange → Type 0
 StayOpen es = AllByRecursion (λ (e : Exchange). e.frame.close ≡ false) es
+
+-- after these exchanges a further frame is read: none asks to close, and the connection may have more
+pub record MayGoOn (es : List Exchange) : Type 0 where
+  pub stays : StayOpen es
+  pub below : length es < most_frames
 
 -- the bytes that were taken and not used hold no whole frame
 abbrev pub IsPartial : List ℕ → Type 0
@@ -59,21 +64,35 @@ CloseAtLast es =
 abbrev pub FailAtLast : List Exchange → Type 0
 FailAtLast es = (before : List Exchange) × (failed : Exchange) × (es ≡ before ++ failed ∷ []) × StayOpen before
 
--- the text for the defect of the rest is the last that is written
-abbrev pub EndsInDefect : List Exchange → Option (List ℕ) → List ℕ → Type 0
-EndsInDefect es rest last = StayOpen es × ((defect : Defect) × HasDefect rest defect × (last ≡ defect_text defect))
+-- the end of a connection, behind the frames that were answered: what is told to be left of the input, the part of it
+-- that the source still has, and the text that is written last
+pub record Tail : Type 0 where
+  pub rest : Option (List ℕ)
+  pub left : Option (List ℕ)
+  pub last : List ℕ
 
--- what each end means: of the exchanges, of the told rest of the input behind their frames, of the part of it
--- that the source still has, and of the text that is written last
-abbrev pub EndsBy : End → List Exchange → Option (List ℕ) → Option (List ℕ) → List ℕ → Type 0
-EndsBy Input es rest left last = StayOpen es × IfSome rest (λ bytes. bytes ≡ []) × (last ≡ [])
-EndsBy Close es rest left last = CloseAtLast es × (last ≡ [])
-EndsBy Refused es rest left last = EndsInDefect es rest last
-EndsBy Cut es rest left last = StayOpen es × IfSome rest (λ bytes. IsFraming bytes cut) × (last ≡ [])
-EndsBy Limit es rest left last = StayOpen es × (length es ≡ most_frames) × (last ≡ [])
-EndsBy ReadFault es rest left last =
-    StayOpen es × ((taken : List ℕ) × IsPartial taken × Keeps rest (prepend_known taken left)) × (last ≡ [])
-EndsBy WriteFault es rest left last = (FailAtLast es × (last ≡ [])) ⊎ EndsInDefect es rest last
+-- the rest has a defect, whose text is written last
+abbrev pub EndsInDefect : List Exchange → Tail → Type 0
+EndsInDefect es tail = MayGoOn es × ((defect : Defect) × HasDefect tail.rest defect × (tail.last ≡ defect_text defect))
+
+-- the source failed behind bytes that hold no whole frame
+abbrev pub EndsInFault : Tail → Type 0
+EndsInFault tail = (taken : List ℕ) × IsPartial taken × Keeps tail.rest (prepend_known taken tail.left)
+
+-- what each end means: of the responses that were written whole, of the exchanges, and of what is behind them. The
+-- sink fails at the response of the last exchange, or at the text for a defect
+abbrev pub EndsBy : End → ℕ → List Exchange → Tail → Type 0
+EndsBy Input answered es tail =
+    (answered ≡ length es) × MayGoOn es × IfSome tail.rest (λ bytes. bytes ≡ []) × (tail.last ≡ [])
+EndsBy Close answered es tail = (answered ≡ length es) × CloseAtLast es × (tail.last ≡ [])
+EndsBy Refused answered es tail = (answered ≡ length es) × EndsInDefect es tail
+EndsBy Cut answered es tail =
+    (answered ≡ length es) × MayGoOn es × IfSome tail.rest (λ bytes. IsFraming bytes cut) × (tail.last ≡ [])
+EndsBy Limit answered es tail =
+    (answered ≡ length es) × StayOpen es × (length es ≡ most_frames) × (tail.last ≡ [])
+EndsBy ReadFault answered es tail = (answered ≡ length es) × MayGoOn es × EndsInFault tail × (tail.last ≡ [])
+EndsBy WriteFault answered es tail =
+    ((answered + 1 ≡ length es) × FailAtLast es × (tail.last ≡ [])) ⊎ ((answered ≡ length es) × EndsInDefect es tail)
 
 -- the text was written whole, unless the sink failed
 abbrev pub Writes : End → Option (List ℕ) → Option (List ℕ) → List ℕ → Type 0
@@ -85,93 +104,81 @@ Writes Limit old new text = Appends old new text
 Writes ReadFault old new text = Appends old new text
 Writes WriteFault old new text = WritesPart old new text
 
--- the responses that were written whole: all, but for the one at which the sink failed
-abbrev pub Counts : End → List Exchange → List ℕ → ℕ → Type 0
-Counts Input es last answered = answered ≡ length es
-Counts Close es last answered = answered ≡ length es
-Counts Refused es last answered = answered ≡ length es
-Counts Cut es last answered = answered ≡ length es
-Counts Limit es last answered = answered ≡ length es
-Counts ReadFault es last answered = answered ≡ length es
-Counts WriteFault es last answered = (answered ≡ length es) ⊎ (answered + 1 ≡ length es)
-
 -- the cause of an end by a fault: the count of the source, or of the sink, rose
-abbrev pub HasFault : End → ℕ → ℕ → ℕ → ℕ → Type 0
-HasFault Input reads reads' writes writes' = ⊤
-HasFault Close reads reads' writes writes' = ⊤
-HasFault Refused reads reads' writes writes' = ⊤
-HasFault Cut reads reads' writes writes' = ⊤
-HasFault Limit reads reads' writes writes' = ⊤
-HasFault ReadFault reads reads' writes writes' = HasRisen reads reads'
-HasFault WriteFault reads reads' writes writes' = HasRisen writes writes'
+abbrev pub HasFault : End → Link → Link → Type 0
+HasFault Input old new = ⊤
+HasFault Close old new = ⊤
+HasFault Refused old new = ⊤
+HasFault Cut old new = ⊤
+HasFault Limit old new = ⊤
+HasFault ReadFault old new = HasRisen old.source.faults new.source.faults
+HasFault WriteFault old new = HasRisen old.sink.faults new.sink.faults
 
--- a whole connection on a desk that had seen `seen` and has seen `history`: `input` is what the source told to
--- be left, `left` what it tells now, `old` and `new` what the sink told to have taken
-pub record Session
-    (start : State) (desk : ℕ) (seen history : List Entry) (input left old new : Option (List ℕ)) (served : Served) : Type 0 where
+-- a whole connection, and how it went
+pub record Session (old new : Link) (served : Served) : Type 0 where
   pub exchanges : List Exchange
   pub rest : Option (List ℕ)
   pub last : List ℕ
-  pub answers : AreAnswered start desk seen history exchanges
-  pub frames : Leaves input (frames_of exchanges) rest
+  pub answers : AreAnswered old.server.desk new.server.desk exchanges
+  pub moments : Gives old.server.clock (moments_of exchanges) new.server.clock
+  pub frames : Leaves old.source.left (frames_of exchanges) rest
   pub most : length exchanges ≤ most_frames
-  pub taken : GivesAtMost most_bytes input left
-  pub end : EndsBy served.end exchanges rest left last
-  pub output : Writes served.end old new (bytes_of exchanges ++ last)
-  pub answered : Counts served.end exchanges last served.answered
+  pub taken : GivesAtMost most_bytes old.source.left new.source.left
+  pub end : EndsBy served.end served.answered exchanges (record { rest = rest; left = new.source.left; last = last })
+  pub output : Writes served.end old.sink.taken new.sink.taken (bytes_of exchanges ++ last)
 
 -- a connection that goes on, so far
-pub record Going
-    (start : State) (desk : ℕ) (seen history : List Entry) (input rest old new : Option (List ℕ)) (count : ℕ) : Type 0 where
+pub record Going (old : Link) (now : Midway) (count : ℕ) : Type 0 where
   pub exchanges : List Exchange
-  pub answers : AreAnswered start desk seen history exchanges
-  pub frames : Leaves input (frames_of exchanges) rest
+  pub answers : AreAnswered old.server.desk now.link.server.desk exchanges
+  pub moments : Gives old.server.clock (moments_of exchanges) now.link.server.clock
+  pub frames : Leaves old.source.left (frames_of exchanges) (rest_of now)
   pub stays : StayOpen exchanges
-  pub output : Appends old new (bytes_of exchanges)
+  pub output : Appends old.sink.taken now.link.sink.taken (bytes_of exchanges)
   pub counted : length exchanges ≡ count
 
--- the next frame was answered, its response written, and the connection goes on
-pub record Went
-    (start : State) (desk : ℕ) (seen history : List Entry) (rest after old new : Option (List ℕ)) : Type 0 where
+-- one more frame was answered by the desk at the clock's moment
+pub record Serves (old new : Server) (exchange : Exchange) : Type 0 where
+  pub answer : Answered old.desk new.desk exchange
+  pub moment : Gives old.clock (option_to_list exchange.now) new.clock
+
+-- the next frame was answered, its response written, and it asks to close or not
+pub record Replies (close : Bool) (old new : Midway) : Type 0 where
   pub exchange : Exchange
-  pub answer : Answered start desk seen history exchange
-  pub frame : Drops rest exchange.frame after
-  pub stays : exchange.frame.close ≡ false
-  pub output : Appends old new exchange.bytes
+  pub served : Serves old.link.server new.link.server exchange
+  pub frame : Drops (rest_of old) exchange.frame (rest_of new)
+  pub closes : exchange.frame.close ≡ close
+  pub output : Appends old.link.sink.taken new.link.sink.taken exchange.bytes
 
--- the next frame was answered, and its response isn't written
-pub record Answers (start : State) (desk : ℕ) (seen history : List Entry) (rest : Option (List ℕ)) (bytes : List ℕ) : Type 0 where
+-- the next frame was answered, and its response wasn't written whole
+pub record FailsAtAnswer (old new : Midway) : Type 0 where
   pub exchange : Exchange
-  pub answer : Answered start desk seen history exchange
-  pub frame : IfSome rest (λ input. IsFraming input (whole exchange.frame))
-  pub said : exchange.bytes ≡ bytes
+  pub served : Serves old.link.server new.link.server exchange
+  pub frame : IfSome (rest_of old) (λ input. IsFraming input (whole exchange.frame))
+  pub output : WritesPart old.link.sink.taken new.link.sink.taken exchange.bytes
 
--- the last frame was answered, its response written, and it asks to close
-pub record Closes
-    (start : State) (desk : ℕ) (seen history : List Entry) (rest after old new : Option (List ℕ)) : Type 0 where
-  pub exchange : Exchange
-  pub answer : Answered start desk seen history exchange
-  pub frame : Drops rest exchange.frame after
-  pub closes : exchange.frame.close ≡ true
-  pub output : Appends old new exchange.bytes
+-- nothing was asked of the desk and of the clock
+pub record IsUnasked (old new : Server) : Type 0 where
+  pub seen : new.desk.seen ≡ old.desk.seen
+  pub clock : Gives old.clock [] new.clock
 
--- a frame's response or a defect's text wasn't written whole
-abbrev pub FailsAt : State → ℕ → List Entry → List Entry → Option (List ℕ) → Option (List ℕ) → Option (List ℕ) → Type 0
-FailsAt start desk seen history rest old new =
-    ((bytes : List ℕ) × Answers start desk seen history rest bytes × WritesPart old new bytes)
-    ⊎ ((history ≡ seen) × ((defect : Defect) × HasDefect rest defect × WritesPart old new (defect_text defect)))
+-- the connection ended at something other than a whole frame, and this is what its sink took
+pub record IsLast (old new : Midway) (Takes : Option (List ℕ) → Option (List ℕ) → Type 0) : Type 0 where
+  pub unasked : IsUnasked old.link.server new.link.server
+  pub output : Takes old.link.sink.taken new.link.sink.taken
 
--- the connection ended before a further frame was answered whole: the told rest of its input, what the source
--- still tells, and what the sink took
-abbrev pub Stops : End → State → ℕ → List Entry → List Entry → Option (List ℕ) → Option (List ℕ) → Option (List ℕ) → Option (List ℕ) → Type 0
-Stops Input start desk seen history rest left old new =
-    (history ≡ seen) × IfSome rest (λ bytes. bytes ≡ []) × Keeps old new
-Stops Close start desk seen history rest left old new = ⊥
-Stops Refused start desk seen history rest left old new =
-    (history ≡ seen) × ((defect : Defect) × HasDefect rest defect × Appends old new (defect_text defect))
-Stops Cut start desk seen history rest left old new =
-    (history ≡ seen) × IfSome rest (λ bytes. IsFraming bytes cut) × Keeps old new
-Stops Limit start desk seen history rest left old new = ⊥
-Stops ReadFault start desk seen history rest left old new =
-    (history ≡ seen) × ((taken : List ℕ) × IsPartial taken × Keeps rest (prepend_known taken left)) × Keeps old new
-Stops WriteFault start desk seen history rest left old new = FailsAt start desk seen history rest old new
+-- the connection ended at a defect, for whose text this is what its sink took
+abbrev pub StopsAtDefect : Midway → Midway → (Option (List ℕ) → Option (List ℕ) → List ℕ → Type 0) → Type 0
+StopsAtDefect old new Takes =
+    (defect : Defect) × HasDefect (rest_of old) defect
+    × IsLast old new (λ taken taken'. Takes taken taken' (defect_text defect))
+
+-- the connection ended before a further frame was answered whole
+abbrev pub Stops : End → Midway → Midway → Type 0
+Stops Input old new = IfSome (rest_of old) (λ bytes. bytes ≡ []) × IsLast old new Keeps
+Stops Close old new = ⊥
+Stops Refused old new = StopsAtDefect old new Appends
+Stops Cut old new = IfSome (rest_of old) (λ bytes. IsFraming bytes cut) × IsLast old new Keeps
+Stops Limit old new = ⊥
+Stops ReadFault old new = IsPartial new.window × Keeps (rest_of old) (rest_of new) × IsLast old new Keeps
+Stops WriteFault old new = FailsAtAnswer old new ⊎ StopsAtDefect old new WritesPart

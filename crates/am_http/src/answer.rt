@@ -1,24 +1,23 @@
 //! What a frame is answered.
 ghost use Rattle.std.specs.Prelude.{◌≡◌, ◌≤◌, length, IfOk, IsUtf8};
-ghost use Rattle.am_steps.specs.Desks.{opening_of};
-ghost use Rattle.am_steps.specs.History.{IsLegal};
 ghost use Rattle.am_wire.specs.Requests.{request_of as request_at};
 ghost use Rattle.am_http.specs.FrameSpans.{frame_held};
 ghost use Rattle.am_http.specs.Requests.{is_open, request_of, request_or};
-ghost use Rattle.am_http.specs.Answering.{AnswersFrame};
+ghost use Rattle.am_http.specs.Answering.{AnswersAt, AnswersFrame};
+ghost use Rattle.am_http.specs.Links.{GoesOn};
 
 use crate::frame::WholeFrame;
-use am_fields::{Unread, WireFault};
 use am_machine::Desk;
 use am_outside::Clock;
-use am_routes::{Endpoint, RouteFault, Routes};
 use am_types::{NoMemory, Request, Shown, Text};
 use am_wire::read_request;
+use am_wire_fields::{Unread, WireFault};
+use am_wire_routes::{Endpoint, RouteFault, Routes};
 use std::alloc::Global;
 use std::str;
 
 /// Why a frame makes no request of the manager. The connection goes on.
-#[derive(Debug, Drop)]
+#[derive(Drop)]
 pub enum Refusal {
     /// There is no such route.
     NoRoute,
@@ -29,7 +28,7 @@ pub enum Refusal {
 }
 
 /// What a frame is answered.
-#[derive(Debug, Drop)]
+#[derive(Drop)]
 pub enum Answer {
     /// It makes no request.
     Refused(Refusal),
@@ -82,7 +81,7 @@ fn key_text(alloc: Global, key: &[u8]) -> Result<Text, NoMemory>
     ensures { IfOk result (λ text. text ≡ key.now) }
 {
     match str::from_utf8(key) {
-        Ok(key) => Ok(Text::new(String::from_str(alloc, key)?)),
+        Ok(key) => Ok(Text::of(alloc, key)?),
         Err(_) => unreachable!(),
     }
 }
@@ -98,11 +97,8 @@ fn call<D: Desk>(
     requires key { IsUtf8 (frame_held frame.now).key }
     requires body { length (frame_held frame.now).body ≤ 65536 }
     requires request { request_of (frame_held frame.now) ≡ Ok request }
-    ensures answer { AnswersFrame (opening_of (D.origin desk.old)) (D.number desk.old) (D.seen desk.old) (D.seen desk.new) (frame_held frame.now) result }
-    ensures legal { IsLegal (opening_of (D.origin desk.old)) (D.seen desk.old) → IsLegal (opening_of (D.origin desk.old)) (D.seen desk.new) }
-    ensures origin { D.origin desk.new ≡ D.origin desk.old }
-    ensures number { D.number desk.new ≡ D.number desk.old }
-    ensures sharing { D.sharing desk.new ≡ D.sharing desk.old }
+    ensures answer { AnswersAt (D.view desk.old) (D.view desk.new) (frame_held frame.now) now result }
+    ensures goes_on { GoesOn (D.view desk.old) (D.view desk.new) }
 {
     let Ok(key) = key_text(alloc, frame.key) else {
         drop(request);
@@ -124,11 +120,11 @@ pub fn answer_frame<D: Desk, C: Clock>(
 ) -> Answer
     requires key { IsUtf8 (frame_held frame.now).key }
     requires body { length (frame_held frame.now).body ≤ 65536 }
-    ensures answer { AnswersFrame (opening_of (D.origin desk.old)) (D.number desk.old) (D.seen desk.old) (D.seen desk.new) (frame_held frame.now) result }
-    ensures legal { IsLegal (opening_of (D.origin desk.old)) (D.seen desk.old) → IsLegal (opening_of (D.origin desk.old)) (D.seen desk.new) }
-    ensures origin { D.origin desk.new ≡ D.origin desk.old }
-    ensures number { D.number desk.new ≡ D.number desk.old }
-    ensures sharing { D.sharing desk.new ≡ D.sharing desk.old }
+    ensures answer { AnswersFrame
+        (record { desk = D.view desk.old; clock = C.moments clock.old })
+        (record { desk = D.view desk.new; clock = C.moments clock.new })
+        (frame_held frame.now) result }
+    ensures goes_on { GoesOn (D.view desk.old) (D.view desk.new) }
 {
     match request_of(alloc, routes, frame) {
         Err(NoMemory) => Answer::Want,

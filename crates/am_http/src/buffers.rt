@@ -3,8 +3,8 @@ ghost use Rattle.std.specs.Prelude.{◌≤◌, IfOk, vec_capacity};
 
 use crate::response::WANT_ROOM;
 use crate::window::Window;
-use am_routes::Routes;
 use am_types::NoMemory;
+use am_wire_routes::Routes;
 use std::alloc::Global;
 
 /// The room for one frame, and for the text that says that memory ran out, and the routes. A worker

@@ -1,8 +1,6 @@
 //! One connection, from its first frame to its end.
 ghost use Rattle.std.specs.Prelude.{◌≡◌, ◌≤◌, vec_capacity};
-ghost use Rattle.std.specs.Io.KnownBytes.{prepend_known};
-ghost use Rattle.am_steps.specs.Desks.{opening_of};
-ghost use Rattle.am_steps.specs.History.{IsLegal};
+ghost use Rattle.am_http.specs.Links.{IsSameLink, source_of, sink_of};
 ghost use Rattle.am_http.specs.Sessions.{Session, HasFault, GivesAtMost};
 ghost use Rattle.am_http.specs.Turns.{Turns, HasFaultAt};
 
@@ -15,14 +13,14 @@ use crate::send::{write_answer, write_defect};
 use crate::window::Window;
 use am_machine::Desk;
 use am_outside::{Clock, Sink, Source};
-use am_routes::Routes;
+use am_wire_routes::Routes;
 use std::alloc::Global;
 
 /// How many frames of a connection are answered.
 pub const MAX_FRAMES: u32 = 65_536;
 
 /// What became of the next frame.
-#[derive(Clone, Copy, Debug, PartialEq, Eq)]
+#[derive(Clone, Copy)]
 pub enum Turn {
     /// It was answered, and the connection goes on.
     Went,
@@ -44,19 +42,46 @@ fn serve_frame<D: Desk, S: Source, W: Sink, C: Clock>(
     room: &mut Vec<u8>,
 ) -> Turn
     requires { 192 ≤ vec_capacity room.old }
-    ensures turn { Turns result (opening_of (D.origin desk.old)) (D.number desk.old) (D.seen desk.old) (D.seen desk.new)
-        (prepend_known window.old (S.left source.old)) (prepend_known window.new (S.left source.new)) (S.left source.new)
-        (W.taken sink.old) (W.taken sink.new) }
+    ensures turn { Turns result
+        (record {
+          link = record {
+            server = record { desk = D.view desk.old; clock = C.moments clock.old };
+            source = source_of S.Source source.old;
+            sink = sink_of W.Sink sink.old;
+          };
+          window = window.old;
+        })
+        (record {
+          link = record {
+            server = record { desk = D.view desk.new; clock = C.moments clock.new };
+            source = source_of S.Source source.new;
+            sink = sink_of W.Sink sink.new;
+          };
+          window = window.new;
+        }) }
     ensures gives { GivesAtMost 73728 (S.left source.old) (S.left source.new) }
-    ensures fault { HasFaultAt result (S.faults source.old) (S.faults source.new) (W.faults sink.old) (W.faults sink.new) }
-    ensures reads { S.faults source.old ≤ S.faults source.new }
-    ensures writes { W.faults sink.old ≤ W.faults sink.new }
-    ensures legal { IsLegal (opening_of (D.origin desk.old)) (D.seen desk.old) → IsLegal (opening_of (D.origin desk.old)) (D.seen desk.new) }
-    ensures origin { D.origin desk.new ≡ D.origin desk.old }
-    ensures number { D.number desk.new ≡ D.number desk.old }
-    ensures sharing { D.sharing desk.new ≡ D.sharing desk.old }
-    ensures source_mark { S.mark source.new ≡ S.mark source.old }
-    ensures sink_mark { W.mark sink.new ≡ W.mark sink.old }
+    ensures fault { HasFaultAt result
+        (record {
+          server = record { desk = D.view desk.old; clock = C.moments clock.old };
+          source = source_of S.Source source.old;
+          sink = sink_of W.Sink sink.old;
+        })
+        (record {
+          server = record { desk = D.view desk.new; clock = C.moments clock.new };
+          source = source_of S.Source source.new;
+          sink = sink_of W.Sink sink.new;
+        }) }
+    ensures same { IsSameLink
+        (record {
+          server = record { desk = D.view desk.old; clock = C.moments clock.old };
+          source = source_of S.Source source.old;
+          sink = sink_of W.Sink sink.old;
+        })
+        (record {
+          server = record { desk = D.view desk.new; clock = C.moments clock.new };
+          source = source_of S.Source source.new;
+          sink = sink_of W.Sink sink.new;
+        }) }
     ensures capacity { vec_capacity room.new ≡ vec_capacity room.old }
 {
     let Ok(found) = next_frame(source, window) else {
@@ -99,17 +124,40 @@ fn serve<D: Desk, S: Source, W: Sink, C: Clock>(
     room: &mut Vec<u8>,
 ) -> Served
     requires { 192 ≤ vec_capacity room.old }
-    ensures session { Session (opening_of (D.origin desk.old)) (D.number desk.old) (D.seen desk.old) (D.seen desk.new)
-        (S.left source.old) (S.left source.new) (W.taken sink.old) (W.taken sink.new) result }
-    ensures fault { HasFault result.end (S.faults source.old) (S.faults source.new) (W.faults sink.old) (W.faults sink.new) }
-    ensures reads { S.faults source.old ≤ S.faults source.new }
-    ensures writes { W.faults sink.old ≤ W.faults sink.new }
-    ensures legal { IsLegal (opening_of (D.origin desk.old)) (D.seen desk.old) → IsLegal (opening_of (D.origin desk.old)) (D.seen desk.new) }
-    ensures origin { D.origin desk.new ≡ D.origin desk.old }
-    ensures number { D.number desk.new ≡ D.number desk.old }
-    ensures sharing { D.sharing desk.new ≡ D.sharing desk.old }
-    ensures source_mark { S.mark source.new ≡ S.mark source.old }
-    ensures sink_mark { W.mark sink.new ≡ W.mark sink.old }
+    ensures session { Session
+        (record {
+          server = record { desk = D.view desk.old; clock = C.moments clock.old };
+          source = source_of S.Source source.old;
+          sink = sink_of W.Sink sink.old;
+        })
+        (record {
+          server = record { desk = D.view desk.new; clock = C.moments clock.new };
+          source = source_of S.Source source.new;
+          sink = sink_of W.Sink sink.new;
+        })
+        result }
+    ensures fault { HasFault result.end
+        (record {
+          server = record { desk = D.view desk.old; clock = C.moments clock.old };
+          source = source_of S.Source source.old;
+          sink = sink_of W.Sink sink.old;
+        })
+        (record {
+          server = record { desk = D.view desk.new; clock = C.moments clock.new };
+          source = source_of S.Source source.new;
+          sink = sink_of W.Sink sink.new;
+        }) }
+    ensures same { IsSameLink
+        (record {
+          server = record { desk = D.view desk.old; clock = C.moments clock.old };
+          source = source_of S.Source source.old;
+          sink = sink_of W.Sink sink.old;
+        })
+        (record {
+          server = record { desk = D.view desk.new; clock = C.moments clock.new };
+          source = source_of S.Source source.new;
+          sink = sink_of W.Sink sink.new;
+        }) }
     ensures capacity { vec_capacity room.new ≡ vec_capacity room.old }
 {
     window.clear();
@@ -146,17 +194,40 @@ pub fn serve_connection<D: Desk, S: Source, W: Sink, C: Clock>(
     clock: &mut C,
     buffers: &mut Buffers,
 ) -> Served
-    ensures session { Session (opening_of (D.origin desk.old)) (D.number desk.old) (D.seen desk.old) (D.seen desk.new)
-        (S.left source.old) (S.left source.new) (W.taken sink.old) (W.taken sink.new) result }
-    ensures fault { HasFault result.end (S.faults source.old) (S.faults source.new) (W.faults sink.old) (W.faults sink.new) }
-    ensures reads { S.faults source.old ≤ S.faults source.new }
-    ensures writes { W.faults sink.old ≤ W.faults sink.new }
-    ensures legal { IsLegal (opening_of (D.origin desk.old)) (D.seen desk.old) → IsLegal (opening_of (D.origin desk.old)) (D.seen desk.new) }
-    ensures origin { D.origin desk.new ≡ D.origin desk.old }
-    ensures number { D.number desk.new ≡ D.number desk.old }
-    ensures sharing { D.sharing desk.new ≡ D.sharing desk.old }
-    ensures source_mark { S.mark source.new ≡ S.mark source.old }
-    ensures sink_mark { W.mark sink.new ≡ W.mark sink.old }
+    ensures session { Session
+        (record {
+          server = record { desk = D.view desk.old; clock = C.moments clock.old };
+          source = source_of S.Source source.old;
+          sink = sink_of W.Sink sink.old;
+        })
+        (record {
+          server = record { desk = D.view desk.new; clock = C.moments clock.new };
+          source = source_of S.Source source.new;
+          sink = sink_of W.Sink sink.new;
+        })
+        result }
+    ensures fault { HasFault result.end
+        (record {
+          server = record { desk = D.view desk.old; clock = C.moments clock.old };
+          source = source_of S.Source source.old;
+          sink = sink_of W.Sink sink.old;
+        })
+        (record {
+          server = record { desk = D.view desk.new; clock = C.moments clock.new };
+          source = source_of S.Source source.new;
+          sink = sink_of W.Sink sink.new;
+        }) }
+    ensures same { IsSameLink
+        (record {
+          server = record { desk = D.view desk.old; clock = C.moments clock.old };
+          source = source_of S.Source source.old;
+          sink = sink_of W.Sink sink.old;
+        })
+        (record {
+          server = record { desk = D.view desk.new; clock = C.moments clock.new };
+          source = source_of S.Source source.new;
+          sink = sink_of W.Sink sink.new;
+        }) }
 {
     serve(
         alloc,

@@ -13,7 +13,7 @@ use httparse::spans::{HeaderSpan, Span};
 const NOWHERE: Span = Span { start: 0, end: 0 };
 
 /// How often a head has a field of some name, with where the first one's value is.
-#[derive(Clone, Copy, Debug, PartialEq, Eq)]
+#[derive(Clone, Copy)]
 pub(crate) enum Named {
     Absent,
     Once(Span),

@@ -40,7 +40,7 @@ pub enum Defect {
 }
 
 /// Where the parts of a frame are in the bytes that were searched.
-#[derive(Clone, Copy, Debug, PartialEq, Eq)]
+#[derive(Clone, Copy)]
 pub struct FrameSpans {
     pub method: Span,
     pub target: Span,
@@ -74,7 +74,7 @@ impl FrameSpans {
 }
 
 /// The first frame of the bytes, by its spans.
-#[derive(Clone, Copy, Debug, PartialEq, Eq)]
+#[derive(Clone, Copy)]
 pub enum Found {
     Whole(FrameSpans),
     /// There are no bytes.

@@ -5,13 +5,9 @@
 mod answer;
 mod buffers;
 mod connection;
-#[cfg(test)]
-mod connection_tests;
 mod end;
 mod fields;
 pub mod frame;
-#[cfg(test)]
-mod frame_tests;
 mod length;
 mod reader;
 mod response;

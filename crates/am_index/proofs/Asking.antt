@@ -37,7 +37,7 @@ use Rattle.am_index.proofs.Listing.{in_filter}
 use Rattle.am_index.proofs.Merging.{merged_where}
 use Rattle.am_index.proofs.Noting.{or_false}
 use Rattle.am_index.proofs.Ordered.{Located, members_in_order, members_located}
-use Rattle.am_board.proofs.Rising.{rises}
+use Rattle.am_installed.proofs.Rising.{rises}
 
 -- a filter is listed for some of the groups
 abbrev in_some : List Group → Filter → Bool

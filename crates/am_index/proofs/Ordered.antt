@@ -10,7 +10,7 @@ use Rattle.am_index.specs.declared.key.Spot.{Spot}
 use Rattle.am_index.specs.Lookups.{stands_before}
 use Rattle.am_index.specs.Members.{Member, members_from, members, spot_of}
 use Rattle.am_index.proofs.Noting.{or_true}
-use Rattle.am_board.proofs.Rising.{Above, Rises, apart}
+use Rattle.am_installed.proofs.Rising.{Above, Rises, apart}
 
 -- the spot stands before those of all components
 abbrev pub Before : Spot → List Member → Type 0

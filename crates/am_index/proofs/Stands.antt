@@ -16,7 +16,7 @@ use Rattle.am_index.specs.Keys.{is_under}
 use Rattle.am_index.specs.Lists.{spots_at}
 use Rattle.am_index.specs.Members.{Member, members_from, members, spot_of, spots_where, spots_under, spots_of_package, spots_without}
 use Rattle.am_index.specs.Standing.{CanBeListed, StandsFor, ListsTheSame}
-use Rattle.am_board.proofs.Rising.{rises, below_last, without_new, increasing_without}
+use Rattle.am_installed.proofs.Rising.{rises, below_last, without_new, increasing_without}
 
 spots_where-append : (test : Member → Bool) (xs ys : List Member) → spots_where test (xs ++ ys) ≡ spots_where test xs ++ spots_where test ys
 spots_where-append test [] ys = refl

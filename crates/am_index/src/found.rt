@@ -11,10 +11,9 @@ ghost use Rattle.am_index.specs.Keys.{is_bare, is_typed};
 ghost use Rattle.am_index.specs.Lookups.{cost_found, cost_of_spot, cost_of_spots, hit_of_spot, hits_of_spots, priority_found};
 
 use crate::key::Spot;
-use am_board::package_at;
 use am_filter::passes;
-use am_tally::Steps;
-use am_types::{Component, Decl, Filter, Hit, Intent, Kind, List, NoMemory, Package, Text};
+use am_installed::package_at;
+use am_types::{Component, Decl, Filter, Hit, Intent, Kind, List, NoMemory, Package, Steps, Text};
 use std::alloc::Global;
 use std::cmp::Reverse;
 use std::sync::ledger::Ledger;

@@ -9,8 +9,7 @@ ghost use Rattle.am_index.specs.Standing.{CanBeListed, CanTake, ListsTheSame, St
 use crate::found::{by_priority, hits_of_spots};
 use crate::lists::{Lists, drop_spots, note_package};
 use crate::lookup::spots_for;
-use am_tally::Steps;
-use am_types::{Hit, Intent, Kind, List, NoMemory, Package};
+use am_types::{Hit, Intent, Kind, List, NoMemory, Package, Steps};
 use std::alloc::Global;
 use std::collections::HashMap;
 use std::sync::ledger::Ledger;

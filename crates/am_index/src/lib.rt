@@ -8,8 +8,6 @@ mod key;
 mod lists;
 mod lookup;
 mod merge;
-#[cfg(test)]
-mod tests;
 
 pub use found::is_passed;
 pub use index::FilterIndex;

@@ -116,7 +116,7 @@ fn add_type(alloc: Global, groups: &mut Vec<Group>, mime: &Mime) -> Result<(), N
     if is_any_type(mime) {
         groups.push(Group::Typed)?;
     } else {
-        let any = Text::new(String::from_str(alloc, "*")?);
+        let any = Text::of(alloc, "*")?;
         groups.push(Group::Main(mime.main.clone()?))?;
         groups.push(Group::Main(any))?;
     }

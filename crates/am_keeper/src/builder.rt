@@ -10,7 +10,7 @@ use std::marker::Model;
 use std::vec::VecCloneMethods;
 
 /// Rows to which further ones are put. Contracts see it as these rows.
-#[derive(Debug, Drop)]
+#[derive(Drop)]
 pub struct RowsBuilder {
     packages: Vec<PackageRow>,
     grants: Vec<GrantRow>,
@@ -28,7 +28,6 @@ impl Model for RowsBuilder {
     ghost invariant = { λ b. IsInOrder (record { packages = b.packages.items; grants = b.grants.items; links = b.links.items }) };
 }
 
-#[tactic(auto, using(am_types::proofs::Clones::same_list))]
 fn packages(alloc: Global, rows: &[PackageRow]) -> Result<Vec<PackageRow>, AllocError>
     ensures { IfOk result (λ copy. copy.items ≡ rows.now) }
 {
@@ -37,7 +36,6 @@ fn packages(alloc: Global, rows: &[PackageRow]) -> Result<Vec<PackageRow>, Alloc
     Ok(copy)
 }
 
-#[tactic(auto, using(am_types::proofs::Clones::same_list))]
 fn grants(alloc: Global, rows: &[GrantRow]) -> Result<Vec<GrantRow>, AllocError>
     ensures { IfOk result (λ copy. copy.items ≡ rows.now) }
 {
@@ -46,7 +44,6 @@ fn grants(alloc: Global, rows: &[GrantRow]) -> Result<Vec<GrantRow>, AllocError>
     Ok(copy)
 }
 
-#[tactic(auto, using(am_types::proofs::Clones::same_list))]
 fn links(alloc: Global, rows: &[LinkRow]) -> Result<Vec<LinkRow>, AllocError>
     ensures { IfOk result (λ copy. copy.items ≡ rows.now) }
 {

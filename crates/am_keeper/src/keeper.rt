@@ -61,7 +61,7 @@ pub trait Keeper: Drop + Send {
 }
 
 /// A keeper at work, and the rows that were there when it came.
-#[derive(Debug, Drop)]
+#[derive(Drop)]
 pub struct Attached<K> {
     pub keeper: K,
     pub rows: Rows,

@@ -17,6 +17,3 @@ pub use keeper::{Attached, Keeper, Store};
 pub use memory::MemoryKeeper;
 pub use rows::{GrantRow, LinkRow, PackageRow, Row, Rows};
 pub use store::{MemoryStore, StoredRows};
-
-#[cfg(test)]
-mod tests;

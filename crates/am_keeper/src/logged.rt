@@ -7,7 +7,7 @@ use std::alloc::{AllocError, Global};
 use std::marker::Model;
 
 /// Rows, and what was put to them since. Contracts see it as the rows that this makes.
-#[derive(Debug, Drop)]
+#[derive(Drop)]
 pub(crate) struct Logged {
     first: Rows,
     puts: Vec<Row>,

@@ -10,7 +10,7 @@ use std::alloc::Global;
 use std::marker::Model;
 
 /// A keeper in memory. The calls with the numbers that it was given fail, and no others.
-#[derive(Debug, Drop)]
+#[derive(Drop)]
 pub struct MemoryKeeper {
     rows: Logged,
     place: Option<Text>,

@@ -5,7 +5,7 @@ use am_types::{List, Text};
 use std::alloc::AllocError;
 
 /// An installed package, or one that is gone.
-#[derive(Debug, Drop, PartialEq, Eq)]
+#[derive(Drop)]
 pub struct PackageRow {
     pub uid: u32,
     pub name: Text,
@@ -32,7 +32,7 @@ impl Clone for PackageRow {
 }
 
 /// A permission that was granted, or taken away.
-#[derive(Debug, Drop, PartialEq, Eq)]
+#[derive(Drop)]
 pub struct GrantRow {
     pub uid: u32,
     pub permission: Text,
@@ -53,7 +53,7 @@ impl Clone for GrantRow {
 }
 
 /// A host whose web links were approved for a package, or are no more.
-#[derive(Debug, Drop, PartialEq, Eq)]
+#[derive(Drop)]
 pub struct LinkRow {
     pub uid: u32,
     pub host: Text,
@@ -73,7 +73,7 @@ impl Clone for LinkRow {
 }
 
 /// One row of any kind.
-#[derive(Debug, Drop, PartialEq, Eq)]
+#[derive(Drop)]
 pub enum Row {
     Package(PackageRow),
     Grant(GrantRow),
@@ -94,7 +94,7 @@ impl Clone for Row {
 
 /// All rows, in the order of uid, then of permission or host by bytes. Each uid has one package
 /// row at most, each uid and permission one grant row, each uid and host one link row.
-#[derive(Debug, Drop, PartialEq, Eq)]
+#[derive(Drop)]
 pub struct Rows {
     pub packages: List<PackageRow>,
     pub grants: List<GrantRow>,
@@ -104,7 +104,6 @@ pub struct Rows {
 impl Clone for Rows {
     ghost is_clone = { λ x y. y ≡ x };
 
-    #[tactic(auto, using(am_types::proofs::Clones::same_list))]
     fn clone(&self) -> Result<Rows, AllocError> {
         Ok(Rows {
             packages: self.packages.clone()?,

@@ -16,14 +16,14 @@ use std::alloc::{AllocError, Global};
 use std::marker::Model;
 
 /// Rows at a path.
-#[derive(Debug, Drop)]
+#[derive(Drop)]
 pub struct StoredRows {
     pub path: Text,
     pub rows: Rows,
 }
 
 /// The room for what a keeper brings back, and what came back.
-#[derive(Debug, Drop)]
+#[derive(Drop)]
 pub(crate) struct Slot {
     pub path: Text,
     pub rows: Option<Logged>,
@@ -97,7 +97,7 @@ fn keep(slots: &mut Vec<Slot>, place: &Text, rows: Logged)
 }
 
 /// A store in memory. The attaches with the numbers that it was given fail, and no others.
-#[derive(Debug, Drop)]
+#[derive(Drop)]
 pub struct MemoryStore {
     places: List<StoredRows>,
     slots: Vec<Slot>,

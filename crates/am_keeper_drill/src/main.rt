@@ -10,7 +10,7 @@ use std::time::Instant;
 use std::{env, io};
 
 fn text(alloc: Global, of: &str) -> Result<Text, AllocError> {
-    Ok(Text::new(String::from_str(alloc, of)?))
+    Ok(Text::of(alloc, of)?)
 }
 
 fn put(alloc: Global, keeper: &mut SqlKeeper, number: u32) -> Result<(), KeepFail> {

@@ -44,7 +44,7 @@ fn cell_of(alloc: Global, value: ValueRef<'_>) -> Result<Cell, KeepFail>
     match value {
         ValueRef::Int(number) => Ok(Cell::Whole(number)),
         ValueRef::Text(bytes) => match std::str::from_utf8(bytes) {
-            Ok(text) => Ok(Cell::Words(Text::new(String::from_str(alloc, text)?))),
+            Ok(text) => Ok(Cell::Words(Text::of(alloc, text)?)),
             Err(_) => Err(KeepFail::Failed),
         },
         _ => Err(KeepFail::Failed),

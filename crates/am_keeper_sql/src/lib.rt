@@ -11,6 +11,3 @@ mod table;
 
 pub use attach::{attach_from, attach_sql};
 pub use keeper::SqlKeeper;
-
-#[cfg(test)]
-mod tests;

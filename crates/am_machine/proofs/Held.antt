@@ -13,10 +13,10 @@ use Rattle.am_model.specs.Boards.{Board, board_of}
 use Rattle.am_model.specs.Candidates.{hits}
 use Rattle.am_model.specs.Sound.{IsSound}
 use Rattle.am_model.specs.Texts.{is_same}
-use Rattle.am_steps.specs.Activities.{components_of}
-use Rattle.am_steps.specs.State.{State, opening, system_uid, root_or, uid_of, uid_of_package}
-use Rattle.am_steps.specs.Steps.{act}
-use Rattle.am_steps.proofs.Opening.{a_query_is_answered}
+use Rattle.am_history.specs.Activities.{components_of}
+use Rattle.am_history.specs.State.{State, opening, system_uid, root_or, uid_of, uid_of_package}
+use Rattle.am_history.specs.Steps.{act}
+use Rattle.am_history.proofs.Opening.{a_query_is_answered}
 use Rattle.am_machine.specs.Managed.{Holds}
 
 -- with a sound device, its own keys and board and no history, all is as it was at the opening

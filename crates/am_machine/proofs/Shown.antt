@@ -9,12 +9,12 @@ use Rattle.am_types.specs.declared.request.Request.{Request}
 use Rattle.am_types.specs.declared.reply.Reply.{Reply}
 use Rattle.am_types.specs.declared.reply.Reply.TheVariants.{Refused}
 use Rattle.am_types.specs.declared.rule.Rule.TheVariants.{HistoryFull}
-use Rattle.am_steps.specs.State.{State, opening, uid_of}
-use Rattle.am_steps.specs.Steps.{Call, act, is_served, step}
-use Rattle.am_steps.specs.History.{is_stored, may_change, reply_to, has_room, entry_of}
-use Rattle.am_steps.specs.Desks.{ShowsAt}
-use Rattle.am_steps.proofs.Served.{a_served_request_changes_nothing}
-use Rattle.am_steps.proofs.Opening.{nothing_is_due_at_opening}
+use Rattle.am_history.specs.State.{State, opening, uid_of}
+use Rattle.am_history.specs.Steps.{Call, act, is_served, step}
+use Rattle.am_history.specs.History.{is_stored, may_change, reply_to, has_room, entry_of}
+use Rattle.am_history.specs.Desks.{ShowsAt}
+use Rattle.am_history.proofs.Served.{a_served_request_changes_nothing}
+use Rattle.am_history.proofs.Opening.{nothing_is_due_at_opening}
 use Rattle.am_machine.specs.Managed.{IsLive}
 
 -- in the opening state a served request changes nothing
@@ -60,11 +60,9 @@ pub shown_at_end : (device : Device) (history : List Entry) (key : List ℕ) (re
     → ((call : Call) (history : List Entry) (kept : Bool) → call.key ≡ key → call.request ≡ request
     → reply ≡ reply_to (opening device) history call kept (uid_of (opening device) key))
     → (call : Call) → call.key ≡ key → call.request ≡ request
-    → ShowsAt (opening device) history history call (record { at = at; stored = false; reply = reply }) history
+    → ShowsAt (opening device) history history call (record { at = at; stored = false; reply = reply })
 shown_at_end device history key request at reply live served place says call same_key same = record {
   kept = true;
-  grows = ([], sym (append-nil history));
-  others = refl;
   at = place;
   stored = sym (ap (λ (state : State). is_stored state history call) live.live
       ∙ never_stored device history call (subst (λ (r : Request). IsTrue (is_served r)) (sym same) served));

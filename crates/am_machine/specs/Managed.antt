@@ -4,9 +4,9 @@ use Rattle.am_types.specs.declared.device.Device.{Device}
 use Rattle.am_types.specs.declared.history.Entry.{Entry}
 use Rattle.am_model.specs.Boards.{Board, board_of}
 use Rattle.am_model.specs.Sound.{IsSound}
-use Rattle.am_steps.specs.State.{opening}
-use Rattle.am_steps.specs.History.{replay, IsLegal}
-use Rattle.am_steps.specs.Desks.{Origin}
+use Rattle.am_history.specs.State.{opening}
+use Rattle.am_history.specs.History.{replay, IsLegal}
+use Rattle.am_history.specs.Desks.{Origin}
 
 -- a manager: where it comes from, and the calls that it stored since
 pub record Managed : Type 0 where

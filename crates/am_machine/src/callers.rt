@@ -1,7 +1,7 @@
 //! Which caller a key stands for.
 ghost use Rattle.std.specs.Prelude.{◌≡◌, Some, if◌then◌else◌};
 ghost use Rattle.am_model.specs.Texts.{is_same};
-ghost use Rattle.am_steps.specs.State.{system_uid, uid_of_package, root_or};
+ghost use Rattle.am_history.specs.State.{system_uid, uid_of_package, root_or};
 
 use am_types::{List, Package, Text};
 

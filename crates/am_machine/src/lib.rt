@@ -11,6 +11,3 @@ mod sole;
 pub use desk::Desk;
 pub use manager::{Manager, begin};
 pub use sole::SoleDesk;
-
-#[cfg(test)]
-mod tests;

@@ -2,10 +2,10 @@
 ghost use Rattle.std.specs.Prelude.{◌≡◌, ℕ, Bool, List as Items, [], length, IfOk, OnErr, IsTrue};
 ghost use Rattle.am_types.specs.declared.history.Entry.{Entry};
 ghost use Rattle.am_model.specs.Sound.{IsSound};
-ghost use Rattle.am_steps.specs.Desks.{opening_of, ShowsAt};
-ghost use Rattle.am_steps.specs.History.{IsLegal, reply_to};
-ghost use Rattle.am_steps.specs.State.{uid_of};
-ghost use Rattle.am_steps.specs.Steps.{Call, act, is_served};
+ghost use Rattle.am_history.specs.Desks.{opening_of, ShowsAt};
+ghost use Rattle.am_history.specs.History.{IsLegal, reply_to};
+ghost use Rattle.am_history.specs.State.{uid_of};
+ghost use Rattle.am_history.specs.Steps.{Call, act, is_served};
 ghost use Rattle.am_machine.specs.Managed.{Managed};
 
 use crate::callers::uid_of;
@@ -75,7 +75,7 @@ impl Manager {
         ensures shown { IfOk result
             (λ shown. ShowsAt (opening_of self.old.origin) self.old.history self.new.history
             (record { desk = desk; key = key.now; now = now; weight = weight; request = request })
-            shown self.old.history) }
+            shown) }
         ensures origin { self.new.origin ≡ self.old.origin }
         ensures legal { IsLegal (opening_of self.new.origin) self.new.history }
         ensures refused { OnErr result (self.new ≡ self.old) }
@@ -93,7 +93,7 @@ impl Manager {
         ensures legal { IsLegal (opening_of self.now.origin) self.now.history }
         ensures shown { IfOk result (λ shown. (call : Call) →
             call.key ≡ key.now → call.request ≡ request.now →
-            ShowsAt (opening_of self.now.origin) self.now.history self.now.history call shown self.now.history) }
+            ShowsAt (opening_of self.now.origin) self.now.history self.now.history call shown) }
     {
         let at = self.history.len() as u64;
         let reply = self.reply(key, request)?;

@@ -1,11 +1,10 @@
 //! The answer to a query.
 ghost use Rattle.std.specs.Prelude.{◌≡◌, ◌<◌, IfOk};
 ghost use Rattle.am_model.specs.Candidates.{hits};
-ghost use Rattle.am_steps.specs.Activities.{components_of};
+ghost use Rattle.am_history.specs.Activities.{components_of};
 
 use am_resolve::Board;
-use am_tally::Steps;
-use am_types::{Component, Hit, Intent, Kind, List, NoMemory};
+use am_types::{Component, Hit, Intent, Kind, List, NoMemory, Steps};
 use std::alloc::Global;
 use std::marker::Brand;
 use std::sync::ledger::{Blank, Ledger};

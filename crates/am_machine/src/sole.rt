@@ -1,7 +1,7 @@
 //! A desk over a manager of its own.
 ghost use Rattle.std.specs.Prelude.{◌≡◌};
-ghost use Rattle.am_steps.specs.Desks.{opening_of};
-ghost use Rattle.am_steps.specs.History.{IsLegal};
+ghost use Rattle.am_history.specs.Desks.{opening_of};
+ghost use Rattle.am_history.specs.History.{IsLegal};
 
 use crate::{Desk, Manager};
 use am_types::{NoMemory, Request, Shown, Text};
@@ -45,13 +45,14 @@ impl SoleDesk {
 }
 
 impl Desk for SoleDesk {
-    ghost number = { λ d. 0 };
+    ghost use Rattle.std.specs.Prelude.{[]};
 
-    ghost origin = { λ d. d.managed.origin };
-
-    ghost sharing = { λ d. record { id = 0; handed = d.handed } };
-
-    ghost seen = { λ d. d.managed.history };
+    ghost view = { λ d. record {
+      origin = d.managed.origin;
+      number = 0;
+      sharing = record { id = []; desks = 1; handed = d.handed };
+      seen = d.managed.history;
+    } };
 
     fn call(
         &mut self,

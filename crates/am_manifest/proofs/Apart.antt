@@ -10,7 +10,7 @@ use Rattle.std.specs.Cmp.Lexicographic.{slice_cmp, nat_list_cmp_total}
 use Rattle.std.proofs.lemmas.Map.Text.{is_eq-slice_cmp}
 use Rattle.am_types.specs.declared.device.Package.{Package}
 use Rattle.am_model.specs.Sound.{AreDistinct, keys_of, names_of, owner_keys}
-use Rattle.am_filter_tables.specs.Texts.{is_among, with_text, with_optional}
+use Rattle.am_uri.specs.Texts.{is_among, with_text, with_optional}
 use Rattle.am_manifest.specs.Devices.{first_taken}
 use Rattle.am_manifest.specs.Manifests.{first_repeated}
 use Rattle.am_manifest.proofs.Repeats.{flipped}

@@ -7,12 +7,12 @@ use Rattle.am_types.specs.declared.manifest.Decl.{Decl}
 use Rattle.am_types.specs.declared.manifest.Kind.{Kind}
 use Rattle.am_types.specs.declared.manifest.Kind.TheVariants.{Activity, Service, Receiver}
 use Rattle.am_model.specs.Sound.{IsSoundDecl}
-use Rattle.am_filter_tables.specs.Tables.{entry_table, optional_values}
-use Rattle.am_filter_tables.specs.Filters.{filters_at}
+use Rattle.am_manifest_filters.specs.Tables.{entry_table, optional_values}
+use Rattle.am_manifest_filters.specs.Filters.{filters_at}
 use Rattle.am_manifest.specs.Components.{component_entry, component_of, components_at, declared, exported_of, heading_of, launch_of}
 use Rattle.am_manifest.specs.Manifests.{decls_in}
-use Rattle.am_filter_tables.proofs.StepsRead.{steps, same, each_all}
-use Rattle.am_filter_tables.proofs.Limits.{filters_within}
+use Rattle.am_manifest_filters.proofs.StepsRead.{steps, same, each_all}
+use Rattle.am_manifest_filters.proofs.Limits.{filters_within}
 
 component_within : (kind : Kind) («package» at : List ℕ) (value : Data) (decl : Decl) → component_of kind «package» at value ≡ Ok decl → IsSoundDecl decl
 unfolding component_of declared

@@ -8,11 +8,11 @@ use Rattle.toml.specs.View.{view}
 use Rattle.toml.specs.declared.value.Value.{Value}
 use Rattle.am_types.specs.declared.device.Package.{Package}
 use Rattle.am_types.specs.declared.manifest.ManifestFault.{ManifestFault}
-use Rattle.am_filter_tables.specs.declared.fault.ReadFault.{ReadFault}
-use Rattle.am_filter_tables.specs.declared.fault.ReadFault.TheVariants as faults
+use Rattle.am_manifest_filters.specs.declared.fault.ReadFault.{ReadFault}
+use Rattle.am_manifest_filters.specs.declared.fault.ReadFault.TheVariants as faults
 use Rattle.am_manifest.specs.declared.rights.Right.{Right}
 use Rattle.am_manifest.specs.declared.rights.RightKind.{RightKind}
-use Rattle.am_filter_tables.specs.Reading.{Fails}
+use Rattle.am_manifest_filters.specs.Reading.{Fails}
 use Rattle.am_manifest.specs.Rights.{place_among, more_texts, right_entry, right_put, rights_from, with_right, with_uids}
 
 -- the items that are left begin with this one

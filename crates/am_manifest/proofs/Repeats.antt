@@ -5,7 +5,7 @@ use Rattle.std.specs.Cmp.{eq_by_cmp_equiv}
 use Rattle.std.specs.Cmp.Lexicographic.{slice_cmp, nat_list_cmp_total}
 use Rattle.std.proofs.lemmas.List.{drop_more}
 use Rattle.am_types.specs.declared.manifest.Decl.{Decl}
-use Rattle.am_filter_tables.specs.Texts.{is_among}
+use Rattle.am_uri.specs.Texts.{is_among}
 use Rattle.am_manifest.specs.Manifests.{classes, first_repeated}
 
 -- the same texts are the same from either side

@@ -17,11 +17,12 @@ use Rattle.am_types.specs.declared.manifest.Decl.{Decl}
 use Rattle.am_types.specs.declared.manifest.Manifest.{Manifest}
 use Rattle.am_types.specs.declared.manifest.ManifestFault.TheVariants.{Duplicate, WrongKind, OverLimit}
 use Rattle.am_model.specs.Sound.{AreDistinct, AreSoundPackages, AreSoundRights, IsSound, IsSoundDecl, IsSoundPackage, classes_of, is_access_key, is_package_name, keys_of, names_of, owner_keys, rights_approved, rights_granted, uids_of}
-use Rattle.am_filter_tables.specs.declared.fault.ReadFault.{ReadFault}
-use Rattle.am_filter_tables.specs.declared.text.Form.TheVariants.{AccessKey, PackageName}
-use Rattle.am_filter_tables.specs.Reading.{Gives}
-use Rattle.am_filter_tables.specs.Texts.{is_among, key_place, with_text, within_key}
-use Rattle.am_filter_tables.specs.Tables.{at_most, each, entry_table, optional_text, optional_values, required_text}
+use Rattle.am_manifest_filters.specs.declared.fault.ReadFault.{ReadFault}
+use Rattle.am_uri.specs.declared.text.Form.TheVariants.{AccessKey, PackageName}
+use Rattle.am_manifest_filters.specs.Reading.{Gives}
+use Rattle.am_uri.specs.Texts.{is_among, with_text}
+use Rattle.am_manifest_filters.specs.Texts.{key_place, within_key}
+use Rattle.am_manifest_filters.specs.Tables.{at_most, each, entry_table, optional_text, optional_values, required_text}
 use Rattle.am_manifest.specs.declared.device.Owners.{Owners}
 use Rattle.am_manifest.specs.declared.rights.Right.{Right}
 use Rattle.am_manifest.specs.declared.rights.Rights.{Rights}
@@ -33,8 +34,8 @@ use Rattle.am_manifest.specs.Devices.{actions_in, apart, device_in, device_made,
 use Rattle.am_manifest.proofs.Apart.{AreApart, are_apart, behind_one, behind_owners, distinct}
 use Rattle.am_manifest.proofs.Held.{AreFewTexts, CountUp, sound_rights}
 use Rattle.am_manifest.proofs.FewFilters.{decls_within}
-use Rattle.am_filter_tables.proofs.Order.{length_put, sorted_put}
-use Rattle.am_filter_tables.proofs.StepsRead.{steps, same, within, each_length, optional_fits, required_fits}
+use Rattle.am_uri.proofs.Order.{length_put, sorted_put}
+use Rattle.am_manifest_filters.proofs.StepsRead.{steps, same, within, each_length, optional_fits, required_fits}
 
 -- a manifest as its table gives it
 record IsSoundManifest (m : Manifest) : Type 0 where

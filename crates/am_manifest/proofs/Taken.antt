@@ -2,7 +2,7 @@
 use Rattle.std.proofs.Common.{◌≡◌, ℕ, ◌+◌, ◌<◌, true, false, List, ◌∷◌, length, drop, get_or, Some, sym, ap, ◌∙◌}
 use Rattle.std.proofs.lemmas.List.{drop_more}
 use Rattle.am_types.specs.declared.device.Package.{Package}
-use Rattle.am_filter_tables.specs.Texts.{with_text}
+use Rattle.am_uri.specs.Texts.{with_text}
 use Rattle.am_manifest.specs.Devices.{first_taken, is_taken}
 
 module _ (names keys : List (List ℕ)) (ps : List Package) (i : ℕ) (p : Package) (lt : i < length ps) (is : p ≡ get_or ps i p) where

@@ -11,10 +11,11 @@ use Rattle.am_types.specs.declared.manifest.ManifestFault.TheVariants.{NotToml, 
 use Rattle.am_manifest.specs.declared.device.Owners.{Owners}
 use Rattle.am_manifest.specs.declared.device.Actions.{Actions}
 use Rattle.am_manifest.specs.declared.rights.Rights.{Rights}
-use Rattle.am_filter_tables.specs.declared.text.Form.TheVariants.{AccessKey, PackageName}
-use Rattle.am_filter_tables.specs.Reading.{◌>>=◌}
-use Rattle.am_filter_tables.specs.Texts.{key_place, within_key, is_among, with_text, with_optional}
-use Rattle.am_filter_tables.specs.Tables.{required_text, optional_text, optional_values, texts_at, at_most, each, entry_table}
+use Rattle.am_uri.specs.declared.text.Form.TheVariants.{AccessKey, PackageName}
+use Rattle.am_manifest_filters.specs.Reading.{◌>>=◌}
+use Rattle.am_uri.specs.Texts.{is_among, with_text, with_optional}
+use Rattle.am_manifest_filters.specs.Texts.{key_place, within_key}
+use Rattle.am_manifest_filters.specs.Tables.{required_text, optional_text, optional_values, texts_at, at_most, each, entry_table}
 use Rattle.am_manifest.specs.Rights.{rights_in}
 use Rattle.am_manifest.specs.Manifests.{root_of, manifest_in}
 

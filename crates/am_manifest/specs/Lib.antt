@@ -3,4 +3,3 @@ pub mod Manifests
 pub mod Rights
 pub mod RightsHeld
 pub mod Devices
-pub mod Printing

@@ -8,10 +8,10 @@ use Rattle.am_types.specs.declared.manifest.Kind.TheVariants.{Activity, Service,
 use Rattle.am_types.specs.declared.manifest.Manifest.{Manifest}
 use Rattle.am_types.specs.declared.manifest.ManifestFault.{ManifestFault}
 use Rattle.am_types.specs.declared.manifest.ManifestFault.TheVariants.{NotToml, Duplicate}
-use Rattle.am_filter_tables.specs.declared.text.Form.TheVariants.{PackageName}
-use Rattle.am_filter_tables.specs.Reading.{◌>>=◌}
-use Rattle.am_filter_tables.specs.Texts.{is_among}
-use Rattle.am_filter_tables.specs.Tables.{required_text, at_most}
+use Rattle.am_uri.specs.declared.text.Form.TheVariants.{PackageName}
+use Rattle.am_manifest_filters.specs.Reading.{◌>>=◌}
+use Rattle.am_uri.specs.Texts.{is_among}
+use Rattle.am_manifest_filters.specs.Tables.{required_text, at_most}
 use Rattle.am_manifest.specs.Components.{components_at}
 
 -- the first text that stands again after itself

@@ -10,10 +10,11 @@ use Rattle.am_manifest.specs.declared.rights.Right.{Right}
 use Rattle.am_manifest.specs.declared.rights.Rights.{Rights}
 use Rattle.am_manifest.specs.declared.rights.RightKind.{RightKind}
 use Rattle.am_manifest.specs.declared.rights.RightKind.TheVariants.{Granted, Approved}
-use Rattle.am_filter_tables.specs.declared.text.Form.TheVariants.{Filled}
-use Rattle.am_filter_tables.specs.Reading.{◌>>=◌}
-use Rattle.am_filter_tables.specs.Texts.{key_place, is_among, with_text}
-use Rattle.am_filter_tables.specs.Tables.{required_text, optional_values, entry_table}
+use Rattle.am_uri.specs.declared.text.Form.TheVariants.{Filled}
+use Rattle.am_manifest_filters.specs.Reading.{◌>>=◌}
+use Rattle.am_uri.specs.Texts.{is_among, with_text}
+use Rattle.am_manifest_filters.specs.Texts.{key_place}
+use Rattle.am_manifest_filters.specs.Tables.{required_text, optional_values, entry_table}
 
 -- the key of the array of these rights
 abbrev pub array_key : RightKind → List ℕ

@@ -2,15 +2,16 @@
 ghost use Rattle.std.specs.Prelude.{◌≡◌, IfOk, map, option_and_then, unwrap_or};
 ghost use Rattle.toml.specs.Data.{as_str};
 ghost use Rattle.toml.specs.View.{view};
-ghost use Rattle.am_filter_tables.specs.Reading.{Gives, GivesBy};
-ghost use Rattle.am_filter_tables.specs.Tables.{each};
+ghost use Rattle.am_manifest_filters.specs.Reading.{Gives, GivesBy};
+ghost use Rattle.am_manifest_filters.specs.Tables.{each};
 ghost use Rattle.am_manifest.specs.Components.{has_dot, full_class, heading_of, is_activity, mode_named, mode_at, activity_launch, launch_of, exported_of, declared, component_of, component_entry, components_at};
 
-use am_filter_tables::{
-    Filters, Form, ReadFault, Spot, entry_table, filters_at, optional_text, optional_truth,
-    optional_values, required_text, starts_with_dot, wrong_kind,
+use am_manifest_filters::{
+    Filters, ReadFault, Spot, entry_table, filters_at, optional_text, optional_truth,
+    optional_values, required_text, wrong_kind,
 };
 use am_types::{Decl, Kind, ManifestFault, Mode, Text};
+use am_uri::{Form, starts_with_dot};
 use std::alloc::{AllocError, Global};
 use toml::Value;
 

@@ -1,19 +1,20 @@
 //! The device that a file describes.
 ghost use Rattle.std.specs.Prelude.{◌≡◌, ◌≤◌, IfOk, codes, length, map, [], ◌∷◌};
 ghost use Rattle.toml.specs.View.{view};
-ghost use Rattle.am_filter_tables.specs.Reading.{Gives, GivesBy};
-ghost use Rattle.am_filter_tables.specs.Tables.{each};
-ghost use Rattle.am_filter_tables.specs.Texts.{with_text};
+ghost use Rattle.am_manifest_filters.specs.Reading.{Gives, GivesBy};
+ghost use Rattle.am_manifest_filters.specs.Tables.{each};
+ghost use Rattle.am_uri.specs.Texts.{with_text};
 ghost use Rattle.am_model.specs.Sound.{IsSound};
 ghost use Rattle.am_manifest.specs.Devices.{actions_in, apart, device_in, device_of, first_taken, is_taken, manifest_at, owners_in, package_entry, package_of, packages_apart, packages_in, known_keys, roots_apart, shares_key, text_of};
 
 use crate::manifest::{manifest_in, root_of};
 use crate::rights::rights_in;
-use am_filter_tables::{
-    Form, ReadFault, Spot, at_most, entry_table, missing, optional_text, optional_values,
-    required_text, texts_at, within_key, wrong_kind,
+use am_manifest_filters::{
+    ReadFault, Spot, at_most, entry_table, missing, optional_text, optional_values, required_text,
+    texts_at, within_key, wrong_kind,
 };
 use am_types::{Device, List, Manifest, ManifestFault, Package, Text};
+use am_uri::Form;
 use std::alloc::{AllocError, Global};
 use std::collections::BTreeSet;
 use toml::Value;
@@ -93,7 +94,7 @@ fn each_package(alloc: Global, values: &[Value]) -> Result<Vec<Package>, ReadFau
 }
 
 /// The packages of a device.
-#[tactic(auto, unfolding(crate::specs::Devices::packages_in, am_filter_tables::specs::Tables::at_most))]
+#[tactic(auto, unfolding(crate::specs::Devices::packages_in, am_manifest_filters::specs::Tables::at_most))]
 fn packages_in(alloc: Global, table: &Value) -> Result<Vec<Package>, ReadFault>
     ensures { GivesBy (λ packages. packages.items) result (packages_in (view table.now)) }
 {
@@ -138,7 +139,7 @@ fn known_names(alloc: Global) -> Result<BTreeSet<Text>, AllocError>
     ensures { IfOk result (λ names. names.keys ≡ codes "android" ∷ []) }
 {
     let mut names = BTreeSet::new(alloc);
-    names.insert(Text::new(String::from_str(alloc, "android")?))?;
+    names.insert(Text::of(alloc, "android")?)?;
     Ok(names)
 }
 

@@ -7,10 +7,7 @@ mod manifest;
 mod print;
 mod rights;
 
-pub use am_filter_tables::ReadFault;
+pub use am_manifest_filters::ReadFault;
 pub use device::read_device;
 pub use manifest::read_package;
 pub use print::print_fault;
-
-#[cfg(test)]
-mod tests;

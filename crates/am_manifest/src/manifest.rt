@@ -2,12 +2,13 @@
 ghost use Rattle.std.specs.Prelude.{◌≡◌, IfOk, Some, if◌then◌else◌, ◌++◌};
 ghost use Rattle.toml.specs.Parse.{parse_document};
 ghost use Rattle.toml.specs.View.{view};
-ghost use Rattle.am_filter_tables.specs.Reading.{Gives, GivesBy};
+ghost use Rattle.am_manifest_filters.specs.Reading.{Gives, GivesBy};
 ghost use Rattle.am_manifest.specs.Manifests.{classes, decls_in, first_repeated, manifest_alone, manifest_in, manifest_made, manifest_of, root_of};
 
 use crate::components::components_at;
-use am_filter_tables::{Form, ReadFault, at_most, required_text};
+use am_manifest_filters::{ReadFault, at_most, required_text};
 use am_types::{Decl, Kind, List, Manifest, ManifestFault, Text};
+use am_uri::Form;
 use std::alloc::{AllocError, Global};
 use std::collections::BTreeSet;
 use toml::Value;

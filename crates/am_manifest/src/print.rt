@@ -1,8 +1,7 @@
 //! The printed form of a fault.
 ghost use Rattle.std.specs.Prelude.{◌≡◌, IfOk};
-ghost use Rattle.am_manifest.specs.Printing.{printed};
+ghost use Rattle.am_types.specs.Printing.{printed};
 
-use am_filter_tables::Printed;
 use am_types::{ManifestFault, NoMemory, Text};
 use std::alloc::Global;
 
@@ -14,6 +13,5 @@ use std::alloc::Global;
 pub fn print_fault(alloc: Global, fault: &ManifestFault) -> Result<Text, NoMemory>
     ensures { IfOk result (λ text. text ≡ printed fault.now) }
 {
-    let line = Printed { fault };
-    Ok(Text::new(line.to_string(alloc)?))
+    Ok(Text::new(fault.to_string(alloc)?))
 }

@@ -2,15 +2,15 @@
 ghost use Rattle.std.specs.Prelude.{◌≡◌, ◌++◌, ◌<◌, ℕ, List as Items, IfOk, map, option_and_then, replicate, [], vec_len};
 ghost use Rattle.toml.specs.Data.{as_str};
 ghost use Rattle.toml.specs.View.{view};
-ghost use Rattle.am_filter_tables.specs.Reading.{Gives, GivesBy};
+ghost use Rattle.am_manifest_filters.specs.Reading.{Gives, GivesBy};
 ghost use Rattle.am_manifest.specs.Rights.{array_key, holder_at, limit_name, more_texts, place_among, right_entry, right_of, right_put, rights_from, rights_in, rights_of, spelled, text_key, with_right, with_uids};
 ghost use Rattle.am_manifest.specs.RightsHeld.{place_in, texts_in};
 
-use am_filter_tables::{
-    Form, ReadFault, Spot, entry_table, missing, optional_values, over_limit, required_text,
-    wrong_kind,
+use am_manifest_filters::{
+    ReadFault, Spot, entry_table, missing, optional_values, over_limit, required_text, wrong_kind,
 };
 use am_types::{Grant, Link, List, Package, Text};
+use am_uri::Form;
 use std::alloc::{AllocError, Global};
 use std::collections::{BTreeMap, BTreeSet};
 use std::mem;

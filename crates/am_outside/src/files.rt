@@ -5,7 +5,7 @@ use am_types::{List, Text};
 use std::alloc::{AllocError, AllocFailed};
 
 /// A file's name with its bytes.
-#[derive(Debug, Drop, PartialEq, Eq)]
+#[derive(Drop)]
 pub struct FileBytes {
     pub name: Text,
     pub bytes: List<u8>,

@@ -7,8 +7,6 @@ mod files;
 mod memory;
 mod memory_files;
 mod outside;
-#[cfg(test)]
-mod tests;
 
 pub use clock::{Clock, StepClock};
 pub use failure::Failed;

@@ -40,7 +40,7 @@ fn copy_front(from: &[u8], most: usize, into: &mut [u8]) -> usize
 }
 
 /// A source of bytes in memory.
-#[derive(Debug, Drop)]
+#[derive(Drop)]
 pub struct MemorySource {
     bytes: List<u8>,
     at: usize,
@@ -115,7 +115,7 @@ impl Source for MemorySource {
 }
 
 /// A sink of bytes in memory.
-#[derive(Debug, Drop)]
+#[derive(Drop)]
 pub struct MemorySink {
     taken: Vec<u8>,
     room: usize,

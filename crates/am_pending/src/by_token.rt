@@ -18,7 +18,7 @@ use std::marker::Model;
 
 /// Records under their tokens, with the canceled ones until these are tidied away together, so that canceling one moves none.
 /// Contracts see all of them in the order of their tokens.
-#[derive(Debug, Drop)]
+#[derive(Drop)]
 pub struct ByToken {
     records: IndexMap<u64, Record, InTurn>,
 }

@@ -3,11 +3,11 @@ use std::hash::{BuildHasher, Hasher};
 
 /// Tokens are given in turn, and used together with others of their time. So eight in turn have one group of a table of
 /// records, and the next eight the next group: what one call read is near what the next one reads.
-#[derive(Clone, Copy, Debug, Drop)]
+#[derive(Clone, Copy, Drop)]
 pub struct InTurn;
 
 /// The last eight bytes that were fed, as a number. The first byte is its lowest.
-#[derive(Clone, Copy, Debug, Drop)]
+#[derive(Clone, Copy, Drop)]
 pub struct LastBytes {
     number: u64,
 }

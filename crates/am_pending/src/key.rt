@@ -16,7 +16,7 @@ use std::marker::Model;
 use std::sync::Arc;
 
 /// Who made a pending intent and what for: the key of its record. Extras and flags of the intent don't count.
-#[derive(Debug, Drop)]
+#[derive(Drop)]
 pub struct Key {
     pub creator: u32,
     pub kind: Kind,
@@ -151,7 +151,7 @@ impl Hash for Key {
 }
 
 /// A key that a record and the table of tokens have together, so that its texts are kept once.
-#[derive(Debug, Drop)]
+#[derive(Drop)]
 pub struct SharedKey {
     key: Arc<Key, Global>,
     /// The key's creator once more, so that who may cancel or give a token is told without the key.

@@ -7,7 +7,5 @@ mod key;
 mod pendings;
 mod records;
 mod table;
-#[cfg(test)]
-mod tests;
 
 pub use pendings::Pending;

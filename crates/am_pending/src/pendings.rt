@@ -9,8 +9,7 @@ use crate::key::Key;
 use crate::records::Record;
 use crate::table::Table;
 use am_filter::fill_in;
-use am_tally::Steps;
-use am_types::{FillFault, Intent, Kind, PendingFault, PendingFlags, Used};
+use am_types::{FillFault, Intent, Kind, PendingFault, PendingFlags, Steps, Used};
 use std::alloc::{AllocError, Global};
 use std::marker::Model;
 use std::sync::ledger::Ledger;
@@ -19,7 +18,7 @@ use std::sync::ledger::Ledger;
 const MOST_RECORDS: u32 = 1024;
 
 /// The live pending intents of all creators. Contracts see the records in the order of their tokens, and the next token.
-#[derive(Debug, Drop)]
+#[derive(Drop)]
 pub struct Pending {
     alloc: Global,
     table: Table,

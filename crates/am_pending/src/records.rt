@@ -14,7 +14,7 @@ use std::marker::Model;
 const MOST_HOLDERS: usize = 64;
 
 /// A record: its key, with the whole intent, the uids besides the creator's that hold its token, and whether it is canceled.
-#[derive(Debug, Drop)]
+#[derive(Drop)]
 pub struct Record {
     key: SharedKey,
     holders: Vec<u32>,

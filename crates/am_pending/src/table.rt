@@ -12,8 +12,7 @@ ghost use Rattle.am_pending.specs.declared.key.Key.{Key};
 use crate::by_token::ByToken;
 use crate::key::{Key, SharedKey};
 use crate::records::Record;
-use am_tally::Steps;
-use am_types::{List, Named, PendingFault};
+use am_types::{List, Named, PendingFault, Steps};
 use indexmap::IndexMap;
 use std::alloc::{AllocError, Global};
 use std::marker::Model;
@@ -22,7 +21,7 @@ use std::sync::ledger::Ledger;
 /// The live records and the next token. Canceled records, and the tokens of their keys, stay until there are about a third as
 /// many as live ones, so that canceling one reads no other and no key. Contracts don't see them, and see the live ones in the
 /// order of their tokens.
-#[derive(Debug, Drop)]
+#[derive(Drop)]
 pub struct Table {
     records: ByToken,
     tokens: IndexMap<SharedKey, u64>,

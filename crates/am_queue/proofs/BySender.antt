@@ -9,7 +9,7 @@ use Rattle.std.specs.List.Sorted.{IsPartitionedBy}
 use Rattle.am_types.specs.declared.broadcast.Item.{Item}
 use Rattle.am_model.specs.Broadcasts as broadcasts
 use Rattle.am_model.specs.Sending.{result_items}
-use Rattle.am_turns.specs.Turns.{final_item}
+use Rattle.am_queue_ordered.specs.Turns.{final_item}
 use Rattle.am_queue.specs.declared.results.Taken.{Taken}
 use Rattle.am_queue.specs.declared.results.Taken.TheVariants.{Delivery, Sender}
 use Rattle.am_queue.specs.Results.{AreKeys, AreRising, BySender, key_of, of_number, own}

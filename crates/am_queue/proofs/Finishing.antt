@@ -9,9 +9,9 @@ use Rattle.am_types.specs.declared.broadcast.FinishFault.TheVariants.{NoDelivery
 use Rattle.am_model.specs.Filters.{is_empty}
 use Rattle.am_model.specs.Broadcasts.{Broadcasts, Normal, Delivery, InTurn, Doing, normals_keeping}
 use Rattle.am_model.specs.Sending.{Held, or_held, held_in_deliveries, held_in_normals, is_current, answered_head, is_for_ordered, finished, finish_held}
-use Rattle.am_turns.specs.Lines.{is_head, head_turned}
-use Rattle.am_deliveries.specs.Batches.{at_once_by}
-use Rattle.am_deliveries.specs.Kept.{AllLive}
+use Rattle.am_queue_ordered.specs.Lines.{is_head, head_turned}
+use Rattle.am_queue_normal.specs.Batches.{at_once_by}
+use Rattle.am_queue_normal.specs.Kept.{AllLive}
 use Rattle.am_queue.specs.Sound.{has_current, IsSound}
 use Rattle.am_queue.specs.Taken.{fault_of}
 

@@ -3,8 +3,8 @@ use Rattle.std.proofs.Common.{◌≡◌, ℕ, ◌+◌, ◌<◌, ◌≤◌, Bool,
 use Rattle.std.proofs.lemmas.List.Sums.{sum_by-cons}
 use Rattle.am_model.specs.Broadcasts as broadcasts
 use Rattle.am_model.specs.Broadcasts.{Broadcasts, Normal, InTurn, Settled, settled, settle_foreground, settle_background, span}
-use Rattle.am_turns.specs.Counts.{Follows, queued_of, results_of}
-use Rattle.am_deliveries.specs.Kept.{normals_of}
+use Rattle.am_queue_ordered.specs.Counts.{Follows, queued_of, results_of}
+use Rattle.am_queue_normal.specs.Kept.{normals_of}
 use Rattle.am_queue.specs.Results.{AreRising}
 use Rattle.am_queue.specs.Sound.{owed_in, has_current, IsSound, AreSound, all_of}
 use Rattle.am_queue.proofs.Rising.{settled_rising}

@@ -12,8 +12,8 @@ use Rattle.am_types.specs.declared.broadcast.Ordered.{Ordered}
 use Rattle.am_model.specs.Broadcasts as broadcasts
 use Rattle.am_model.specs.Broadcasts.{Broadcasts, Normal, InTurn}
 use Rattle.am_model.specs.Sending.{at_once, in_turn, is_current, live}
-use Rattle.am_turns.proofs.Counting.{count_by-append}
-use Rattle.am_turns.specs.Counts.{count_of, one_for, queued_of}
+use Rattle.am_queue_ordered.proofs.Counting.{count_by-append}
+use Rattle.am_queue_ordered.specs.Counts.{count_of, one_for, queued_of}
 use Rattle.am_queue.specs.Sound.{owed, owed_in, has_current, IsSound, AreSound, all_of}
 use Rattle.am_queue.proofs.Rising.{rising_further}
 

@@ -9,9 +9,9 @@ use Rattle.am_model.specs.Broadcasts as broadcasts
 use Rattle.am_model.specs.Broadcasts.{InTurn, Current, Doing, Gone, Settled, turn, turned, settled, is_over, result_of, with_results, dispatched}
 use Rattle.am_model.specs.Filters.{is_empty}
 use Rattle.am_model.specs.Sending.{is_current, strike, strike_from, strike_rest, unwanted}
-use Rattle.am_turns.proofs.Counting.{count_by-cons}
-use Rattle.am_turns.specs.Lines.{head_turned}
-use Rattle.am_turns.specs.Counts.{queued_of}
+use Rattle.am_queue_ordered.proofs.Counting.{count_by-cons}
+use Rattle.am_queue_ordered.specs.Lines.{head_turned}
+use Rattle.am_queue_ordered.specs.Counts.{queued_of}
 use Rattle.am_queue.specs.Sound.{undelivered, owed, owed_in, has_current}
 
 -- a change of ordered broadcasts that takes no number, gives no delivery and changes no sender

@@ -5,7 +5,7 @@ use Rattle.am_types.specs.declared.broadcast.Spot.{Spot}
 use Rattle.am_model.specs.Broadcasts as broadcasts
 use Rattle.am_model.specs.Broadcasts.{Broadcasts, Normal, InTurn, Current, is_head_due, late_head, settle_foreground, settle_background}
 use Rattle.am_model.specs.Sending.{live, is_current}
-use Rattle.am_turns.specs.Counts.{count_of}
+use Rattle.am_queue_ordered.specs.Counts.{count_of}
 use Rattle.am_queue.specs.Results.{AreRising}
 
 -- the receivers that are left and have had no delivery

@@ -5,7 +5,5 @@ mod inbox;
 mod puts;
 mod queues;
 mod results;
-#[cfg(test)]
-mod tests;
 
 pub use queues::Queues;

@@ -2,12 +2,12 @@
 ghost use Rattle.std.specs.Prelude.{◌≡◌, ℕ, ◌+◌, ◌^◌, ◌<◌, ◌≤◌, [], ◌∷◌, ◌++◌, false, length, IsSome, IfSome, OnOk, OnErr};
 ghost use Rattle.am_model.specs.Filters.{is_empty};
 ghost use Rattle.am_model.specs.Sending.{at_once, in_turn};
-ghost use Rattle.am_turns.specs.Counts.{count_of, one_for};
-ghost use Rattle.am_deliveries.specs.Batches.{batch_of};
+ghost use Rattle.am_queue_ordered.specs.Counts.{count_of, one_for};
+ghost use Rattle.am_queue_normal.specs.Batches.{batch_of};
 
 use crate::results::Results;
-use am_deliveries::{Batch, Deliveries};
-use am_turns::{Counts, Line, Turn};
+use am_queue_normal::{Batch, Deliveries};
+use am_queue_ordered::{Counts, Line, Turn};
 use am_types::Sending;
 use std::alloc::{AllocError, Global};
 

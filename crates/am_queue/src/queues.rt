@@ -5,20 +5,19 @@ ghost use Rattle.am_model.specs.Broadcasts as broadcasts;
 ghost use Rattle.am_model.specs.Broadcasts.{no_broadcasts, settle_foreground, settle_background, late_head, is_head_due, is_delivery_due, normals_keeping, due, expired, span};
 ghost use Rattle.am_model.specs.Filters.{is_empty};
 ghost use Rattle.am_model.specs.Sending.{live, in_turn, with_normal, with_ordered, with_sent, send, held, answered_head, finish, forget, forget_uid, forget_registered, inbox, result_items, strike, unwanted};
-ghost use Rattle.am_turns.specs.Deeds.{doing_of};
-ghost use Rattle.am_turns.specs.Struck.{strikes};
-ghost use Rattle.am_turns.specs.Lines.{head_turned};
+ghost use Rattle.am_queue_ordered.specs.Deeds.{doing_of};
+ghost use Rattle.am_queue_ordered.specs.Struck.{strikes};
+ghost use Rattle.am_queue_ordered.specs.Lines.{head_turned};
 ghost use Rattle.am_queue.specs.Taken.{fault_of, held_as, is_taken, refusal_of};
 ghost use Rattle.am_queue.specs.Sound.{foreground_expired, background_expired};
-ghost use Rattle.am_deliveries.specs.Kept.{deliveries_in};
+ghost use Rattle.am_queue_normal.specs.Kept.{deliveries_in};
 
 use crate::inbox::{SHOWN, first_by_number, push_item};
 use crate::puts::{Begin, put_normal, put_turn};
 use crate::results::{Results, Taken};
-use am_deliveries::Deliveries;
-use am_tally::Steps;
-use am_turns::{Counts, Deed, Line, Struck};
-use am_types::{Answer, FinishFault, Item, List, NoMemory, SendFault, Sending};
+use am_queue_normal::Deliveries;
+use am_queue_ordered::{Counts, Deed, Line, Struck};
+use am_types::{Answer, FinishFault, Item, List, NoMemory, SendFault, Sending, Steps};
 use std::alloc::{AllocError, Global};
 use std::marker::Model;
 use std::sync::ledger::Ledger;
@@ -30,7 +29,7 @@ const FOREGROUND_SPAN: u64 = 10_000;
 const BACKGROUND_SPAN: u64 = 60_000;
 
 /// All live broadcasts, and the next numbers.
-#[derive(Debug, Drop)]
+#[derive(Drop)]
 pub struct Queues {
     alloc: Global,
     normals: Deliveries,

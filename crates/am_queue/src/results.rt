@@ -3,19 +3,19 @@ ghost use Rattle.std.specs.Prelude.{◌≡◌, ℕ, ◌+◌, ◌^◌, ◌<◌, �
 ghost use Rattle.std.specs.Option.{option_map};
 ghost use Rattle.am_model.specs.Broadcasts.{settled};
 ghost use Rattle.am_model.specs.Sending.{held_in_results, result_items};
-ghost use Rattle.am_turns.specs.Counts.{Covers, Follows, queued_of, results_of};
-ghost use Rattle.am_turns.specs.Turns.{final_item};
-ghost use Rattle.am_deliveries.specs.Batches.{at_once_by};
+ghost use Rattle.am_queue_ordered.specs.Counts.{Covers, Follows, queued_of, results_of};
+ghost use Rattle.am_queue_ordered.specs.Turns.{final_item};
+ghost use Rattle.am_queue_normal.specs.Batches.{at_once_by};
 ghost use Rattle.am_queue.specs.Results.{AreRising, BySender, IsOnly, key_of, of_number, own};
 ghost use Rattle.am_queue.specs.Taken.{is_key_taken, is_taken};
 
-use am_turns::{Counts, Final, Line};
+use am_queue_ordered::{Counts, Final, Line};
 use am_types::Item;
 use std::alloc::{AllocError, Global};
 use std::marker::Model;
 
 /// Which results go.
-#[derive(Clone, Copy, Debug, PartialEq, Eq)]
+#[derive(Clone, Copy)]
 pub(crate) enum Taken {
     /// The one with that delivery number.
     Delivery(u64),
@@ -44,7 +44,7 @@ impl Taken {
 }
 
 /// The results that wait for their senders.
-#[derive(Debug, Drop)]
+#[derive(Drop)]
 pub(crate) struct Results {
     /// By rising delivery number.
     kept: Vec<Final>,
@@ -234,7 +234,6 @@ impl Results {
     }
 
     /// The same results, with room for so many more.
-    #[tactic(auto, using(am_types::proofs::Clones::same_list))]
     pub(crate) fn copy(&self, more: usize) -> Result<Self, AllocError>
         ensures list { IfOk result (λ copy. copy.list ≡ self.now.list) }
         ensures room { IfOk result (λ copy. more ≤ copy.room) }

@@ -14,8 +14,8 @@ use Rattle.am_model.specs.Boards.{package_at}
 use Rattle.am_model.specs.Candidates.{by_priority, candidates, enabled_hit, hit_at, hit_of, hits, hits_from, is_kind, is_named, place_hit, priority_of}
 use Rattle.am_model.specs.Sound.{AreDistinct, classes_of}
 use Rattle.am_model.specs.Texts.{is_same}
-use Rattle.am_board.specs.Installed.{AreInstalled, IsInstalled}
-use Rattle.am_board.proofs.Rising.{Above, Rises, apart, rises}
+use Rattle.am_installed.specs.Installed.{AreInstalled, IsInstalled}
+use Rattle.am_installed.proofs.Rising.{Above, Rises, apart, rises}
 use Rattle.am_index.specs.Groups.{group_size, in_group, size_of}
 use Rattle.am_index.specs.Members.{Member, members, members_from}
 use Rattle.am_index.specs.Same.{is_same-Decides, is_same_itself}

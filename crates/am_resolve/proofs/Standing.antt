@@ -12,9 +12,9 @@ use Rattle.am_types.specs.declared.manifest.Decl.{Decl}
 use Rattle.am_model.specs.Boards.{with_stopped, without_package}
 use Rattle.am_model.specs.Candidates.{is_kind}
 use Rattle.am_model.specs.Sound.{AreSoundPackages, IsSoundPackage, uids_of}
-use Rattle.am_board.specs.Installed.{AreInstalled, IsInstalled}
-use Rattle.am_board.proofs.Changed.{uids_stopped}
-use Rattle.am_board.proofs.Rising.{below_last, rises, without_new}
+use Rattle.am_installed.specs.Installed.{AreInstalled, IsInstalled}
+use Rattle.am_installed.proofs.Changed.{uids_stopped}
+use Rattle.am_installed.proofs.Rising.{below_last, rises, without_new}
 use Rattle.am_index.specs.declared.index.FilterIndex.{FilterIndex}
 use Rattle.am_index.specs.declared.key.Key.{Key}
 use Rattle.am_index.specs.Keys.{is_under}

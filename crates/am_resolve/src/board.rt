@@ -8,19 +8,18 @@ ghost use Rattle.am_model.specs.Candidates.{hits};
 ghost use Rattle.am_model.specs.Receivers.{declared, receivers};
 ghost use Rattle.am_model.specs.Sound.{IsSound};
 ghost use Rattle.am_model.specs.Targets.{target};
-ghost use Rattle.am_board.specs.Installed.{AreInstalled};
-ghost use Rattle.am_board.specs.Places.{place_registered};
+ghost use Rattle.am_installed.specs.Installed.{AreInstalled};
+ghost use Rattle.am_installed.specs.Places.{place_registered};
 ghost use Rattle.am_index.specs.Groups.{group_size};
 
 use crate::narrow::narrowed;
+use crate::offered::receivers;
 use crate::top::choose;
-use am_board::Installed;
 use am_index::FilterIndex;
-use am_receivers::receivers;
-use am_tally::Steps;
+use am_installed::Installed;
 use am_types::{
     Component, Decl, Device, Grant, Hit, Intent, Kind, Link, List, NoMemory, Package, Receiving,
-    Registration, Target, Text,
+    Registration, Steps, Target, Text,
 };
 use std::alloc::Global;
 use std::marker::Model;

@@ -1,10 +1,13 @@
-//! The board of a device: what is installed, and which components an intent reaches.
+//! The board of a device: what is installed, which components an intent reaches, and who a broadcast is offered to.
 #![tactic(auto)]
 
 mod board;
+mod names;
 mod narrow;
-#[cfg(test)]
-mod tests;
+mod offered;
+mod offers;
+mod order;
+mod skips;
 mod top;
 
 pub use board::Board;

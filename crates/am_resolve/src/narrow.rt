@@ -13,10 +13,9 @@ ghost use Rattle.am_model.specs.Texts.{is_same, lowered};
 ghost use Rattle.am_index.specs.Groups.{group_size, in_group};
 ghost use Rattle.am_resolve.specs.Narrowing.{cost_at, cost_in, cost_of, is_general_at, is_general_in};
 
-use am_board::{Installed, package_at};
 use am_index::is_passed;
-use am_tally::Steps;
-use am_types::{Decl, Filter, Hit, Intent, Link, List, NoMemory, Package, Text, Uri};
+use am_installed::{Installed, package_at};
+use am_types::{Decl, Filter, Hit, Intent, Link, List, NoMemory, Package, Steps, Text, Uri};
 use std::alloc::Global;
 use std::sync::ledger::Ledger;
 

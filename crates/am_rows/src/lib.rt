@@ -15,7 +15,7 @@ use std::error::Error;
 use std::fmt;
 
 /// A cell of a table.
-#[derive(Debug, Drop, PartialEq, Eq)]
+#[derive(Drop)]
 pub enum Cell {
     Whole(i64),
     Words(Text),
@@ -273,6 +273,3 @@ pub fn row_cells(alloc: Global, row: &Row) -> Result<List<Cell>, NoMemory>
     };
     Ok(List::new(cells))
 }
-
-#[cfg(test)]
-mod tests;

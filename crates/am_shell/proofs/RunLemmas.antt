@@ -9,12 +9,13 @@ use Rattle.am_types.specs.declared.manifest.ManifestFault.{ManifestFault}
 use Rattle.am_manifest.specs.Devices.{device_of}
 use Rattle.am_http.specs.declared.end.End.{End}
 use Rattle.am_http.specs.declared.end.End.TheVariants.{Input, Close, Refused, Cut, Limit, ReadFault, WriteFault}
+use Rattle.am_http.specs.Links.{SinkView}
 use Rattle.am_shell.specs.declared.outcome.Outcome.{Outcome}
 use Rattle.am_shell.specs.declared.outcome.Outcome.TheVariants.{Usage, DeviceRefused, FileFault, NoMemory, Ended}
 use Rattle.am_shell.specs.Devices.{Describes, IsUnread}
 use Rattle.am_shell.specs.Lines.{line_of, status_of, end_status}
 use Rattle.am_shell.specs.Outcomes.{Happens, Works, Serves, Unread, Refuses}
-use Rattle.am_shell.specs.Outside.{Outside, Stream, IsMissing}
+use Rattle.am_shell.specs.Outside.{Outside, Surroundings, IsMissing}
 use Rattle.am_shell.specs.Runs.{Tells, HasCause, Completes, Runs}
 use Rattle.am_shell.specs.Words.{device_file}
 
@@ -87,7 +88,7 @@ unread NoMemory words before after s h = absurd (omega arith)
 unread (Ended end) words before after s h = absurd (no_end_has end 4 (inr (inr (inl refl))) s)
 
 read_fault : (o : Outcome) (words : List (List ℕ)) (before after : Outside) → status_of o ≡ 5 → Happens o words before after
-    → HasRisen before.input.faults after.input.faults
+    → HasRisen before.streams.input.faults after.streams.input.faults
 read_fault Usage words before after s h = absurd (omega arith)
 read_fault (DeviceRefused text) words before after s h = absurd (omega arith)
 read_fault FileFault words before after s h = absurd (omega arith)
@@ -101,7 +102,7 @@ read_fault (Ended ReadFault) words before after s h = h.session.fault
 read_fault (Ended WriteFault) words before after s h = absurd (omega arith)
 
 write_fault : (o : Outcome) (words : List (List ℕ)) (before after : Outside) → status_of o ≡ 6 → Happens o words before after
-    → HasRisen before.output.faults after.output.faults
+    → HasRisen before.streams.output.faults after.streams.output.faults
 write_fault Usage words before after s h = absurd (omega arith)
 write_fault (DeviceRefused text) words before after s h = absurd (omega arith)
 write_fault FileFault words before after s h = absurd (omega arith)
@@ -115,23 +116,23 @@ write_fault (Ended ReadFault) words before after s h = absurd (omega arith)
 write_fault (Ended WriteFault) words before after s h = h.session.fault
 
 -- a run whose line was written whole
-told_whole : (o : Outcome) (words : List (List ℕ)) (before after : Outside) (errors errors' : Stream) (status : ℕ)
-    → Happens o words before after → status ≡ status_of o → Appends errors.bytes errors'.bytes (line_of o)
-    → HasCause words before after errors errors' status
-told_whole o words before after errors errors' status h s a = record {
-  worked = λ e. worked o words before after (sym s ∙ e) h;
-  stopped = λ e. stopped o words before after (sym s ∙ e) h;
-  misused = λ e. misused o words before after (sym s ∙ e) h;
-  refused = λ e. (line_of o, refused o words before after (sym s ∙ e) h, a);
-  unread = λ e. unread o words before after (sym s ∙ e) h;
-  read_fault = λ e. read_fault o words before after (sym s ∙ e) h;
-  write_fault = λ e. inl (write_fault o words before after (sym s ∙ e) h);
+told_whole : (o : Outcome) (words : List (List ℕ)) (before after : Surroundings) (status : ℕ)
+    → Happens o words before.outside after.outside → status ≡ status_of o → Appends before.errors.taken after.errors.taken (line_of o)
+    → HasCause words before after status
+told_whole o words before after status h s a = record {
+  worked = λ e. worked o words before.outside after.outside (sym s ∙ e) h;
+  stopped = λ e. stopped o words before.outside after.outside (sym s ∙ e) h;
+  misused = λ e. misused o words before.outside after.outside (sym s ∙ e) h;
+  refused = λ e. (line_of o, refused o words before.outside after.outside (sym s ∙ e) h, a);
+  unread = λ e. unread o words before.outside after.outside (sym s ∙ e) h;
+  read_fault = λ e. read_fault o words before.outside after.outside (sym s ∙ e) h;
+  write_fault = λ e. inl (write_fault o words before.outside after.outside (sym s ∙ e) h);
 }
 
 -- a run whose line wasn't
-told_partly : (words : List (List ℕ)) (before after : Outside) (errors errors' : Stream) (status : ℕ)
-    → status ≡ 6 → HasRisen errors.faults errors'.faults → HasCause words before after errors errors' status
-told_partly words before after errors errors' status s f = record {
+told_partly : (words : List (List ℕ)) (before after : Surroundings) (status : ℕ)
+    → status ≡ 6 → HasRisen before.errors.faults after.errors.faults → HasCause words before after status
+told_partly words before after status s f = record {
   worked = λ e. absurd (omega arith);
   stopped = λ e. absurd (omega arith);
   misused = λ e. absurd (omega arith);
@@ -142,10 +143,10 @@ told_partly words before after errors errors' status s f = record {
 }
 
 -- how a run went tells the cause of its status
-causes : (o : Outcome) (words : List (List ℕ)) (before after : Outside) (errors errors' : Stream) (status : ℕ)
-    → Happens o words before after → Tells o errors errors' status → HasCause words before after errors errors' status
-causes o words before after errors errors' status h (inl (s, a)) = told_whole o words before after errors errors' status h s a
-causes o words before after errors errors' status h (inr (s, f, p)) = told_partly words before after errors errors' status s f
+causes : (o : Outcome) (words : List (List ℕ)) (before after : Surroundings) (status : ℕ)
+    → Happens o words before.outside after.outside → Tells o before.errors after.errors status → HasCause words before after status
+causes o words before after status h (inl (s, a)) = told_whole o words before after status h s a
+causes o words before after status h (inr (s, f, p)) = told_partly words before after status s f
 
 -- a told file reads so
 reads_so : (told : Option (List FileBytes)) (files : List FileBytes) (name name' bytes : List ℕ) (read : Result Device ManifestFault)
@@ -171,34 +172,34 @@ unread_fault files name name' bytes before after (inr missing) t n b =
     absurd (not_missing before.files.files files name name' bytes missing t n b)
 
 -- memory ran out, or also the errors failed
-wanted : (errors errors' : Stream) (status : ℕ) → Tells NoMemory errors errors' status
+wanted : (errors errors' : SinkView) (status : ℕ) → Tells NoMemory errors errors' status
     → HasRisen errors.faults errors'.faults ⊎ (status ≡ 8)
 wanted errors errors' status (inl (s, a)) = inr s
 wanted errors errors' status (inr (s, f, p)) = inl f
 
 -- how a run went tells that good words and a good device file gave the work
-completes : (o : Outcome) (words : List (List ℕ)) (before after : Outside) (errors errors' : Stream) (status : ℕ)
-    → Happens o words before after → Tells o errors errors' status → Completes words before after errors errors' status
-completes Usage words before after errors errors' status h t name files bytes device w f b d =
+completes : (o : Outcome) (words : List (List ℕ)) (before after : Surroundings) (status : ℕ)
+    → Happens o words before.outside after.outside → Tells o before.errors after.errors status → Completes words before after status
+completes Usage words before after status h t name files bytes device w f b d =
     let clash : None ≡ Some name = sym h.0 ∙ w in cc
-completes (DeviceRefused text) words before after errors errors' status h t name files bytes device w f b d =
+completes (DeviceRefused text) words before after status h t name files bytes device w f b d =
     let same : h.0.name ≡ name = some_is (sym h.0.named ∙ w) in
     let clash : Ok device ≡ Err h.0.refused.fault =
-    sym d ∙ reads_so before.files.files files name h.0.name bytes (Err h.0.refused.fault) h.0.refused.file f same b in cc
-completes FileFault words before after errors errors' status h t name files bytes device w f b d =
-    inr (inl (unread_fault files name h.0.name bytes before after h.0.unread f (some_is (sym h.0.named ∙ w)) b))
-completes NoMemory words before after errors errors' status h t name files bytes device w f b d =
-    inr (inr (wanted errors errors' status t))
-completes (Ended end) words before after errors errors' status h t name files bytes device w f b d =
+    sym d ∙ reads_so before.outside.files.files files name h.0.name bytes (Err h.0.refused.fault) h.0.refused.file f same b in cc
+completes FileFault words before after status h t name files bytes device w f b d =
+    inr (inl (unread_fault files name h.0.name bytes before.outside after.outside h.0.unread f (some_is (sym h.0.named ∙ w)) b))
+completes NoMemory words before after status h t name files bytes device w f b d =
+    inr (inr (wanted before.errors after.errors status t))
+completes (Ended end) words before after status h t name files bytes device w f b d =
     let same : h.name ≡ name = some_is (sym h.named ∙ w) in
-    let read : device_of bytes ≡ Ok h.device = reads_so before.files.files files name h.name bytes (Ok h.device) h.file f same b in
-    inl (end, subst (λ (made : Device). Serves made before.input after.input before.output after.output end) (same_device (device_of bytes) h.device device read d) h.session)
+    let read : device_of bytes ≡ Ok h.device = reads_so before.outside.files.files files name h.name bytes (Ok h.device) h.file f same b in
+    inl (end, subst (λ (made : Device). Serves made before.outside.streams after.outside.streams end) (same_device (device_of bytes) h.device device read d) h.session)
 
 -- a whole run
-pub runs : (o : Outcome) (words : List (List ℕ)) (before after : Outside) (errors errors' : Stream) (status : ℕ)
-    → Happens o words before after → Tells o errors errors' status → Runs words before after errors errors' status
-runs o words before after errors errors' status h t = record {
+pub runs : (o : Outcome) (words : List (List ℕ)) (before after : Surroundings) (status : ℕ)
+    → Happens o words before.outside after.outside → Tells o before.errors after.errors status → Runs words before after status
+runs o words before after status h t = record {
   went = record { outcome = o; happened = h; told = t };
-  cause = causes o words before after errors errors' status h t;
-  complete = completes o words before after errors errors' status h t;
+  cause = causes o words before after status h t;
+  complete = completes o words before after status h t;
 }

@@ -11,7 +11,8 @@ use Rattle.am_shell.specs.Lines.{refusal_line}
 use Rattle.am_shell.specs.Outside.{Holds, IsMissing, Shelf}
 
 -- the file of that name describes that device, or has that fault
-pub record Describes (files : Option (List FileBytes)) (name : List ℕ) (read : Result Device ManifestFault) : Type 0 where
+pub record Describes
+    (files : Option (List FileBytes)) (name : List ℕ) (read : Result Device ManifestFault) : Type 0 where
   pub bytes : List ℕ
   pub held : Holds files name bytes
   pub reads : device_of bytes ≡ read

@@ -1,7 +1,7 @@
 -- The lines that tell on the errors how a run went.
 use Rattle.std.specs.Prelude.{ℕ, codes, List, [], ◌++◌}
 use Rattle.am_types.specs.declared.manifest.ManifestFault.{ManifestFault}
-use Rattle.am_manifest.specs.Printing.{printed}
+use Rattle.am_types.specs.Printing.{printed}
 use Rattle.am_http.specs.declared.end.End.{End}
 use Rattle.am_http.specs.declared.end.End.TheVariants.{Input, Close, Refused, Cut, Limit, ReadFault, WriteFault}
 use Rattle.am_shell.specs.declared.outcome.Outcome.{Outcome}

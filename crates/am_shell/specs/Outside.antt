@@ -2,22 +2,28 @@
 use Rattle.std.specs.Prelude.{◌≡◌, ℕ, List, Option, Some, None, ⊤}
 use Rattle.am_outside.specs.Files.{bytes_of}
 use Rattle.am_outside.specs.declared.files.FileBytes.{FileBytes}
-
--- of a source the bytes that are left, of a sink those that it took, where it tells them, and its count of faults
-pub record Stream : Type 0 where
-  pub bytes : Option (List ℕ)
-  pub faults : ℕ
+use Rattle.am_http.specs.Links.{SourceView, SinkView, Moments}
 
 -- of a reader of files the files, where it tells them, and its count of faults
 pub record Shelf : Type 0 where
   pub files : Option (List FileBytes)
   pub faults : ℕ
 
--- the outside of a run, but for the errors
+-- what a session is served over: the input, the output, and the moments that the clock tells
+pub record Streams : Type 0 where
+  pub input : SourceView
+  pub output : SinkView
+  pub clock : Moments
+
+-- the outside of a run's work: the files, and what its session is served over
 pub record Outside : Type 0 where
   pub files : Shelf
-  pub input : Stream
-  pub output : Stream
+  pub streams : Streams
+
+-- the outside of a whole run: that of its work, and the errors
+pub record Surroundings : Type 0 where
+  pub outside : Outside
+  pub errors : SinkView
 
 -- the file of that name has those bytes, where the files are told
 abbrev pub Holds : Option (List FileBytes) → List ℕ → List ℕ → Type 0

@@ -8,48 +8,57 @@ use Rattle.am_outside.specs.declared.files.FileBytes.{FileBytes}
 use Rattle.am_manifest.specs.Devices.{device_of}
 use Rattle.am_http.specs.declared.end.End.{End}
 use Rattle.am_http.specs.declared.end.End.TheVariants.{Input, Close, Refused, Cut, Limit}
+use Rattle.am_http.specs.Links.{SinkView}
 use Rattle.am_http.specs.Sending.{WritesPart}
 use Rattle.am_shell.specs.declared.outcome.Outcome.{Outcome}
 use Rattle.am_shell.specs.Lines.{line_of, status_of}
 use Rattle.am_shell.specs.Outcomes.{Happens, Works, Serves, Unread, Refuses}
-use Rattle.am_shell.specs.Outside.{Outside, Stream}
+use Rattle.am_shell.specs.Outside.{Surroundings}
 use Rattle.am_shell.specs.Words.{device_file}
 
 -- the outcome's line was written whole and the status is its own, or the errors failed and took a part of it
-abbrev pub Tells : Outcome → Stream → Stream → ℕ → Type 0
+abbrev pub Tells : Outcome → SinkView → SinkView → ℕ → Type 0
 Tells outcome errors errors' status =
-    ((status ≡ status_of outcome) × Appends errors.bytes errors'.bytes (line_of outcome))
-    ⊎ ((status ≡ 6) × HasRisen errors.faults errors'.faults × WritesPart errors.bytes errors'.bytes (line_of outcome))
+    ((status ≡ status_of outcome) × Appends errors.taken errors'.taken (line_of outcome))
+    ⊎ ((status ≡ 6) × HasRisen errors.faults errors'.faults × WritesPart errors.taken errors'.taken (line_of outcome))
 
 -- how a run went, and that the errors and the status tell it
-pub record Went (words : List (List ℕ)) (before after : Outside) (errors errors' : Stream) (status : ℕ) : Type 0 where
+pub record Went (words : List (List ℕ)) (before after : Surroundings) (status : ℕ) : Type 0 where
   pub outcome : Outcome
-  pub happened : Happens outcome words before after
-  pub told : Tells outcome errors errors' status
+  pub happened : Happens outcome words before.outside after.outside
+  pub told : Tells outcome before.errors after.errors status
 
--- the cause of each status; want of memory, status 8, has none
-pub record HasCause (words : List (List ℕ)) (before after : Outside) (errors errors' : Stream) (status : ℕ) : Type 0 where
-  pub worked : status ≡ 0 → Works words before after Input ⊎ Works words before after Close
-  pub stopped : status ≡ 1 → Works words before after Refused ⊎ Works words before after Cut ⊎ Works words before after Limit
+-- the words name a device file that describes a device, and its session ended so
+abbrev pub Ends : List (List ℕ) → Surroundings → Surroundings → End → Type 0
+Ends words before after end = Works words before.outside after.outside end
+
+-- the cause of each status; running out of memory, status 8, has none
+pub record HasCause (words : List (List ℕ)) (before after : Surroundings) (status : ℕ) : Type 0 where
+  pub worked : status ≡ 0 → Ends words before after Input ⊎ Ends words before after Close
+  pub stopped : status ≡ 1 →
+      Ends words before after Refused ⊎ Ends words before after Cut ⊎ Ends words before after Limit
   pub misused : status ≡ 2 → device_file words ≡ None
-  pub refused : status ≡ 3 → (line : List ℕ) × Refuses words before line × Appends errors.bytes errors'.bytes line
-  pub unread : status ≡ 4 → Unread words before after
-  pub read_fault : status ≡ 5 → HasRisen before.input.faults after.input.faults
+  pub refused : status ≡ 3 →
+      (line : List ℕ) × Refuses words before.outside line × Appends before.errors.taken after.errors.taken line
+  pub unread : status ≡ 4 → Unread words before.outside after.outside
+  pub read_fault : status ≡ 5 → HasRisen before.outside.streams.input.faults after.outside.streams.input.faults
   pub write_fault : status ≡ 6 →
-      HasRisen before.output.faults after.output.faults ⊎ HasRisen errors.faults errors'.faults
+      HasRisen before.outside.streams.output.faults after.outside.streams.output.faults
+      ⊎ HasRisen before.errors.faults after.errors.faults
 
 -- the words name a told file that describes a device: its session was served, unless the files or the errors
 -- failed or memory ran out
-abbrev pub Completes : List (List ℕ) → Outside → Outside → Stream → Stream → ℕ → Type 0
-Completes words before after errors errors' status =
+abbrev pub Completes : List (List ℕ) → Surroundings → Surroundings → ℕ → Type 0
+Completes words before after status =
     (name : List ℕ) (files : List FileBytes) (bytes : List ℕ) (device : Device) →
-    device_file words ≡ Some name → before.files.files ≡ Some files → bytes_of name files ≡ Some bytes →
+    device_file words ≡ Some name → before.outside.files.files ≡ Some files → bytes_of name files ≡ Some bytes →
     device_of bytes ≡ Ok device →
-    ((end : End) × Serves device before.input after.input before.output after.output end)
-    ⊎ HasRisen before.files.faults after.files.faults ⊎ HasRisen errors.faults errors'.faults ⊎ (status ≡ 8)
+    ((end : End) × Serves device before.outside.streams after.outside.streams end)
+    ⊎ HasRisen before.outside.files.faults after.outside.files.faults
+    ⊎ HasRisen before.errors.faults after.errors.faults ⊎ (status ≡ 8)
 
 -- a whole run: how it went, the cause of its status, and when it is the work
-pub record Runs (words : List (List ℕ)) (before after : Outside) (errors errors' : Stream) (status : ℕ) : Type 0 where
-  pub went : Went words before after errors errors' status
-  pub cause : HasCause words before after errors errors' status
-  pub complete : Completes words before after errors errors' status
+pub record Runs (words : List (List ℕ)) (before after : Surroundings) (status : ℕ) : Type 0 where
+  pub went : Went words before after status
+  pub cause : HasCause words before after status
+  pub complete : Completes words before after status

@@ -9,8 +9,3 @@ mod session;
 mod words;
 
 pub use program::{run, tell_want};
-
-#[cfg(test)]
-mod data_tests;
-#[cfg(test)]
-mod tests;

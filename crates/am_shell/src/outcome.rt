@@ -7,7 +7,7 @@ use am_outside::FileFail;
 use am_types::Text;
 
 /// How a run went.
-#[derive(Debug, Drop)]
+#[derive(Drop)]
 pub enum Outcome {
     /// The words aren't those of a session.
     Usage,

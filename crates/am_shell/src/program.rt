@@ -1,5 +1,6 @@
 //! The top call.
 ghost use Rattle.std.specs.Prelude.{◌≡◌, ◌≤◌};
+ghost use Rattle.am_http.specs.Links.{source_of, sink_of};
 ghost use Rattle.am_shell.specs.Outcomes.{Happens};
 ghost use Rattle.am_shell.specs.Runs.{Runs, Tells};
 
@@ -28,17 +29,27 @@ pub fn run<F: Files, S: Source, W: Sink, E: Sink, C: Clock>(
 ) -> u8
     ensures { Runs words.now
         (record {
-          files = record { files = F.files files.old; faults = F.faults files.old };
-          input = record { bytes = S.left input.old; faults = S.faults input.old };
-          output = record { bytes = W.taken output.old; faults = W.faults output.old };
+          outside = record {
+            files = record { files = F.files files.old; faults = F.faults files.old };
+            streams = record {
+              input = source_of S.Source input.old;
+              output = sink_of W.Sink output.old;
+              clock = C.moments clock.old;
+            };
+          };
+          errors = sink_of E.Sink errors.old;
         })
         (record {
-          files = record { files = F.files files.new; faults = F.faults files.new };
-          input = record { bytes = S.left input.new; faults = S.faults input.new };
-          output = record { bytes = W.taken output.new; faults = W.faults output.new };
+          outside = record {
+            files = record { files = F.files files.new; faults = F.faults files.new };
+            streams = record {
+              input = source_of S.Source input.new;
+              output = sink_of W.Sink output.new;
+              clock = C.moments clock.new;
+            };
+          };
+          errors = sink_of E.Sink errors.new;
         })
-        (record { bytes = E.taken errors.old; faults = E.faults errors.old })
-        (record { bytes = E.taken errors.new; faults = E.faults errors.new })
         result }
 {
     let outcome = work(alloc, words, files, input, output, clock);
@@ -57,13 +68,19 @@ fn work<F: Files, S: Source, W: Sink, C: Clock>(
     ensures { Happens result words.now
         (record {
           files = record { files = F.files files.old; faults = F.faults files.old };
-          input = record { bytes = S.left input.old; faults = S.faults input.old };
-          output = record { bytes = W.taken output.old; faults = W.faults output.old };
+          streams = record {
+            input = source_of S.Source input.old;
+            output = sink_of W.Sink output.old;
+            clock = C.moments clock.old;
+          };
         })
         (record {
           files = record { files = F.files files.new; faults = F.faults files.new };
-          input = record { bytes = S.left input.new; faults = S.faults input.new };
-          output = record { bytes = W.taken output.new; faults = W.faults output.new };
+          streams = record {
+            input = source_of S.Source input.new;
+            output = sink_of W.Sink output.new;
+            clock = C.moments clock.new;
+          };
         }) }
 {
     let Some(name) = device_file(words) else {
@@ -80,10 +97,7 @@ fn work<F: Files, S: Source, W: Sink, C: Clock>(
 
 // Writes the outcome's line on the errors, and answers the status.
 fn tell<E: Sink>(outcome: &Outcome, errors: &mut E) -> u8
-    ensures { Tells outcome.now
-        (record { bytes = E.taken errors.old; faults = E.faults errors.old })
-        (record { bytes = E.taken errors.new; faults = E.faults errors.new })
-        result }
+    ensures { Tells outcome.now (sink_of E.Sink errors.old) (sink_of E.Sink errors.new) result }
 {
     match write_all(errors, outcome.line().as_bytes()) {
         Ok(()) => outcome.status(),
@@ -94,10 +108,7 @@ fn tell<E: Sink>(outcome: &Outcome, errors: &mut E) -> u8
 /// Writes on the errors that memory ran out before the words were read, and answers the status: 8,
 /// or 6 where the line couldn't be written.
 pub fn tell_want<E: Sink>(errors: &mut E) -> u8
-    ensures { Tells Outcome.NoMemory
-        (record { bytes = E.taken errors.old; faults = E.faults errors.old })
-        (record { bytes = E.taken errors.new; faults = E.faults errors.new })
-        result }
+    ensures { Tells Outcome.NoMemory (sink_of E.Sink errors.old) (sink_of E.Sink errors.new) result }
 {
     tell(&Outcome::NoMemory, errors)
 }

@@ -1,6 +1,7 @@
 //! One session of a device over an input and an output.
 ghost use Rattle.std.specs.Prelude.{◌≡◌, ◌≤◌, [], IfOk, OnErr};
 ghost use Rattle.am_model.specs.Sound.{IsSound};
+ghost use Rattle.am_http.specs.Links.{source_of, sink_of};
 ghost use Rattle.am_shell.specs.Outcomes.{Serves};
 
 use am_http::{Buffers, End, serve_connection};
@@ -10,7 +11,7 @@ use am_types::{Device, NoMemory};
 use std::alloc::Global;
 
 /// Serves one session from the opening state of a sound device, and answers how it ended. After `NoMemory`
-/// nothing was read or written.
+/// nothing was read or written, and the clock wasn't asked.
 pub fn serve_session<S: Source, W: Sink, C: Clock>(
     alloc: Global,
     device: Device,
@@ -20,12 +21,19 @@ pub fn serve_session<S: Source, W: Sink, C: Clock>(
 ) -> Result<End, NoMemory>
     requires sound { IsSound device }
     ensures served { IfOk result (Serves device
-        (record { bytes = S.left input.old; faults = S.faults input.old })
-        (record { bytes = S.left input.new; faults = S.faults input.new })
-        (record { bytes = W.taken output.old; faults = W.faults output.old })
-        (record { bytes = W.taken output.new; faults = W.faults output.new })) }
+        (record {
+          input = source_of S.Source input.old;
+          output = sink_of W.Sink output.old;
+          clock = C.moments clock.old;
+        })
+        (record {
+          input = source_of S.Source input.new;
+          output = sink_of W.Sink output.new;
+          clock = C.moments clock.new;
+        })) }
     ensures unread { OnErr result (input.new ≡ input.old) }
     ensures unwritten { OnErr result (output.new ≡ output.old) }
+    ensures unasked { OnErr result (clock.new ≡ clock.old) }
 {
     let mut buffers = Buffers::new(alloc)?;
     let mut desk = SoleDesk::new(begin(alloc, device)?);

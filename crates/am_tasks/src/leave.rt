@@ -7,7 +7,7 @@ ghost use Rattle.am_tasks.specs.Leaving.{stays};
 use crate::task::{Instance, Task};
 
 /// Which instances end.
-#[derive(Clone, Copy, Debug)]
+#[derive(Clone, Copy)]
 pub(crate) enum Leaving {
     /// That of this number.
     Numbered(u64),

@@ -7,8 +7,6 @@ mod leave;
 mod plan;
 mod task;
 mod tasks;
-#[cfg(test)]
-mod tests;
 mod views;
 
 pub use tasks::Tasks;

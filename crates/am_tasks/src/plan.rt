@@ -10,7 +10,7 @@ use crate::task::Task;
 use am_types::{Mode, StartCall};
 
 /// What is kept of a task for a new intent to one of its instances.
-#[derive(Clone, Copy, Debug)]
+#[derive(Clone, Copy)]
 pub(crate) enum Keeping {
     /// All as they stand.
     All,
@@ -21,7 +21,7 @@ pub(crate) enum Keeping {
 }
 
 /// What happens in a task that is there. An instance is named by its place from the root.
-#[derive(Clone, Copy, Debug)]
+#[derive(Clone, Copy)]
 pub(crate) enum Change {
     /// All are destroyed, and a fresh root is made.
     FreshRoot,
@@ -36,7 +36,7 @@ pub(crate) enum Change {
 }
 
 /// What a start does. A task is named by its place from the front.
-#[derive(Clone, Copy, Debug)]
+#[derive(Clone, Copy)]
 pub(crate) enum Plan {
     /// A fresh instance in a new task, which may be one for a single instance.
     NewTask(bool),

@@ -6,7 +6,7 @@ use am_types::{Component, Intent, Text};
 use std::marker::Model;
 
 /// An activity instance.
-#[derive(Debug, Drop)]
+#[derive(Drop)]
 pub(crate) struct Instance {
     pub(crate) number: u64,
     pub(crate) component: Component,
@@ -54,7 +54,7 @@ fn mark_of_bytes(bytes: &[u8]) -> u64
 }
 
 /// A task.
-#[derive(Debug, Drop)]
+#[derive(Drop)]
 pub(crate) struct Task {
     pub(crate) number: u64,
     /// That of the component for which it was made; empty for none.

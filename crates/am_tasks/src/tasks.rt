@@ -32,7 +32,7 @@ const MOST: usize = 64;
 const LAST_NUMBER: u64 = 1_125_899_906_842_624;
 
 /// All tasks, from front to back.
-#[derive(Debug, Drop)]
+#[derive(Drop)]
 pub struct Tasks {
     alloc: Global,
     tasks: Vec<Task>,

@@ -4,7 +4,7 @@ use crate::{Component, Intent, List, Named, Rule, Text, copies};
 use std::alloc::AllocError;
 
 /// The result of an ordered broadcast so far.
-#[derive(Debug, Drop, PartialEq, Eq)]
+#[derive(Drop)]
 pub struct Outcome {
     pub code: i64,
     pub text: Option<Text>,
@@ -17,14 +17,14 @@ impl Clone for Outcome {
     fn clone(&self) -> Result<Outcome, AllocError> {
         Ok(Outcome {
             code: self.code,
-            text: copies::text(&self.text)?,
-            extras: copies::extras(&self.extras)?,
+            text: copies::option(&self.text)?,
+            extras: copies::list(&self.extras)?,
         })
     }
 }
 
 /// How an ordered broadcast starts, and whether its sender wants the result.
-#[derive(Debug, Drop, PartialEq, Eq)]
+#[derive(Drop)]
 pub struct Ordered {
     pub initial: Outcome,
     pub wanted: bool,
@@ -42,7 +42,7 @@ impl Clone for Ordered {
 }
 
 /// What a receiver answers when it finishes a delivery.
-#[derive(Debug, Drop, PartialEq, Eq)]
+#[derive(Drop)]
 pub struct Answer {
     /// The outcome that replaces the one so far.
     pub set: Option<Outcome>,
@@ -54,14 +54,14 @@ impl Clone for Answer {
 
     fn clone(&self) -> Result<Answer, AllocError> {
         Ok(Answer {
-            set: copies::outcome(&self.set)?,
+            set: copies::option(&self.set)?,
             abort: self.abort,
         })
     }
 }
 
 /// Which receiver: one of a manifest, or a registered one by its number.
-#[derive(Debug, Drop, PartialEq, Eq, PartialOrd, Ord, Hash)]
+#[derive(Drop)]
 pub enum Aim {
     Declared(Component),
     Registered(u64),
@@ -79,7 +79,7 @@ impl Clone for Aim {
 }
 
 /// A receiver that a broadcast was offered to.
-#[derive(Debug, Drop, PartialEq, Eq)]
+#[derive(Drop)]
 pub struct Receiving {
     pub uid: u32,
     pub aim: Aim,
@@ -87,40 +87,16 @@ pub struct Receiving {
     pub skip: Option<Rule>,
 }
 
-impl Clone for Receiving {
-    ghost is_clone = { λ x y. y ≡ x };
-
-    fn clone(&self) -> Result<Receiving, AllocError> {
-        Ok(Receiving {
-            uid: self.uid,
-            aim: self.aim.clone()?,
-            skip: copies::rule(&self.skip)?,
-        })
-    }
-}
-
 /// What waits in an inbox.
-#[derive(Debug, Drop, PartialEq, Eq)]
+#[derive(Drop)]
 pub struct Item {
     pub delivery: u64,
     pub broadcast: u64,
     pub what: ItemKind,
 }
 
-impl Clone for Item {
-    ghost is_clone = { λ x y. y ≡ x };
-
-    fn clone(&self) -> Result<Item, AllocError> {
-        Ok(Item {
-            delivery: self.delivery,
-            broadcast: self.broadcast,
-            what: self.what.clone()?,
-        })
-    }
-}
-
 /// A delivery of a normal or an ordered broadcast, or the result for its sender.
-#[derive(Debug, Drop, PartialEq, Eq)]
+#[derive(Drop)]
 pub enum ItemKind {
     Normal {
         aim: Aim,
@@ -136,33 +112,8 @@ pub enum ItemKind {
     },
 }
 
-impl Clone for ItemKind {
-    ghost is_clone = { λ x y. y ≡ x };
-
-    fn clone(&self) -> Result<ItemKind, AllocError> {
-        match self {
-            ItemKind::Normal { aim, intent } => Ok(ItemKind::Normal {
-                aim: aim.clone()?,
-                intent: intent.clone()?,
-            }),
-            ItemKind::InOrder {
-                aim,
-                intent,
-                outcome,
-            } => Ok(ItemKind::InOrder {
-                aim: aim.clone()?,
-                intent: intent.clone()?,
-                outcome: outcome.clone()?,
-            }),
-            ItemKind::Final { outcome } => Ok(ItemKind::Final {
-                outcome: outcome.clone()?,
-            }),
-        }
-    }
-}
-
 /// A receiver that a broadcast is to reach.
-#[derive(Debug, Drop, PartialEq, Eq, PartialOrd, Ord, Hash)]
+#[derive(Drop)]
 pub struct Spot {
     pub uid: u32,
     pub aim: Aim,
@@ -180,7 +131,7 @@ impl Clone for Spot {
 }
 
 /// A broadcast that is to be sent.
-#[derive(Debug, Drop, PartialEq, Eq)]
+#[derive(Drop)]
 pub struct Sending {
     pub sender: u32,
     /// The moment of the sending, in milliseconds.
@@ -194,22 +145,6 @@ pub struct Sending {
     pub to: List<Spot>,
     /// None for a normal broadcast.
     pub ordered: Option<Ordered>,
-}
-
-impl Clone for Sending {
-    ghost is_clone = { λ x y. y ≡ x };
-
-    fn clone(&self) -> Result<Sending, AllocError> {
-        Ok(Sending {
-            sender: self.sender,
-            now: self.now,
-            foreground: self.foreground,
-            no_abort: self.no_abort,
-            intent: self.intent.clone()?,
-            to: copies::spots(&self.to)?,
-            ordered: copies::ordered(&self.ordered)?,
-        })
-    }
 }
 
 /// Why a broadcast isn't sent.

@@ -4,7 +4,7 @@ use crate::{Decl, List, Text, copies};
 use std::alloc::AllocError;
 
 /// An installed package.
-#[derive(Debug, Drop, PartialEq, Eq)]
+#[derive(Drop)]
 pub struct Package {
     /// From 10,000 to 4,294,967,294.
     pub uid: u32,
@@ -24,50 +24,28 @@ impl Clone for Package {
             name: self.name.clone()?,
             key: self.key.clone()?,
             stopped: self.stopped,
-            decls: copies::decls(&self.decls)?,
+            decls: copies::list(&self.decls)?,
         })
     }
 }
 
 /// A permission that a package holds.
-#[derive(Debug, Drop, PartialEq, Eq, PartialOrd, Ord, Hash)]
+#[derive(Drop)]
 pub struct Grant {
     pub uid: u32,
     pub permission: Text,
 }
 
-impl Clone for Grant {
-    ghost is_clone = { λ x y. y ≡ x };
-
-    fn clone(&self) -> Result<Grant, AllocError> {
-        Ok(Grant {
-            uid: self.uid,
-            permission: self.permission.clone()?,
-        })
-    }
-}
-
 /// A host for whose web links a package is approved.
-#[derive(Debug, Drop, PartialEq, Eq, PartialOrd, Ord, Hash)]
+#[derive(Drop)]
 pub struct Link {
     pub uid: u32,
     /// In lower ASCII case.
     pub host: Text,
 }
 
-impl Clone for Link {
-    ghost is_clone = { λ x y. y ≡ x };
-
-    fn clone(&self) -> Result<Link, AllocError> {
-        Ok(Link {
-            uid: self.uid,
-            host: self.host.clone()?,
-        })
-    }
-}
-
 /// A device as its file describes it.
-#[derive(Debug, Drop, PartialEq, Eq)]
+#[derive(Drop)]
 pub struct Device {
     /// The key of uid 1000.
     pub system_key: Text,
@@ -85,21 +63,4 @@ pub struct Device {
     pub grants: List<Grant>,
     /// In the order of uid, then host by bytes, each once.
     pub links: List<Link>,
-}
-
-impl Clone for Device {
-    ghost is_clone = { λ x y. y ≡ x };
-
-    fn clone(&self) -> Result<Device, AllocError> {
-        Ok(Device {
-            system_key: self.system_key.clone()?,
-            root_key: copies::text(&self.root_key)?,
-            browser: copies::text(&self.browser)?,
-            protected: copies::texts(&self.protected)?,
-            exempt: copies::texts(&self.exempt)?,
-            packages: copies::packages(&self.packages)?,
-            grants: copies::grants(&self.grants)?,
-            links: copies::links(&self.links)?,
-        })
-    }
 }

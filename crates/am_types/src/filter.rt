@@ -4,7 +4,7 @@ use crate::{Glob, List, Mime, Text, copies};
 use std::alloc::AllocError;
 
 /// A host, and the port that goes with it, as a filter lists them.
-#[derive(Debug, Drop, PartialEq, Eq, PartialOrd, Ord, Hash)]
+#[derive(Drop)]
 pub struct Authority {
     pub host: Text,
     /// From 0 to 99,999.
@@ -23,7 +23,7 @@ impl Clone for Authority {
 }
 
 /// A rule on the decoded path of a URI.
-#[derive(Debug, Drop, PartialEq, Eq, PartialOrd, Ord, Hash)]
+#[derive(Drop)]
 pub enum PathRule {
     /// The path is this text.
     Literal(Text),
@@ -49,7 +49,7 @@ impl Clone for PathRule {
 }
 
 /// An intent filter: what a component, or a registered receiver, is willing to get.
-#[derive(Debug, Drop, PartialEq, Eq)]
+#[derive(Drop)]
 pub struct Filter {
     /// Sorted by bytes, each once.
     pub actions: List<Text>,
@@ -71,19 +71,19 @@ impl Clone for Filter {
 
     fn clone(&self) -> Result<Filter, AllocError> {
         Ok(Filter {
-            actions: copies::texts(&self.actions)?,
-            categories: copies::texts(&self.categories)?,
-            schemes: copies::texts(&self.schemes)?,
-            authorities: copies::authorities(&self.authorities)?,
-            paths: copies::paths(&self.paths)?,
-            types: copies::mimes(&self.types)?,
+            actions: copies::list(&self.actions)?,
+            categories: copies::list(&self.categories)?,
+            schemes: copies::list(&self.schemes)?,
+            authorities: copies::list(&self.authorities)?,
+            paths: copies::list(&self.paths)?,
+            types: copies::list(&self.types)?,
             priority: self.priority,
         })
     }
 }
 
 /// Why an intent doesn't pass a filter: the first test that fails, in this order.
-#[derive(Clone, Copy, Debug, PartialEq, Eq, PartialOrd, Ord, Hash)]
+#[derive(Clone, Copy, Debug, PartialEq, Eq)]
 pub enum Why {
     Action,
     Scheme,

@@ -4,7 +4,7 @@ use crate::{Reply, Request};
 use std::alloc::AllocError;
 
 /// A stored call in the history.
-#[derive(Debug, Drop, PartialEq, Eq)]
+#[derive(Drop)]
 pub struct Entry {
     pub desk: u32,
     pub uid: u32,
@@ -33,23 +33,11 @@ impl Clone for Entry {
 }
 
 /// A reply with its place in the history.
-#[derive(Debug, Drop, PartialEq, Eq)]
+#[derive(Drop)]
 pub struct Shown {
     /// The number of entries before the call.
     pub at: u64,
     /// Whether the call is entry `at`.
     pub stored: bool,
     pub reply: Reply,
-}
-
-impl Clone for Shown {
-    ghost is_clone = { λ x y. y ≡ x };
-
-    fn clone(&self) -> Result<Shown, AllocError> {
-        Ok(Shown {
-            at: self.at,
-            stored: self.stored,
-            reply: self.reply.clone()?,
-        })
-    }
 }

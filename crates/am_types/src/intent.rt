@@ -4,7 +4,7 @@ use crate::{List, Mime, Text, Uri, copies};
 use std::alloc::AllocError;
 
 /// The name of an app component.
-#[derive(Debug, Drop, PartialEq, Eq, PartialOrd, Ord, Hash)]
+#[derive(Drop, PartialEq, Eq, Hash)]
 pub struct Component {
     /// The package that declares it.
     pub package: Text,
@@ -24,7 +24,7 @@ impl Clone for Component {
 }
 
 /// The value of an extra.
-#[derive(Debug, Drop, PartialEq, Eq, PartialOrd, Ord, Hash)]
+#[derive(Drop)]
 pub enum Extra {
     Word(Text),
     Whole(i64),
@@ -44,7 +44,7 @@ impl Clone for Extra {
 }
 
 /// An extra under its key.
-#[derive(Debug, Drop, PartialEq, Eq, PartialOrd, Ord, Hash)]
+#[derive(Drop)]
 pub struct Named {
     pub key: Text,
     pub value: Extra,
@@ -62,7 +62,7 @@ impl Clone for Named {
 }
 
 /// The flags of an intent.
-#[derive(Clone, Copy, Debug, Default, PartialEq, Eq, PartialOrd, Ord, Hash)]
+#[derive(Clone, Copy, Default)]
 pub struct Flags {
     pub new_task: bool,
     pub multiple_task: bool,
@@ -77,7 +77,7 @@ pub struct Flags {
 }
 
 /// What an app asks for: an action, data, and who may get it.
-#[derive(Debug, Drop, PartialEq, Eq, PartialOrd, Ord, Hash)]
+#[derive(Drop)]
 pub struct Intent {
     pub action: Option<Text>,
     pub uri: Option<Uri>,
@@ -99,15 +99,15 @@ impl Clone for Intent {
 
     fn clone(&self) -> Result<Intent, AllocError> {
         Ok(Intent {
-            action: copies::text(&self.action)?,
-            uri: copies::uri(&self.uri)?,
-            mime: copies::mime(&self.mime)?,
-            identifier: copies::text(&self.identifier)?,
-            categories: copies::texts(&self.categories)?,
-            package: copies::text(&self.package)?,
-            component: copies::component(&self.component)?,
+            action: copies::option(&self.action)?,
+            uri: copies::option(&self.uri)?,
+            mime: copies::option(&self.mime)?,
+            identifier: copies::option(&self.identifier)?,
+            categories: copies::list(&self.categories)?,
+            package: copies::option(&self.package)?,
+            component: copies::option(&self.component)?,
             flags: self.flags,
-            extras: copies::extras(&self.extras)?,
+            extras: copies::list(&self.extras)?,
         })
     }
 }

@@ -16,9 +16,8 @@ mod reply;
 mod request;
 mod resolve;
 mod rule;
+mod steps;
 mod task;
-#[cfg(test)]
-mod tests;
 mod text;
 mod uri;
 mod visible;
@@ -39,6 +38,7 @@ pub use reply::Reply;
 pub use request::Request;
 pub use resolve::{Hit, Registration, Target};
 pub use rule::{Limit, Rule};
+pub use steps::Steps;
 pub use task::{
     InstanceView, Landed, PlaceFault, Placed, ServiceView, StartCall, TaskFault, TaskView,
 };

@@ -2,9 +2,10 @@ ghost use Rattle.std.specs.Prelude.{◌≡◌};
 
 use crate::{Filter, List, Text, copies};
 use std::alloc::AllocError;
+use std::fmt;
 
 /// What kind of component.
-#[derive(Clone, Copy, Debug, PartialEq, Eq, PartialOrd, Ord, Hash)]
+#[derive(Clone, Copy, Debug, PartialEq, Eq, Hash)]
 pub enum Kind {
     Activity,
     Service,
@@ -12,7 +13,7 @@ pub enum Kind {
 }
 
 /// How an activity is launched.
-#[derive(Clone, Copy, Debug, PartialEq, Eq, PartialOrd, Ord, Hash)]
+#[derive(Clone, Copy, Debug, PartialEq, Eq)]
 pub enum Mode {
     Standard,
     SingleTop,
@@ -22,7 +23,7 @@ pub enum Mode {
 }
 
 /// A component as its manifest declares it.
-#[derive(Debug, Drop, PartialEq, Eq)]
+#[derive(Drop)]
 pub struct Decl {
     pub kind: Kind,
     /// The full class, with its package.
@@ -48,35 +49,24 @@ impl Clone for Decl {
             class: self.class.clone()?,
             exported: self.exported,
             enabled: self.enabled,
-            permission: copies::text(&self.permission)?,
+            permission: copies::option(&self.permission)?,
             mode: self.mode,
             affinity: self.affinity.clone()?,
-            filters: copies::filters(&self.filters)?,
+            filters: copies::list(&self.filters)?,
         })
     }
 }
 
 /// What a package declares of itself.
-#[derive(Debug, Drop, PartialEq, Eq)]
+#[derive(Drop)]
 pub struct Manifest {
     pub package: Text,
     /// Activities, then services, then receivers, each in the order read.
     pub decls: List<Decl>,
 }
 
-impl Clone for Manifest {
-    ghost is_clone = { λ x y. y ≡ x };
-
-    fn clone(&self) -> Result<Manifest, AllocError> {
-        Ok(Manifest {
-            package: self.package.clone()?,
-            decls: copies::decls(&self.decls)?,
-        })
-    }
-}
-
 /// Why a manifest or a device file is refused. Each but `NotToml` and `BadPriority` names a place or a thing.
-#[derive(Debug, Drop, PartialEq, Eq)]
+#[derive(Debug, Drop)]
 pub enum ManifestFault {
     /// It is no TOML document in UTF-8.
     NotToml,
@@ -117,6 +107,31 @@ impl Clone for ManifestFault {
             ManifestFault::Duplicate(value) => Ok(ManifestFault::Duplicate(value.clone()?)),
             ManifestFault::OverLimit(value) => Ok(ManifestFault::OverLimit(value.clone()?)),
             ManifestFault::LeftOut(value) => Ok(ManifestFault::LeftOut(value.clone()?)),
+        }
+    }
+}
+
+/// As a line shows it: its name, then a blank and the place or the thing that it names.
+impl fmt::Display for ManifestFault {
+    ghost use Rattle.std.specs.Prelude.{Some};
+    ghost use Rattle.am_types.specs.Printing.{printed};
+
+    ghost output = { λ fault. Some (printed fault) };
+
+    fn fmt<W: fmt::Write>(&self, f: &mut fmt::Formatter<W>) -> fmt::Result {
+        match self {
+            ManifestFault::NotToml => f.write_str("not_toml"),
+            ManifestFault::Missing(place) => write!(f, "missing {}", place.as_str()),
+            ManifestFault::WrongKind(place) => write!(f, "wrong_kind {}", place.as_str()),
+            ManifestFault::BadUri(place) => write!(f, "bad_uri {}", place.as_str()),
+            ManifestFault::BadMime(place) => write!(f, "bad_mime {}", place.as_str()),
+            ManifestFault::BadPriority => f.write_str("bad_priority"),
+            ManifestFault::ExportedUnstated(class) => {
+                write!(f, "exported_unstated {}", class.as_str())
+            }
+            ManifestFault::Duplicate(name) => write!(f, "duplicate {}", name.as_str()),
+            ManifestFault::OverLimit(name) => write!(f, "over_limit {}", name.as_str()),
+            ManifestFault::LeftOut(place) => write!(f, "left_out {}", place.as_str()),
         }
     }
 }

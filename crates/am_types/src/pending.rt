@@ -4,7 +4,7 @@ use crate::{Intent, Kind};
 use std::alloc::AllocError;
 
 /// The flags with which a pending intent is asked for.
-#[derive(Clone, Copy, Debug, Default, PartialEq, Eq, PartialOrd, Ord, Hash)]
+#[derive(Clone, Copy, Default)]
 pub struct PendingFlags {
     pub one_shot: bool,
     pub no_create: bool,
@@ -15,26 +15,13 @@ pub struct PendingFlags {
 }
 
 /// What a token stands for, with what a sender filled in.
-#[derive(Debug, Drop, PartialEq, Eq)]
+#[derive(Drop)]
 pub struct Used {
     pub creator: u32,
     pub kind: Kind,
     pub intent: Intent,
     /// Whether this use ends the token.
     pub one_shot: bool,
-}
-
-impl Clone for Used {
-    ghost is_clone = { λ x y. y ≡ x };
-
-    fn clone(&self) -> Result<Used, AllocError> {
-        Ok(Used {
-            creator: self.creator,
-            kind: self.kind,
-            intent: self.intent.clone()?,
-            one_shot: self.one_shot,
-        })
-    }
 }
 
 /// Why a call on a pending intent is refused.

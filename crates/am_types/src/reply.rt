@@ -4,7 +4,7 @@ use crate::{Component, Entry, Item, Landed, List, Receiving, Rule, ServiceView, 
 use std::alloc::AllocError;
 
 /// What the manager answers.
-#[derive(Debug, Drop, PartialEq, Eq)]
+#[derive(Drop)]
 pub enum Reply {
     /// In the order of priority, uid and place.
     Components(List<Component>),
@@ -51,49 +51,4 @@ pub enum Reply {
     },
     /// It was done.
     Plain,
-}
-
-impl Clone for Reply {
-    ghost is_clone = { λ x y. y ≡ x };
-
-    fn clone(&self) -> Result<Reply, AllocError> {
-        match self {
-            Reply::Components(value) => Ok(Reply::Components(copies::components(value)?)),
-            Reply::Choose(value) => Ok(Reply::Choose(copies::components(value)?)),
-            Reply::Placed(value) => Ok(Reply::Placed(*value)),
-            Reply::Finished(value) => Ok(Reply::Finished(*value)),
-            Reply::Tasks(value) => Ok(Reply::Tasks(copies::tasks(value)?)),
-            Reply::Services(value) => Ok(Reply::Services(copies::services(value)?)),
-            Reply::Registered(value) => Ok(Reply::Registered(*value)),
-            Reply::Items(value) => Ok(Reply::Items(copies::items(value)?)),
-            Reply::Token(value) => Ok(Reply::Token(*value)),
-            Reply::Installed(value) => Ok(Reply::Installed(*value)),
-            Reply::Refused(value) => Ok(Reply::Refused(value.clone()?)),
-            Reply::Started { component, starts } => Ok(Reply::Started {
-                component: component.clone()?,
-                starts: *starts,
-            }),
-            Reply::Sent {
-                broadcast,
-                receivers,
-            } => Ok(Reply::Sent {
-                broadcast: *broadcast,
-                receivers: copies::receivings(receivers)?,
-            }),
-            Reply::Entries { from, entries } => Ok(Reply::Entries {
-                from: *from,
-                entries: copies::entries(entries)?,
-            }),
-            Reply::Status {
-                history,
-                moment,
-                packages,
-            } => Ok(Reply::Status {
-                history: *history,
-                moment: *moment,
-                packages: *packages,
-            }),
-            Reply::Plain => Ok(Reply::Plain),
-        }
-    }
 }

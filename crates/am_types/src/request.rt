@@ -4,7 +4,7 @@ use crate::{Answer, Component, Filter, Intent, Kind, Ordered, PendingFlags, Text
 use std::alloc::AllocError;
 
 /// What a caller asks of the manager.
-#[derive(Debug, Drop, PartialEq, Eq)]
+#[derive(Drop)]
 pub enum Request {
     /// Which components would get the intent. With `default_only` their filters must list the default category.
     Query {
@@ -149,12 +149,12 @@ impl Clone for Request {
                 ordered,
             } => Ok(Request::Send {
                 intent: intent.clone()?,
-                permission: copies::text(permission)?,
-                ordered: copies::ordered(ordered)?,
+                permission: copies::option(permission)?,
+                ordered: copies::option(ordered)?,
             }),
             Request::Register { filter, permission } => Ok(Request::Register {
                 filter: filter.clone()?,
-                permission: copies::text(permission)?,
+                permission: copies::option(permission)?,
             }),
             Request::Unregister { number } => Ok(Request::Unregister { number: *number }),
             Request::Inbox => Ok(Request::Inbox),
@@ -175,7 +175,7 @@ impl Clone for Request {
             }),
             Request::PendingSend { token, fill } => Ok(Request::PendingSend {
                 token: *token,
-                fill: copies::intent(fill)?,
+                fill: copies::option(fill)?,
             }),
             Request::PendingCancel { token } => Ok(Request::PendingCancel { token: *token }),
             Request::PendingGive { token, package } => Ok(Request::PendingGive {

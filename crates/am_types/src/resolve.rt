@@ -4,7 +4,7 @@ use crate::{Component, Filter, List, Text, copies};
 use std::alloc::AllocError;
 
 /// A component that an intent finds.
-#[derive(Debug, Drop, PartialEq, Eq)]
+#[derive(Drop)]
 pub struct Hit {
     pub component: Component,
     pub uid: u32,
@@ -27,7 +27,7 @@ impl Clone for Hit {
 }
 
 /// Which component a start of an activity reaches.
-#[derive(Debug, Drop, PartialEq, Eq)]
+#[derive(Drop)]
 pub enum Target {
     /// None passes.
     Nothing,
@@ -37,37 +37,12 @@ pub enum Target {
     Choose(List<Hit>),
 }
 
-impl Clone for Target {
-    ghost is_clone = { λ x y. y ≡ x };
-
-    fn clone(&self) -> Result<Target, AllocError> {
-        match self {
-            Target::Nothing => Ok(Target::Nothing),
-            Target::One(value) => Ok(Target::One(value.clone()?)),
-            Target::Choose(value) => Ok(Target::Choose(copies::hits(value)?)),
-        }
-    }
-}
-
 /// A receiver that an app registered while it runs.
-#[derive(Debug, Drop, PartialEq, Eq)]
+#[derive(Drop)]
 pub struct Registration {
     pub number: u64,
     pub uid: u32,
     pub filter: Filter,
     /// What a sender must hold.
     pub permission: Option<Text>,
-}
-
-impl Clone for Registration {
-    ghost is_clone = { λ x y. y ≡ x };
-
-    fn clone(&self) -> Result<Registration, AllocError> {
-        Ok(Registration {
-            number: self.number,
-            uid: self.uid,
-            filter: self.filter.clone()?,
-            permission: copies::text(&self.permission)?,
-        })
-    }
 }

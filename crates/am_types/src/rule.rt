@@ -4,7 +4,7 @@ use crate::{ManifestFault, Text};
 use std::alloc::AllocError;
 
 /// A quantity of the state that has a limit.
-#[derive(Clone, Copy, Debug, PartialEq, Eq, PartialOrd, Ord, Hash)]
+#[derive(Clone, Copy, Debug, PartialEq, Eq)]
 pub enum Limit {
     Packages,
     Grants,
@@ -21,7 +21,7 @@ pub enum Limit {
 }
 
 /// Why a request is refused, or a receiver skipped.
-#[derive(Debug, Drop, PartialEq, Eq)]
+#[derive(Drop)]
 pub enum Rule {
     /// No uid has this key.
     UnknownKey,

@@ -4,7 +4,7 @@ use crate::{Component, Flags, Intent, List, Mode, Text, copies};
 use std::alloc::AllocError;
 
 /// What a start did: a fresh instance, a new intent to one that was there, or a task brought to the front.
-#[derive(Clone, Copy, Debug, PartialEq, Eq, PartialOrd, Ord, Hash)]
+#[derive(Clone, Copy, Debug, PartialEq, Eq)]
 pub enum Placed {
     Fresh,
     NewIntent,
@@ -12,7 +12,7 @@ pub enum Placed {
 }
 
 /// Where a start landed.
-#[derive(Clone, Copy, Debug, PartialEq, Eq, PartialOrd, Ord, Hash)]
+#[derive(Clone, Copy, Debug, PartialEq, Eq)]
 pub struct Landed {
     pub how: Placed,
     pub task: u64,
@@ -20,66 +20,31 @@ pub struct Landed {
 }
 
 /// An activity instance as a caller sees it.
-#[derive(Debug, Drop, PartialEq, Eq)]
+#[derive(Drop)]
 pub struct InstanceView {
     pub instance: u64,
     pub component: Component,
     pub intent: Intent,
 }
 
-impl Clone for InstanceView {
-    ghost is_clone = { λ x y. y ≡ x };
-
-    fn clone(&self) -> Result<InstanceView, AllocError> {
-        Ok(InstanceView {
-            instance: self.instance,
-            component: self.component.clone()?,
-            intent: self.intent.clone()?,
-        })
-    }
-}
-
 /// A task as a caller sees it.
-#[derive(Debug, Drop, PartialEq, Eq)]
+#[derive(Drop)]
 pub struct TaskView {
     pub task: u64,
     /// From the root to the top.
     pub instances: List<InstanceView>,
 }
 
-impl Clone for TaskView {
-    ghost is_clone = { λ x y. y ≡ x };
-
-    fn clone(&self) -> Result<TaskView, AllocError> {
-        Ok(TaskView {
-            task: self.task,
-            instances: copies::instances(&self.instances)?,
-        })
-    }
-}
-
 /// A running service as a caller sees it.
-#[derive(Debug, Drop, PartialEq, Eq)]
+#[derive(Drop)]
 pub struct ServiceView {
     pub component: Component,
     pub intent: Intent,
     pub starts: u64,
 }
 
-impl Clone for ServiceView {
-    ghost is_clone = { λ x y. y ≡ x };
-
-    fn clone(&self) -> Result<ServiceView, AllocError> {
-        Ok(ServiceView {
-            component: self.component.clone()?,
-            intent: self.intent.clone()?,
-            starts: self.starts,
-        })
-    }
-}
-
 /// A start of an activity that is to be placed.
-#[derive(Debug, Drop, PartialEq, Eq)]
+#[derive(Drop)]
 pub struct StartCall {
     pub target: Component,
     /// The uid of the target's package.
@@ -92,23 +57,6 @@ pub struct StartCall {
     /// The activity instance that starts it.
     pub source: Option<u64>,
     pub intent: Intent,
-}
-
-impl Clone for StartCall {
-    ghost is_clone = { λ x y. y ≡ x };
-
-    fn clone(&self) -> Result<StartCall, AllocError> {
-        Ok(StartCall {
-            target: self.target.clone()?,
-            owner: self.owner,
-            caller: self.caller,
-            mode: self.mode,
-            affinity: self.affinity.clone()?,
-            flags: self.flags,
-            source: self.source,
-            intent: self.intent.clone()?,
-        })
-    }
 }
 
 /// Why a start isn't placed.

@@ -4,7 +4,7 @@ use crate::{Text, copies};
 use std::alloc::AllocError;
 
 /// A URI with its parts.
-#[derive(Debug, Drop, PartialEq, Eq, PartialOrd, Ord, Hash)]
+#[derive(Drop)]
 pub struct Uri {
     /// The whole text, as it was written, of at most 1,024 bytes.
     pub text: Text,
@@ -25,7 +25,7 @@ impl Clone for Uri {
         Ok(Uri {
             text: self.text.clone()?,
             scheme: self.scheme.clone()?,
-            host: copies::text(&self.host)?,
+            host: copies::option(&self.host)?,
             port: self.port,
             path: self.path.clone()?,
         })
@@ -33,7 +33,7 @@ impl Clone for Uri {
 }
 
 /// A MIME type.
-#[derive(Debug, Drop, PartialEq, Eq, PartialOrd, Ord, Hash)]
+#[derive(Drop, PartialEq, Eq, Hash)]
 pub struct Mime {
     /// What stands before the slash.
     pub main: Text,

@@ -1,12 +1,14 @@
-//! URIs and MIME types, taken apart, and rules on paths.
+//! URIs and MIME types, taken apart, rules on paths, and the forms of texts and names.
 #![tactic(auto)]
 
 mod mime;
 mod path;
 mod scheme;
+mod text;
 mod uri;
 
 pub use mime::parse_mime;
 pub use path::passes_path;
 pub use scheme::is_scheme;
+pub use text::{Form, sorted, starts_with_dot, with_optional};
 pub use uri::parse_uri;

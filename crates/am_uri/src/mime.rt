@@ -28,8 +28,8 @@ fn copied(alloc: Global, main: &str, sub: &str) -> Result<Mime, AllocError>
     ensures { IfOk result (λ mime. mime ≡ record { main = main.now; sub = sub.now }) }
 {
     Ok(Mime {
-        main: Text::new(String::from_str(alloc, main)?),
-        sub: Text::new(String::from_str(alloc, sub)?),
+        main: Text::of(alloc, main)?,
+        sub: Text::of(alloc, sub)?,
     })
 }
 
@@ -69,6 +69,3 @@ fn has_unprintable(text: &str) -> bool
 {
     text.bytes().any(|b| b <= b' ' || b == 0x7f)
 }
-
-#[cfg(test)]
-mod tests;

@@ -173,6 +173,3 @@ fn reaches_end(elements: &[Element], reached: &[bool]) -> bool
     }
     here || reached[elements.len()]
 }
-
-#[cfg(test)]
-mod tests;

@@ -25,6 +25,3 @@ fn is_scheme_byte(b: u8) -> bool
 {
     b.is_ascii_alphanumeric() || b == b'+' || b == b'-' || b == b'.'
 }
-
-#[cfg(test)]
-mod tests;

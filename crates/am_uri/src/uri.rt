@@ -250,7 +250,7 @@ fn copied(alloc: Global, text: &Text, parts: &Written<'_>, path: Text) -> Result
 {
     Ok(Uri {
         text: text.clone()?,
-        scheme: Text::new(String::from_str(alloc, parts.scheme)?),
+        scheme: Text::of(alloc, parts.scheme)?,
         host: copied_host(alloc, parts.host)?,
         port: parts.port,
         path,
@@ -261,10 +261,7 @@ fn copied_host(alloc: Global, host: Option<&str>) -> Result<Option<Text>, AllocE
     ensures { IfOk result (λ copy. copy ≡ option_copied host.entry) }
 {
     match host {
-        Some(host) => Ok(Some(Text::new(String::from_str(alloc, host)?))),
+        Some(host) => Ok(Some(Text::of(alloc, host)?)),
         None => Ok(None),
     }
 }
-
-#[cfg(test)]
-mod tests;

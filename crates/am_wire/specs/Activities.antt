@@ -3,12 +3,12 @@ use Rattle.std.specs.Prelude.{ℕ, Bool, List, [], ◌∷◌, codes, Result, Ok,
 use Rattle.serde_json.specs.Data.{Data}
 use Rattle.am_types.specs.declared.request.Request.{Request}
 use Rattle.am_types.specs.declared.request.Request.TheVariants as asks
-use Rattle.am_fields.specs.declared.fault.WireFault.{WireFault}
-use Rattle.am_fields.specs.Fields.{only_fields, optional_truth}
-use Rattle.am_fields.specs.Numbers.{required_natural, optional_natural}
-use Rattle.am_fields.specs.Reading.{◌>>=◌}
-use Rattle.am_intents.specs.Components.{required_component}
-use Rattle.am_intents.specs.Intents.{required_intent}
+use Rattle.am_wire_fields.specs.declared.fault.WireFault.{WireFault}
+use Rattle.am_wire_fields.specs.Fields.{only_fields, optional_truth}
+use Rattle.am_wire_fields.specs.Numbers.{required_natural, optional_natural}
+use Rattle.am_wire_fields.specs.Reading.{◌>>=◌}
+use Rattle.am_wire_intents.specs.Components.{required_component}
+use Rattle.am_wire_intents.specs.Intents.{required_intent}
 use Rattle.am_wire.specs.Words.{kind_of}
 
 -- a body is an object with no other fields than these

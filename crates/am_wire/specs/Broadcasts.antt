@@ -7,15 +7,15 @@ use Rattle.am_types.specs.declared.broadcast.Ordered.{Ordered}
 use Rattle.am_types.specs.declared.broadcast.Outcome.{Outcome}
 use Rattle.am_types.specs.declared.request.Request.{Request}
 use Rattle.am_types.specs.declared.request.Request.TheVariants as asks
-use Rattle.am_filter_tables.specs.declared.text.Form.TheVariants.{Any}
-use Rattle.am_fields.specs.declared.fault.WireFault.{WireFault}
-use Rattle.am_fields.specs.Fields.{field, optional_truth}
-use Rattle.am_fields.specs.Numbers.{required_natural, required_whole, optional_whole}
-use Rattle.am_fields.specs.Texts.{optional_text}
-use Rattle.am_fields.specs.Reading.{◌>>=◌}
-use Rattle.am_intents.specs.Extras.{optional_extras}
-use Rattle.am_intents.specs.Intents.{required_intent}
-use Rattle.am_intents.specs.Filters.{required_filter}
+use Rattle.am_uri.specs.declared.text.Form.TheVariants.{Any}
+use Rattle.am_wire_fields.specs.declared.fault.WireFault.{WireFault}
+use Rattle.am_wire_fields.specs.Fields.{field, optional_truth}
+use Rattle.am_wire_fields.specs.Numbers.{required_natural, required_whole, optional_whole}
+use Rattle.am_wire_fields.specs.Texts.{optional_text}
+use Rattle.am_wire_fields.specs.Reading.{◌>>=◌}
+use Rattle.am_wire_intents.specs.Extras.{optional_extras}
+use Rattle.am_wire_intents.specs.Intents.{required_intent}
+use Rattle.am_wire_intents.specs.Filters.{required_filter}
 use Rattle.am_wire.specs.Activities.{fields_of, number_in}
 
 -- the truth is `true`, and nothing else

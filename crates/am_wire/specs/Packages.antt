@@ -6,12 +6,12 @@ use Rattle.am_types.specs.declared.request.Request.{Request}
 use Rattle.am_types.specs.declared.request.Request.TheVariants as asks
 use Rattle.am_model.specs.Sound.{is_visible}
 use Rattle.am_model.specs.Texts.{lowered}
-use Rattle.am_filter_tables.specs.declared.text.Form.TheVariants.{Any}
-use Rattle.am_fields.specs.declared.fault.WireFault.{WireFault}
-use Rattle.am_fields.specs.declared.fault.WireFault.TheVariants.{WrongKind, TooLong}
-use Rattle.am_fields.specs.Fields.{required, required_truth}
-use Rattle.am_fields.specs.Texts.{required_text}
-use Rattle.am_fields.specs.Reading.{◌>>=◌}
+use Rattle.am_uri.specs.declared.text.Form.TheVariants.{Any}
+use Rattle.am_wire_fields.specs.declared.fault.WireFault.{WireFault}
+use Rattle.am_wire_fields.specs.declared.fault.WireFault.TheVariants.{WrongKind, TooLong}
+use Rattle.am_wire_fields.specs.Fields.{required, required_truth}
+use Rattle.am_wire_fields.specs.Texts.{required_text}
+use Rattle.am_wire_fields.specs.Reading.{◌>>=◌}
 use Rattle.am_wire.specs.Activities.{fields_of}
 
 -- a key for a package's calls: 1 to 255 visible ASCII characters

@@ -3,12 +3,12 @@ use Rattle.std.specs.Prelude.{ℕ, List, [], ◌∷◌, codes, Result, Ok, Err}
 use Rattle.serde_json.specs.Data.{Data}
 use Rattle.am_types.specs.declared.request.Request.{Request}
 use Rattle.am_types.specs.declared.request.Request.TheVariants as asks
-use Rattle.am_filter_tables.specs.declared.text.Form.TheVariants.{Any}
-use Rattle.am_fields.specs.declared.fault.WireFault.{WireFault}
-use Rattle.am_fields.specs.Numbers.{required_natural, required_whole}
-use Rattle.am_fields.specs.Texts.{required_text}
-use Rattle.am_fields.specs.Reading.{◌>>=◌}
-use Rattle.am_intents.specs.Intents.{required_intent, optional_intent}
+use Rattle.am_uri.specs.declared.text.Form.TheVariants.{Any}
+use Rattle.am_wire_fields.specs.declared.fault.WireFault.{WireFault}
+use Rattle.am_wire_fields.specs.Numbers.{required_natural, required_whole}
+use Rattle.am_wire_fields.specs.Texts.{required_text}
+use Rattle.am_wire_fields.specs.Reading.{◌>>=◌}
+use Rattle.am_wire_intents.specs.Intents.{required_intent, optional_intent}
 use Rattle.am_wire.specs.Activities.{fields_of, number_in}
 use Rattle.am_wire.specs.Words.{pending_kind_of, pending_flags_of}
 

@@ -3,11 +3,11 @@ use Rattle.std.specs.Prelude.{ℕ, List, Result, Ok, Err}
 use Rattle.serde_json.specs.Data.{Data}
 use Rattle.am_types.specs.declared.request.Request.{Request}
 use Rattle.am_types.specs.declared.request.Request.TheVariants as asks
-use Rattle.am_routes.specs.declared.endpoint.Endpoint.{Endpoint}
-use Rattle.am_routes.specs.declared.endpoint.Endpoint.TheVariants as at
-use Rattle.am_fields.specs.declared.fault.WireFault.{WireFault}
-use Rattle.am_fields.specs.Bodies.{value_of}
-use Rattle.am_fields.specs.Reading.{◌>>=◌}
+use Rattle.am_wire_routes.specs.declared.endpoint.Endpoint.{Endpoint}
+use Rattle.am_wire_routes.specs.declared.endpoint.Endpoint.TheVariants as at
+use Rattle.am_wire_fields.specs.declared.fault.WireFault.{WireFault}
+use Rattle.am_wire_fields.specs.Bodies.{value_of}
+use Rattle.am_wire_fields.specs.Reading.{◌>>=◌}
 use Rattle.am_wire.specs.Activities.{plain_in, query_in, start_in, finish_activity_in, start_service_in, stop_service_in, history_in}
 use Rattle.am_wire.specs.Broadcasts.{send_in, register_in, unregister_in, finish_in}
 use Rattle.am_wire.specs.Pendings.{pending_get_in, pending_send_in, pending_cancel_in, pending_give_in}

@@ -5,10 +5,10 @@ use Rattle.am_types.specs.declared.manifest.Kind.{Kind}
 use Rattle.am_types.specs.declared.manifest.Kind.TheVariants.{Activity, Service, Receiver}
 use Rattle.am_types.specs.declared.pending.PendingFlags.{PendingFlags}
 use Rattle.am_model.specs.Texts.{is_same, lists}
-use Rattle.am_fields.specs.declared.fault.WireFault.{WireFault}
-use Rattle.am_fields.specs.Fields.{required}
-use Rattle.am_fields.specs.Lists.{list_in, word_in, words_in}
-use Rattle.am_fields.specs.Reading.{◌>>=◌}
+use Rattle.am_wire_fields.specs.declared.fault.WireFault.{WireFault}
+use Rattle.am_wire_fields.specs.Fields.{required}
+use Rattle.am_wire_fields.specs.Lists.{list_in, word_in, words_in}
+use Rattle.am_wire_fields.specs.Reading.{◌>>=◌}
 
 -- the kinds of components
 unfoldable pub kind_words : List (List ℕ)

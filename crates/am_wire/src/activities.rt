@@ -1,13 +1,13 @@
 //! Queries, activities and services.
 ghost use Rattle.std.specs.Prelude.{map};
 ghost use Rattle.serde_json.specs.View.{view};
-ghost use Rattle.am_fields.specs.Reading.{Gives};
+ghost use Rattle.am_wire_fields.specs.Reading.{Gives};
 ghost use Rattle.am_wire.specs.Activities.{fields_of, plain_in, number_in, query_fields, default_only_of, query_in, start_in, finish_activity_in, start_service_in, stop_service_in, history_in};
 
 use crate::words::kind_of;
-use am_fields::{Unread, only_fields, optional_natural, optional_truth, required_natural};
-use am_intents::{required_component, required_intent};
 use am_types::Request;
+use am_wire_fields::{Unread, only_fields, optional_natural, optional_truth, required_natural};
+use am_wire_intents::{required_component, required_intent};
 use serde_json::Value;
 use std::alloc::Global;
 

@@ -1,17 +1,17 @@
 //! Broadcasts, registered receivers and deliveries.
 ghost use Rattle.std.specs.Prelude.{◌≡◌};
 ghost use Rattle.serde_json.specs.View.{view};
-ghost use Rattle.am_fields.specs.Reading.{Gives};
+ghost use Rattle.am_wire_fields.specs.Reading.{Gives};
 ghost use Rattle.am_wire.specs.Activities.{fields_of};
 ghost use Rattle.am_wire.specs.Broadcasts.{is_ordered, send_fields, ordered_in, ordered_if, send_of, send_in, register_fields, register_in, unregister_in, sets_outcome, finish_fields, outcome_in, outcome_if, finish_of, finish_in};
 
 use crate::activities::{fields_of, number_in};
-use am_fields::{
+use am_types::{Answer, Ordered, Outcome, Request};
+use am_uri::Form;
+use am_wire_fields::{
     Unread, field, optional_text, optional_truth, optional_whole, required_natural, required_whole,
 };
-use am_filter_tables::Form;
-use am_intents::{optional_extras, required_filter, required_intent};
-use am_types::{Answer, Ordered, Outcome, Request};
+use am_wire_intents::{optional_extras, required_filter, required_intent};
 use serde_json::Value;
 use std::alloc::Global;
 

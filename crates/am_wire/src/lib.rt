@@ -8,8 +8,6 @@ mod broadcasts;
 mod packages;
 mod pendings;
 mod requests;
-#[cfg(test)]
-mod tests;
 mod words;
 
 pub use requests::read_request;

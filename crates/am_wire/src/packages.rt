@@ -4,14 +4,14 @@ ghost use Rattle.serde_json.specs.Find.{as_str};
 ghost use Rattle.serde_json.specs.View.{view};
 ghost use Rattle.am_model.specs.Sound.{is_visible};
 ghost use Rattle.am_model.specs.Texts.{lowered};
-ghost use Rattle.am_fields.specs.Reading.{Gives};
+ghost use Rattle.am_wire_fields.specs.Reading.{Gives};
 ghost use Rattle.am_wire.specs.Activities.{fields_of};
 ghost use Rattle.am_wire.specs.Packages.{key_of, key_in, install_in, package_in, uninstall_in, force_stop_in, grant_fields, grant_in, link_fields, link_in};
 
 use crate::activities::fields_of;
-use am_fields::{Unread, required, required_text, required_truth, too_long, wrong_kind};
-use am_filter_tables::Form;
 use am_types::{Request, Text};
+use am_uri::Form;
+use am_wire_fields::{Unread, required, required_text, required_truth, too_long, wrong_kind};
 use serde_json::Value;
 use std::alloc::{AllocError, Global};
 
@@ -39,7 +39,7 @@ fn key_of(alloc: Global, value: &Value) -> Result<Text, Unread>
     if text.len() > 255 {
         return Err(too_long(alloc, "key"));
     }
-    Ok(Text::new(String::from_str(alloc, text)?))
+    Ok(Text::of(alloc, text)?)
 }
 
 /// The field `key`, which must be there: 1 to 255 visible ASCII characters.

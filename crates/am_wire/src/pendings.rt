@@ -1,14 +1,14 @@
 //! Pending intents.
 ghost use Rattle.serde_json.specs.View.{view};
-ghost use Rattle.am_fields.specs.Reading.{Gives};
+ghost use Rattle.am_wire_fields.specs.Reading.{Gives};
 ghost use Rattle.am_wire.specs.Pendings.{get_of, pending_get_in, pending_send_in, pending_cancel_in, pending_give_in};
 
 use crate::activities::{fields_of, number_in};
 use crate::words::{pending_flags_of, pending_kind_of};
-use am_fields::{Unread, required_natural, required_text, required_whole};
-use am_filter_tables::Form;
-use am_intents::{optional_intent, required_intent};
 use am_types::Request;
+use am_uri::Form;
+use am_wire_fields::{Unread, required_natural, required_text, required_whole};
+use am_wire_intents::{optional_intent, required_intent};
 use serde_json::Value;
 use std::alloc::Global;
 

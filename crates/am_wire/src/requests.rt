@@ -1,6 +1,6 @@
 //! The request that a body makes at an endpoint.
 ghost use Rattle.serde_json.specs.View.{view};
-ghost use Rattle.am_fields.specs.Reading.{Gives};
+ghost use Rattle.am_wire_fields.specs.Reading.{Gives};
 ghost use Rattle.am_wire.specs.Requests.{request_in, posted, request_of};
 
 use crate::activities::{
@@ -9,9 +9,9 @@ use crate::activities::{
 use crate::broadcasts::{finish_in, register_in, send_in, unregister_in};
 use crate::packages::{force_stop_in, grant_in, install_in, link_in, uninstall_in};
 use crate::pendings::{pending_cancel_in, pending_get_in, pending_give_in, pending_send_in};
-use am_fields::{Unread, json_value};
-use am_routes::Endpoint;
 use am_types::Request;
+use am_wire_fields::{Unread, json_value};
+use am_wire_routes::Endpoint;
 use serde_json::Value;
 use std::alloc::Global;
 

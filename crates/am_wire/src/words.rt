@@ -1,12 +1,12 @@
 //! The words of kinds and of pending flags.
 ghost use Rattle.std.specs.Prelude.{◌≡◌, codes, map};
 ghost use Rattle.serde_json.specs.View.{view};
-ghost use Rattle.am_fields.specs.Reading.{Gives, GivesBy};
-ghost use Rattle.am_fields.specs.Lists.{word_in, words_in};
+ghost use Rattle.am_wire_fields.specs.Reading.{Gives, GivesBy};
+ghost use Rattle.am_wire_fields.specs.Lists.{word_in, words_in};
 ghost use Rattle.am_wire.specs.Words.{kind_words, kind_named, kind_of, pending_words, pending_kind_of, pending_flag_names, pending_flags_listed, pending_flags_of};
 
-use am_fields::{Unread, is_listed, list_in, required, word_in, words_in};
 use am_types::{Kind, PendingFlags};
+use am_wire_fields::{Unread, is_listed, list_in, required, word_in, words_in};
 use serde_json::Value;
 use std::alloc::Global;
 

@@ -1,5 +1,5 @@
 use Rattle.std.proofs.Common.{◌≡◌, drop}
-use Rattle.am_steps.specs.State.{uid_of_package}
+use Rattle.am_history.specs.State.{uid_of_package}
 use Rattle.am_machine.proofs.callers.uid_of_package.Given as goal
 
 -- the packages that are left give what all of them give

@@ -2,9 +2,9 @@
 use Rattle.std.proofs.Common.{map}
 use Rattle.std.proofs.lemmas.Result.{err_from_is_err_and}
 use Rattle.toml.specs.View.{view}
-use Rattle.am_filter_tables.specs.Tables.{each}
+use Rattle.am_manifest_filters.specs.Tables.{each}
 use Rattle.am_manifest.specs.Components.{component_entry}
-use Rattle.am_filter_tables.proofs.Each.{goes_on, ends, is_done}
+use Rattle.am_manifest_filters.proofs.Each.{goes_on, ends, is_done}
 use Rattle.am_manifest.proofs.components.each_component.Goals as goal
 
 pub returns-in_err-decl : goal.returns-in_err-decl

@@ -1,8 +1,8 @@
 use Rattle.std.proofs.Common.{◌≡◌, drop, map}
 use Rattle.toml.specs.View.{view}
-use Rattle.am_filter_tables.specs.Tables.{each}
+use Rattle.am_manifest_filters.specs.Tables.{each}
 use Rattle.am_manifest.specs.Components.{component_entry}
-use Rattle.am_filter_tables.proofs.Each.{front_then}
+use Rattle.am_manifest_filters.proofs.Each.{front_then}
 use Rattle.am_manifest.proofs.components.each_component.Given as goal
 
 abbrev pub invariant-loop-i : goal.invariant-loop-i

@@ -1,6 +1,6 @@
 -- The loop's step: one more package.
 use Rattle.std.proofs.Common.{◌≡◌, ℕ, true, false, List, Some, sym, ap, ◌∙◌}
-use Rattle.am_filter_tables.specs.Texts.{with_text}
+use Rattle.am_uri.specs.Texts.{with_text}
 use Rattle.am_manifest.specs.Devices.{is_taken}
 use Rattle.am_manifest.proofs.Taken.{taken_here, taken_later}
 use Rattle.am_manifest.proofs.device.first_taken.Goals as goal

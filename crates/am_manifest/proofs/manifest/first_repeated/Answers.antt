@@ -1,7 +1,7 @@
 -- The loop's step: one more class, from the end on.
 use Rattle.std.proofs.Common.{◌≡◌, ℕ, ◌-◌, true, cond, List, get_or, ap, ◌∙◌, arith, nat_cmp, is_eq}
 use Rattle.std.specs.Cmp.Lexicographic.{slice_cmp}
-use Rattle.am_filter_tables.specs.Texts.{is_among}
+use Rattle.am_uri.specs.Texts.{is_among}
 use Rattle.am_manifest.proofs.Repeats.{later_more, repeated_more}
 use Rattle.am_manifest.proofs.manifest.first_repeated.Goals as goal
 

@@ -1,5 +1,5 @@
 use Rattle.std.proofs.Common.{◌≡◌, ℕ, ◌≤◌, List, length, drop}
-use Rattle.am_filter_tables.specs.Texts.{is_among}
+use Rattle.am_uri.specs.Texts.{is_among}
 use Rattle.am_manifest.specs.Manifests.{classes, first_repeated}
 use Rattle.am_manifest.proofs.manifest.first_repeated.Given as goal
 

@@ -1,4 +1,4 @@
-use Rattle.am_deliveries.proofs.Keeping.{sent_at_once}
+use Rattle.am_queue_normal.proofs.Keeping.{sent_at_once}
 use Rattle.am_queue.proofs.puts.add_normal.Goals as goal
 
 pub returns-clause-ok : goal.returns-clause-ok

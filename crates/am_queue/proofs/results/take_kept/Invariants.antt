@@ -1,7 +1,7 @@
 use Rattle.std.proofs.Common.{◌≡◌, ◌++◌, ◌-◌, ◌≤◌, not, take, drop, vec_len, vec_capacity}
 use Rattle.std.specs.List.{filter}
 use Rattle.am_model.specs.Broadcasts as broadcasts
-use Rattle.am_turns.specs.Counts.{Covers, Follows, results_of}
+use Rattle.am_queue_ordered.specs.Counts.{Covers, Follows, results_of}
 use Rattle.am_queue.specs.Taken.{is_taken}
 use Rattle.am_queue.proofs.results.take_kept.Given as goal
 

@@ -1,5 +1,5 @@
 use Rattle.std.proofs.Common.{sym, ap, ◌∙◌}
-use Rattle.am_board.proofs.Rising.{rises}
+use Rattle.am_installed.proofs.Rising.{rises}
 use Rattle.am_resolve.specs.Narrowing.{is_general_at}
 use Rattle.am_resolve.proofs.General.{general_at}
 use Rattle.am_resolve.proofs.narrow.is_general.Goals as goal

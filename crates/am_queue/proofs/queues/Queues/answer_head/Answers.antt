@@ -1,7 +1,7 @@
 use Rattle.std.proofs.Common.{◌≡◌, ◌∙◌, refl, sym, true}
 use Rattle.am_model.specs.Broadcasts as broadcasts
 use Rattle.am_model.specs.Broadcasts.{Broadcasts}
-use Rattle.am_turns.specs.Lines.{is_head}
+use Rattle.am_queue_ordered.specs.Lines.{is_head}
 use Rattle.am_queue.specs.Sound.{all_of}
 use Rattle.am_queue.proofs.Finishing.{answered_turned, unanswered, heads_differ}
 use Rattle.am_queue.proofs.queues.Queues.answer_head.Goals as goal

@@ -2,7 +2,7 @@ use Rattle.std.proofs.Common.{arith}
 use Rattle.am_model.specs.Broadcasts.{Broadcasts}
 use Rattle.am_queue.specs.Sound.{all_of}
 use Rattle.am_queue.proofs.Keeping.{mild}
-use Rattle.am_turns.specs.Struck.{strikes}
+use Rattle.am_queue_ordered.specs.Struck.{strikes}
 use Rattle.am_queue.proofs.Soundness.{struck_mild}
 use Rattle.am_queue.proofs.queues.Queues.strike.Goals as goal
 

@@ -1,6 +1,6 @@
 use Rattle.std.proofs.Common.{refl, arith}
 use Rattle.am_model.specs.Broadcasts.{Broadcasts}
-use Rattle.am_turns.specs.Deeds.{doing_of}
+use Rattle.am_queue_ordered.specs.Deeds.{doing_of}
 use Rattle.am_queue.specs.Sound.{all_of}
 use Rattle.am_queue.proofs.Keeping.{mild}
 use Rattle.am_queue.proofs.Soundness.{head_turned_mild, unchanged_mild}

@@ -1,6 +1,0 @@
-use Rattle.am_board.proofs.Changed.{installed_without}
-use Rattle.am_board.proofs.installed.Installed.drop_package.Goals as goal
-
-pub invariant_of-self : goal.invariant_of-self
-invariant_of-self c =
-    rw (c.new.ensures, c.drop_package.ensures, c.take-packages.ensures.items) (installed_without c.self.inside.packages c.args.uid c.self.invariant)

@@ -1,6 +1,0 @@
-use Rattle.am_board.proofs.Changed.{installed_stopped}
-use Rattle.am_board.proofs.installed.Installed.set_stopped.Goals as goal
-
-pub invariant_of-self : goal.invariant_of-self
-invariant_of-self c =
-    rw (c.new.ensures, c.set_stopped.ensures, c.take-packages.ensures.items) (installed_stopped c.self.inside.packages c.args.uid c.args.stopped c.self.invariant)

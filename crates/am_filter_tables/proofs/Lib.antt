@@ -1,5 +1,0 @@
-pub mod Each
-pub mod Keys
-pub mod StepsRead
-pub mod Order
-pub mod Limits

@@ -1,6 +1,0 @@
-use Rattle.std.proofs.Common.{◌≡◌, fold, []}
-use Rattle.am_filter_tables.specs.Texts.{with_text}
-use Rattle.am_filter_tables.proofs.text.sorted.Given as goal
-
-abbrev pub invariant-loop-text : goal.invariant-loop-text
-invariant-loop-text l = l.set.keys ≡ fold with_text [] l.yielded

@@ -1,7 +1,0 @@
-pub mod Reading
-pub mod Texts
-pub mod Tables
-pub mod Rows
-pub mod Filters
-pub mod Merging
-pub mod Printing

@@ -1,0 +1,11 @@
+pub mod State
+pub mod Answers
+pub mod Activities
+pub mod Services
+pub mod BroadcastCalls
+pub mod PendingCalls
+pub mod Packages
+pub mod Opening
+pub mod Steps
+pub mod History
+pub mod Desks

@@ -1,0 +1,228 @@
+//! What is installed, with its changes.
+ghost use Rattle.std.specs.Prelude.{◌≡◌, ◌∷◌, ◌++◌, [], not, ◌==◌, false, filter, IfOk, IsOk, OnOk, OnErr, option_copied};
+ghost use Rattle.std.specs.Option.{option_map};
+ghost use Rattle.am_types.specs.declared.resolve.Registration.{Registration};
+ghost use Rattle.am_model.specs.Boards.{board_of, package_at, with_grant, with_link, with_stopped, without_package};
+ghost use Rattle.am_model.specs.Receivers.{declared};
+ghost use Rattle.am_installed.specs.Installed.{AreInstalled};
+ghost use Rattle.am_installed.specs.Places.{place_registered};
+
+use crate::{find, lists, rights};
+use am_types::{
+    Component, Decl, Device, Grant, Kind, Link, List, NoMemory, Package, Registration, Text,
+};
+use std::alloc::Global;
+use std::marker::Model;
+use std::mem;
+
+/// What is installed on a device and what was given to it.
+#[derive(Drop)]
+pub struct Installed {
+    alloc: Global,
+    packages: List<Package>,
+    grants: List<Grant>,
+    links: List<Link>,
+    registered: List<Registration>,
+    browser: Option<Text>,
+    protected: List<Text>,
+    exempt: List<Text>,
+}
+
+impl Model for Installed {
+    ghost use Rattle.am_model.specs.Boards.{Board};
+    ghost use Rattle.am_installed.specs.Installed.{AreInstalled};
+
+    ghost Value = { Board };
+
+    ghost view = { λ i. record {
+      packages = i.packages;
+      grants = i.grants;
+      links = i.links;
+      registered = i.registered;
+      browser = i.browser;
+      protected = i.protected;
+      exempt = i.exempt;
+    } };
+
+    ghost invariant = { λ i. AreInstalled i.packages };
+}
+
+impl Installed {
+    /// What a device, such as a sound one, has before anything happened. Takes no memory.
+    pub fn from_device(alloc: Global, device: Device) -> Self
+        requires { AreInstalled device.packages }
+        ensures { result ≡ board_of device }
+    {
+        let Device {
+            system_key,
+            root_key,
+            browser,
+            protected,
+            exempt,
+            packages,
+            grants,
+            links,
+        } = device;
+        drop(system_key);
+        drop(root_key);
+        Installed {
+            alloc,
+            packages,
+            grants,
+            links,
+            registered: List::new(Vec::new(alloc)),
+            browser,
+            protected,
+            exempt,
+        }
+    }
+
+    /// The packages in the order of their uids. Takes no memory.
+    pub fn packages(&self) -> &List<Package>
+        ensures packages { result.now ≡ self.now.packages }
+        ensures installed { AreInstalled self.now.packages }
+    {
+        &self.packages
+    }
+
+    /// The grants in the order of uid, then permission by bytes. Takes no memory.
+    pub fn grants(&self) -> &List<Grant>
+        ensures { result.now ≡ self.now.grants }
+    {
+        &self.grants
+    }
+
+    /// The links in the order of uid, then host by bytes. Takes no memory.
+    pub fn links(&self) -> &List<Link>
+        ensures { result.now ≡ self.now.links }
+    {
+        &self.links
+    }
+
+    /// The registered receivers by rising number. Takes no memory.
+    pub fn registered(&self) -> &List<Registration>
+        ensures { result.now ≡ self.now.registered }
+    {
+        &self.registered
+    }
+
+    /// The package of the default browser, which needn't be there. Takes no memory.
+    pub fn browser(&self) -> Option<&Text>
+        ensures { option_copied result ≡ self.now.browser }
+    {
+        self.browser.as_ref()
+    }
+
+    /// The actions that only the system and the root may broadcast. Takes no memory.
+    pub fn protected(&self) -> &List<Text>
+        ensures { result.now ≡ self.now.protected }
+    {
+        &self.protected
+    }
+
+    /// The actions that manifest receivers get implicitly. Takes no memory.
+    pub fn exempt(&self) -> &List<Text>
+        ensures { result.now ≡ self.now.exempt }
+    {
+        &self.exempt
+    }
+
+    /// The package of the uid, if there is one. Takes no memory.
+    pub fn package_at(&self, uid: u32) -> Option<&Package>
+        ensures { option_copied result ≡ package_at self.now.packages uid }
+    {
+        find::package_at(&self.packages, uid)
+    }
+
+    /// An enabled component of a kind with the uid of its package, if there is one. Takes no memory.
+    pub fn declared(&self, kind: Kind, component: &Component) -> Option<(u32, &Decl)>
+        ensures { option_map (λ found. (found.0, found.1.now)) result ≡ declared self.now.packages kind component.now }
+    {
+        find::declared(&self.packages, kind, component)
+    }
+
+    /// Installs a package behind the others: its uid is greater than every uid there, its name is
+    /// new, and it has at most 256 components, of distinct classes. Without memory all is as before.
+    pub fn add_package(&mut self, package: Package) -> Result<(), NoMemory>
+        requires { AreInstalled (self.old.packages ++ «package» ∷ []) }
+        ensures added { OnOk result (self.new ≡ record self.old { packages = self.old.packages ++ «package» ∷ [] }) }
+        ensures same { OnErr result (self.new ≡ self.old) }
+    {
+        let mut packages = take(&mut self.packages, self.alloc);
+        let added = lists::push_package(&mut packages, package);
+        self.packages = List::new(packages);
+        added
+    }
+
+    /// Takes the package of the uid out, and nothing else. Takes no memory.
+    pub fn drop_package(&mut self, uid: u32)
+        ensures { self.new ≡ record self.old { packages = without_package self.old.packages uid } }
+    {
+        let mut packages = take(&mut self.packages, self.alloc);
+        lists::drop_package(&mut packages, uid);
+        self.packages = List::new(packages);
+    }
+
+    /// The package of the uid is stopped, or isn't any more. Takes no memory.
+    pub fn set_stopped(&mut self, uid: u32, stopped: bool)
+        ensures { self.new ≡ record self.old { packages = with_stopped self.old.packages uid stopped } }
+    {
+        let mut packages = take(&mut self.packages, self.alloc);
+        lists::set_stopped(&mut packages, uid, stopped);
+        self.packages = List::new(packages);
+    }
+
+    /// The uid holds the permission, or doesn't any more; taking it away takes no memory. Without
+    /// memory all is as before.
+    pub fn set_grant(&mut self, uid: u32, permission: &Text, held: bool) -> Result<(), NoMemory>
+        ensures set { OnOk result (self.new ≡ record self.old { grants = with_grant self.old.grants uid permission.now held }) }
+        ensures same { OnErr result (self.new ≡ self.old) }
+        ensures taken { held ≡ false → IsOk result }
+    {
+        let mut grants = take(&mut self.grants, self.alloc);
+        let set = rights::set_grant(&mut grants, uid, permission, held);
+        self.grants = List::new(grants);
+        set
+    }
+
+    /// The uid is approved for the host, or isn't any more; taking it away takes no memory. Without
+    /// memory all is as before.
+    pub fn set_link(&mut self, uid: u32, host: &Text, approved: bool) -> Result<(), NoMemory>
+        ensures set { OnOk result (self.new ≡ record self.old { links = with_link self.old.links uid host.now approved }) }
+        ensures same { OnErr result (self.new ≡ self.old) }
+        ensures taken { approved ≡ false → IsOk result }
+    {
+        let mut links = take(&mut self.links, self.alloc);
+        let set = rights::set_link(&mut links, uid, host, approved);
+        self.links = List::new(links);
+        set
+    }
+
+    /// Registers a receiver under a number. Without memory all is as before.
+    pub fn register(&mut self, registration: Registration) -> Result<(), NoMemory>
+        ensures registered { OnOk result (self.new ≡ record self.old { registered = place_registered registration self.old.registered }) }
+        ensures same { OnErr result (self.new ≡ self.old) }
+    {
+        let mut registered = take(&mut self.registered, self.alloc);
+        let put = lists::put_registered(&mut registered, registration);
+        self.registered = List::new(registered);
+        put
+    }
+
+    /// Takes the registered receiver of the number out. Takes no memory.
+    pub fn unregister(&mut self, number: u64)
+        ensures { self.new ≡ record self.old { registered = filter (λ (r : Registration). not (r.number == number)) self.old.registered } }
+    {
+        let mut registered = take(&mut self.registered, self.alloc);
+        lists::drop_registered(&mut registered, number);
+        self.registered = List::new(registered);
+    }
+}
+
+/// Takes the items of a list, and leaves none. Takes no memory.
+fn take<T>(list: &mut List<T>, alloc: Global) -> Vec<T>
+    ensures items { result.items ≡ list.old }
+    ensures left { list.new ≡ [] }
+{
+    mem::replace(list, List::new(Vec::new(alloc))).into_items()
+}

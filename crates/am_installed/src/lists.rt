@@ -1,0 +1,84 @@
+//! Packages and registered receivers as they come and go.
+ghost use Rattle.std.specs.Prelude.{◌≡◌, ◌∷◌, ◌++◌, [], not, ◌==◌, if◌then◌else◌, OnOk, OnErr, filter};
+ghost use Rattle.am_model.specs.Boards.{with_stopped, without_package};
+ghost use Rattle.am_installed.specs.Places.{place_of_number, place_registered};
+ghost use Rattle.am_types.specs.declared.resolve.Registration.{Registration};
+
+use am_types::{NoMemory, Package, Registration};
+
+/// Puts a package behind the others. Without memory all stay.
+pub(crate) fn push_package(packages: &mut Vec<Package>, package: Package) -> Result<(), NoMemory>
+    ensures put { OnOk result (packages.new.items ≡ packages.old.items ++ «package» ∷ []) }
+    ensures same { OnErr result (packages.new.items ≡ packages.old.items) }
+{
+    match packages.push(package) {
+        Ok(()) => Ok(()),
+        Err(failed) => {
+            drop(failed);
+            Err(NoMemory)
+        }
+    }
+}
+
+/// Takes the package of the uid out.
+pub(crate) fn drop_package(packages: &mut Vec<Package>, uid: u32)
+    ensures { packages.new.items ≡ without_package packages.old.items uid }
+{
+    packages.retain(|package| package.uid != uid);
+}
+
+/// A package is stopped, or isn't any more, if it has the uid.
+fn stop_if(package: &mut Package, uid: u32, stopped: bool)
+    ensures { «package».new ≡ (if «package».old.uid == uid then record «package».old { stopped = stopped } else «package».old) }
+{
+    if package.uid == uid {
+        package.stopped = stopped;
+    }
+}
+
+/// The package of the uid is stopped, or isn't any more.
+pub(crate) fn set_stopped(packages: &mut Vec<Package>, uid: u32, stopped: bool)
+    ensures { packages.new.items ≡ with_stopped packages.old.items uid stopped }
+{
+    for place in 0..packages.len() {
+        let package = &mut packages[place];
+        stop_if(package, uid, stopped);
+    }
+}
+
+/// How many registered receivers stand before the first of a greater number.
+fn place_of_number(registered: &[Registration], number: u64) -> usize
+    ensures { result ≡ place_of_number number registered.now }
+{
+    for (place, other) in registered.iter().enumerate() {
+        if number < other.number {
+            return place;
+        }
+    }
+    registered.len()
+}
+
+/// Puts a registered receiver in its place by number. Without memory all stay.
+pub(crate) fn put_registered(
+    registered: &mut Vec<Registration>,
+    registration: Registration,
+) -> Result<(), NoMemory>
+    ensures put { OnOk result (registered.new.items ≡ place_registered registration registered.old.items) }
+    ensures same { OnErr result (registered.new.items ≡ registered.old.items) }
+{
+    let place = place_of_number(registered, registration.number);
+    match registered.insert(place, registration) {
+        Ok(()) => Ok(()),
+        Err(failed) => {
+            drop(failed);
+            Err(NoMemory)
+        }
+    }
+}
+
+/// Takes the registered receiver of the number out.
+pub(crate) fn drop_registered(registered: &mut Vec<Registration>, number: u64)
+    ensures { registered.new.items ≡ filter (λ (r : Registration). not (r.number == number)) registered.old.items }
+{
+    registered.retain(|registration| registration.number != number);
+}

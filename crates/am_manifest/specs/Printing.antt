@@ -1,2 +1,0 @@
--- How a fault is printed.
-pub use Rattle.am_filter_tables.specs.Printing.{printed}

@@ -1,0 +1,4 @@
+pub mod Each
+pub mod Keys
+pub mod StepsRead
+pub mod Limits

@@ -1,0 +1,6 @@
+pub mod Reading
+pub mod Texts
+pub mod Tables
+pub mod Rows
+pub mod Filters
+pub mod Printing

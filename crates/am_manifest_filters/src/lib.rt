@@ -1,0 +1,17 @@
+//! Reads what stands at the keys of TOML tables, and the intent filters that a component's table lists. The
+//! answer is the value, or the first fault with its place.
+#![tactic(auto)]
+
+mod fault;
+mod filters;
+mod place;
+mod print;
+mod rows;
+mod tables;
+
+pub use fault::ReadFault;
+pub use filters::{Filters, filters_at};
+pub use place::{Spot, missing, over_limit, within_key, wrong_kind};
+pub use tables::{
+    at_most, entry_table, optional_text, optional_truth, optional_values, required_text, texts_at,
+};

@@ -1,0 +1,10 @@
+use Rattle.std.proofs.Common.{◌≡◌, ℕ, ◌+◌, not, ◌&&◌, drop, map}
+use Rattle.am_queue_ordered.specs.Struck.{strikes}
+use Rattle.am_queue_normal.specs.Numbers.{lists, stands_in, if_struck}
+use Rattle.am_queue_normal.proofs.batch.Batch.unlist_struck.Given as goal
+
+-- once those from here on are taken out too, all are
+abbrev pub invariant-loop-place : goal.invariant-loop-place
+invariant-loop-place l = (uid number : ℕ) →
+    not (stands_in uid number (l.self.first + l.place) (map (if_struck (strikes l.struck)) (drop l.place l.self.slots))) && lists l.numbers uid number
+    ≡ not (stands_in uid number l.self.first (map (if_struck (strikes l.struck)) l.self.slots)) && lists l.initial.numbers uid number

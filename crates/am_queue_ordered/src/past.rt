@@ -1,0 +1,162 @@
+//! A receiver that is past, and the delivery of the one whose turn it is.
+ghost use Rattle.std.specs.Prelude.{◌≡◌, ◌&&◌, ◌||◌, not, is_some};
+ghost use Rattle.std.specs.Option.{option_copied};
+ghost use Rattle.am_model.specs.Broadcasts.{is_abort};
+ghost use Rattle.am_queue_ordered.specs.Turns.{set_by};
+
+use am_types::{Answer, Outcome, Spot};
+use std::alloc::AllocError;
+use std::marker::Model;
+
+/// What a receiver did with an ordered broadcast.
+#[derive(Drop)]
+pub enum Deed {
+    Answered(Answer),
+    /// Its deadline passed.
+    Late,
+    /// It went away.
+    Gone,
+}
+
+/// A receiver that is past, and what it did.
+#[derive(Drop)]
+pub struct Past {
+    spot: Spot,
+    deed: Deed,
+}
+
+impl Model for Past {
+    ghost use Rattle.am_model.specs.Broadcasts as broadcasts;
+
+    ghost Value = { broadcasts.Past };
+
+    ghost use Rattle.am_queue_ordered.specs.Deeds.{doing_of};
+
+    ghost view = { λ p. record { spot = p.spot; doing = doing_of p.deed } };
+}
+
+impl Past {
+    ghost use Rattle.am_queue_ordered.specs.Deeds.{doing_of};
+
+    pub fn new(spot: Spot, deed: Deed) -> Self
+        ensures { result ≡ record { spot = spot; doing = doing_of deed } }
+    {
+        Past { spot, deed }
+    }
+
+    /// The outcome that it set.
+    pub fn outcome(&self) -> Option<&Outcome>
+        ensures { option_copied result ≡ set_by self.now.doing }
+    {
+        match &self.deed {
+            Deed::Answered(answer) => answer.set.as_ref(),
+            Deed::Late => None,
+            Deed::Gone => None,
+        }
+    }
+
+    /// Whether it set the outcome of a broadcast that had ended by then or not.
+    pub fn sets(&self, ended: bool) -> bool
+        ensures { result ≡ (is_some (set_by self.now.doing) && not ended) }
+    {
+        match &self.deed {
+            Deed::Answered(answer) => answer.set.is_some() && !ended,
+            Deed::Late => false,
+            Deed::Gone => false,
+        }
+    }
+
+    /// Whether an abort ended the broadcast with it, or before.
+    pub fn ends(&self, ended: bool, no_abort: bool) -> bool
+        ensures { result ≡ (ended || (not no_abort && is_abort self.now.doing)) }
+    {
+        match &self.deed {
+            Deed::Answered(answer) => ended || (!no_abort && answer.abort),
+            Deed::Late => ended,
+            Deed::Gone => ended,
+        }
+    }
+
+    /// Hands out the outcome that it set.
+    pub fn into_outcome(self) -> Option<Outcome>
+        ensures { result ≡ set_by self.doing }
+    {
+        let Past { spot, deed } = self;
+        drop(spot);
+        match deed {
+            Deed::Answered(answer) => answer.set,
+            Deed::Late => None,
+            Deed::Gone => None,
+        }
+    }
+}
+
+impl Clone for Deed {
+    ghost is_clone = { λ x y. y ≡ x };
+
+    fn clone(&self) -> Result<Deed, AllocError> {
+        match self {
+            Deed::Answered(answer) => Ok(Deed::Answered(answer.clone()?)),
+            Deed::Late => Ok(Deed::Late),
+            Deed::Gone => Ok(Deed::Gone),
+        }
+    }
+}
+
+impl Clone for Past {
+    ghost is_clone = { λ x y. y ≡ x };
+
+    fn clone(&self) -> Result<Past, AllocError> {
+        Ok(Past {
+            spot: self.spot.clone()?,
+            deed: self.deed.clone()?,
+        })
+    }
+}
+
+/// The delivery to the receiver whose turn it is.
+#[derive(Drop)]
+pub struct Current {
+    number: u64,
+    /// The moment from which on it is late, in milliseconds.
+    deadline: u64,
+}
+
+impl Model for Current {
+    ghost use Rattle.am_model.specs.Broadcasts as broadcasts;
+
+    ghost Value = { broadcasts.Current };
+
+    ghost view = { λ c. record { number = c.number; deadline = c.deadline } };
+}
+
+impl Clone for Current {
+    ghost is_clone = { λ x y. y ≡ x };
+
+    fn clone(&self) -> Result<Current, AllocError> {
+        Ok(Current {
+            number: self.number,
+            deadline: self.deadline,
+        })
+    }
+}
+
+impl Current {
+    pub fn new(number: u64, deadline: u64) -> Self
+        ensures { result ≡ record { number = number; deadline = deadline } }
+    {
+        Current { number, deadline }
+    }
+
+    pub fn number(&self) -> u64
+        ensures { result ≡ self.now.number }
+    {
+        self.number
+    }
+
+    pub fn deadline(&self) -> u64
+        ensures { result ≡ self.now.deadline }
+    {
+        self.deadline
+    }
+}

@@ -1,4 +1,0 @@
-pub mod Adding
-pub mod Owners
-pub mod Ranks
-pub mod Stopped

@@ -1,0 +1,77 @@
+-- What becomes of offers, as the code gathers it.
+use Rattle.std.specs.Prelude.{ℕ, List, [], ◌∷◌, ◌++◌, map, if◌then◌else◌, Option, Some, None, option_copied, int_lt}
+use Rattle.am_types.specs.declared.intent.Intent.{Intent}
+use Rattle.am_types.specs.declared.device.Package.{Package}
+use Rattle.am_types.specs.declared.manifest.Decl.{Decl}
+use Rattle.am_types.specs.declared.manifest.Kind.TheVariants.{Receiver}
+use Rattle.am_types.specs.declared.resolve.Hit.{Hit}
+use Rattle.am_types.specs.declared.resolve.Registration.{Registration}
+use Rattle.am_types.specs.declared.broadcast.Receiving.{Receiving}
+use Rattle.am_model.specs.Boards.{Board, package_at}
+use Rattle.am_model.specs.Receivers as model
+use Rattle.am_model.specs.Receivers.{decl_in, declared_offer, finds_registered, registered_offer, skip_of, with_uid}
+use Rattle.am_resolve.specs.declared.offers.Offer.{Offer}
+use Rattle.am_resolve.specs.declared.offers.Ranked.{Ranked}
+
+-- an offer of the code, as the offer that it is
+abbrev pub offer_of : Offer → model.Offer
+offer_of offer = record {
+  uid = offer.uid;
+  aim = offer.aim;
+  priority = offer.priority;
+  exported = offer.exported;
+  permission = option_copied offer.permission;
+}
+
+-- what becomes of an offer
+abbrev pub ranked_of : Board → Intent → ℕ → Option (List ℕ) → model.Offer → Ranked
+ranked_of board intent sender required offer = record {
+  priority = offer.priority;
+  receiving = record { uid = offer.uid; aim = offer.aim; skip = skip_of board intent sender required offer };
+}
+
+-- what becomes of the offer to a registered receiver, if the intent finds it
+abbrev pub ranked_of_registration : Board → Intent → ℕ → Option (List ℕ) → Registration → List Ranked
+ranked_of_registration board intent sender required r =
+    if finds_registered board.packages intent r then ranked_of board intent sender required (registered_offer r) ∷ [] else []
+
+-- and of the offers to several
+abbrev pub ranked_of_registered : Board → Intent → ℕ → Option (List ℕ) → List Registration → List Ranked
+ranked_of_registered board intent sender required [] = []
+ranked_of_registered board intent sender required (first ∷ others) =
+    ranked_of_registration board intent sender required first ++ ranked_of_registered board intent sender required others
+
+-- the enabled receiver that a package declares under a class, if there is one
+abbrev pub receiver_in : List ℕ → Option Package → Option Decl
+receiver_in class None = None
+receiver_in class (Some p) = decl_in Receiver class p.decls
+
+-- the component of a hit, found by the uid of its package
+abbrev pub decl_at : List Package → Hit → Option Decl
+decl_at packages hit = receiver_in hit.component.class (package_at packages hit.uid)
+
+-- what becomes of the offer to a manifest's receiver
+abbrev pub ranked_of_hit : Board → List Package → Intent → ℕ → Option (List ℕ) → Hit → List Ranked
+ranked_of_hit board packages intent sender required hit =
+    map (ranked_of board intent sender required) (declared_offer hit (with_uid hit.uid (decl_at packages hit)))
+
+-- and of the offers to several
+abbrev pub ranked_of_hits : Board → List Package → Intent → ℕ → Option (List ℕ) → List Hit → List Ranked
+ranked_of_hits board packages intent sender required [] = []
+ranked_of_hits board packages intent sender required (first ∷ others) =
+    ranked_of_hit board packages intent sender required first ++ ranked_of_hits board packages intent sender required others
+
+-- one in front of those of no greater priority, behind the others
+abbrev pub place_ranked : Ranked → List Ranked → List Ranked
+place_ranked one [] = one ∷ []
+place_ranked one (first ∷ others) =
+    if int_lt one.priority first.priority then first ∷ place_ranked one others else one ∷ first ∷ others
+
+-- by falling priority; where it ties the order stays
+abbrev pub in_rank : List Ranked → List Ranked
+in_rank [] = []
+in_rank (first ∷ others) = place_ranked first (in_rank others)
+
+-- what becomes of an offer, without its priority
+abbrev pub receiving_of : Ranked → Receiving
+receiving_of one = one.receiving

@@ -1,0 +1,56 @@
+//! What is known of the package of a uid.
+ghost use Rattle.std.specs.Prelude.{◌≡◌};
+ghost use Rattle.am_model.specs.Gates.{is_privileged};
+ghost use Rattle.am_model.specs.Receivers.{is_for, is_stopped, name_of};
+
+use am_installed::{Installed, package_at};
+use am_types::Intent;
+
+/// The uid of the root.
+const ROOT: u32 = 0;
+
+/// The uid of the system.
+const SYSTEM: u32 = 1000;
+
+/// The name of the system's and the root's package.
+const SYSTEM_NAME: &str = "android";
+
+/// The intent names no package, or that of the uid.
+pub(crate) fn is_for(installed: &Installed, intent: &Intent, uid: u32) -> bool
+    ensures { result ≡ is_for intent.now.«package» (name_of installed.now.packages uid) }
+{
+    match &intent.package {
+        None => true,
+        Some(name) => name.as_str() == name_of(installed, uid),
+    }
+}
+
+/// The name of the package of the uid, empty if there is none.
+fn name_of(installed: &Installed, uid: u32) -> &str
+    ensures { result.now ≡ name_of installed.now.packages uid }
+{
+    if is_privileged(uid) {
+        return SYSTEM_NAME;
+    }
+    match installed.package_at(uid) {
+        None => "",
+        Some(package) => package.name.as_str(),
+    }
+}
+
+/// The uid is the system's or the root's.
+fn is_privileged(uid: u32) -> bool
+    ensures { result ≡ is_privileged uid }
+{
+    uid == ROOT || uid == SYSTEM
+}
+
+/// The package of the uid is stopped.
+pub(crate) fn is_stopped(installed: &Installed, uid: u32) -> bool
+    ensures { result ≡ is_stopped installed.now.packages uid }
+{
+    match package_at(installed.packages(), uid) {
+        None => false,
+        Some(package) => package.stopped,
+    }
+}

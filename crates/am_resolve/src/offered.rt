@@ -1,0 +1,228 @@
+//! Who a broadcast is offered to.
+ghost use Rattle.std.specs.Prelude.{◌≡◌, ◌++◌, ◌+◌, ◌≤◌, ◌∷◌, [], false, length, map, IfOk, OnOk, IsSome, option_copied};
+ghost use Rattle.std.specs.List.Sorted.{IsStrictlyIncreasing};
+ghost use Rattle.am_types.specs.declared.manifest.Kind.TheVariants.{Receiver};
+ghost use Rattle.am_model.specs.Candidates.{hits};
+ghost use Rattle.am_model.specs.Filters.{passes};
+ghost use Rattle.am_model.specs.Receivers.{declared_offers, finds_registered, receivers, registered_offer};
+ghost use Rattle.am_model.specs.Sound.{uids_of};
+ghost use Rattle.am_resolve.specs.Ranking.{decl_at, offer_of, ranked_of, ranked_of_hit, ranked_of_registered, ranked_of_registration};
+
+use crate::names::is_for;
+use crate::offers::{Offer, Ranked};
+use crate::order::in_order;
+use crate::skips::skip_of;
+use am_filter::passes;
+use am_installed::{Installed, decl_in, package_at};
+use am_types::{
+    Aim, Decl, Filter, Hit, Intent, Kind, List, NoMemory, Package, Receiving, Registration, Steps,
+    Text,
+};
+use std::alloc::Global;
+use std::sync::ledger::Ledger;
+
+/// Who the broadcast is offered to, by falling priority, each with the rule by which it is skipped.
+/// At a tie registered receivers stand first, by number, then the manifests' by uid and place.
+/// `found` is what the intent finds among the manifests' receivers, and `permission` what the
+/// sender requires. A step is a test of a registered receiver's filter.
+pub fn receivers<L: Ledger>(
+    alloc: Global,
+    installed: &Installed,
+    found: &List<Hit>,
+    intent: &Intent,
+    sender: u32,
+    permission: Option<&Text>,
+    steps: &mut Steps<L>,
+) -> Result<List<Receiving>, NoMemory>
+    requires { found.now ≡ hits installed.now.packages Receiver intent.now false }
+    ensures receivers { IfOk result
+        (λ receivings. receivings ≡ receivers installed.now intent.now sender (option_copied permission.entry)) }
+    ensures tests { steps.new ≤ steps.old + length installed.now.registered }
+    ensures explicit { IsSome intent.now.component → steps.new ≡ steps.old }
+{
+    let mut ranked = Vec::new(alloc);
+    add_registered(&mut ranked, installed, intent, sender, permission, steps)?;
+    add_declared(&mut ranked, installed, found, intent, sender, permission)?;
+    in_order(alloc, ranked)
+}
+
+/// Adds the registered receivers that the intent finds, in their order.
+fn add_registered<L: Ledger>(
+    ranked: &mut Vec<Ranked>,
+    installed: &Installed,
+    intent: &Intent,
+    sender: u32,
+    required: Option<&Text>,
+    steps: &mut Steps<L>,
+) -> Result<(), NoMemory>
+    ensures added { OnOk result (ranked.new.items
+        ≡ ranked.old.items ++ ranked_of_registered installed.now intent.now sender (option_copied required.entry) installed.now.registered) }
+    ensures tests { steps.new ≤ steps.old + length installed.now.registered }
+    ensures explicit { IsSome intent.now.component → steps.new ≡ steps.old }
+{
+    for registration in installed.registered().as_slice() {
+        add_registration(
+            ranked,
+            installed,
+            intent,
+            sender,
+            required,
+            registration,
+            steps,
+        )?;
+    }
+    Ok(())
+}
+
+/// Adds the registered receiver if the intent finds it.
+fn add_registration<L: Ledger>(
+    ranked: &mut Vec<Ranked>,
+    installed: &Installed,
+    intent: &Intent,
+    sender: u32,
+    required: Option<&Text>,
+    registration: &Registration,
+    steps: &mut Steps<L>,
+) -> Result<(), NoMemory>
+    ensures added { OnOk result (ranked.new.items
+        ≡ ranked.old.items ++ ranked_of_registration installed.now intent.now sender (option_copied required.entry) registration.now) }
+    ensures tests { steps.new ≤ steps.old + 1 }
+    ensures explicit { IsSome intent.now.component → steps.new ≡ steps.old }
+{
+    if !finds_registered(installed, intent, registration, steps) {
+        return Ok(());
+    }
+    let offer = registered_offer(registration);
+    add_offer(ranked, installed, intent, sender, required, offer)
+}
+
+/// The intent finds the registered receiver: it names no component and no other package, and
+/// passes its filter, which is tested last.
+fn finds_registered<L: Ledger>(
+    installed: &Installed,
+    intent: &Intent,
+    registration: &Registration,
+    steps: &mut Steps<L>,
+) -> bool
+    ensures finds { result ≡ finds_registered installed.now.packages intent.now registration.now }
+    ensures tests { steps.new ≤ steps.old + 1 }
+    ensures explicit { IsSome intent.now.component → steps.new ≡ steps.old }
+{
+    intent.component.is_none()
+        && is_for(installed, intent, registration.uid)
+        && is_passed_by_test(&registration.filter, intent, steps)
+}
+
+/// The one place that tests a filter. Each call is counted.
+fn is_passed_by_test<L: Ledger>(filter: &Filter, intent: &Intent, steps: &mut Steps<L>) -> bool
+    ensures passes { result ≡ passes filter.now intent.now false }
+    ensures tests { steps.new ≡ steps.old + 1 }
+{
+    steps.tick();
+    passes(filter, intent, false).is_ok()
+}
+
+/// The offer to a registered receiver, which counts as exported.
+fn registered_offer(registration: &Registration) -> Offer<'_>
+    ensures { offer_of result ≡ registered_offer registration.now }
+{
+    Offer {
+        uid: registration.uid,
+        aim: Aim::Registered(registration.number),
+        priority: registration.filter.priority,
+        exported: true,
+        permission: registration.permission.as_ref(),
+    }
+}
+
+/// Adds the manifests' receivers that were found, in their order.
+fn add_declared(
+    ranked: &mut Vec<Ranked>,
+    installed: &Installed,
+    found: &List<Hit>,
+    intent: &Intent,
+    sender: u32,
+    required: Option<&Text>,
+) -> Result<(), NoMemory>
+    requires { found.now ≡ hits installed.now.packages Receiver intent.now false }
+    ensures { OnOk result (ranked.new.items
+        ≡ ranked.old.items ++ map (ranked_of installed.now intent.now sender (option_copied required.entry)) (declared_offers installed.now.packages found.now)) }
+{
+    let packages = installed.packages();
+    for hit in found.as_slice() {
+        add_hit(ranked, installed, packages, hit, intent, sender, required)?;
+    }
+    Ok(())
+}
+
+/// Adds a manifest's receiver that was found.
+fn add_hit(
+    ranked: &mut Vec<Ranked>,
+    installed: &Installed,
+    packages: &List<Package>,
+    hit: &Hit,
+    intent: &Intent,
+    sender: u32,
+    required: Option<&Text>,
+) -> Result<(), NoMemory>
+    requires { IsStrictlyIncreasing (uids_of packages.now) }
+    ensures { OnOk result (ranked.new.items
+        ≡ ranked.old.items ++ ranked_of_hit installed.now packages.now intent.now sender (option_copied required.entry) hit.now) }
+{
+    let Some(decl) = decl_at(packages, hit) else {
+        return Ok(());
+    };
+    let aim = Aim::Declared(hit.component.clone()?);
+    let offer = declared_offer(hit, aim, decl);
+    add_offer(ranked, installed, intent, sender, required, offer)
+}
+
+/// The component of a hit, by the uid of its package.
+fn decl_at<'a>(packages: &'a List<Package>, hit: &Hit) -> Option<&'a Decl>
+    requires { IsStrictlyIncreasing (uids_of packages.now) }
+    ensures { option_copied result ≡ decl_at packages.now hit.now }
+{
+    match package_at(packages, hit.uid) {
+        None => None,
+        Some(owner) => decl_in(Kind::Receiver, &hit.component.class, &owner.decls),
+    }
+}
+
+/// The offer to a manifest's receiver.
+fn declared_offer<'a>(hit: &Hit, aim: Aim, decl: &'a Decl) -> Offer<'a>
+    ensures { offer_of result
+        ≡ record { uid = hit.now.uid; aim = aim; priority = hit.now.priority; exported = decl.now.exported; permission = decl.now.permission } }
+{
+    Offer {
+        uid: hit.uid,
+        aim,
+        priority: hit.priority,
+        exported: decl.exported,
+        permission: decl.permission.as_ref(),
+    }
+}
+
+/// Adds what becomes of an offer.
+fn add_offer(
+    ranked: &mut Vec<Ranked>,
+    installed: &Installed,
+    intent: &Intent,
+    sender: u32,
+    required: Option<&Text>,
+    offer: Offer,
+) -> Result<(), NoMemory>
+    ensures { OnOk result (ranked.new.items
+        ≡ ranked.old.items ++ ranked_of installed.now intent.now sender (option_copied required.entry) (offer_of offer.entry) ∷ []) }
+{
+    let skip = skip_of(installed, intent, sender, required, &offer)?;
+    let receiving = Receiving {
+        uid: offer.uid,
+        aim: offer.aim,
+        skip,
+    };
+    ranked.push(Ranked {
+        priority: offer.priority,
+        receiving,
+    })?;
+    Ok(())
+}

@@ -1,6 +1,0 @@
-//! Steps that contracts count.
-#![tactic(auto)]
-
-mod steps;
-
-pub use steps::Steps;

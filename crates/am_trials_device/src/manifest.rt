@@ -1,0 +1,283 @@
+//! Documents that are read, and the first fault of those that aren't.
+
+mod documents;
+
+use self::documents::{DATA, DEVICES, MANIFESTS, RIGHTS, SUMMARIES};
+use am_manifest::{ReadFault, print_fault, read_device, read_package};
+use am_types::{Authority, Decl, Device, Filter, Kind, List, Mime, Mode, NoMemory, PathRule, Text};
+use std::alloc::{AllocError, Global};
+use std::process::Abort;
+use std::test::Fail;
+
+/// What is shown of a document.
+#[derive(Clone, Copy)]
+enum Shown {
+    /// Whether it is read as a device file, or its fault.
+    DeviceFault,
+    /// Whether it is read as a manifest, or its fault.
+    ManifestFault,
+    /// The packages of a device.
+    Packages,
+    /// The grants and the links of a device.
+    Rights,
+    /// The data of the filters of a manifest's first component.
+    Data,
+}
+
+/// The printed fault, or `read`.
+fn device_outcome(alloc: Global, bytes: &[u8]) -> Result<String, AllocError> {
+    match read_device(alloc, bytes) {
+        Ok(_) => String::from_str(alloc, "read"),
+        Err(fault) => fault.to_string(alloc),
+    }
+}
+
+/// The printed fault, or `read`.
+fn package_outcome(alloc: Global, manifest: &str) -> Result<Text, NoMemory> {
+    match read_package(alloc, &Text::of(alloc, manifest)?) {
+        Ok(_) => Ok(Text::of(alloc, "read")?),
+        Err(ReadFault::Manifest(fault)) => print_fault(alloc, &fault),
+        Err(ReadFault::NoMemory) => Err(NoMemory),
+    }
+}
+
+fn read(alloc: Global, document: &str) -> Result<Device, Fail> {
+    Ok(
+        read_device(alloc, document.as_bytes())
+            .ok()
+            .ok_or("the device is read")?,
+    )
+}
+
+/// What is shown of the document.
+fn show(alloc: Global, shown: Shown, document: &str) -> Result<String, Fail> {
+    match shown {
+        Shown::DeviceFault => Ok(device_outcome(alloc, document.as_bytes())?),
+        Shown::ManifestFault => {
+            let outcome = package_outcome(alloc, document)?;
+            Ok(String::from_str(alloc, outcome.as_str())?)
+        }
+        Shown::Packages => Ok(summary(alloc, &read(alloc, document)?)?),
+        Shown::Rights => Ok(rights(alloc, &read(alloc, document)?)?),
+        Shown::Data => data_shown(alloc, document),
+    }
+}
+
+/// The line, with `<3:a>` spelled out.
+fn spelled_out(alloc: Global, line: &str) -> Result<String, Fail> {
+    let mut all = String::new(alloc);
+    let Some((front, behind)) = line.split_once('<') else {
+        all.push_str(line)?;
+        return Ok(all);
+    };
+    let (count, behind) = behind.split_once(':').ok_or("a count")?;
+    let (part, behind) = behind.split_once('>').ok_or("a part")?;
+    let count = count.parse::<usize>().ok().ok_or("a number")?;
+    all.push_str(front)?;
+    for _ in 0..count {
+        all.push_str(part)?;
+    }
+    all.push_str(behind)?;
+    Ok(all)
+}
+
+/// Shows each document of a table, whose lines end as given.
+fn try_all(
+    rt: &impl Abort,
+    alloc: Global,
+    shown: Shown,
+    table: &str,
+    ending: &str,
+) -> Result<(), Fail> {
+    let mut document = String::new(alloc);
+    for line in table.lines() {
+        if let Some(wanted) = line.strip_prefix("= ") {
+            let found = show(alloc, shown, document.as_str())?;
+            assert_eq!(rt; found.as_str(), wanted, "{document}");
+            document = String::new(alloc);
+        } else {
+            document.push_str(spelled_out(alloc, line)?.as_str())?;
+            document.push_str(ending)?;
+        }
+    }
+    Ok(())
+}
+
+/// Adds a blank and each text.
+fn push_texts(all: &mut String, texts: &List<Text>) -> Result<(), AllocError> {
+    for text in texts.as_slice() {
+        all.push_str(" ")?;
+        all.push_str(text.as_str())?;
+    }
+    Ok(())
+}
+
+/// Adds what the filters list.
+fn push_filters(all: &mut String, filters: &List<Filter>) -> Result<(), AllocError> {
+    for filter in filters.as_slice() {
+        write!(all, " ( {}", filter.priority)?;
+        push_texts(all, &filter.actions)?;
+        all.push_str(" ;")?;
+        push_texts(all, &filter.categories)?;
+        all.push_str(" )")?;
+    }
+    Ok(())
+}
+
+/// Adds what the components say; `true` at the end of an activity that is launched as usual and asks for nothing.
+fn push_decls(all: &mut String, decls: &List<Decl>) -> Result<(), AllocError> {
+    for decl in decls.as_slice() {
+        let plain = decl.kind == Kind::Activity
+            && decl.mode == Mode::Standard
+            && decl.permission.is_none();
+        write!(all, " / {} {}", decl.class.as_str(), decl.affinity.as_str())?;
+        write!(all, " {} {} {plain}", decl.exported, decl.enabled)?;
+        push_filters(all, &decl.filters)?;
+    }
+    Ok(())
+}
+
+/// What the packages of a device say.
+fn summary(alloc: Global, device: &Device) -> Result<String, AllocError> {
+    let mut all = String::from_str(alloc, device.system_key.as_str())?;
+    for package in device.packages.as_slice() {
+        write!(all, " | {} {}", package.uid, package.name.as_str())?;
+        write!(all, " {} {}", package.key.as_str(), package.stopped)?;
+        push_decls(&mut all, &package.decls)?;
+    }
+    Ok(all)
+}
+
+/// The grants and the links of a device.
+fn rights(alloc: Global, device: &Device) -> Result<String, AllocError> {
+    let mut all = String::new(alloc);
+    for grant in device.grants.as_slice() {
+        write!(all, "{} {} ", grant.uid, grant.permission.as_str())?;
+    }
+    all.push_str("|")?;
+    for link in device.links.as_slice() {
+        write!(all, " {} {}", link.uid, link.host.as_str())?;
+    }
+    Ok(all)
+}
+
+/// A device of the package `p` with rights to `count` different things.
+fn with_rights(alloc: Global, key: &str, word: &str, count: usize) -> Result<String, AllocError> {
+    let mut all = format!(in alloc;
+        "system_key = \"s\"\npackage = [{{ key = \"k\", manifest = {{ package = \"p\" }} }}]\n{key} = ["
+    )?;
+    for i in 0..count {
+        let right = format!(in alloc; "{{ package = \"p\", {word} = \"{i}\" }},")?;
+        all.push_str(right.as_str())?;
+        all.push_str(right.as_str())?;
+    }
+    all.push_str("]")?;
+    Ok(all)
+}
+
+/// Adds the path rules.
+fn push_paths(all: &mut String, paths: &List<PathRule>) -> Result<(), AllocError> {
+    for path in paths.as_slice() {
+        match path {
+            PathRule::Literal(text) => write!(all, "| is {} ", text.as_str())?,
+            PathRule::Prefix(text) => write!(all, "| starts {} ", text.as_str())?,
+            PathRule::Suffix(text) => write!(all, "| ends {} ", text.as_str())?,
+            PathRule::Pattern(glob) => write!(all, "| matches {} ", glob.text().as_str())?,
+        }
+    }
+    Ok(())
+}
+
+/// Adds the authorities; 0 stands for no port.
+fn push_authorities(all: &mut String, authorities: &List<Authority>) -> Result<(), AllocError> {
+    for authority in authorities.as_slice() {
+        write!(
+            all,
+            "| {} {} ",
+            authority.host.as_str(),
+            authority.port.unwrap_or(0)
+        )?;
+    }
+    Ok(())
+}
+
+/// Adds the types.
+fn push_types(all: &mut String, types: &List<Mime>) -> Result<(), AllocError> {
+    for mime in types.as_slice() {
+        write!(all, "| {} {} ", mime.main.as_str(), mime.sub.as_str())?;
+    }
+    Ok(())
+}
+
+/// The data of the filters of a component.
+fn data_of(alloc: Global, decl: &Decl) -> Result<String, AllocError> {
+    let mut all = String::new(alloc);
+    for filter in decl.filters.as_slice() {
+        push_texts(&mut all, &filter.schemes)?;
+        push_authorities(&mut all, &filter.authorities)?;
+        push_paths(&mut all, &filter.paths)?;
+        push_types(&mut all, &filter.types)?;
+    }
+    Ok(all)
+}
+
+/// The data of the filters of a manifest's first component.
+fn data_shown(alloc: Global, document: &str) -> Result<String, Fail> {
+    let text = Text::of(alloc, document)?;
+    let manifest = read_package(alloc, &text)
+        .ok()
+        .ok_or("the manifest is read")?;
+    let decl = manifest.decls.as_slice().first().ok_or("a component")?;
+    Ok(data_of(alloc, decl)?)
+}
+
+#[test]
+fn devices_are_read_or_have_a_first_fault(rt: HostRuntime) -> Result<(), Fail> {
+    try_all(&rt, rt.alloc(), Shown::DeviceFault, DEVICES, "\r\n")
+}
+
+#[test]
+fn marks_and_other_bytes(rt: HostRuntime) -> Result<(), Fail> {
+    let alloc = rt.alloc();
+    let marked = device_outcome(alloc, "\u{feff}system_key = \"s\"".as_bytes())?;
+    assert_eq!(rt; marked.as_str(), "read");
+    let other = device_outcome(alloc, b"system_key = \"s\" # \xff")?;
+    assert_eq!(rt; other.as_str(), "not_toml");
+    Ok(())
+}
+
+#[test]
+fn manifests_are_read_or_have_a_first_fault(rt: HostRuntime) -> Result<(), Fail> {
+    try_all(&rt, rt.alloc(), Shown::ManifestFault, MANIFESTS, "\n")
+}
+
+#[test]
+fn packages_are_as_declared(rt: HostRuntime) -> Result<(), Fail> {
+    try_all(&rt, rt.alloc(), Shown::Packages, SUMMARIES, "\n")
+}
+
+#[test]
+fn rights_are_sorted_each_once(rt: HostRuntime) -> Result<(), Fail> {
+    try_all(&rt, rt.alloc(), Shown::Rights, RIGHTS, "\n")
+}
+
+#[test]
+fn data_rows_are_merged(rt: HostRuntime) -> Result<(), Fail> {
+    try_all(&rt, rt.alloc(), Shown::Data, DATA, "\n")
+}
+
+#[test]
+fn a_device_has_256_rights_of_a_kind(rt: HostRuntime) -> Result<(), Fail> {
+    let alloc = rt.alloc();
+    for (key, word, count, want) in [
+        ("grant", "permission", 256, "read"),
+        ("grant", "permission", 257, "over_limit grants"),
+        ("link", "host", 256, "read"),
+        ("link", "host", 257, "over_limit links"),
+    ] {
+        let document = with_rights(alloc, key, word, count)?;
+        let outcome = device_outcome(alloc, document.as_bytes())?;
+        assert_eq!(rt; outcome.as_str(), want, "{key} {count}");
+    }
+    Ok(())
+}

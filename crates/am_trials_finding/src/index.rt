@@ -1,0 +1,232 @@
+//! What the clauses leave to be tried: answers with ample memory, beside those of a plain scan.
+
+mod device;
+mod plain;
+mod rows;
+
+ghost use Rattle.std.specs.Bool.{OnTrue};
+ghost use Rattle.std.specs.Prelude.{◌≡◌, ◌<◌, IfOk};
+ghost use Rattle.am_model.specs.Boards.{without_package};
+ghost use Rattle.am_index.specs.Standing.{CanBeListed, StandsFor};
+
+use self::device::{device, intent_of, kind_of, many};
+use self::plain::plain_hits;
+use self::rows::{DEVICE, QUERIES};
+use am_index::FilterIndex;
+use am_trials_words::{intent, says};
+use am_types::{Hit, Intent, Kind, List, NoMemory, Package, Steps};
+use std::alloc::Global;
+use std::marker::Brand;
+use std::process::Abort;
+use std::sync::ledger::{Blank, Ledger};
+use std::test::Fail;
+
+/// Whether an index can be built for the packages.
+fn can_be_listed(packages: &List<Package>) -> bool
+    ensures { OnTrue result (CanBeListed packages.now) }
+{
+    let packages = packages.as_slice();
+    for i in 0..packages.len() {
+        if packages[i].decls.as_slice().len() > 256 {
+            return false;
+        }
+        if i > 0 && packages[i - 1].uid >= packages[i].uid {
+            return false;
+        }
+    }
+    true
+}
+
+/// The index to which the packages were added one by one.
+fn grown(alloc: Global, packages: &List<Package>) -> Result<FilterIndex, NoMemory>
+    requires { CanBeListed packages.now }
+    ensures { IfOk result (λ index. StandsFor index packages.now) }
+{
+    let mut index = FilterIndex::build(alloc, &List::new(Vec::new(alloc)))?;
+    for package in packages.as_slice() {
+        index.add(package)?;
+    }
+    Ok(index)
+}
+
+/// The packages but the one of that uid.
+fn without(alloc: Global, packages: &List<Package>, uid: u32) -> Result<List<Package>, NoMemory>
+    ensures { IfOk result (λ others. others ≡ without_package packages.now uid) }
+{
+    let mut others = Vec::new(alloc);
+    for package in packages.as_slice() {
+        if package.uid != uid {
+            others.push(package.clone()?)?;
+        }
+    }
+    Ok(List::new(others))
+}
+
+/// Takes a package out of the index, and gives the others.
+fn dropped(
+    alloc: Global,
+    index: &mut FilterIndex,
+    packages: &List<Package>,
+    uid: u32,
+) -> Result<List<Package>, NoMemory>
+    requires { StandsFor index.old packages.now }
+    ensures { IfOk result (λ others. StandsFor index.new others) }
+{
+    index.drop_uid(uid);
+    without(alloc, packages, uid)
+}
+
+/// What the intent finds, by a new counter.
+fn counted<L: Ledger>(
+    alloc: Global,
+    index: &FilterIndex,
+    packages: &List<Package>,
+    kind: Kind,
+    intent: &Intent,
+    need_default: bool,
+    blank: Blank,
+) -> Result<List<Hit>, NoMemory>
+    requires stands { StandsFor index.now packages.now }
+    requires name { blank.name ≡ L.name }
+    requires parts { blank.parts ≡ L.parts }
+    requires some { 0 < blank.parts }
+{
+    let mut steps = Steps::<L>::new(blank);
+    index.candidates(alloc, packages, kind, intent, need_default, &mut steps)
+}
+
+/// What the intent finds.
+fn hits(
+    alloc: Global,
+    index: &FilterIndex,
+    packages: &List<Package>,
+    kind: Kind,
+    intent: &Intent,
+    need_default: bool,
+) -> Result<List<Hit>, NoMemory>
+    requires { StandsFor index.now packages.now }
+{
+    counted::<Brand>(
+        alloc,
+        index,
+        packages,
+        kind,
+        intent,
+        need_default,
+        Blank::new(1),
+    )
+}
+
+/// What a query finds, if the plain scan finds the same.
+fn found(
+    alloc: Global,
+    index: &FilterIndex,
+    packages: &List<Package>,
+    query: &str,
+) -> Result<String, NoMemory>
+    requires { StandsFor index.now packages.now }
+{
+    let kind = kind_of(query);
+    let intent = intent(alloc, query)?;
+    let need_default = says(query, "default");
+    let hits = hits(alloc, index, packages, kind, &intent, need_default)?;
+    let plain = plain_hits(alloc, packages, kind, &intent, need_default)?;
+    if !are_same(hits.as_slice(), plain.as_slice()) {
+        return Ok(String::from_str(alloc, "another than the plain scan")?);
+    }
+    names(alloc, hits.as_slice())
+}
+
+fn are_same(hits: &[Hit], others: &[Hit]) -> bool {
+    hits.len() == others.len()
+        && hits
+            .iter()
+            .zip(others.iter())
+            .all(|(hit, other)| is_same(hit, other))
+}
+
+fn is_same(hit: &Hit, other: &Hit) -> bool {
+    hit.component == other.component
+        && hit.uid == other.uid
+        && hit.place == other.place
+        && hit.priority == other.priority
+}
+
+/// How many activities the intent of that number finds.
+fn count(
+    alloc: Global,
+    index: &FilterIndex,
+    packages: &List<Package>,
+    number: u32,
+) -> Result<usize, NoMemory>
+    requires { StandsFor index.now packages.now }
+{
+    let intent = intent_of(alloc, number)?;
+    let hits = hits(alloc, index, packages, Kind::Activity, &intent, false)?;
+    Ok(hits.as_slice().len())
+}
+
+/// The classes of the hits, each with its place and priority.
+fn names(alloc: Global, hits: &[Hit]) -> Result<String, NoMemory> {
+    let mut names = String::new(alloc);
+    for hit in hits {
+        if !names.is_empty() {
+            names.push(' ')?;
+        }
+        let class = hit.component.class.as_str();
+        let shown = format!(in alloc; "{class}:{}:{}", hit.place, hit.priority)?;
+        names.push_str(shown.as_str())?;
+    }
+    Ok(names)
+}
+
+#[test]
+fn queries_find_what_the_plain_scan_finds(rt: HostRuntime) -> Result<(), Fail> {
+    let alloc = rt.alloc();
+    let packages = device(alloc, DEVICE)?;
+    assert!(rt; can_be_listed(&packages));
+    let built = FilterIndex::build(alloc, &packages)?;
+    let grown = grown(alloc, &packages)?;
+    let mut rows: u32 = 0;
+    for line in QUERIES.lines() {
+        let (query, wanted) = line.split_once(" | ").unwrap_or((line, "no row"));
+        let one = found(alloc, &built, &packages, query)?;
+        assert_eq!(rt; one.as_str(), wanted, "{line}");
+        let other = found(alloc, &grown, &packages, query)?;
+        assert_eq!(rt; other.as_str(), wanted, "{line}");
+        rows = rows.wrapping_add(1);
+    }
+    assert_eq!(rt; rows, 46);
+    Ok(())
+}
+
+#[test]
+fn nothing_is_found_of_a_package_that_was_dropped(rt: HostRuntime) -> Result<(), Fail> {
+    let alloc = rt.alloc();
+    let packages = device(alloc, DEVICE)?;
+    assert!(rt; can_be_listed(&packages));
+    let mut index = FilterIndex::build(alloc, &packages)?;
+    let others = dropped(alloc, &mut index, &packages, 10_001)?;
+    for line in QUERIES.lines() {
+        let (query, _) = line.split_once(" | ").unwrap_or((line, ""));
+        let one = found(alloc, &index, &others, query)?;
+        assert_ne!(rt; one.as_str(), "another than the plain scan", "{line}");
+    }
+    let one = found(alloc, &index, &others, "activity action=x.A")?;
+    assert_eq!(rt; one.as_str(), "one.A:0:0 three.A:0:0 one.Less:7:-1");
+    Ok(())
+}
+
+#[test]
+fn a_query_among_many_finds_its_one(rt: HostRuntime) -> Result<(), Fail> {
+    let alloc = rt.alloc();
+    let packages = many(alloc, 256, 16, 32)?;
+    assert!(rt; can_be_listed(&packages));
+    let index = FilterIndex::build(alloc, &packages)?;
+    for call in 0u32..200_000 {
+        let number = call % 131_072;
+        let found = count(alloc, &index, &packages, number)?;
+        assert_eq!(rt; found, 1, "{number}");
+    }
+    Ok(())
+}

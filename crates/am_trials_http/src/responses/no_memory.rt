@@ -1,0 +1,64 @@
+//! A desk that has no memory for any call.
+ghost use Rattle.std.specs.Prelude.{IfOk};
+
+use crate::serving::device;
+use am_http::{Buffers, serve_connection};
+use am_machine::{Desk, Manager, begin};
+use am_outside::{MemorySink, MemorySource, StepClock};
+use am_types::{List, NoMemory, Request, Shown, Text};
+use std::alloc::Global;
+use std::test::Fail;
+
+/// A desk over a manager that is never asked.
+#[derive(Drop)]
+struct Exhausted {
+    manager: Manager,
+}
+
+impl Desk for Exhausted {
+    ghost use Rattle.std.specs.Prelude.{[]};
+
+    ghost view = { λ d. record {
+      origin = d.manager.origin;
+      number = 0;
+      sharing = record { id = []; desks = 1; handed = d.manager.history };
+      seen = d.manager.history;
+    } };
+
+    fn call(
+        &mut self,
+        _key: &Text,
+        _now: u64,
+        _weight: u32,
+        request: Request,
+    ) -> Result<Shown, NoMemory> {
+        drop(request);
+        // It tells that the history is legal.
+        let _ = self.manager.length();
+        Err(NoMemory)
+    }
+}
+
+const QUERY: &[u8] =
+    b"POST /v1/query HTTP/1.1\r\nAM-Key: k1\r\nContent-Length: 31\r\n\r\n{\"kind\":\"activity\",\"intent\":{}}";
+
+/// What a query is answered at that desk.
+pub fn refused_for_memory(alloc: Global) -> Result<MemorySink, Fail> {
+    let mut desk = Exhausted {
+        manager: begin(alloc, device(alloc)?)?,
+    };
+    let none = List::new(Vec::new(alloc));
+    let mut source = MemorySource::new(List::new(QUERY.to_vec(alloc)?), 4096, none);
+    let mut sink = MemorySink::new(alloc, 4096, 4096, List::new(Vec::new(alloc)))?;
+    let mut buffers = Buffers::new(alloc)?;
+    let mut clock = StepClock::new(0, 1);
+    let _served = serve_connection(
+        alloc,
+        &mut desk,
+        &mut source,
+        &mut sink,
+        &mut clock,
+        &mut buffers,
+    );
+    Ok(sink)
+}

@@ -1,0 +1,13 @@
+//! Trials of the crates of values, URIs, filters and gates: what their clauses leave to be tried.
+#![tactic(auto)]
+
+#[cfg(test)]
+mod filters;
+#[cfg(test)]
+mod gates;
+#[cfg(test)]
+mod shown;
+#[cfg(test)]
+mod uris;
+#[cfg(test)]
+mod values;

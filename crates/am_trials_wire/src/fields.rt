@@ -1,0 +1,134 @@
+//! What the fields of an object say, or the printed fault.
+mod bodies;
+
+use self::bodies::BODIES;
+use am_types::{MimeFault, UriFault};
+use am_uri::Form;
+use am_wire_fields::{
+    Unread, WireFault, json_value, only_fields, optional_list, optional_natural, optional_texts,
+    optional_truth, optional_whole, required_text, words_in,
+};
+use serde_json::Value;
+use std::alloc::{AllocError, Global};
+use std::process::Abort;
+use std::test::Fail;
+
+/// The text, with `<3:a>` spelled out.
+fn spelled_out(alloc: Global, line: &str) -> Result<String, Fail> {
+    let mut all = String::new(alloc);
+    let Some((front, behind)) = line.split_once('<') else {
+        all.push_str(line)?;
+        return Ok(all);
+    };
+    let (count, behind) = behind.split_once(':').ok_or("a count")?;
+    let (part, behind) = behind.split_once('>').ok_or("a part")?;
+    let count = count.parse::<usize>().ok().ok_or("a number")?;
+    all.push_str(front)?;
+    for _ in 0..count {
+        all.push_str(part)?;
+    }
+    all.push_str(behind)?;
+    Ok(all)
+}
+
+/// Adds what the fields that say numbers say.
+fn tell_numbers(alloc: Global, told: &mut String, object: &Value) -> Result<(), Unread> {
+    if let Some(number) = optional_natural(alloc, "natural", object)? {
+        write!(told, " natural={number}")?;
+    }
+    if let Some(number) = optional_whole(alloc, "whole", object)? {
+        write!(told, " whole={number}")?;
+    }
+    Ok(())
+}
+
+/// Adds how many texts the list says.
+fn tell_texts(alloc: Global, told: &mut String, object: &Value) -> Result<(), Unread> {
+    let texts = optional_texts(alloc, Form::Any, "texts", object)?;
+    write!(told, " texts={}", texts.len())?;
+    Ok(())
+}
+
+/// Adds the words that the list says.
+fn tell_words(alloc: Global, told: &mut String, object: &Value) -> Result<(), Unread> {
+    let values = optional_list(alloc, "words", object)?;
+    for word in words_in(alloc, &["ONE", "TWO"], "words", values)? {
+        told.push_str(" ")?;
+        told.push_str(word)?;
+    }
+    Ok(())
+}
+
+/// What an object says, field by field.
+fn told(alloc: Global, object: &Value) -> Result<String, Unread> {
+    only_fields(
+        alloc,
+        "body",
+        &["text", "truth", "natural", "whole", "texts", "words"],
+        object,
+    )?;
+    let text = required_text(alloc, Form::Filled, 9, "text", object)?;
+    let mut told = String::from_str(alloc, text.as_str())?;
+    if optional_truth(alloc, "truth", object)? {
+        told.push_str(" truth")?;
+    }
+    tell_numbers(alloc, &mut told, object)?;
+    tell_texts(alloc, &mut told, object)?;
+    tell_words(alloc, &mut told, object)?;
+    Ok(told)
+}
+
+/// What a body says.
+fn read(alloc: Global, body: &[u8]) -> Result<String, Unread> {
+    let object = json_value(alloc, body)?;
+    let told = told(alloc, &object);
+    drop(object);
+    told
+}
+
+/// What a body says, or the printed fault.
+fn outcome(alloc: Global, body: &[u8]) -> Result<String, AllocError> {
+    match read(alloc, body) {
+        Ok(told) => Ok(told),
+        Err(Unread::Fault(fault)) => fault.to_string(alloc),
+        Err(Unread::NoMemory) => Err(AllocError),
+    }
+}
+
+fn try_row(rt: &impl Abort, alloc: Global, row: &str) -> Result<(), Fail> {
+    let (body, wanted) = row.split_once(" -> ").ok_or("a row")?;
+    let body = spelled_out(alloc, body)?;
+    let said = outcome(alloc, body.as_bytes())?;
+    assert_eq!(rt; said.as_str(), wanted, "{row}");
+    Ok(())
+}
+
+#[test]
+fn reads(rt: HostRuntime) -> Result<(), Fail> {
+    let mut rows: u32 = 0;
+    for row in BODIES.lines() {
+        try_row(&rt, rt.alloc(), row)?;
+        rows = rows.wrapping_add(1);
+    }
+    assert_eq!(rt; rows, 42);
+    Ok(())
+}
+
+#[test]
+fn reads_no_text(rt: HostRuntime) -> Result<(), Fail> {
+    let alloc = rt.alloc();
+    let said = outcome(alloc, b"{\"text\":\"\xff\"}")?;
+    assert_eq!(rt; said.as_str(), "not_json");
+    Ok(())
+}
+
+/// The printed faults that no field of the table has.
+#[test]
+fn prints(rt: HostRuntime) -> Result<(), Fail> {
+    let alloc = rt.alloc();
+    let uri = WireFault::BadUri(UriFault::NotUtf8).to_string(alloc)?;
+    assert_eq!(rt; uri.as_str(), "bad_uri 4");
+    let mime = WireFault::BadMime(MimeFault::EmptyPart).to_string(alloc)?;
+    assert_eq!(rt; mime.as_str(), "bad_mime 2");
+    Ok(())
+}

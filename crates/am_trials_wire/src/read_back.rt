@@ -1,0 +1,62 @@
+//! Requests that are read, written, and read again.
+mod rows;
+
+use self::rows::ROWS;
+use crate::endpoints::endpoint_at;
+use am_types::Request;
+use am_wire::read_request;
+use am_wire_routes::Endpoint;
+use am_wire_written::{endpoint_of, request_text};
+use std::alloc::Global;
+use std::process::Abort;
+use std::test::Fail;
+
+/// The request that a body is read as.
+fn read(alloc: Global, endpoint: Endpoint, body: &str) -> Result<Request, Fail> {
+    match read_request(alloc, endpoint, body.as_bytes()) {
+        Ok(request) => Ok(request),
+        Err(_) => Err(Fail::new("no request")),
+    }
+}
+
+/// The text that is written for what a body is read as, and the endpoint that reads it.
+fn written(alloc: Global, endpoint: Endpoint, body: &str) -> Result<(Endpoint, String), Fail> {
+    let request = read(alloc, endpoint, body)?;
+    let reader = endpoint_of(&request);
+    let text = request_text(alloc, &request);
+    drop(request);
+    Ok((reader, text?))
+}
+
+/// A body is written as this text, which is read and written again as itself.
+fn try_body(
+    rt: &impl Abort,
+    alloc: Global,
+    endpoint: Endpoint,
+    body: &str,
+    wanted: &str,
+) -> Result<(), Fail> {
+    let (reader, text) = written(alloc, endpoint, body)?;
+    assert_eq!(rt; text.as_str(), wanted, "{body}");
+    let (_, again) = written(alloc, reader, text.as_str())?;
+    assert_eq!(rt; again.as_str(), wanted, "{body}");
+    Ok(())
+}
+
+fn try_row(rt: &impl Abort, alloc: Global, row: &str) -> Result<(), Fail> {
+    let (end, behind) = row.split_once(' ').ok_or("an endpoint")?;
+    let (body, wanted) = behind.split_once(" -> ").ok_or("an arrow")?;
+    let endpoint = endpoint_at(end).ok_or("a path")?;
+    try_body(rt, alloc, endpoint, body, wanted)
+}
+
+#[test]
+fn requests_are_read_back(rt: HostRuntime) -> Result<(), Fail> {
+    let mut rows: u32 = 0;
+    for row in ROWS.lines() {
+        try_row(&rt, rt.alloc(), row)?;
+        rows = rows.wrapping_add(1);
+    }
+    assert_eq!(rt; rows, 14);
+    Ok(())
+}

@@ -1,0 +1,9 @@
+//! Trials of how requests and replies are written: each request with its route, each reply and refusal with its status.
+#![tactic(auto)]
+
+#[cfg(test)]
+mod parts;
+#[cfg(test)]
+mod replies;
+#[cfg(test)]
+mod requests;

@@ -1,0 +1,39 @@
+//! A route and a request a line. `FULL` and `FILTER` stand for an intent and a filter with all that one may have.
+
+pub const ROWS: &str = r#"/v1/query {"intent":{"action":"a.X"},"kind":"activity"}
+/v1/query {"defaultOnly":true,"intent":{"action":"a.X"},"kind":"service"}
+/v1/query {"intent":{"action":"a.X"},"kind":"receiver"}
+/v1/start {"intent":{"action":"a.X"},"source":18446744073709551615}
+/v1/start {"intent":{"action":"a.X"}}
+/v1/finish_activity {"instance":0}
+/v1/back {}
+/v1/tasks {}
+/v1/start_service {"intent":FULL}
+/v1/stop_service {"component":"com.a/com.a.Main"}
+/v1/services {}
+/v1/send {"intent":{"action":"a.X"}}
+/v1/send {"intent":{"action":"a.X"},"permission":"p.X"}
+/v1/send {"intent":{"action":"a.X"},"ordered":true}
+/v1/send {"code":-1,"data":"d","extras":{"k":"\"v\"","n":-9223372036854775808,"t":false},"intent":{"action":"a.X"},"ordered":true,"result":true}
+/v1/register {"filter":FILTER,"permission":"p.X"}
+/v1/register {"filter":{"actions":["a.X"]}}
+/v1/unregister {"number":7}
+/v1/inbox {}
+/v1/finish {"delivery":3}
+/v1/finish {"abort":true,"code":0,"delivery":3}
+/v1/finish {"code":-1,"data":"d","delivery":3,"extras":{"k":"\"v\"","n":-9223372036854775808,"t":false}}
+/v1/pending/get {"code":-5,"flags":["ONE_SHOT","NO_CREATE","CANCEL_CURRENT","UPDATE_CURRENT","IMMUTABLE","MUTABLE"],"intent":{"action":"a.X"},"kind":"broadcast"}
+/v1/pending/get {"code":-5,"flags":[],"intent":{"action":"a.X"},"kind":"activity"}
+/v1/pending/get {"code":-5,"flags":[],"intent":{"action":"a.X"},"kind":"service"}
+/v1/pending/send {"fill":{"action":"a.X"},"token":1}
+/v1/pending/send {"token":1}
+/v1/pending/cancel {"token":2}
+/v1/pending/give {"package":"com.b","token":2}
+/v1/tick {}
+/v1/history {"from":64}
+/v1/status {}
+/v1/install {"key":"k","manifest":"com.b"}
+/v1/uninstall {"package":"com.b"}
+/v1/grant {"held":true,"package":"com.b","permission":"p.X"}
+/v1/link {"approved":false,"host":"h","package":"com.b"}
+/v1/force_stop {"package":"com.b"}"#;

@@ -1,0 +1,17 @@
+-- How a fault is printed.
+use Rattle.std.specs.Prelude.{ℕ, codes, List, ◌++◌}
+use Rattle.am_types.specs.declared.manifest.ManifestFault.{ManifestFault}
+use Rattle.am_types.specs.declared.manifest.ManifestFault.TheVariants.{NotToml, Missing, WrongKind, BadUri, BadMime, BadPriority, ExportedUnstated, Duplicate, OverLimit, LeftOut}
+
+-- a fault as a line shows it
+abbrev pub printed : ManifestFault → List ℕ
+printed NotToml = codes "not_toml"
+printed (Missing place) = codes "missing " ++ place
+printed (WrongKind place) = codes "wrong_kind " ++ place
+printed (BadUri place) = codes "bad_uri " ++ place
+printed (BadMime place) = codes "bad_mime " ++ place
+printed BadPriority = codes "bad_priority"
+printed (ExportedUnstated class) = codes "exported_unstated " ++ class
+printed (Duplicate name) = codes "duplicate " ++ name
+printed (OverLimit name) = codes "over_limit " ++ name
+printed (LeftOut place) = codes "left_out " ++ place

@@ -1,4 +1,0 @@
-//! Requests and replies, and how they are written.
-mod parts;
-mod replies;
-mod requests;

@@ -1,0 +1,79 @@
+-- The fields of a JSON object.
+use Rattle.std.specs.Prelude.{ℕ, Bool, true, false, not, List, [], ◌∷◌, Option, Some, None, Result, Ok, Err}
+use Rattle.std.specs.List.{find}
+use Rattle.serde_json.specs.Data.{Data, null, boolean, number, string, array, object, Members, no_members, member}
+use Rattle.serde_json.specs.Find.{get, as_bool, as_object}
+use Rattle.am_model.specs.Texts.{lists}
+use Rattle.am_wire_fields.specs.declared.fault.WireFault.{WireFault}
+use Rattle.am_wire_fields.specs.declared.fault.WireFault.TheVariants.{Missing, WrongKind, UnknownField}
+use Rattle.am_wire_fields.specs.Reading.{◌>>=◌}
+
+-- a null counts as absent
+abbrev pub unless_null : Option Data → Option Data
+unless_null None = None
+unless_null (Some null) = None
+unless_null (Some (boolean b)) = Some (boolean b)
+unless_null (Some (number n)) = Some (number n)
+unless_null (Some (string s)) = Some (string s)
+unless_null (Some (array ds)) = Some (array ds)
+unless_null (Some (object ms)) = Some (object ms)
+
+-- the value of a field that is there
+unfoldable pub field : List ℕ → Data → Option Data
+field name value = unless_null (get name value)
+
+-- the keys of an object, which ascend by bytes
+abbrev pub keys_in : Members → List (List ℕ)
+keys_in no_members = []
+keys_in (member key value members) = key ∷ keys_in members
+
+-- the least key that is none of these fields
+abbrev pub unlisted : List (List ℕ) → Members → Option (List ℕ)
+unlisted fields members = find (λ key. not (lists fields key)) (keys_in members)
+
+-- no key, unless there is one that is no field
+unfoldable pub none_unknown : Option (List ℕ) → Result (Unit {0}) WireFault
+none_unknown None = Ok tt
+none_unknown (Some key) = Err (UnknownField key)
+
+-- the members are those of an object, whose name is known, and have no other keys than these fields
+unfoldable pub only_fields_in : List ℕ → List (List ℕ) → Option Members → Result (Unit {0}) WireFault
+only_fields_in name fields None = Err (WrongKind name)
+only_fields_in name fields (Some members) = none_unknown (unlisted fields members)
+
+-- the value of that name is an object with no other fields than these
+unfoldable pub only_fields : List ℕ → List (List ℕ) → Data → Result (Unit {0}) WireFault
+only_fields name fields value = only_fields_in name fields (as_object value)
+
+-- the value of a field that must be there
+unfoldable pub present : List ℕ → Option Data → Result Data WireFault
+present name None = Err (Missing name)
+present name (Some value) = Ok value
+
+-- the value of a field of an object that must be there
+unfoldable pub required : List ℕ → Data → Result Data WireFault
+required name parent = present name (field name parent)
+
+-- a truth
+unfoldable pub truth_of : List ℕ → Option Bool → Result Bool WireFault
+truth_of name None = Err (WrongKind name)
+truth_of name (Some truth) = Ok truth
+
+-- the truth that a value says
+unfoldable pub truth_in : List ℕ → Data → Result Bool WireFault
+truth_in name value = truth_of name (as_bool value)
+
+-- a field that must be there and says a truth
+unfoldable pub required_truth : List ℕ → Data → Result Bool WireFault
+required_truth name parent = do
+  value ← required name parent
+  truth_in name value
+
+-- a truth that is false where none is said
+unfoldable pub truth_or_false : List ℕ → Option Data → Result Bool WireFault
+truth_or_false name None = Ok false
+truth_or_false name (Some value) = truth_in name value
+
+-- a field that says a truth, false where it is absent
+unfoldable pub optional_truth : List ℕ → Data → Result Bool WireFault
+optional_truth name parent = truth_or_false name (field name parent)

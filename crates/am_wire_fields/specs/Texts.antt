@@ -1,0 +1,37 @@
+-- The fields that say texts.
+use Rattle.std.specs.Prelude.{ℕ, nat_lt, List, length, if◌then◌else◌, Option, Some, None, Result, Ok, Err}
+use Rattle.serde_json.specs.Data.{Data}
+use Rattle.serde_json.specs.Find.{as_str}
+use Rattle.am_uri.specs.declared.text.Form.{Form}
+use Rattle.am_uri.specs.Texts.{fits}
+use Rattle.am_wire_fields.specs.declared.fault.WireFault.{WireFault}
+use Rattle.am_wire_fields.specs.declared.fault.WireFault.TheVariants.{WrongKind, TooLong}
+use Rattle.am_wire_fields.specs.Fields.{field, required}
+use Rattle.am_wire_fields.specs.Reading.{◌>>=◌}
+
+-- a text of the form with at most so many bytes; none stands for a value that is no text
+unfoldable pub text_of : Form → ℕ → List ℕ → Option (List ℕ) → Result (List ℕ) WireFault
+text_of form limit name None = Err (WrongKind name)
+text_of form limit name (Some text) =
+    if fits form text then (if nat_lt limit (length text) then Err (TooLong name) else Ok text) else Err (WrongKind name)
+
+-- the text that a value says
+unfoldable pub text_in : Form → ℕ → List ℕ → Data → Result (List ℕ) WireFault
+text_in form limit name value = text_of form limit name (as_str value)
+
+-- a field that must be there and says a text
+unfoldable pub required_text : Form → ℕ → List ℕ → Data → Result (List ℕ) WireFault
+required_text form limit name parent = do
+  value ← required name parent
+  text_in form limit name value
+
+-- a text that need not be said
+unfoldable pub text_if_said : Form → ℕ → List ℕ → Option Data → Result (Option (List ℕ)) WireFault
+text_if_said form limit name None = Ok None
+text_if_said form limit name (Some value) = do
+  text ← text_in form limit name value
+  Ok (Some text)
+
+-- a field that says a text, if it is there
+unfoldable pub optional_text : Form → ℕ → List ℕ → Data → Result (Option (List ℕ)) WireFault
+optional_text form limit name parent = text_if_said form limit name (field name parent)

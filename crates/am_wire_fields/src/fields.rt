@@ -1,0 +1,116 @@
+//! The fields of a JSON object.
+ghost use Rattle.std.specs.Prelude.{◌≡◌, map, option_map};
+ghost use Rattle.serde_json.specs.View.{view, members_view};
+ghost use Rattle.am_model.specs.Texts.{lists};
+ghost use Rattle.am_wire_fields.specs.Reading.{Gives, GivesBy};
+ghost use Rattle.am_wire_fields.specs.Fields.{field, only_fields, optional_truth, required, required_truth, truth_in, unlisted};
+
+use crate::Unread;
+use crate::naming::{missing, unknown_field, wrong_kind};
+use serde_json::{Map, Value};
+use std::alloc::Global;
+
+/// The value of a field that is there and isn't null. None where the value is no object.
+#[tactic(auto, unfolding(crate::specs::Fields::field))]
+pub fn field<'v>(name: &str, value: &'v Value) -> Option<&'v Value>
+    ensures { option_map (λ found. view found.now) result ≡ field name.now (view value.now) }
+{
+    match value.get(name) {
+        Some(Value::Null) => None,
+        found => found,
+    }
+}
+
+/// Whether the text is one of these.
+pub fn is_listed(texts: &[&str], text: &str) -> bool
+    ensures { result ≡ lists (map (λ listed. listed.now) texts.now) text.now }
+{
+    texts.iter().any(|listed| *listed == text)
+}
+
+/// The least key that is none of these fields.
+fn unlisted<'m>(fields: &[&str], members: &'m Map<String, Value>) -> Option<&'m str>
+    ensures { option_map (λ key. key.now) result
+        ≡ unlisted (map (λ listed. listed.now) fields.now) (members_view members.now.entries) }
+{
+    for key in members.keys() {
+        let key = key.as_str();
+        if !is_listed(fields, key) {
+            return Some(key);
+        }
+    }
+    None
+}
+
+/// Refuses a value that is no object with these fields only. `name` is what a fault calls the value.
+///
+/// # Errors
+///
+/// Where the value is no object, and then where it has a key that is none of the fields: the least such key by bytes,
+/// also where its value is null.
+#[tactic(auto, unfolding(crate::specs::Fields::only_fields, crate::specs::Fields::only_fields_in, crate::specs::Fields::none_unknown))]
+pub fn only_fields(alloc: Global, name: &str, fields: &[&str], value: &Value) -> Result<(), Unread>
+    ensures { Gives result (only_fields name.now (map (λ listed. listed.now) fields.now) (view value.now)) }
+{
+    let Some(members) = value.as_object() else {
+        return Err(wrong_kind(alloc, name));
+    };
+    match unlisted(fields, members) {
+        None => Ok(()),
+        Some(key) => Err(unknown_field(alloc, key)),
+    }
+}
+
+/// The value of a field that must be there.
+///
+/// # Errors
+///
+/// Where the field isn't there or is null.
+#[tactic(auto, unfolding(crate::specs::Fields::required, crate::specs::Fields::present))]
+pub fn required<'v>(alloc: Global, name: &str, object: &'v Value) -> Result<&'v Value, Unread>
+    ensures { GivesBy (λ value. view value.now) result (required name.now (view object.now)) }
+{
+    match field(name, object) {
+        None => Err(missing(alloc, name)),
+        Some(value) => Ok(value),
+    }
+}
+
+/// The truth that a value says.
+#[tactic(auto, unfolding(crate::specs::Fields::truth_in, crate::specs::Fields::truth_of))]
+fn truth_in(alloc: Global, name: &str, value: &Value) -> Result<bool, Unread>
+    ensures { Gives result (truth_in name.now (view value.now)) }
+{
+    match value.as_bool() {
+        None => Err(wrong_kind(alloc, name)),
+        Some(truth) => Ok(truth),
+    }
+}
+
+/// The truth that a field says, which must be there.
+///
+/// # Errors
+///
+/// Where the field isn't there or is null, and then where it says no truth.
+#[tactic(auto, unfolding(crate::specs::Fields::required_truth))]
+pub fn required_truth(alloc: Global, name: &str, object: &Value) -> Result<bool, Unread>
+    ensures { Gives result (required_truth name.now (view object.now)) }
+{
+    let value = required(alloc, name, object)?;
+    truth_in(alloc, name, value)
+}
+
+/// The truth that a field says: false where it isn't there or is null.
+///
+/// # Errors
+///
+/// Where the field says no truth.
+#[tactic(auto, unfolding(crate::specs::Fields::optional_truth, crate::specs::Fields::truth_or_false))]
+pub fn optional_truth(alloc: Global, name: &str, object: &Value) -> Result<bool, Unread>
+    ensures { Gives result (optional_truth name.now (view object.now)) }
+{
+    match field(name, object) {
+        None => Ok(false),
+        Some(value) => truth_in(alloc, name, value),
+    }
+}

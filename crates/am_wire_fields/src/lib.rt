@@ -1,0 +1,22 @@
+//! Reads the fields of the JSON objects that a request's body holds. The answer is what a field says, or the first
+//! fault that reading meets.
+#![tactic(auto)]
+
+mod body;
+mod fault;
+mod fields;
+mod lists;
+mod naming;
+mod numbers;
+mod print;
+mod texts;
+
+pub use body::json_value;
+pub use fault::{Unread, WireFault};
+pub use fields::{field, is_listed, only_fields, optional_truth, required, required_truth};
+pub use lists::{list_in, optional_list, optional_texts, texts_in, word_in, words_in};
+pub use naming::{missing, too_long, unknown_field, wrong_kind};
+pub use numbers::{
+    natural_in, optional_natural, optional_whole, required_natural, required_whole, whole_in,
+};
+pub use texts::{optional_text, required_text, text_in};

@@ -1,0 +1,148 @@
+//! The fields that say lists of at most 64 entries. A null among the entries is no entry of the kind asked for.
+ghost use Rattle.std.specs.Prelude.{◌≡◌, map};
+ghost use Rattle.serde_json.specs.View.{view};
+ghost use Rattle.am_model.specs.Texts.{lists};
+ghost use Rattle.am_wire_fields.specs.Reading.{Gives, GivesBy};
+ghost use Rattle.am_wire_fields.specs.Lists.{few, list_in, optional_list, optional_texts, texts_in, word_in, words_in};
+
+use crate::Unread;
+use crate::fields::{field, is_listed};
+use crate::naming::{too_long, wrong_kind};
+use crate::texts::text_in;
+use am_types::Text;
+use am_uri::Form;
+use serde_json::Value;
+use std::alloc::Global;
+
+/// The values, unless there are more than 64.
+#[tactic(auto, using(crate::proofs::Each::length_view), unfolding(crate::specs::Lists::few))]
+fn few<'v>(alloc: Global, name: &str, values: &'v [Value]) -> Result<&'v [Value], Unread>
+    ensures { GivesBy (λ kept. map view kept.now) result (few name.now (map view values.now)) }
+{
+    if values.len() > 64 {
+        return Err(too_long(alloc, name));
+    }
+    Ok(values)
+}
+
+/// The values of the array that a value is, 64 at most. `name` is what a fault calls the value.
+///
+/// # Errors
+///
+/// Where the value is no array, and then where it has more than 64 values.
+#[tactic(auto, using(crate::proofs::Each::values_of_view), unfolding(crate::specs::Lists::list_in, crate::specs::Lists::list_of))]
+pub fn list_in<'v>(alloc: Global, name: &str, value: &'v Value) -> Result<&'v [Value], Unread>
+    ensures { GivesBy (λ values. map view values.now) result (list_in name.now (view value.now)) }
+{
+    match value.as_array() {
+        None => Err(wrong_kind(alloc, name)),
+        Some(array) => few(alloc, name, array.as_slice()),
+    }
+}
+
+/// The values of the array that a field says, 64 at most: none where it isn't there or is null.
+///
+/// # Errors
+///
+/// Where the field says no array, and then where that has more than 64 values.
+#[tactic(auto, unfolding(crate::specs::Lists::optional_list, crate::specs::Lists::list_if_said))]
+pub fn optional_list<'v>(
+    alloc: Global,
+    name: &str,
+    object: &'v Value,
+) -> Result<&'v [Value], Unread>
+    ensures { GivesBy (λ values. map view values.now) result (optional_list name.now (view object.now)) }
+{
+    match field(name, object) {
+        None => Ok(&[]),
+        Some(value) => list_in(alloc, name, value),
+    }
+}
+
+/// The texts that values say, each of the form and of at most 1,024 bytes. `name` is what a fault calls each value.
+///
+/// # Errors
+///
+/// The first fault of the values in order: where one is no text of the form, and then where it is too long.
+pub fn texts_in(
+    alloc: Global,
+    form: Form,
+    name: &str,
+    values: &[Value],
+) -> Result<Vec<Text>, Unread>
+    ensures { GivesBy (λ texts. texts.items) result (texts_in form name.now (map view values.now)) }
+{
+    let mut texts = Vec::new(alloc);
+    for value in values {
+        let text = text_in(alloc, form, 1024, name, value)?;
+        texts.push(text)?;
+    }
+    Ok(texts)
+}
+
+/// The texts that a field says, 64 at most, each of the form and of at most 1,024 bytes: none where it isn't there or
+/// is null.
+///
+/// # Errors
+///
+/// Where the field says no array, then where that has more than 64 entries, and then the first fault of its entries in
+/// order.
+#[tactic(auto, unfolding(crate::specs::Lists::optional_texts))]
+pub fn optional_texts(
+    alloc: Global,
+    form: Form,
+    name: &str,
+    object: &Value,
+) -> Result<Vec<Text>, Unread>
+    ensures { GivesBy (λ texts. texts.items) result (optional_texts form name.now (view object.now)) }
+{
+    let values = optional_list(alloc, name, object)?;
+    texts_in(alloc, form, name, values)
+}
+
+/// The word that a value says, which is one of these. `name` is what a fault calls the value.
+///
+/// # Errors
+///
+/// Where the value says none of the words.
+#[tactic(auto, unfolding(crate::specs::Lists::word_in, crate::specs::Lists::word_of))]
+pub fn word_in<'v>(
+    alloc: Global,
+    words: &[&str],
+    name: &str,
+    value: &'v Value,
+) -> Result<&'v str, Unread>
+    ensures { GivesBy (λ word. word.now) result
+        (word_in (map (λ listed. listed.now) words.now) name.now (view value.now)) }
+{
+    match value.as_str() {
+        None => Err(wrong_kind(alloc, name)),
+        Some(word) => if is_listed(words, word) {
+            Ok(word)
+        } else {
+            Err(wrong_kind(alloc, name))
+        },
+    }
+}
+
+/// The words that values say, each one of these. `name` is what a fault calls each value.
+///
+/// # Errors
+///
+/// Where a value says none of the words.
+pub fn words_in<'v>(
+    alloc: Global,
+    words: &[&str],
+    name: &str,
+    values: &'v [Value],
+) -> Result<Vec<&'v str>, Unread>
+    ensures { GivesBy (λ said. map (λ word. word.now) said.items) result
+        (words_in (map (λ listed. listed.now) words.now) name.now (map view values.now)) }
+{
+    let mut said = Vec::new(alloc);
+    for value in values {
+        let word = word_in(alloc, words, name, value)?;
+        said.push(word)?;
+    }
+    Ok(said)
+}

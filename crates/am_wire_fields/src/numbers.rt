@@ -1,0 +1,98 @@
+//! The fields that say whole numbers. A number with a fraction or an exponent is none, and neither is -0.
+ghost use Rattle.serde_json.specs.View.{view};
+ghost use Rattle.am_wire_fields.specs.Reading.{Gives};
+ghost use Rattle.am_wire_fields.specs.Numbers.{natural_in, optional_natural, optional_whole, required_natural, required_whole, whole_in};
+
+use crate::Unread;
+use crate::fields::{field, required};
+use crate::naming::wrong_kind;
+use serde_json::Value;
+use std::alloc::Global;
+
+/// The whole number from 0 to 18,446,744,073,709,551,615 that a value says. `name` is what a fault calls the value.
+///
+/// # Errors
+///
+/// Where the value is no such number.
+#[tactic(auto, unfolding(crate::specs::Numbers::natural_in, crate::specs::Numbers::number_of))]
+pub fn natural_in(alloc: Global, name: &str, value: &Value) -> Result<u64, Unread>
+    ensures { Gives result (natural_in name.now (view value.now)) }
+{
+    match value.as_u64() {
+        None => Err(wrong_kind(alloc, name)),
+        Some(number) => Ok(number),
+    }
+}
+
+/// The signed whole number of 64 bits that a value says. `name` is what a fault calls the value.
+///
+/// # Errors
+///
+/// Where the value is no such number.
+#[tactic(auto, unfolding(crate::specs::Numbers::whole_in, crate::specs::Numbers::number_of))]
+pub fn whole_in(alloc: Global, name: &str, value: &Value) -> Result<i64, Unread>
+    ensures { Gives result (whole_in name.now (view value.now)) }
+{
+    match value.as_i64() {
+        None => Err(wrong_kind(alloc, name)),
+        Some(number) => Ok(number),
+    }
+}
+
+/// The number from 0 on that a field says, which must be there.
+///
+/// # Errors
+///
+/// Where the field isn't there or is null, and then where it says no such number.
+#[tactic(auto, unfolding(crate::specs::Numbers::required_natural))]
+pub fn required_natural(alloc: Global, name: &str, object: &Value) -> Result<u64, Unread>
+    ensures { Gives result (required_natural name.now (view object.now)) }
+{
+    let value = required(alloc, name, object)?;
+    natural_in(alloc, name, value)
+}
+
+/// The signed number that a field says, which must be there.
+///
+/// # Errors
+///
+/// Where the field isn't there or is null, and then where it says no such number.
+#[tactic(auto, unfolding(crate::specs::Numbers::required_whole))]
+pub fn required_whole(alloc: Global, name: &str, object: &Value) -> Result<i64, Unread>
+    ensures { Gives result (required_whole name.now (view object.now)) }
+{
+    let value = required(alloc, name, object)?;
+    whole_in(alloc, name, value)
+}
+
+/// The number from 0 on that a field says: none where it isn't there or is null.
+///
+/// # Errors
+///
+/// Where the field says no such number.
+#[tactic(auto, unfolding(crate::specs::Numbers::optional_natural, crate::specs::Numbers::natural_if_said))]
+pub fn optional_natural(alloc: Global, name: &str, object: &Value) -> Result<Option<u64>, Unread>
+    ensures { Gives result (optional_natural name.now (view object.now)) }
+{
+    let Some(value) = field(name, object) else {
+        return Ok(None);
+    };
+    let number = natural_in(alloc, name, value)?;
+    Ok(Some(number))
+}
+
+/// The signed number that a field says: none where it isn't there or is null.
+///
+/// # Errors
+///
+/// Where the field says no such number.
+#[tactic(auto, unfolding(crate::specs::Numbers::optional_whole, crate::specs::Numbers::whole_if_said))]
+pub fn optional_whole(alloc: Global, name: &str, object: &Value) -> Result<Option<i64>, Unread>
+    ensures { Gives result (optional_whole name.now (view object.now)) }
+{
+    let Some(value) = field(name, object) else {
+        return Ok(None);
+    };
+    let number = whole_in(alloc, name, value)?;
+    Ok(Some(number))
+}

@@ -1,0 +1,89 @@
+//! The fields that say texts.
+ghost use Rattle.std.specs.Prelude.{Some};
+ghost use Rattle.serde_json.specs.View.{view};
+ghost use Rattle.am_wire_fields.specs.Reading.{Gives};
+ghost use Rattle.am_wire_fields.specs.Texts.{optional_text, required_text, text_in, text_of};
+
+use crate::Unread;
+use crate::fields::{field, required};
+use crate::naming::{too_long, wrong_kind};
+use am_types::Text;
+use am_uri::Form;
+use serde_json::Value;
+use std::alloc::Global;
+
+/// The text, if it may stand there.
+#[tactic(auto, unfolding(crate::specs::Texts::text_of))]
+fn fitting(alloc: Global, form: Form, limit: usize, name: &str, text: &str) -> Result<Text, Unread>
+    ensures { Gives result (text_of form limit name.now (Some text.now)) }
+{
+    if !form.fits(text) {
+        return Err(wrong_kind(alloc, name));
+    }
+    if text.len() > limit {
+        return Err(too_long(alloc, name));
+    }
+    Ok(Text::of(alloc, text)?)
+}
+
+/// The text of the form that a value says, of at most `limit` bytes. `name` is what a fault calls the value.
+///
+/// # Errors
+///
+/// Where the value is no text of the form, and then where it is too long.
+#[tactic(auto, unfolding(crate::specs::Texts::text_in, crate::specs::Texts::text_of))]
+pub fn text_in(
+    alloc: Global,
+    form: Form,
+    limit: usize,
+    name: &str,
+    value: &Value,
+) -> Result<Text, Unread>
+    ensures { Gives result (text_in form limit name.now (view value.now)) }
+{
+    match value.as_str() {
+        None => Err(wrong_kind(alloc, name)),
+        Some(text) => fitting(alloc, form, limit, name, text),
+    }
+}
+
+/// The text of the form that a field says, which must be there, of at most `limit` bytes.
+///
+/// # Errors
+///
+/// Where the field isn't there or is null, then where it says no text of the form, and then where that is too long.
+#[tactic(auto, unfolding(crate::specs::Texts::required_text))]
+pub fn required_text(
+    alloc: Global,
+    form: Form,
+    limit: usize,
+    name: &str,
+    object: &Value,
+) -> Result<Text, Unread>
+    ensures { Gives result (required_text form limit name.now (view object.now)) }
+{
+    let value = required(alloc, name, object)?;
+    text_in(alloc, form, limit, name, value)
+}
+
+/// The text of the form that a field says, of at most `limit` bytes: none where it isn't there or is null.
+///
+/// # Errors
+///
+/// Where the field says no text of the form, and then where that is too long.
+#[tactic(auto, unfolding(crate::specs::Texts::optional_text, crate::specs::Texts::text_if_said))]
+pub fn optional_text(
+    alloc: Global,
+    form: Form,
+    limit: usize,
+    name: &str,
+    object: &Value,
+) -> Result<Option<Text>, Unread>
+    ensures { Gives result (optional_text form limit name.now (view object.now)) }
+{
+    let Some(value) = field(name, object) else {
+        return Ok(None);
+    };
+    let text = text_in(alloc, form, limit, name, value)?;
+    Ok(Some(text))
+}

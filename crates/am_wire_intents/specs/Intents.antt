@@ -1,0 +1,140 @@
+-- An intent.
+use Rattle.std.specs.Prelude.{ℕ, List, [], ◌∷◌, codes, Option, Some, None, Result, Ok, Err}
+use Rattle.serde_json.specs.Data.{Data}
+use Rattle.am_types.specs.declared.intent.Component.{Component}
+use Rattle.am_types.specs.declared.intent.Flags.{Flags}
+use Rattle.am_types.specs.declared.intent.Intent.{Intent}
+use Rattle.am_types.specs.declared.intent.Named.{Named}
+use Rattle.am_types.specs.declared.uri.Mime.{Mime}
+use Rattle.am_types.specs.declared.uri.MimeFault.{MimeFault}
+use Rattle.am_types.specs.declared.uri.Uri.{Uri}
+use Rattle.am_types.specs.declared.uri.UriFault.{UriFault}
+use Rattle.am_model.specs.MimeTypes.{mime_of}
+use Rattle.am_model.specs.Uris.{uri_of}
+use Rattle.am_uri.specs.declared.text.Form.TheVariants.{Any}
+use Rattle.am_uri.specs.Texts.{sorted_texts}
+use Rattle.am_wire_fields.specs.declared.fault.WireFault.{WireFault}
+use Rattle.am_wire_fields.specs.declared.fault.WireFault.TheVariants.{BadUri, BadMime}
+use Rattle.am_wire_fields.specs.Fields.{field, only_fields, required}
+use Rattle.am_wire_fields.specs.Lists.{optional_texts}
+use Rattle.am_wire_fields.specs.Reading.{◌>>=◌}
+use Rattle.am_wire_fields.specs.Texts.{text_in, optional_text}
+use Rattle.am_wire_intents.specs.declared.intents.Asked.{Asked}
+use Rattle.am_wire_intents.specs.declared.intents.Carried.{Carried}
+use Rattle.am_wire_intents.specs.Components.{optional_component}
+use Rattle.am_wire_intents.specs.Extras.{optional_extras}
+use Rattle.am_wire_intents.specs.Flags.{flags_of}
+
+-- a URI, or what is wrong with it
+unfoldable pub uri_or_fault : Result Uri UriFault → Result Uri WireFault
+uri_or_fault (Ok uri) = Ok uri
+uri_or_fault (Err fault) = Err (BadUri fault)
+
+-- the URI that a value says
+unfoldable pub uri_in : List ℕ → Data → Result Uri WireFault
+uri_in name value = do
+  text ← text_in Any 1024 name value
+  uri_or_fault (uri_of text)
+
+-- a URI that need not be said
+unfoldable pub uri_if_said : List ℕ → Option Data → Result (Option Uri) WireFault
+uri_if_said name None = Ok None
+uri_if_said name (Some value) = do
+  uri ← uri_in name value
+  Ok (Some uri)
+
+-- a field that says a URI, if it is there
+unfoldable pub optional_uri : List ℕ → Data → Result (Option Uri) WireFault
+optional_uri name parent = uri_if_said name (field name parent)
+
+-- a MIME type, or what is wrong with it
+unfoldable pub mime_or_fault : Result Mime MimeFault → Result Mime WireFault
+mime_or_fault (Ok mime) = Ok mime
+mime_or_fault (Err fault) = Err (BadMime fault)
+
+-- the MIME type that a value says
+unfoldable pub mime_in : List ℕ → Data → Result Mime WireFault
+mime_in name value = do
+  text ← text_in Any 1024 name value
+  mime_or_fault (mime_of text)
+
+-- a MIME type that need not be said
+unfoldable pub mime_if_said : List ℕ → Option Data → Result (Option Mime) WireFault
+mime_if_said name None = Ok None
+mime_if_said name (Some value) = do
+  mime ← mime_in name value
+  Ok (Some mime)
+
+-- a field that says a MIME type, if it is there
+unfoldable pub optional_mime : List ℕ → Data → Result (Option Mime) WireFault
+optional_mime name parent = mime_if_said name (field name parent)
+
+-- the categories, sorted by bytes, each once
+unfoldable pub categories_of : Data → Result (List (List ℕ)) WireFault
+categories_of parent = do
+  texts ← optional_texts Any (codes "categories") parent
+  Ok (sorted_texts texts)
+
+-- the fields of an intent from `action` to `data`
+unfoldable pub asked_in : Data → Result Asked WireFault
+asked_in parent = do
+  action ← optional_text Any 1024 (codes "action") parent
+  categories ← categories_of parent
+  component ← optional_component (codes "component") parent
+  uri ← optional_uri (codes "data") parent
+  Ok (record { action = action; categories = categories; component = component; uri = uri })
+
+-- the fields of an intent from `extras` to `type`
+unfoldable pub carried_in : Data → Result Carried WireFault
+carried_in parent = do
+  extras ← optional_extras parent
+  flags ← flags_of parent
+  identifier ← optional_text Any 1024 (codes "identifier") parent
+  name ← optional_text Any 1024 (codes "package") parent
+  mime ← optional_mime (codes "type") parent
+  Ok (record { extras = extras; flags = flags; identifier = identifier; «package» = name; mime = mime })
+
+-- an intent of both
+abbrev pub intent_of : Asked → Carried → Intent
+intent_of asked carried = record {
+  action = asked.action;
+  uri = asked.uri;
+  mime = carried.mime;
+  identifier = carried.identifier;
+  categories = asked.categories;
+  «package» = carried.«package»;
+  component = asked.component;
+  flags = carried.flags;
+  extras = carried.extras;
+}
+
+-- the fields of an intent
+abbrev pub intent_fields : List (List ℕ)
+intent_fields =
+    codes "action" ∷ codes "categories" ∷ codes "component" ∷ codes "data" ∷ codes "extras" ∷ codes "flags" ∷ codes "identifier"
+    ∷ codes "package" ∷ codes "type" ∷ []
+
+-- the intent that the value of the field of that name is
+unfoldable pub intent_in : List ℕ → Data → Result Intent WireFault
+intent_in name value = do
+  known ← only_fields name intent_fields value
+  asked ← asked_in value
+  carried ← carried_in value
+  Ok (intent_of asked carried)
+
+-- a field that must be there and is an intent
+unfoldable pub required_intent : List ℕ → Data → Result Intent WireFault
+required_intent name parent = do
+  value ← required name parent
+  intent_in name value
+
+-- an intent that need not be there
+unfoldable pub intent_if_said : List ℕ → Option Data → Result (Option Intent) WireFault
+intent_if_said name None = Ok None
+intent_if_said name (Some value) = do
+  intent ← intent_in name value
+  Ok (Some intent)
+
+-- a field that is an intent, if it is there
+unfoldable pub optional_intent : List ℕ → Data → Result (Option Intent) WireFault
+optional_intent name parent = intent_if_said name (field name parent)

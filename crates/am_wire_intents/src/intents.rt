@@ -1,0 +1,235 @@
+//! Intents.
+ghost use Rattle.std.specs.Prelude.{◌≡◌};
+ghost use Rattle.serde_json.specs.View.{view};
+ghost use Rattle.am_model.specs.MimeTypes.{mime_of};
+ghost use Rattle.am_model.specs.Uris.{uri_of};
+ghost use Rattle.am_wire_fields.specs.Fields.{only_fields};
+ghost use Rattle.am_wire_fields.specs.Reading.{Gives};
+ghost use Rattle.am_wire_intents.specs.Intents.{asked_in, carried_in, categories_of, intent_fields, intent_in, intent_of, mime_in, mime_or_fault, optional_intent, optional_mime, optional_uri, required_intent, uri_in, uri_or_fault};
+
+use crate::components::optional_component;
+use crate::extras::optional_extras;
+use crate::flags::flags_of;
+use am_types::{Component, Flags, Intent, List, Mime, MimeFault, Named, Text, Uri, UriFault};
+use am_uri::{Form, parse_mime, parse_uri, sorted};
+use am_wire_fields::{
+    Unread, WireFault, field, only_fields, optional_text, optional_texts, required, text_in,
+};
+use serde_json::Value;
+use std::alloc::Global;
+
+/// The URI that a text is.
+#[tactic(auto, unfolding(crate::specs::Intents::uri_or_fault))]
+fn uri_of(alloc: Global, text: &Text) -> Result<Uri, Unread>
+    ensures { Gives result (uri_or_fault (uri_of text.now)) }
+{
+    match parse_uri(alloc, text) {
+        Ok(uri) => Ok(uri),
+        Err(UriFault::NoMemory) => Err(Unread::NoMemory),
+        Err(fault) => Err(Unread::Fault(WireFault::BadUri(fault))),
+    }
+}
+
+/// The URI that a value says.
+#[tactic(auto, unfolding(crate::specs::Intents::uri_in))]
+fn uri_in(alloc: Global, name: &str, value: &Value) -> Result<Uri, Unread>
+    ensures { Gives result (uri_in name.now (view value.now)) }
+{
+    let text = text_in(alloc, Form::Any, 1024, name, value)?;
+    uri_of(alloc, &text)
+}
+
+/// The URI that a field says, if it is there.
+#[tactic(auto, unfolding(crate::specs::Intents::optional_uri, crate::specs::Intents::uri_if_said))]
+fn optional_uri(alloc: Global, name: &str, object: &Value) -> Result<Option<Uri>, Unread>
+    ensures { Gives result (optional_uri name.now (view object.now)) }
+{
+    let Some(value) = field(name, object) else {
+        return Ok(None);
+    };
+    let uri = uri_in(alloc, name, value)?;
+    Ok(Some(uri))
+}
+
+/// The MIME type that a text is.
+#[tactic(auto, unfolding(crate::specs::Intents::mime_or_fault))]
+pub fn mime_of(alloc: Global, text: &Text) -> Result<Mime, Unread>
+    ensures { Gives result (mime_or_fault (mime_of text.now)) }
+{
+    match parse_mime(alloc, text) {
+        Ok(mime) => Ok(mime),
+        Err(MimeFault::NoMemory) => Err(Unread::NoMemory),
+        Err(fault) => Err(Unread::Fault(WireFault::BadMime(fault))),
+    }
+}
+
+/// The MIME type that a value says.
+#[tactic(auto, unfolding(crate::specs::Intents::mime_in))]
+fn mime_in(alloc: Global, name: &str, value: &Value) -> Result<Mime, Unread>
+    ensures { Gives result (mime_in name.now (view value.now)) }
+{
+    let text = text_in(alloc, Form::Any, 1024, name, value)?;
+    mime_of(alloc, &text)
+}
+
+/// The MIME type that a field says, if it is there.
+#[tactic(auto, unfolding(crate::specs::Intents::optional_mime, crate::specs::Intents::mime_if_said))]
+fn optional_mime(alloc: Global, name: &str, object: &Value) -> Result<Option<Mime>, Unread>
+    ensures { Gives result (optional_mime name.now (view object.now)) }
+{
+    let Some(value) = field(name, object) else {
+        return Ok(None);
+    };
+    let mime = mime_in(alloc, name, value)?;
+    Ok(Some(mime))
+}
+
+/// The categories that an intent lists, sorted by bytes, each once.
+#[tactic(auto, unfolding(crate::specs::Intents::categories_of))]
+fn categories_of(alloc: Global, object: &Value) -> Result<List<Text>, Unread>
+    ensures { Gives result (categories_of (view object.now)) }
+{
+    let texts = optional_texts(alloc, Form::Any, "categories", object)?;
+    Ok(sorted(alloc, texts)?)
+}
+
+/// What an intent asks for, and of which component.
+#[derive(Drop)]
+pub struct Asked {
+    pub action: Option<Text>,
+    pub categories: List<Text>,
+    pub component: Option<Component>,
+    pub uri: Option<Uri>,
+}
+
+/// What goes with an intent.
+#[derive(Drop)]
+pub struct Carried {
+    pub extras: List<Named>,
+    pub flags: Flags,
+    pub identifier: Option<Text>,
+    pub package: Option<Text>,
+    pub mime: Option<Mime>,
+}
+
+/// The fields of an intent from `action` to `data`.
+#[tactic(auto, unfolding(crate::specs::Intents::asked_in))]
+fn asked_in(alloc: Global, object: &Value) -> Result<Asked, Unread>
+    ensures { Gives result (asked_in (view object.now)) }
+{
+    let action = optional_text(alloc, Form::Any, 1024, "action", object)?;
+    let categories = categories_of(alloc, object)?;
+    let component = optional_component(alloc, "component", object)?;
+    let uri = optional_uri(alloc, "data", object)?;
+    Ok(Asked {
+        action,
+        categories,
+        component,
+        uri,
+    })
+}
+
+/// The fields of an intent from `extras` to `type`.
+#[tactic(auto, unfolding(crate::specs::Intents::carried_in))]
+fn carried_in(alloc: Global, object: &Value) -> Result<Carried, Unread>
+    ensures { Gives result (carried_in (view object.now)) }
+{
+    let extras = optional_extras(alloc, object)?;
+    let flags = flags_of(alloc, object)?;
+    let identifier = optional_text(alloc, Form::Any, 1024, "identifier", object)?;
+    let package = optional_text(alloc, Form::Any, 1024, "package", object)?;
+    let mime = optional_mime(alloc, "type", object)?;
+    Ok(Carried {
+        extras,
+        flags,
+        identifier,
+        package,
+        mime,
+    })
+}
+
+/// Refuses a value that is no object with the fields of an intent only.
+fn only_intent_fields(alloc: Global, name: &str, value: &Value) -> Result<(), Unread>
+    ensures { Gives result (only_fields name.now intent_fields (view value.now)) }
+{
+    only_fields(
+        alloc,
+        name,
+        &[
+            "action",
+            "categories",
+            "component",
+            "data",
+            "extras",
+            "flags",
+            "identifier",
+            "package",
+            "type",
+        ],
+        value,
+    )
+}
+
+/// The intent of both.
+fn intent_of(asked: Asked, carried: Carried) -> Intent
+    ensures { result ≡ intent_of asked carried }
+{
+    Intent {
+        action: asked.action,
+        uri: asked.uri,
+        mime: carried.mime,
+        identifier: carried.identifier,
+        categories: asked.categories,
+        package: carried.package,
+        component: asked.component,
+        flags: carried.flags,
+        extras: carried.extras,
+    }
+}
+
+/// The intent that a value is: an object with the fields `action`, `categories`, `component`, `data` (a URI), `extras`,
+/// `flags`, `identifier`, `package` and `type` (a MIME type), each of which may be absent or null. Texts have at most
+/// 1,024 bytes, and lists at most 64 entries. `name` is what a fault calls the value.
+///
+/// # Errors
+///
+/// Where the value is no object, then where it has another field, the least by bytes, and then the first fault of its
+/// fields in the order above.
+#[tactic(auto, unfolding(crate::specs::Intents::intent_in))]
+pub fn intent_in(alloc: Global, name: &str, value: &Value) -> Result<Intent, Unread>
+    ensures { Gives result (intent_in name.now (view value.now)) }
+{
+    only_intent_fields(alloc, name, value)?;
+    let asked = asked_in(alloc, value)?;
+    let carried = carried_in(alloc, value)?;
+    Ok(intent_of(asked, carried))
+}
+
+/// The intent that a field is, which must be there.
+///
+/// # Errors
+///
+/// Where the field isn't there or is null, and then as for [`intent_in`].
+#[tactic(auto, unfolding(crate::specs::Intents::required_intent))]
+pub fn required_intent(alloc: Global, name: &str, object: &Value) -> Result<Intent, Unread>
+    ensures { Gives result (required_intent name.now (view object.now)) }
+{
+    let value = required(alloc, name, object)?;
+    intent_in(alloc, name, value)
+}
+
+/// The intent that a field is: none where it isn't there or is null.
+///
+/// # Errors
+///
+/// As for [`intent_in`].
+#[tactic(auto, unfolding(crate::specs::Intents::optional_intent, crate::specs::Intents::intent_if_said))]
+pub fn optional_intent(alloc: Global, name: &str, object: &Value) -> Result<Option<Intent>, Unread>
+    ensures { Gives result (optional_intent name.now (view object.now)) }
+{
+    let Some(value) = field(name, object) else {
+        return Ok(None);
+    };
+    let intent = intent_in(alloc, name, value)?;
+    Ok(Some(intent))
+}

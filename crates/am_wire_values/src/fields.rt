@@ -1,0 +1,176 @@
+//! Members of an object, of which some may be absent.
+ghost use Rattle.std.specs.Prelude.{◌≡◌, IfOk, OnOk, map, option_map};
+ghost use Rattle.serde_json.specs.Data.{string, put as with_member};
+ghost use Rattle.serde_json.specs.View.{view, members_view};
+ghost use Rattle.am_wire_values.specs.Fields.{listed, natural, put_given, some_listed, some_texts, some_truth, some_whole};
+ghost use Rattle.am_wire_values.specs.Names.{names_set};
+
+use am_types::{List, Text};
+use serde_json::{Map, Value, put};
+use std::alloc::{AllocError, Global};
+
+/// The members of an object that is built.
+pub(crate) type Members = Map<String, Value>;
+
+/// Puts a value under a name, if there is one.
+pub(crate) fn put_given(
+    alloc: Global,
+    members: &mut Members,
+    name: &str,
+    value: Option<Value>,
+) -> Result<(), AllocError>
+    ensures { OnOk result (members_view members.new.entries ≡ put_given name.now (option_map view value) (members_view members.old.entries)) }
+{
+    match value {
+        None => Ok(()),
+        Some(value) => put(members, alloc, name, value),
+    }
+}
+
+/// Puts a text under a name.
+pub(crate) fn put_text(
+    alloc: Global,
+    members: &mut Members,
+    name: &str,
+    text: &Text,
+) -> Result<(), AllocError>
+    ensures { OnOk result (members_view members.new.entries ≡ with_member name.now (string text.now) (members_view members.old.entries)) }
+{
+    put(members, alloc, name, text_value(alloc, text)?)
+}
+
+/// Puts a text under a name, if there is one.
+pub(crate) fn put_some_text(
+    alloc: Global,
+    members: &mut Members,
+    name: &str,
+    text: &Option<Text>,
+) -> Result<(), AllocError>
+    ensures { OnOk result (members_view members.new.entries ≡ put_given name.now (option_map string text.now) (members_view members.old.entries)) }
+{
+    match text {
+        None => Ok(()),
+        Some(text) => put_text(alloc, members, name, text),
+    }
+}
+
+/// Puts a word under a name.
+pub(crate) fn put_word(
+    alloc: Global,
+    members: &mut Members,
+    name: &str,
+    word: &str,
+) -> Result<(), AllocError>
+    ensures { OnOk result (members_view members.new.entries ≡ with_member name.now (string word.now) (members_view members.old.entries)) }
+{
+    put(members, alloc, name, Value::try_from_str(alloc, word)?)
+}
+
+/// Puts a number under a name, if there is one.
+pub(crate) fn put_some_number(
+    alloc: Global,
+    members: &mut Members,
+    name: &str,
+    number: Option<u64>,
+) -> Result<(), AllocError>
+    ensures { OnOk result (members_view members.new.entries ≡ put_given name.now (option_map natural number) (members_view members.old.entries)) }
+{
+    match number {
+        None => Ok(()),
+        Some(number) => put(members, alloc, name, Value::from(number)),
+    }
+}
+
+/// Puts a number under a name, unless it is 0.
+pub(crate) fn put_some_whole(
+    alloc: Global,
+    members: &mut Members,
+    name: &str,
+    number: i64,
+) -> Result<(), AllocError>
+    ensures { OnOk result (members_view members.new.entries ≡ put_given name.now (some_whole number) (members_view members.old.entries)) }
+{
+    if number.unsigned_abs() == 0 {
+        Ok(())
+    } else {
+        put(members, alloc, name, Value::from(number))
+    }
+}
+
+/// Puts `true` under a name, where the truth is that.
+pub(crate) fn put_some_truth(
+    alloc: Global,
+    members: &mut Members,
+    name: &str,
+    truth: bool,
+) -> Result<(), AllocError>
+    ensures { OnOk result (members_view members.new.entries ≡ put_given name.now (some_truth truth) (members_view members.old.entries)) }
+{
+    if truth {
+        put(members, alloc, name, Value::from(true))
+    } else {
+        Ok(())
+    }
+}
+
+/// Puts texts under a name, unless there are none.
+pub(crate) fn put_some_texts(
+    alloc: Global,
+    members: &mut Members,
+    name: &str,
+    texts: &List<Text>,
+) -> Result<(), AllocError>
+    ensures { OnOk result (members_view members.new.entries ≡ put_given name.now (some_texts texts.now) (members_view members.old.entries)) }
+{
+    let values = text_values(alloc, texts.as_slice())?;
+    put_given(alloc, members, name, some_listed(values))
+}
+
+/// A text as a value.
+pub(crate) fn text_value(alloc: Global, text: &Text) -> Result<Value, AllocError>
+    ensures { IfOk result (λ value. view value ≡ string text.now) }
+{
+    Value::try_from_str(alloc, text.as_str())
+}
+
+/// Each text as a value.
+pub(crate) fn text_values(alloc: Global, texts: &[Text]) -> Result<Vec<Value>, AllocError>
+    ensures { IfOk result (λ values. map view values.items ≡ map string texts.now) }
+{
+    let mut values = Vec::new(alloc);
+    for text in texts {
+        values.push(text_value(alloc, text)?)?;
+    }
+    Ok(values)
+}
+
+/// Values as an array.
+pub(crate) fn listed(values: Vec<Value>) -> Value
+    ensures { view result ≡ listed (map view values.items) }
+{
+    Value::Array(values)
+}
+
+/// Values as an array, unless there are none.
+pub(crate) fn some_listed(values: Vec<Value>) -> Option<Value>
+    ensures { option_map view result ≡ some_listed (map view values.items) }
+{
+    if values.is_empty() {
+        None
+    } else {
+        Some(Value::Array(values))
+    }
+}
+
+/// The names of those that are set, each as a value.
+pub(crate) fn names_set(alloc: Global, named: &[(bool, &str)]) -> Result<Vec<Value>, AllocError>
+    ensures { IfOk result (λ values. map view values.items ≡ map string (names_set (map (λ n. (n.0, n.1.now)) named.now))) }
+{
+    let mut values = Vec::new(alloc);
+    for (is_set, name) in named {
+        if *is_set {
+            values.push(Value::try_from_str(alloc, name)?)?;
+        }
+    }
+    Ok(values)
+}

@@ -1,0 +1,20 @@
+//! Requests and replies as JSON values.
+#![tactic(auto)]
+
+mod fields;
+mod filters;
+mod intents;
+mod names;
+mod outcomes;
+mod replies;
+mod requests;
+mod routes;
+mod rules;
+mod views;
+
+pub use filters::filter_value;
+pub use intents::intent_value;
+pub use replies::{reply_status, reply_text, reply_value};
+pub use requests::request_value;
+pub use routes::route_of;
+pub use rules::{error_value, rule_name};

@@ -1,0 +1,140 @@
+-- Queries, activities and services: what was read of a body is read of what is written for it.
+use Rattle.std.proofs.Common.{◌≡◌, ℕ, true, List, [], ◌∷◌, Some, option_map, Ok, refl, ap, subst}
+use Rattle.std.specs.Prelude.{codes}
+use Rattle.serde_json.specs.Data.{Data, string, object, no_members}
+use Rattle.am_types.specs.declared.manifest.Kind.{Kind}
+use Rattle.am_types.specs.declared.manifest.Kind.TheVariants.{Activity, Service, Receiver}
+use Rattle.am_types.specs.declared.request.Request.{Request}
+use Rattle.am_types.specs.declared.request.Request.TheVariants as asks
+use Rattle.am_wire_fields.specs.Fields.{required, optional_truth}
+use Rattle.am_wire_fields.specs.Lists.{word_in}
+use Rattle.am_wire_fields.specs.Numbers.{required_natural, optional_natural}
+use Rattle.am_wire_fields.specs.Reading.{◌>>=◌}
+use Rattle.am_wire_intents.specs.Components.{required_component}
+use Rattle.am_wire_intents.specs.Intents.{required_intent}
+use Rattle.am_wire.specs.Activities.{fields_of, plain_in, number_in, query_fields, default_only_of, query_in, start_in, finish_activity_in, start_service_in, stop_service_in, history_in}
+use Rattle.am_wire.specs.Words.{kind_words, kind_named, kind_of}
+use Rattle.am_wire_values.specs.Fields.{natural, some_truth}
+use Rattle.am_wire_values.specs.Intents.{component_data, intent_data}
+use Rattle.am_wire_values.specs.Names.{kind_name}
+use Rattle.am_wire_values.specs.Requests.{with_one, query_data, start_data, request_data}
+use Rattle.am_wire_written.proofs.Components.{required_component_again}
+use Rattle.am_wire_written.proofs.Intents.{required_intent_again}
+use Rattle.am_wire_written.proofs.Kept.{IsKept}
+use Rattle.am_wire_written.proofs.Numbers.{required_natural_again, natural_field}
+use Rattle.am_wire_written.proofs.Objects.{Entry, members_with, value_at, are_apart, are_listed, only_listed}
+use Rattle.am_wire_written.proofs.Steps.{step, steps, same_ok}
+use Rattle.am_wire_written.proofs.Texts.{required_at, truth_field, word_again}
+
+-- a body of these fields has no others
+pub fields_known : (fields : List (List ℕ)) (es : List Entry) → are_listed fields es ≡ true → fields_of fields (object (members_with es)) ≡ Ok tt
+unfolding fields_of
+fields_known fields es h = only_listed (codes "body") fields es h
+
+-- a body without fields
+pub plain_again : (r : Request) → plain_in r (object no_members) ≡ Ok r
+unfolding plain_in
+plain_again r = steps (fields_of [] (object no_members)) (λ known. Ok r) tt r (fields_known [] [] refl) refl
+
+-- a body whose only field is a number
+pub number_again : (name : List ℕ) (value : Data) (n : ℕ) → IsKept value → are_listed (name ∷ []) ((name, Some (natural n)) ∷ []) ≡ true → value_at name ((name, Some (natural n)) ∷ []) ≡ Some (natural n)
+    → number_in name value ≡ Ok n → number_in name (with_one name (natural n)) ≡ Ok n
+unfolding number_in
+number_again name value n k listed at h =
+    let es : List Entry = (name, Some (natural n)) ∷ [] in
+    let one = step (fields_of (name ∷ []) value) _ n h in
+    steps (fields_of (name ∷ []) (object (members_with es))) (λ known. required_natural name (object (members_with es))) tt n (fields_known (name ∷ []) es listed)
+    (required_natural_again name value n es k one.later refl at)
+
+-- the name of a kind is read as it
+kind_word : (kind : Kind) → word_in kind_words (codes "kind") (string (kind_name kind)) ≡ Ok (kind_name kind)
+unfolding kind_words
+kind_word Activity = word_again kind_words (codes "kind") (codes "activity") refl
+kind_word Service = word_again kind_words (codes "kind") (codes "service") refl
+kind_word Receiver = word_again kind_words (codes "kind") (codes "receiver") refl
+
+kind_again : (kind : Kind) → kind_named (kind_name kind) ≡ kind
+kind_again Activity = refl
+kind_again Service = refl
+kind_again Receiver = refl
+
+kind_at : (kind : Kind) (es : List Entry) → are_apart es ≡ true → value_at (codes "kind") es ≡ Some (string (kind_name kind)) → kind_of (object (members_with es)) ≡ Ok kind
+unfolding kind_of
+kind_at kind es apart is =
+    steps (required (codes "kind") (object (members_with es))) (λ value. word_in kind_words (codes "kind") value >>= λ word. Ok (kind_named word)) (string (kind_name kind)) kind
+    (required_at (codes "kind") es (string (kind_name kind)) apart is refl)
+    (steps (word_in kind_words (codes "kind") (string (kind_name kind))) (λ word. Ok (kind_named word)) (kind_name kind) kind (kind_word kind) (ap Ok (kind_again kind)))
+
+pub query_again : (value : Data) (r : Request) → IsKept value → query_in value ≡ Ok r → query_in (request_data r) ≡ Ok r
+unfolding query_fields default_only_of query_in request_data query_data
+query_again value r k h =
+    let fields = codes "kind" ∷ codes "intent" ∷ codes "defaultOnly" ∷ [] in
+    let one = step (fields_of fields value) _ r h in
+    let two = step (kind_of value) _ r one.later in
+    let three = step (required_intent (codes "intent") value) _ r two.later in
+    let four = step (optional_truth (codes "defaultOnly") value) _ r three.later in
+    let got = asks.Query two.value three.value four.value in
+    let es : List Entry = (codes "defaultOnly", some_truth four.value) ∷ (codes "intent", Some (intent_data three.value)) ∷ (codes "kind", Some (string (kind_name two.value))) ∷ [] in
+    let P : Request → Type 0 = λ r. query_in (request_data r) ≡ Ok r in
+    subst P (same_ok got r four.later)
+    (steps (fields_of fields (object (members_with es))) _ tt got (fields_known fields es refl)
+    (steps (kind_of (object (members_with es))) _ two.value got (kind_at two.value es refl refl)
+    (steps (required_intent (codes "intent") (object (members_with es))) _ three.value got (required_intent_again (codes "intent") value three.value es k three.first refl refl)
+    (steps (optional_truth (codes "defaultOnly") (object (members_with es))) _ four.value got (truth_field (codes "defaultOnly") four.value es refl refl) refl))))
+
+pub start_again : (value : Data) (r : Request) → IsKept value → start_in value ≡ Ok r → start_in (request_data r) ≡ Ok r
+unfolding start_in request_data start_data
+start_again value r k h =
+    let fields = codes "intent" ∷ codes "source" ∷ [] in
+    let one = step (fields_of fields value) _ r h in
+    let two = step (required_intent (codes "intent") value) _ r one.later in
+    let three = step (optional_natural (codes "source") value) _ r two.later in
+    let got = asks.Start two.value three.value in
+    let es : List Entry = (codes "source", option_map natural three.value) ∷ (codes "intent", Some (intent_data two.value)) ∷ [] in
+    let P : Request → Type 0 = λ r. start_in (request_data r) ≡ Ok r in
+    subst P (same_ok got r three.later)
+    (steps (fields_of fields (object (members_with es))) _ tt got (fields_known fields es refl)
+    (steps (required_intent (codes "intent") (object (members_with es))) _ two.value got (required_intent_again (codes "intent") value two.value es k two.first refl refl)
+    (steps (optional_natural (codes "source") (object (members_with es))) _ three.value got (natural_field (codes "source") value three.value es k three.first refl refl) refl)))
+
+pub finish_activity_again : (value : Data) (r : Request) → IsKept value → finish_activity_in value ≡ Ok r → finish_activity_in (request_data r) ≡ Ok r
+unfolding finish_activity_in request_data
+finish_activity_again value r k h =
+    let one = step (number_in (codes "instance") value) _ r h in
+    let got = asks.FinishActivity one.value in
+    let P : Request → Type 0 = λ r. finish_activity_in (request_data r) ≡ Ok r in
+    subst P (same_ok got r one.later) (steps (number_in (codes "instance") (with_one (codes "instance") (natural one.value))) _ one.value got (number_again (codes "instance") value one.value k refl refl one.first) refl)
+
+pub history_again : (value : Data) (r : Request) → IsKept value → history_in value ≡ Ok r → history_in (request_data r) ≡ Ok r
+unfolding history_in request_data
+history_again value r k h =
+    let one = step (number_in (codes "from") value) _ r h in
+    let got = asks.History one.value in
+    let P : Request → Type 0 = λ r. history_in (request_data r) ≡ Ok r in
+    subst P (same_ok got r one.later) (steps (number_in (codes "from") (with_one (codes "from") (natural one.value))) _ one.value got (number_again (codes "from") value one.value k refl refl one.first) refl)
+
+pub start_service_again : (value : Data) (r : Request) → IsKept value → start_service_in value ≡ Ok r → start_service_in (request_data r) ≡ Ok r
+unfolding start_service_in request_data
+start_service_again value r k h =
+    let fields = codes "intent" ∷ [] in
+    let one = step (fields_of fields value) _ r h in
+    let two = step (required_intent (codes "intent") value) _ r one.later in
+    let got = asks.StartService two.value in
+    let es : List Entry = (codes "intent", Some (intent_data two.value)) ∷ [] in
+    let P : Request → Type 0 = λ r. start_service_in (request_data r) ≡ Ok r in
+    subst P (same_ok got r two.later)
+    (steps (fields_of fields (object (members_with es))) _ tt got (fields_known fields es refl)
+    (steps (required_intent (codes "intent") (object (members_with es))) _ two.value got (required_intent_again (codes "intent") value two.value es k two.first refl refl) refl))
+
+pub stop_service_again : (value : Data) (r : Request) → IsKept value → stop_service_in value ≡ Ok r → stop_service_in (request_data r) ≡ Ok r
+unfolding stop_service_in request_data
+stop_service_again value r k h =
+    let fields = codes "component" ∷ [] in
+    let one = step (fields_of fields value) _ r h in
+    let two = step (required_component (codes "component") value) _ r one.later in
+    let got = asks.StopService two.value in
+    let es : List Entry = (codes "component", Some (component_data two.value)) ∷ [] in
+    let P : Request → Type 0 = λ r. stop_service_in (request_data r) ≡ Ok r in
+    subst P (same_ok got r two.later)
+    (steps (fields_of fields (object (members_with es))) _ tt got (fields_known fields es refl)
+    (steps (required_component (codes "component") (object (members_with es))) _ two.value got (required_component_again (codes "component") value two.value es k two.first refl refl) refl))

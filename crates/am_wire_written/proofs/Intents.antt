@@ -1,0 +1,158 @@
+-- An intent: what was read of a value is read of what is written for it.
+use Rattle.std.proofs.Common.{◌≡◌, ℕ, true, false, List, [], ◌∷◌, length, map, Option, Some, None, option_map, Ok, refl, sym, ap, ◌∙◌, subst}
+use Rattle.std.specs.Prelude.{codes, nat_lt}
+use Rattle.serde_json.specs.Data.{Data, string, object}
+use Rattle.am_types.specs.declared.intent.Intent.{Intent}
+use Rattle.am_uri.specs.declared.text.Form.{Form}
+use Rattle.am_uri.specs.declared.text.Form.TheVariants.{Any}
+use Rattle.am_uri.specs.Texts.{sorted_texts}
+use Rattle.am_wire_fields.specs.Fields.{unless_null, field, only_fields}
+use Rattle.am_wire_fields.specs.Lists.{list_if_said, optional_list, texts_in, optional_texts}
+use Rattle.am_wire_fields.specs.Reading.{◌>>=◌}
+use Rattle.am_wire_fields.specs.Texts.{text_in}
+use Rattle.am_wire_intents.specs.declared.intents.Asked.{Asked}
+use Rattle.am_wire_intents.specs.declared.intents.Carried.{Carried}
+use Rattle.am_wire_intents.specs.Flags.{flags_of}
+use Rattle.am_wire_intents.specs.Intents.{categories_of, asked_in, carried_in, intent_of, intent_fields, intent_in, required_intent, intent_if_said, optional_intent}
+use Rattle.am_wire_values.specs.Fields.{some_texts}
+use Rattle.am_wire_values.specs.Intents.{component_data, mime_data, uri_data, some_extras, asked, aimed, carried, intent_data}
+use Rattle.am_wire_values.specs.Names.{names_set, flags_named}
+use Rattle.am_wire_written.proofs.Components.{component_field, mime_field, uri_field}
+use Rattle.am_wire_written.proofs.Extras.{extras_field}
+use Rattle.am_wire_written.proofs.Flags.{flags_field}
+use Rattle.am_wire_written.proofs.Kept.{IsKept, field_kept}
+use Rattle.am_wire_written.proofs.Lists.{IsRead, each_read, each_again, each_length, WasListed, was_list_if, list_if_again, all_sorted, are_sorted, sorted_again, mapped_within}
+use Rattle.am_wire_written.proofs.Objects.{Entry, members_with, value_at, are_apart, field_at, only_listed}
+use Rattle.am_wire_written.proofs.Options.{IsReread, if_said, option_again}
+use Rattle.am_wire_written.proofs.Steps.{step, steps, same_ok}
+use Rattle.am_wire_written.proofs.Texts.{text_again, text_field, field_again}
+
+-- ---- sorted texts that need not be there
+
+-- texts in order that are read again, and few enough
+pub record AreRead (form : Form) (name : List ℕ) (texts : List (List ℕ)) : Type 0 where
+  pub read : texts_in form name (map string texts) ≡ Ok texts
+  pub within : nat_lt 64 (length (map string texts)) ≡ false
+  pub sorted : sorted_texts texts ≡ texts
+
+-- texts that were read are read again where they are sorted
+pub sorted_are_read : (form : Form) (name : List ℕ) (values : List Data) (texts : List (List ℕ)) → WasListed values → texts_in form name values ≡ Ok texts → AreRead form name (sorted_texts texts)
+unfolding texts_in
+sorted_are_read form name values texts listed h =
+    let all = all_sorted (IsRead (text_in form 1024 name) string) texts (each_read (text_in form 1024 name) string (text_again form 1024 name) values texts listed.kept h) in
+    record {
+      read = each_again (text_in form 1024 name) string (sorted_texts texts) all;
+      within = mapped_within texts values (each_length (text_in form 1024 name) values texts h) listed.within;
+      sorted = sorted_again (sorted_texts texts) (are_sorted texts);
+    }
+
+pub optional_are_read : (form : Form) (name : List ℕ) (value : Data) (texts : List (List ℕ)) → IsKept value → optional_texts form name value ≡ Ok texts → AreRead form name (sorted_texts texts)
+unfolding optional_texts optional_list
+optional_are_read form name value texts k h =
+    let one = step (list_if_said name (field name value)) (λ values. texts_in form name values) texts h in
+    sorted_are_read form name one.value texts (was_list_if name (field name value) one.value (field_kept name value k) one.first) one.later
+
+pub texts_field : (form : Form) (name : List ℕ) (texts : List (List ℕ)) (es : List Entry) → AreRead form name texts → are_apart es ≡ true → value_at name es ≡ some_texts texts
+    → (optional_texts form name (object (members_with es)) >>= λ texts. Ok (sorted_texts texts)) ≡ Ok texts
+unfolding optional_texts optional_list
+texts_field form name texts es r apart is =
+    steps (optional_texts form name (object (members_with es))) (λ texts. Ok (sorted_texts texts)) texts texts
+    (steps (list_if_said name (field name (object (members_with es)))) (λ values. texts_in form name values) (map string texts) texts
+    (ap (list_if_said name) (field_at name es apart ∙ ap unless_null is) ∙ list_if_again name (map string texts) r.within) r.read)
+    (ap Ok r.sorted)
+
+categories_again : (value : Data) (texts : List (List ℕ)) (es : List Entry) → IsKept value → categories_of value ≡ Ok texts
+    → are_apart es ≡ true → value_at (codes "categories") es ≡ some_texts texts → categories_of (object (members_with es)) ≡ Ok texts
+unfolding categories_of
+categories_again value texts es k h apart is =
+    let one = step (optional_texts Any (codes "categories") value) (λ texts. Ok (sorted_texts texts)) texts h in
+    let P : List (List ℕ) → Type 0 = AreRead Any (codes "categories") in
+    texts_field Any (codes "categories") texts es (subst P (same_ok (sorted_texts one.value) texts one.later) (optional_are_read Any (codes "categories") value one.value k one.first)) apart is
+
+-- ---- an intent
+
+-- the fields that are written for an intent
+unfoldable pub intent_entries : Intent → List Entry
+intent_entries i =
+    (codes "flags", some_texts (names_set (flags_named i.flags))) ∷ (codes "extras", some_extras i.extras) ∷ (codes "package", option_map string i.«package»)
+    ∷ (codes "identifier", option_map string i.identifier) ∷ (codes "component", option_map component_data i.component) ∷ (codes "type", option_map mime_data i.mime)
+    ∷ (codes "data", option_map uri_data i.uri) ∷ (codes "categories", some_texts i.categories) ∷ (codes "action", option_map string i.action) ∷ []
+
+pub intent_is : (i : Intent) → intent_data i ≡ object (members_with (intent_entries i))
+unfolding intent_data asked aimed carried intent_entries
+intent_is i = refl
+
+asked_again : (value : Data) (i : Intent) (a : Asked) → IsKept value → asked_in value ≡ Ok a → a.action ≡ i.action → a.categories ≡ i.categories → a.component ≡ i.component → a.uri ≡ i.uri
+    → asked_in (object (members_with (intent_entries i))) ≡ Ok a
+unfolding asked_in intent_entries
+asked_again value i a k h e1 e2 e3 e4 =
+    let es = intent_entries i in
+    let one = step _ _ a h in
+    let two = step _ _ a one.later in
+    let three = step _ _ a two.later in
+    let four = step _ _ a three.later in
+    let is : record { action = one.value; categories = two.value; component = three.value; uri = four.value } ≡ a = same_ok _ a four.later in
+    steps _ _ one.value a (text_field Any 1024 (codes "action") value one.value es k one.first refl (ap (option_map string) (sym e1 ∙ ap (λ (a : Asked). a.action) (sym is))))
+    (steps _ _ two.value a (categories_again value two.value es k two.first refl (ap some_texts (sym e2 ∙ ap (λ (a : Asked). a.categories) (sym is))))
+    (steps _ _ three.value a (component_field (codes "component") value three.value es k three.first refl (ap (option_map component_data) (sym e3 ∙ ap (λ (a : Asked). a.component) (sym is))))
+    (steps _ _ four.value a (uri_field (codes "data") value four.value es k four.first refl (ap (option_map uri_data) (sym e4 ∙ ap (λ (a : Asked). a.uri) (sym is))))
+    four.later)))
+
+carried_again : (value : Data) (i : Intent) (c : Carried) → IsKept value → carried_in value ≡ Ok c → c.extras ≡ i.extras → c.flags ≡ i.flags → c.identifier ≡ i.identifier → c.«package» ≡ i.«package» → c.mime ≡ i.mime
+    → carried_in (object (members_with (intent_entries i))) ≡ Ok c
+unfolding carried_in intent_entries
+carried_again value i c k h e1 e2 e3 e4 e5 =
+    let es = intent_entries i in
+    let one = step _ _ c h in
+    let two = step (flags_of value) _ c one.later in
+    let three = step _ _ c two.later in
+    let four = step _ _ c three.later in
+    let five = step _ _ c four.later in
+    let is : record { extras = one.value; flags = two.value; identifier = three.value; «package» = four.value; mime = five.value } ≡ c = same_ok _ c five.later in
+    let flags : two.value ≡ i.flags = ap (λ (c : Carried). c.flags) is ∙ e2 in
+    steps _ _ one.value c (extras_field value one.value es k one.first refl (ap some_extras (sym e1 ∙ ap (λ (c : Carried). c.extras) (sym is))))
+    (steps _ _ two.value c (flags_field two.value es refl (ap (λ f. some_texts (names_set (flags_named f))) (sym flags)))
+    (steps _ _ three.value c (text_field Any 1024 (codes "identifier") value three.value es k three.first refl (ap (option_map string) (sym e3 ∙ ap (λ (c : Carried). c.identifier) (sym is))))
+    (steps _ _ four.value c (text_field Any 1024 (codes "package") value four.value es k four.first refl (ap (option_map string) (sym e4 ∙ ap (λ (c : Carried). c.«package») (sym is))))
+    (steps _ _ five.value c (mime_field (codes "type") value five.value es k five.first refl (ap (option_map mime_data) (sym e5 ∙ ap (λ (c : Carried). c.mime) (sym is))))
+    five.later))))
+
+fields_listed : (i : Intent) (name : List ℕ) → only_fields name intent_fields (object (members_with (intent_entries i))) ≡ Ok tt
+unfolding intent_entries
+fields_listed i name = only_listed name intent_fields (intent_entries i) refl
+
+-- an intent is read of what is written for it
+pub intent_again : (name : List ℕ) → IsReread (intent_in name) intent_data
+unfolding intent_in
+intent_again name value i k h =
+    let one = step (only_fields name intent_fields value) _ i h in
+    let two = step (asked_in value) _ i one.later in
+    let three = step (carried_in value) _ i two.later in
+    let is : intent_of two.value three.value ≡ i = same_ok _ i three.later in
+    let of = λ (A : Type 0) (part : Intent → A). ap part is in
+    ap (intent_in name) (intent_is i)
+    ∙ steps _ _ tt i (fields_listed i name)
+    (steps _ _ two.value i (asked_again value i two.value k two.first (of _ (λ i. i.action)) (of _ (λ i. i.categories)) (of _ (λ i. i.component)) (of _ (λ i. i.uri)))
+    (steps _ _ three.value i (carried_again value i three.value k three.first (of _ (λ i. i.extras)) (of _ (λ i. i.flags)) (of _ (λ i. i.identifier)) (of _ (λ i. i.«package»)) (of _ (λ i. i.mime)))
+    three.later))
+
+pub no_null : (i : Intent) → unless_null (Some (intent_data i)) ≡ Some (intent_data i)
+unfolding intent_data
+no_null i = refl
+
+pub required_intent_again : (name : List ℕ) (parent : Data) (i : Intent) (es : List Entry) → IsKept parent → required_intent name parent ≡ Ok i
+    → are_apart es ≡ true → value_at name es ≡ Some (intent_data i) → required_intent name (object (members_with es)) ≡ Ok i
+unfolding required_intent
+required_intent_again name parent i es k h apart is = field_again (intent_in name) intent_data (intent_again name) name parent i es k h apart is (no_null i)
+
+intent_if_is : (name : List ℕ) (o : Option Data) → intent_if_said name o ≡ if_said (intent_in name) o
+unfolding intent_if_said
+intent_if_is name None = refl
+intent_if_is name (Some value) = refl
+
+pub intent_field : (name : List ℕ) (value : Data) (o : Option Intent) (es : List Entry) → IsKept value → optional_intent name value ≡ Ok o
+    → are_apart es ≡ true → value_at name es ≡ option_map intent_data o → optional_intent name (object (members_with es)) ≡ Ok o
+unfolding optional_intent
+intent_field name value o es k h apart is =
+    intent_if_is name _ ∙ option_again (intent_in name) intent_data (intent_again name) no_null (field name value) o _ (field_kept name value k)
+    (sym (intent_if_is name (field name value)) ∙ h) (field_at name es apart ∙ ap unless_null is)

@@ -1,0 +1,109 @@
+-- Pending intents: what was read of a body is read of what is written for it.
+use Rattle.std.proofs.Common.{◌≡◌, true, List, [], ◌∷◌, Some, option_map, Ok, refl, ap, subst}
+use Rattle.std.specs.Prelude.{codes}
+use Rattle.serde_json.specs.Data.{Data, string, object}
+use Rattle.am_types.specs.declared.manifest.Kind.{Kind}
+use Rattle.am_types.specs.declared.manifest.Kind.TheVariants.{Activity, Service, Receiver}
+use Rattle.am_types.specs.declared.request.Request.{Request}
+use Rattle.am_types.specs.declared.request.Request.TheVariants as asks
+use Rattle.am_uri.specs.declared.text.Form.TheVariants.{Any}
+use Rattle.am_wire_fields.specs.Fields.{required}
+use Rattle.am_wire_fields.specs.Lists.{word_in}
+use Rattle.am_wire_fields.specs.Numbers.{required_natural, required_whole}
+use Rattle.am_wire_fields.specs.Texts.{required_text}
+use Rattle.am_wire_fields.specs.Reading.{◌>>=◌}
+use Rattle.am_wire_intents.specs.Intents.{required_intent, optional_intent}
+use Rattle.am_wire.specs.Activities.{fields_of, number_in}
+use Rattle.am_wire.specs.Pendings.{get_of, pending_get_in, pending_send_in, pending_cancel_in, pending_give_in}
+use Rattle.am_wire.specs.Words.{kind_named, pending_words, pending_kind_of, pending_flags_of}
+use Rattle.am_wire_values.specs.Fields.{natural, whole, texts_data}
+use Rattle.am_wire_values.specs.Intents.{intent_data}
+use Rattle.am_wire_values.specs.Names.{pending_name, names_set, pending_named}
+use Rattle.am_wire_values.specs.Requests.{with_one, get_data, pending_send_data, request_data}
+use Rattle.am_wire_written.proofs.Activities.{fields_known, number_again}
+use Rattle.am_wire_written.proofs.Flags.{pending_flags_at}
+use Rattle.am_wire_written.proofs.Intents.{required_intent_again, intent_field}
+use Rattle.am_wire_written.proofs.Kept.{IsKept}
+use Rattle.am_wire_written.proofs.Numbers.{required_natural_again, required_whole_again}
+use Rattle.am_wire_written.proofs.Objects.{Entry, members_with, value_at, are_apart}
+use Rattle.am_wire_written.proofs.Steps.{step, steps, same_ok}
+use Rattle.am_wire_written.proofs.Texts.{required_at, required_text_again, word_again}
+
+-- the word of a pending intent's kind is read as it
+pending_word : (kind : Kind) → word_in pending_words (codes "kind") (string (pending_name kind)) ≡ Ok (pending_name kind)
+unfolding pending_words
+pending_word Activity = word_again pending_words (codes "kind") (codes "activity") refl
+pending_word Service = word_again pending_words (codes "kind") (codes "service") refl
+pending_word Receiver = word_again pending_words (codes "kind") (codes "broadcast") refl
+
+kind_again : (kind : Kind) → kind_named (pending_name kind) ≡ kind
+kind_again Activity = refl
+kind_again Service = refl
+kind_again Receiver = refl
+
+kind_at : (kind : Kind) (es : List Entry) → are_apart es ≡ true → value_at (codes "kind") es ≡ Some (string (pending_name kind)) → pending_kind_of (object (members_with es)) ≡ Ok kind
+unfolding pending_kind_of
+kind_at kind es apart is =
+    steps (required (codes "kind") (object (members_with es))) (λ value. word_in pending_words (codes "kind") value >>= λ word. Ok (kind_named word)) (string (pending_name kind)) kind
+    (required_at (codes "kind") es (string (pending_name kind)) apart is refl)
+    (steps (word_in pending_words (codes "kind") (string (pending_name kind))) (λ word. Ok (kind_named word)) (pending_name kind) kind (pending_word kind) (ap Ok (kind_again kind)))
+
+pub pending_get_again : (value : Data) (r : Request) → IsKept value → pending_get_in value ≡ Ok r → pending_get_in (request_data r) ≡ Ok r
+unfolding pending_get_in get_of request_data get_data
+pending_get_again value r k h =
+    let fields = codes "kind" ∷ codes "code" ∷ codes "intent" ∷ codes "flags" ∷ [] in
+    let one = step (fields_of fields value) _ r h in
+    let two = step (pending_kind_of value) _ r one.later in
+    let three = step (required_whole (codes "code") value) _ r two.later in
+    let four = step (required_intent (codes "intent") value) _ r three.later in
+    let five = step (pending_flags_of value) _ r four.later in
+    let got = asks.PendingGet two.value three.value four.value five.value in
+    let es : List Entry =
+    (codes "flags", Some (texts_data (names_set (pending_named five.value)))) ∷ (codes "intent", Some (intent_data four.value)) ∷ (codes "code", Some (whole three.value))
+    ∷ (codes "kind", Some (string (pending_name two.value))) ∷ []
+    in
+    let P : Request → Type 0 = λ r. pending_get_in (request_data r) ≡ Ok r in
+    subst P (same_ok got r five.later)
+    (steps (fields_of fields (object (members_with es))) _ tt got (fields_known fields es refl)
+    (steps (pending_kind_of (object (members_with es))) _ two.value got (kind_at two.value es refl refl)
+    (steps (required_whole (codes "code") (object (members_with es))) _ three.value got (required_whole_again (codes "code") value three.value es k three.first refl refl)
+    (steps (required_intent (codes "intent") (object (members_with es))) _ four.value got (required_intent_again (codes "intent") value four.value es k four.first refl refl)
+    (steps (pending_flags_of (object (members_with es))) _ five.value got (pending_flags_at five.value es refl refl) refl)))))
+
+pub pending_send_again : (value : Data) (r : Request) → IsKept value → pending_send_in value ≡ Ok r → pending_send_in (request_data r) ≡ Ok r
+unfolding pending_send_in request_data pending_send_data
+pending_send_again value r k h =
+    let fields = codes "token" ∷ codes "fill" ∷ [] in
+    let one = step (fields_of fields value) _ r h in
+    let two = step (required_natural (codes "token") value) _ r one.later in
+    let three = step (optional_intent (codes "fill") value) _ r two.later in
+    let got = asks.PendingSend two.value three.value in
+    let es : List Entry = (codes "fill", option_map intent_data three.value) ∷ (codes "token", Some (natural two.value)) ∷ [] in
+    let P : Request → Type 0 = λ r. pending_send_in (request_data r) ≡ Ok r in
+    subst P (same_ok got r three.later)
+    (steps (fields_of fields (object (members_with es))) _ tt got (fields_known fields es refl)
+    (steps (required_natural (codes "token") (object (members_with es))) _ two.value got (required_natural_again (codes "token") value two.value es k two.first refl refl)
+    (steps (optional_intent (codes "fill") (object (members_with es))) _ three.value got (intent_field (codes "fill") value three.value es k three.first refl refl) refl)))
+
+pub pending_cancel_again : (value : Data) (r : Request) → IsKept value → pending_cancel_in value ≡ Ok r → pending_cancel_in (request_data r) ≡ Ok r
+unfolding pending_cancel_in request_data
+pending_cancel_again value r k h =
+    let one = step (number_in (codes "token") value) _ r h in
+    let got = asks.PendingCancel one.value in
+    let P : Request → Type 0 = λ r. pending_cancel_in (request_data r) ≡ Ok r in
+    subst P (same_ok got r one.later) (steps (number_in (codes "token") (with_one (codes "token") (natural one.value))) _ one.value got (number_again (codes "token") value one.value k refl refl one.first) refl)
+
+pub pending_give_again : (value : Data) (r : Request) → IsKept value → pending_give_in value ≡ Ok r → pending_give_in (request_data r) ≡ Ok r
+unfolding pending_give_in request_data
+pending_give_again value r k h =
+    let fields = codes "token" ∷ codes "package" ∷ [] in
+    let one = step (fields_of fields value) _ r h in
+    let two = step (required_natural (codes "token") value) _ r one.later in
+    let three = step (required_text Any 1024 (codes "package") value) _ r two.later in
+    let got = asks.PendingGive two.value three.value in
+    let es : List Entry = (codes "token", Some (natural two.value)) ∷ (codes "package", Some (string three.value)) ∷ [] in
+    let P : Request → Type 0 = λ r. pending_give_in (request_data r) ≡ Ok r in
+    subst P (same_ok got r three.later)
+    (steps (fields_of fields (object (members_with es))) _ tt got (fields_known fields es refl)
+    (steps (required_natural (codes "token") (object (members_with es))) _ two.value got (required_natural_again (codes "token") value two.value es k two.first refl refl)
+    (steps (required_text Any 1024 (codes "package") (object (members_with es))) _ three.value got (required_text_again Any 1024 (codes "package") value three.value es k three.first refl refl) refl)))

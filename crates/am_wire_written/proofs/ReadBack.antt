@@ -1,0 +1,108 @@
+-- A request that some body is read as is read of what is written for it.
+use Rattle.std.proofs.Common.{◌≡◌, ℕ, ◌≤◌, cond, List, Option, Some, None, Ok, Err, String, Global, string_bytes, refl, sym, ap, ◌∙◌, subst}
+use Rattle.std.specs.Str.{IsUtf8, is_utf8}
+use Rattle.std.proofs.lemmas.Str.{is_utf8-from_IsUtf8, IsUtf8-string_bytes}
+use Rattle.serde_json.specs.Data.{Data, depth}
+use Rattle.serde_json.specs.Read.{max_depth, read}
+use Rattle.am_types.specs.declared.request.Request.{Request}
+use Rattle.am_types.specs.declared.request.Request.TheVariants as asks
+use Rattle.am_wire_fields.specs.declared.fault.WireFault.TheVariants.{NotJson}
+use Rattle.am_wire_fields.specs.Bodies.{json_of, value_of}
+use Rattle.am_wire.specs.Requests.{request_in, posted, request_of}
+use Rattle.am_wire_values.specs.Requests.{request_data}
+use Rattle.am_wire_written.specs.Written.{endpoint_at, IsReadable, HasFewRows}
+use Rattle.am_wire_written.proofs.Activities.{plain_again, query_again, start_again, finish_activity_again, history_again, start_service_again, stop_service_again}
+use Rattle.am_wire_written.proofs.Broadcasts.{send_again, unregister_again, finish_again}
+use Rattle.am_wire_written.proofs.Depths.{request_within}
+use Rattle.am_wire_written.proofs.Filters.{register_again}
+use Rattle.am_wire_written.proofs.Kept.{IsKept, kept_read}
+use Rattle.am_wire_written.proofs.Packages.{install_again, uninstall_again, force_stop_again, grant_again, link_again}
+use Rattle.am_wire_written.proofs.Pendings.{pending_get_again, pending_send_again, pending_cancel_again, pending_give_again}
+use Rattle.am_wire_written.proofs.Steps.{step, steps, same_ok}
+use Rattle.am_wire_written.proofs.Texts.{if_read}
+
+-- a request that was read of a value is read of its own value
+value_again : (value : Data) (r : Request) → IsKept value → HasFewRows r → request_in (endpoint_at r) value ≡ Ok r → request_in (endpoint_at r) (request_data r) ≡ Ok r
+unfolding request_in request_data
+value_again value (asks.Query kind intent default_only) k few h = query_again value (asks.Query kind intent default_only) k h
+value_again value (asks.Start intent source) k few h = start_again value (asks.Start intent source) k h
+value_again value (asks.FinishActivity instance) k few h = finish_activity_again value (asks.FinishActivity instance) k h
+value_again value asks.Back k few h = plain_again asks.Back
+value_again value asks.ListTasks k few h = refl
+value_again value (asks.StartService intent) k few h = start_service_again value (asks.StartService intent) k h
+value_again value (asks.StopService component) k few h = stop_service_again value (asks.StopService component) k h
+value_again value asks.Services k few h = refl
+value_again value (asks.Send intent permission ordered) k few h = send_again value (asks.Send intent permission ordered) k h
+value_again value (asks.Register filter permission) k few h = register_again value (asks.Register filter permission) k h few
+value_again value (asks.Unregister registered) k few h = unregister_again value (asks.Unregister registered) k h
+value_again value asks.Inbox k few h = refl
+value_again value (asks.Finish delivery answer) k few h = finish_again value (asks.Finish delivery answer) k h
+value_again value (asks.PendingGet kind code intent flags) k few h = pending_get_again value (asks.PendingGet kind code intent flags) k h
+value_again value (asks.PendingSend token fill) k few h = pending_send_again value (asks.PendingSend token fill) k h
+value_again value (asks.PendingCancel token) k few h = pending_cancel_again value (asks.PendingCancel token) k h
+value_again value (asks.PendingGive token name) k few h = pending_give_again value (asks.PendingGive token name) k h
+value_again value (asks.Install text key) k few h = install_again value (asks.Install text key) k h
+value_again value (asks.Uninstall name) k few h = uninstall_again value (asks.Uninstall name) k h
+value_again value (asks.Grant name permission held) k few h = grant_again value (asks.Grant name permission held) k h
+value_again value (asks.Link name host approved) k few h = link_again value (asks.Link name host approved) k h
+value_again value (asks.ForceStop name) k few h = force_stop_again value (asks.ForceStop name) k h
+value_again value asks.Tick k few h = plain_again asks.Tick
+value_again value (asks.History from) k few h = history_again value (asks.History from) k h
+value_again value asks.Status k few h = refl
+
+json_is : (o : Option Data) (value : Data) → json_of o ≡ Ok value → o ≡ Some value
+unfolding json_of
+json_is None value h = absurd (cc)
+json_is (Some said) value h = ap Some (same_ok said value h)
+
+-- the value of a body is what its text reads as
+body_kept : (body : List ℕ) (value : Data) → value_of body ≡ Ok value → IsKept value
+unfolding value_of
+body_kept body value h = let good = if_read (is_utf8 body) (json_of (read body)) NotJson value h in kept_read body value (json_is (read body) value good.1)
+
+-- a text that reads as a value is a body of it
+value_is : (text : List ℕ) (value : Data) → IsUtf8 text → read text ≡ Some value → value_of text ≡ Ok value
+unfolding value_of json_of
+value_is text value utf8 h = ap (λ b. cond b (json_of (read text)) (Err NotJson)) (is_utf8-from_IsUtf8 text utf8) ∙ ap json_of h
+
+posted_again : (body text : List ℕ) (r : Request) → posted (endpoint_at r) body ≡ Ok r → HasFewRows r → IsUtf8 text → read text ≡ Some (request_data r) → posted (endpoint_at r) text ≡ Ok r
+unfolding posted
+posted_again body text r h few utf8 is =
+    let one = step (value_of body) (request_in (endpoint_at r)) r h in
+    steps (value_of text) (request_in (endpoint_at r)) (request_data r) r (value_is text (request_data r) utf8 is) (value_again one.value r (body_kept body one.value one.first) few one.later)
+
+-- a readable request is read of the text of its value
+pub read_back : (text : List ℕ) (r : Request) → IsUtf8 text → read text ≡ Some (request_data r) → IsReadable r → HasFewRows r → request_of (endpoint_at r) text ≡ Ok r
+unfolding request_of
+read_back text (asks.Query kind intent default_only) utf8 is h few = posted_again h.0 text (asks.Query kind intent default_only) h.1 few utf8 is
+read_back text (asks.Start intent source) utf8 is h few = posted_again h.0 text (asks.Start intent source) h.1 few utf8 is
+read_back text (asks.FinishActivity instance) utf8 is h few = posted_again h.0 text (asks.FinishActivity instance) h.1 few utf8 is
+read_back text asks.Back utf8 is h few = posted_again h.0 text asks.Back h.1 few utf8 is
+read_back text asks.ListTasks utf8 is h few = refl
+read_back text (asks.StartService intent) utf8 is h few = posted_again h.0 text (asks.StartService intent) h.1 few utf8 is
+read_back text (asks.StopService component) utf8 is h few = posted_again h.0 text (asks.StopService component) h.1 few utf8 is
+read_back text asks.Services utf8 is h few = refl
+read_back text (asks.Send intent permission ordered) utf8 is h few = posted_again h.0 text (asks.Send intent permission ordered) h.1 few utf8 is
+read_back text (asks.Register filter permission) utf8 is h few = posted_again h.0 text (asks.Register filter permission) h.1 few utf8 is
+read_back text (asks.Unregister registered) utf8 is h few = posted_again h.0 text (asks.Unregister registered) h.1 few utf8 is
+read_back text asks.Inbox utf8 is h few = refl
+read_back text (asks.Finish delivery answer) utf8 is h few = posted_again h.0 text (asks.Finish delivery answer) h.1 few utf8 is
+read_back text (asks.PendingGet kind code intent flags) utf8 is h few = posted_again h.0 text (asks.PendingGet kind code intent flags) h.1 few utf8 is
+read_back text (asks.PendingSend token fill) utf8 is h few = posted_again h.0 text (asks.PendingSend token fill) h.1 few utf8 is
+read_back text (asks.PendingCancel token) utf8 is h few = posted_again h.0 text (asks.PendingCancel token) h.1 few utf8 is
+read_back text (asks.PendingGive token name) utf8 is h few = posted_again h.0 text (asks.PendingGive token name) h.1 few utf8 is
+read_back text (asks.Install manifest key) utf8 is h few = posted_again h.0 text (asks.Install manifest key) h.1 few utf8 is
+read_back text (asks.Uninstall name) utf8 is h few = posted_again h.0 text (asks.Uninstall name) h.1 few utf8 is
+read_back text (asks.Grant name permission held) utf8 is h few = posted_again h.0 text (asks.Grant name permission held) h.1 few utf8 is
+read_back text (asks.Link name host approved) utf8 is h few = posted_again h.0 text (asks.Link name host approved) h.1 few utf8 is
+read_back text (asks.ForceStop name) utf8 is h few = posted_again h.0 text (asks.ForceStop name) h.1 few utf8 is
+read_back text asks.Tick utf8 is h few = posted_again h.0 text asks.Tick h.1 few utf8 is
+read_back text (asks.History from) utf8 is h few = posted_again h.0 text (asks.History from) h.1 few utf8 is
+read_back text asks.Status utf8 is h few = refl
+
+-- and so it is where the text is that of a value which is the request's
+pub text_read_back : (text : String Global) (value : Data) (r : Request) → value ≡ request_data r → (depth value ≤ max_depth → read (string_bytes text) ≡ Some value) → IsReadable r → HasFewRows r
+    → request_of (endpoint_at r) (string_bytes text) ≡ Ok r
+text_read_back text value r is reads h few =
+    let P : Data → Type 0 = λ d. depth d ≤ max_depth in
+    read_back (string_bytes text) r (IsUtf8-string_bytes text) (reads (subst P (sym is) (request_within r)) ∙ ap Some is) h few
