@@ -1,7 +1,8 @@
-pub mod Opening
+pub mod Acts
+pub mod KeptExamples
 pub mod OpeningExamples
 pub mod OpeningLaws
 pub mod Places
 pub mod Samples
-pub mod Served
+pub mod Shows
 pub mod StepExamples

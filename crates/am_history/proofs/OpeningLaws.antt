@@ -1,5 +1,5 @@
 -- The state in which a manager begins.
-use Rattle.std.proofs.Common.{◌≡◌, ℕ, ◌+◌, ◌≤◌, Bool, false, ◌||◌, ◌==◌, nat_lt, List, [], ◌∷◌, cond, Some, None, Ok, refl, ap, ◌∙◌, append-nil, arith}
+use Rattle.std.proofs.Common.{◌≡◌, ℕ, ◌+◌, ◌≤◌, Bool, false, ◌||◌, ◌==◌, nat_lt, List, [], ◌∷◌, cond, Option, Some, None, Ok, refl, ap, ◌∙◌, append-nil, arith}
 use Rattle.std.specs.List.{count_by, find, fold}
 use Rattle.am_types.specs.declared.device.Device.{Device}
 use Rattle.am_types.specs.declared.device.Package.{Package}
@@ -9,6 +9,7 @@ use Rattle.am_keeper.specs.Rows.{no_rows}
 use Rattle.am_model.specs.Sound.{IsSound, rights_granted, rights_approved}
 use Rattle.am_model.specs.Boards.{board_of}
 use Rattle.am_history.specs.State.{opening, uid_after, uids_of}
+use Rattle.am_history.specs.Desks.{opening_of, state_or}
 use Rattle.am_history.specs.Opening.{opening_with, completed, has_too_many, unless_too_many}
 
 -- counting goes on in the same way
@@ -56,3 +57,8 @@ unfolding opening_with
 no_rows_open_the_device device sound =
     ap (λ after. unless_too_many after (find (has_too_many after.board) after.board.packages)) (same_uids device)
     ∙ ap (unless_too_many (opening device)) (none_found (has_too_many (board_of device)) (few_rights device sound) device.packages)
+
+-- a manager of a sound device that kept nothing begins with the device's own state
+pub opening_without_rows : (device : Device) (place : Option (List ℕ)) → IsSound device
+    → opening_of (record { device = device; rows = no_rows; place = place }) ≡ opening device
+opening_without_rows device place sound = ap (state_or (opening device)) (no_rows_open_the_device device sound)

@@ -32,3 +32,20 @@ replay_from_more state before (first ∷ others) entry =
 pub replay_more : (opening : State) (entries : List Entry) (entry : Entry)
     → replay opening (entries ++ entry ∷ []) ≡ (step (replay opening entries) entries entry).1
 replay_more opening entries entry = replay_from_more opening [] entries entry
+
+-- each of these entries and one more
+legal_from_more : (opening : State) (before entries : List Entry) (entry : Entry) → IsLegalFrom opening before entries
+    → MayBeNext (replay opening (before ++ entries)) (before ++ entries) entry
+    → IsLegalFrom opening before (entries ++ entry ∷ [])
+legal_from_more opening before [] entry legal next =
+    (subst (λ (h : List Entry). MayBeNext (replay opening h) h entry) (append-nil before) next, tt)
+legal_from_more opening before (first ∷ others) entry legal next = (
+  legal.0,
+  legal_from_more opening (before ++ first ∷ []) others entry legal.1
+      (subst (λ (h : List Entry). MayBeNext (replay opening h) h entry) (sym (append_assoc before (first ∷ []) others)) next),
+)
+
+-- a legal history and an entry that may be next
+pub legal_more : (opening : State) (entries : List Entry) (entry : Entry) → IsLegal opening entries
+    → MayBeNext (replay opening entries) entries entry → IsLegal opening (entries ++ entry ∷ [])
+legal_more opening entries entry legal next = legal_from_more opening [] entries entry legal next

@@ -1,19 +1,28 @@
 -- What a desk is, on which a connection's calls are made, and what it shows of each call.
-use Rattle.std.specs.Prelude.{◌≡◌, ℕ, Bool, true, false, List, [], ◌∷◌, ◌++◌, length}
+use Rattle.std.specs.Prelude.{◌≡◌, ℕ, Bool, true, false, List, [], ◌∷◌, ◌++◌, length, Option, Result, Ok, Err}
 use Rattle.am_types.specs.declared.device.Device.{Device}
 use Rattle.am_types.specs.declared.history.Entry.{Entry}
 use Rattle.am_types.specs.declared.history.Shown.{Shown}
+use Rattle.am_keeper.specs.declared.rows.Rows.{Rows}
 use Rattle.am_history.specs.State.{State, opening}
+use Rattle.am_history.specs.Opening.{opening_with}
 use Rattle.am_history.specs.Steps.{Call}
 use Rattle.am_history.specs.History.{replay, is_stored, reply_after, IsEntryOf, entries_of, Extends}
 
--- where a manager comes from: the device that it was opened with
+-- where a manager comes from: the device that it was opened with, the rows that were kept, and their place in a store
 pub record Origin : Type 0 where
   pub device : Device
+  pub rows : Rows
+  pub place : Option (List ℕ)
 
--- the state in which a manager of that origin began
+-- the state, or another if its rows were refused
+abbrev pub state_or : State → Result State (List ℕ) → State
+state_or other (Ok state) = state
+state_or other (Err name) = other
+
+-- the state in which a manager of that origin began; no manager begins with rows that are refused
 abbrev pub opening_of : Origin → State
-opening_of origin = opening origin.device
+opening_of origin = state_or (opening origin.device) (opening_with origin.device origin.rows)
 
 -- which desks share a manager: the numbers that tell it from other managers, how many desks there are, and the
 -- history that it had when they were made

@@ -6,6 +6,7 @@ pub mod BroadcastCalls
 pub mod PendingCalls
 pub mod Packages
 pub mod Opening
+pub mod Kept
 pub mod Steps
 pub mod History
 pub mod Desks

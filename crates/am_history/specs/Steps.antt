@@ -6,6 +6,8 @@ use Rattle.am_types.specs.declared.request.Request.TheVariants as asks
 use Rattle.am_types.specs.declared.reply.Reply.{Reply}
 use Rattle.am_types.specs.declared.reply.Reply.TheVariants as replies
 use Rattle.am_types.specs.declared.rule.Rule.TheVariants.{KeeperFault}
+use Rattle.am_model.specs.Texts.{is_same, lowered}
+use Rattle.am_model.specs.Sound.{is_access_key}
 use Rattle.am_model.specs.Candidates.{hits}
 use Rattle.am_model.specs.Tasks.{views}
 use Rattle.am_model.specs.Broadcasts as broadcasts
@@ -35,12 +37,14 @@ moment_after state now = max state.moment (min now 4611686018427387904)
 abbrev pub due : State → ℕ → Bool
 due state now = broadcasts.due state.broadcasts (moment_after state now)
 
--- the state at the moment of a call, with the deadlines that are due handled
+-- the state at a moment, with the deadlines that are due then handled
+abbrev pub at_moment : State → ℕ → State
+at_moment state moment =
+    record state { broadcasts = broadcasts.expired state.broadcasts moment; moment = moment }
+
+-- the state at the moment of a call
 abbrev pub after_due : State → ℕ → State
-after_due state now = record state {
-  broadcasts = broadcasts.expired state.broadcasts (moment_after state now);
-  moment = moment_after state now;
-}
+after_due state now = at_moment state (moment_after state now)
 
 -- at most 64 of the entries, from a number on
 abbrev pub page : List Entry → ℕ → List Entry
@@ -76,23 +80,45 @@ act state before caller (asks.History from) = for_admin state caller (replies.En
 act state before caller asks.Status =
     for_admin state caller (replies.Status (length before) state.moment (length state.board.packages), state)
 
+-- what a request may do: only read, change the state, or change it and have a row kept
+pub data Class : Type 0 where
+  Reads : Class
+  Changes : Class
+  Keeps : Class
+
+-- what the request may do
+abbrev pub class_of : Request → Class
+class_of (asks.Query kind intent default_only) = Reads
+class_of asks.ListTasks = Reads
+class_of asks.Services = Reads
+class_of asks.Inbox = Reads
+class_of (asks.History from) = Reads
+class_of asks.Status = Reads
+class_of (asks.Install text key) = Keeps
+class_of (asks.Uninstall name) = Keeps
+class_of (asks.Grant name permission held) = Keeps
+class_of (asks.Link name host approved) = Keeps
+class_of _ = Changes
+
+-- a call of that class may change the state
+abbrev pub may_change_by : Class → Bool
+may_change_by Reads = false
+may_change_by Changes = true
+may_change_by Keeps = true
+
+-- a call of that class has a row kept
+abbrev pub has_row : Class → Bool
+has_row Keeps = true
+has_row Reads = false
+has_row Changes = false
+
 -- the request may change the state
 abbrev pub is_changing : Request → Bool
-is_changing (asks.Query kind intent default_only) = false
-is_changing asks.ListTasks = false
-is_changing asks.Services = false
-is_changing asks.Inbox = false
-is_changing (asks.History from) = false
-is_changing asks.Status = false
-is_changing _ = true
+is_changing request = may_change_by (class_of request)
 
 -- the request has a row kept
 abbrev pub keeps_row : Request → Bool
-keeps_row (asks.Install text key) = true
-keeps_row (asks.Uninstall name) = true
-keeps_row (asks.Grant name permission held) = true
-keeps_row (asks.Link name host approved) = true
-keeps_row _ = false
+keeps_row request = has_row (class_of request)
 
 -- the reply refuses
 abbrev pub is_refusal : Reply → Bool
@@ -107,7 +133,32 @@ asks_keeper state before caller request =
 -- the manager serves the request today
 abbrev pub is_served : Request → Bool
 is_served (asks.Query kind intent default_only) = true
+is_served asks.ListTasks = true
+is_served asks.Services = true
+is_served asks.Inbox = true
+is_served asks.Tick = true
+is_served (asks.History from) = true
+is_served asks.Status = true
 is_served _ = false
+
+-- the request is of the form that a body is read as: an installation has an access key, and a link a host in lower case
+abbrev pub is_formed : Request → Bool
+is_formed (asks.Install text key) = is_access_key key
+is_formed (asks.Link name host approved) = is_same (lowered host) host
+is_formed _ = true
+
+-- the answer to the request depends neither on broadcasts nor on the moment, and it changes nothing
+abbrev pub is_steady : Request → Bool
+is_steady (asks.Query kind intent default_only) = true
+is_steady asks.ListTasks = true
+is_steady asks.Services = true
+is_steady (asks.History from) = true
+is_steady _ = false
+
+-- with room for its entry the request takes no memory that can be refused
+abbrev pub is_calm : Request → Bool
+is_calm asks.Tick = true
+is_calm _ = false
 
 -- what an entry is answered after the entries `before`, and the state that it leaves: what is due comes first,
 -- and a request whose row wasn't kept does nothing more

@@ -6,6 +6,7 @@ pub mod Literals
 pub mod NextLemmas
 pub mod Phrases
 pub mod SendLemmas
+pub mod FormedLemmas
 pub mod ServedLemmas
 pub mod SessionLemmas
 pub mod TurnLemmas

@@ -18,6 +18,12 @@ use Rattle.am_http.specs.Responses.{refusal}
 -- the manager serves what is asked at the endpoint
 abbrev pub is_open : Endpoint → Bool
 is_open at.Query = true
+is_open at.ListTasks = true
+is_open at.Services = true
+is_open at.Inbox = true
+is_open at.Tick = true
+is_open at.History = true
+is_open at.Status = true
 is_open _ = false
 
 -- the request that was read of a body, or the refusal of its first fault

@@ -42,7 +42,16 @@ pub enum Answer {
 fn is_open(endpoint: Endpoint) -> bool
     ensures { result ≡ is_open endpoint }
 {
-    matches!(endpoint, Endpoint::Query)
+    matches!(
+        endpoint,
+        Endpoint::Query
+            | Endpoint::ListTasks
+            | Endpoint::Services
+            | Endpoint::Inbox
+            | Endpoint::Tick
+            | Endpoint::History
+            | Endpoint::Status
+    )
 }
 
 // The request that the body makes at the endpoint, or why it makes none.

@@ -20,7 +20,8 @@ use Rattle.am_model.specs.Texts.{is_same, lists}
 use Rattle.am_model.specs.MimeTypes.{is_any_type, passes_type}
 use Rattle.am_model.specs.Boards.{package_at}
 use Rattle.am_model.specs.Filters.{is_empty, is_local, unless, or_else, passes_action, data_why, passes}
-use Rattle.am_model.specs.Candidates.{is_kind, priority_of, greatest, counted_priority, is_named, hit_at, implicit_hit, hit_of, hits_from, candidates}
+use Rattle.am_model.specs.Candidates as candidates
+use Rattle.am_model.specs.Candidates.{Search, is_kind, priority_of, greatest, counted_priority, is_named, hit_at, implicit_hit, hit_of, hits_from, hits_in}
 use Rattle.am_index.specs.declared.key.Group.{Group}
 use Rattle.am_index.specs.declared.key.Group.TheVariants.{Class, Typed, Main}
 use Rattle.am_index.specs.declared.key.Key.{Key}
@@ -30,7 +31,7 @@ use Rattle.am_index.specs.Keys.{is_for, is_in, is_under, lists_main}
 use Rattle.am_index.specs.Lists.{spots_at}
 use Rattle.am_index.specs.Lookups.{type_groups, data_groups_for, groups_for, owner_of, key_of, merged, with_keys, spots_for, priority_found, cost_found, decl_in, hit_in, hit_of_spot, hits_of_spots, cost_in, cost_of_spot, cost_of_spots}
 use Rattle.am_index.specs.Members.{Member, members_from, members, spot_of, spots_where, spots_under}
-use Rattle.am_index.specs.Same.{both}
+use Rattle.am_index.proofs.Same.{both}
 use Rattle.am_index.specs.Standing.{StandsFor}
 use Rattle.am_index.specs.declared.index.FilterIndex.{FilterIndex}
 use Rattle.am_index.proofs.Listing.{in_filter}
@@ -249,10 +250,19 @@ no_priority kind intent need_default (f ∷ fs) h =
     ap (λ b. cond b (Some (greatest (counted_priority kind f.priority) (priority_of kind intent need_default fs))) (priority_of kind intent need_default fs)) (outside f intent need_default parts.0)
     ∙ no_priority kind intent need_default fs parts.1
 
+-- the intent names no package, or this one
+package_asked : (name : Option (List ℕ)) (owner : Package) → candidates.is_in name owner ≡ is_for name owner.name
+package_asked None owner = refl
+package_asked (Some name) owner = refl
+
 module _ (kind : Kind) (intent : Intent) (need_default : Bool) where
+  -- what is looked for
+  abbrev what : Search
+  what = record { kind = kind; intent = intent; need_default = need_default }
+
   -- what the intent finds of a component
   abbrev found_of : Member → List Hit
-  found_of m = hit_of kind intent need_default m.owner m.place m.decl intent.component intent.«package»
+  found_of m = hit_of what m.owner m.place m.decl intent.component
 
   -- what it finds of all
   abbrev all_found : List Member → List Hit
@@ -263,51 +273,51 @@ module _ (kind : Kind) (intent : Intent) (need_default : Bool) where
   all_found-append [] ys = refl
   all_found-append (x ∷ xs) ys = ap (λ l. found_of x ++ l) (all_found-append xs ys) ∙ sym (append_assoc (found_of x) (all_found xs) (all_found ys))
 
-  from_hits : (owner : Package) (at n : ℕ) (ds : List Decl) → hits_from kind intent need_default owner n ds ≡ all_found (members_from kind owner at n ds)
+  from_hits : (owner : Package) (at n : ℕ) (ds : List Decl) → hits_from what owner n ds ≡ all_found (members_from kind owner at n ds)
   from_hits owner at n [] = refl
   from_hits owner at n (d ∷ ds) = by (is_kind kind d.kind) d.enabled (from_hits owner (at + 1) (n + 1) ds) (from_hits owner (at + 1) n ds)
     where
-      m : Member
-      m = record { owner = owner; position = at; place = n; decl = d }
-
-      by : (k e : Bool) → hits_from kind intent need_default owner (n + 1) ds ≡ all_found (members_from kind owner (at + 1) (n + 1) ds)
-          → hits_from kind intent need_default owner n ds ≡ all_found (members_from kind owner (at + 1) n ds)
-          → cond k (cond e (hit_of kind intent need_default owner n d intent.component intent.«package») [] ++ hits_from kind intent need_default owner (n + 1) ds) (hits_from kind intent need_default owner n ds)
+      by : (k e : Bool) → hits_from what owner (n + 1) ds ≡ all_found (members_from kind owner (at + 1) (n + 1) ds)
+          → hits_from what owner n ds ≡ all_found (members_from kind owner (at + 1) n ds)
+          → cond k (cond e (hit_of what owner n d intent.component) [] ++ hits_from what owner (n + 1) ds) (hits_from what owner n ds)
           ≡ all_found (cond k (cond e (record { owner = owner; position = at; place = n; decl = d } ∷ members_from kind owner (at + 1) (n + 1) ds) (members_from kind owner (at + 1) (n + 1) ds)) (members_from kind owner (at + 1) n ds))
-      by true true p q = ap (λ l. hit_of kind intent need_default owner n d intent.component intent.«package» ++ l) p
+      by true true p q = ap (λ l. hit_of what owner n d intent.component ++ l) p
       by true false p q = p
       by false e p q = q
 
   -- the candidates are what the intent finds of the components
-  candidates_found : (packages : List Package) → candidates packages kind intent need_default ≡ all_found (members kind packages)
+  candidates_found : (packages : List Package) → hits_in what packages ≡ all_found (members kind packages)
   candidates_found [] = refl
   candidates_found (p ∷ ps) =
-      ap (λ l. l ++ candidates ps kind intent need_default) (from_hits p 0 0 p.decls)
+      ap (λ l. l ++ hits_in what ps) (from_hits p 0 0 p.decls)
       ∙ ap (λ l. all_found (members_from kind p 0 0 p.decls) ++ l) (candidates_found ps)
       ∙ sym (all_found-append (members_from kind p 0 0 p.decls) (members kind ps))
 
+  -- the intent seeks the component where it names its component, or its package or none
+  abbrev seeks : Option Component → Member → Bool
+  seeks c m = sought_by c intent.«package» intent.action intent.uri intent.mime m
+
   -- a component that the intent seeks is found with the priority that its filters give
-  seen : (m : Member) (c : Option Component) (l : Option (List ℕ)) → sought_by c l intent.action intent.uri intent.mime m ≡ true
-      → hit_at m.owner m.place m.decl (priority_found c kind intent need_default m.decl) ≡ hit_of kind intent need_default m.owner m.place m.decl c l
-  seen m (Some c) l h = sym (ap (λ b. cond b (hit_at m.owner m.place m.decl (Some (pos 0))) []) h)
-  seen m None (Some name) h =
-      sym (ap (λ b. cond b (implicit_hit kind intent need_default m.owner m.place m.decl) [])
-      (both (is_same name m.owner.name) (list_any (asked_of intent) m.decl.filters) h).0)
-  seen m None None h = refl
+  seen : (m : Member) (c : Option Component) → seeks c m ≡ true
+      → hit_at m.owner m.place m.decl (priority_found c kind intent need_default m.decl) ≡ hit_of what m.owner m.place m.decl c
+  seen m (Some c) h = sym (ap (λ b. cond b (hit_at m.owner m.place m.decl (Some (pos 0))) []) h)
+  seen m None h =
+      sym (ap (λ b. cond b (implicit_hit what m.owner m.place m.decl) [])
+      (package_asked intent.«package» m.owner ∙ (both (is_for intent.«package» m.owner.name) (list_any (asked_of intent) m.decl.filters) h).0))
 
   -- nothing is found of another
-  unseen_implicit : (m : Member) → list_any (asked_of intent) m.decl.filters ≡ false → implicit_hit kind intent need_default m.owner m.place m.decl ≡ []
+  unseen_implicit : (m : Member) → list_any (asked_of intent) m.decl.filters ≡ false → implicit_hit what m.owner m.place m.decl ≡ []
   unseen_implicit m h = ap (hit_at m.owner m.place m.decl) (no_priority kind intent need_default m.decl.filters h)
 
-  unseen : (m : Member) (c : Option Component) (l : Option (List ℕ)) → sought_by c l intent.action intent.uri intent.mime m ≡ false
-      → hit_of kind intent need_default m.owner m.place m.decl c l ≡ []
-  unseen m (Some c) l h = ap (λ b. cond b (hit_at m.owner m.place m.decl (Some (pos 0))) []) h
-  unseen m None (Some name) h = by (is_same name m.owner.name) h
+  unseen : (m : Member) (c : Option Component) → seeks c m ≡ false → hit_of what m.owner m.place m.decl c ≡ []
+  unseen m (Some c) h = ap (λ b. cond b (hit_at m.owner m.place m.decl (Some (pos 0))) []) h
+  unseen m None h =
+      ap (λ b. cond b (implicit_hit what m.owner m.place m.decl) []) (package_asked intent.«package» m.owner)
+      ∙ by (is_for intent.«package» m.owner.name) h
     where
-      by : (b : Bool) → (b && list_any (asked_of intent) m.decl.filters) ≡ false → cond b (implicit_hit kind intent need_default m.owner m.place m.decl) [] ≡ []
+      by : (b : Bool) → (b && list_any (asked_of intent) m.decl.filters) ≡ false → cond b (implicit_hit what m.owner m.place m.decl) [] ≡ []
       by true h = unseen_implicit m h
       by false h = refl
-  unseen m None None h = unseen_implicit m h
 
   module _ (packages : List Package) where
     -- what stands at the spot of a component
@@ -324,9 +334,9 @@ module _ (kind : Kind) (intent : Intent) (need_default : Bool) where
         by : (b : Bool) → sought intent m ≡ b → hits_of_spots packages kind intent need_default (spots_where (sought intent) ms) ≡ all_found ms
             → hits_of_spots packages kind intent need_default (cond b (spot_of m ∷ spots_where (sought intent) ms) (spots_where (sought intent) ms)) ≡ found_of m ++ all_found ms
         by true e rest =
-            ap (λ l. l ++ hits_of_spots packages kind intent need_default (spots_where (sought intent) ms)) (at_spot m there.0 ∙ seen m intent.component intent.«package» e)
+            ap (λ l. l ++ hits_of_spots packages kind intent need_default (spots_where (sought intent) ms)) (at_spot m there.0 ∙ seen m intent.component e)
             ∙ ap (λ l. found_of m ++ l) rest
-        by false e rest = rest ∙ sym (ap (λ l. l ++ all_found ms) (unseen m intent.component intent.«package» e))
+        by false e rest = rest ∙ sym (ap (λ l. l ++ all_found ms) (unseen m intent.component e))
 
   -- the tests at the spot of a component are at most those of its filters in the group
   cost_at : (packages : List Package) (m : Member) → Located packages m → cost_of_spot packages intent (spot_of m) ≤ count_by (in_group intent) m.decl.filters
@@ -360,7 +370,7 @@ module _ (kind : Kind) (intent : Intent) (need_default : Bool) where
         intent.component intent.«package» intent.action intent.uri intent.mime
 
     -- what is found there are the candidates
-    pub finds_candidates : hits_of_spots packages kind intent need_default (spots_for index.lists kind intent) ≡ candidates packages kind intent need_default
+    pub finds_candidates : hits_of_spots packages kind intent need_default (spots_for index.lists kind intent) ≡ candidates.candidates packages kind intent need_default
     finds_candidates =
         ap (hits_of_spots packages kind intent need_default) listed
         ∙ walked packages (members kind packages) (members_located kind packages (rises packages stands.rising))

@@ -13,7 +13,7 @@ use Rattle.am_index.specs.declared.key.Spot.{Spot}
 use Rattle.am_index.specs.Keys.{same_key}
 use Rattle.am_index.specs.Lists.{spots_in}
 use Rattle.am_index.specs.Members.{spots_without}
-use Rattle.am_index.specs.Same.{same_key_equiv}
+use Rattle.am_index.proofs.Same.{same_key_equiv}
 
 -- a list of which nothing is left is empty
 nothing : (spots : List Spot) → not (is_empty spots) ≡ false → spots ≡ []

@@ -8,4 +8,5 @@ pub mod Order
 pub mod Ordered
 pub mod Passing
 pub mod Priorities
+pub mod Same
 pub mod Stands

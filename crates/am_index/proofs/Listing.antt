@@ -15,7 +15,7 @@ use Rattle.am_index.specs.declared.key.Key.{Key}
 use Rattle.am_index.specs.declared.key.Spot.{Spot}
 use Rattle.am_index.specs.Lists.{spots_at, noted, asks_for}
 use Rattle.am_index.specs.Members.{Member, members_from, spot_of, spots_where}
-use Rattle.am_index.specs.Same.{is_kind-equal}
+use Rattle.am_index.proofs.Same.{is_kind-equal, sought_either_way}
 use Rattle.am_model.specs.Texts.{is_same, lists}
 use Rattle.am_model.specs.Filters.{is_empty}
 use Rattle.am_index.specs.declared.key.Group.{Group}
@@ -67,7 +67,7 @@ types_are (Action x) (t ∷ ts) = any-map (Action x) type_group (t ∷ ts) ∙ n
 types_are (Scheme x) (t ∷ ts) = any-map (Scheme x) type_group (t ∷ ts) ∙ none (t ∷ ts)
 types_are Bare (t ∷ ts) = any-map Bare type_group (t ∷ ts) ∙ none (t ∷ ts)
 types_are Typed (t ∷ ts) = refl
-types_are (Main x) (t ∷ ts) = any-map (Main x) type_group (t ∷ ts)
+types_are (Main x) (t ∷ ts) = any-map (Main x) type_group (t ∷ ts) ∙ sought_either_way (λ (m : Mime). m.main) x (t ∷ ts)
 
 -- and only of a filter without schemes
 data_are : (group : Group) (s : Bool) (types : List Mime) → list_any (same_group group) (cond s (groups_of_types types) []) ≡ (s && in_types group types)
@@ -93,8 +93,8 @@ filter_is group filter =
 
     by : (g : Group) → ((list_any (λ t. same_group g (Action t)) filter.actions || list_any (λ t. same_group g (Scheme t)) filter.schemes) || (is_empty filter.schemes && in_types g filter.types)) ≡ in_filter g filter
     by (Class x) = no_data _ ∙ ap (λ (b : Bool). b || list_any (λ _. false) filter.schemes) (none filter.actions) ∙ none filter.schemes
-    by (Action x) = no_data _ ∙ ap (λ (b : Bool). lists filter.actions x || b) (none filter.schemes) ∙ or_false _
-    by (Scheme x) = no_data _ ∙ ap (λ (b : Bool). b || lists filter.schemes x) (none filter.actions)
+    by (Action x) = no_data _ ∙ ap (λ (b : Bool). list_any (λ t. is_same x t) filter.actions || b) (none filter.schemes) ∙ or_false _ ∙ sought_either_way (λ t. t) x filter.actions
+    by (Scheme x) = no_data _ ∙ ap (λ (b : Bool). b || list_any (λ t. is_same x t) filter.schemes) (none filter.actions) ∙ sought_either_way (λ t. t) x filter.schemes
     by Bare = data_alone (is_bare filter)
     by Typed = data_alone (is_typed filter)
     by (Main x) = data_alone (has_main x filter)

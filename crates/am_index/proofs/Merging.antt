@@ -5,7 +5,7 @@ use Rattle.std.proofs.lemmas.Bool.{ltb-true, eqb-true}
 use Rattle.am_index.specs.declared.key.Spot.{Spot}
 use Rattle.am_index.specs.Lookups.{stands_before, same_spot, spots_before, spots_after, without_first, merged}
 use Rattle.am_index.specs.Members.{Member, spot_of, spots_where}
-use Rattle.am_index.specs.Same.{both}
+use Rattle.am_index.proofs.Same.{both}
 use Rattle.am_index.proofs.Ordered.{Before, InOrder}
 
 -- one spot stands before another, as numbers say it

@@ -13,10 +13,10 @@ use Rattle.std.proofs.lemmas.List.Elements.{filter-append}
 use Rattle.std.proofs.lemmas.Bool.{false≢true}
 use Rattle.am_index.specs.declared.key.Key.{Key}
 use Rattle.am_index.specs.declared.key.Spot.{Spot}
-use Rattle.am_index.specs.Keys.{same_key, same_group, same_owner, is_for}
+use Rattle.am_index.specs.Keys.{same_key, same_group, is_for}
 use Rattle.am_index.specs.Lists.{spots_in, spots_at, noted, asks_for}
 use Rattle.am_index.specs.Members.{spots_without}
-use Rattle.am_index.specs.Same.{same_key-Decides, same_key_equiv, same_group_equiv}
+use Rattle.am_index.proofs.Same.{same_key-Decides, same_key_equiv, same_group_equiv, same_owner, same_parts}
 
 -- the spots of a choice are a choice of spots
 spots_in-cond : (b : Bool) (w : Vec Spot Global) (o : Option (Vec Spot Global)) → spots_in (cond b (Some w) o) ≡ cond b w.items (spots_in o)
@@ -103,7 +103,9 @@ pub both_noted : {S X E : Type 0} (m n o : HashMap Key (Vec Spot Global) S) (kin
 both_noted m n o kind owner name group first second spot f a s every (Err e) own = tt
 both_noted m n o kind owner name group first second spot f a s every (Ok x) own = λ k.
     own k
-    ∙ ap (λ l. noted (is_kind k.kind kind && (same_owner k.owner (Some name) && same_group k.group second)) spot l) (every k)
+    ∙ ap (λ b. noted b spot (spots_at n k)) (same_parts k (record { kind = kind; owner = Some name; group = second }))
+    ∙ ap (λ l. noted (is_kind k.kind kind && (same_owner k.owner (Some name) && same_group k.group second)) spot l)
+    (every k ∙ ap (λ b. noted b spot (spots_at m k)) (same_parts k (record { kind = kind; owner = None; group = first })))
     ∙ (λ i. noted (is_kind k.kind kind && (same_owner k.owner (Some (a i)) && same_group k.group (s i))) spot (noted (is_kind k.kind kind && (same_owner k.owner None && same_group k.group (f i))) spot (spots_at m k)))
     ∙ noted_group (is_kind k.kind kind) (same_group k.group group) k.owner owner spot (spots_at m k)
 

@@ -1,41 +1,25 @@
 -- Under what components are listed: a kind, one package or every one, and what they are or their filters list.
-use Rattle.std.specs.Prelude.{ℕ, Bool, true, false, not, ◌&&◌, List, [], ◌∷◌, ◌++◌, map, Option, Some, None, if◌then◌else◌}
+use Rattle.std.specs.Prelude.{ℕ, Bool, true, not, ◌&&◌, List, [], ◌∷◌, ◌++◌, map, Option, Some, None, if◌then◌else◌}
 use Rattle.std.specs.List.{list_any}
 use Rattle.am_types.specs.declared.device.Package.{Package}
 use Rattle.am_types.specs.declared.filter.Filter.{Filter}
-use Rattle.std.specs.Hash as fed
-use Rattle.std.specs.Hash.{HashWrites}
 use Rattle.am_types.specs.declared.manifest.Decl.{Decl}
-use Rattle.am_types.specs.declared.manifest.Kind.{Kind}
-use Rattle.am_types.specs.declared.manifest.Kind.TheVariants.{Activity, Service, Receiver}
 use Rattle.am_types.specs.declared.uri.Mime.{Mime}
 use Rattle.am_model.specs.Texts.{is_same, lists}
 use Rattle.am_model.specs.Filters.{is_empty}
-use Rattle.am_model.specs.Candidates.{is_kind}
 use Rattle.am_index.specs.declared.key.Group.{Group}
 use Rattle.am_index.specs.declared.key.Group.TheVariants.{Class, Action, Scheme, Bare, Typed, Main}
 use Rattle.am_index.specs.declared.key.Key.{Key}
+use Rattle.am_index.specs.contracts.key.GroupPartialEq.TheImpl as groups
+use Rattle.am_index.specs.contracts.key.KeyPartialEq.TheImpl as keys
 
--- two groups are the same
+-- two groups are the same: of one kind, with the same text if it has one
 abbrev pub same_group : Group → Group → Bool
-same_group (Class asked) (Class listed) = is_same asked listed
-same_group (Action asked) (Action listed) = is_same listed asked
-same_group (Scheme asked) (Scheme listed) = is_same listed asked
-same_group Bare Bare = true
-same_group Typed Typed = true
-same_group (Main asked) (Main listed) = is_same listed asked
-same_group _ _ = false
+same_group = groups.ghosts.eq
 
--- two packages, or every one, are the same
-abbrev pub same_owner : Option (List ℕ) → Option (List ℕ) → Bool
-same_owner None None = true
-same_owner (Some asked) (Some listed) = is_same asked listed
-same_owner _ _ = false
-
--- two keys are the same
+-- two keys are the same: of the same kind, package and group
 abbrev pub same_key : Key → Key → Bool
-same_key asked listed =
-    is_kind asked.kind listed.kind && (same_owner asked.owner listed.owner && same_group asked.group listed.group)
+same_key = keys.ghosts.eq
 
 -- that package is asked for, or every one is
 abbrev pub is_for : Option (List ℕ) → List ℕ → Bool
@@ -96,27 +80,3 @@ groups_of_filters (first ∷ others) = groups_of_filter first ++ groups_of_filte
 -- for what a component is listed, repeats included
 abbrev pub groups_of : Decl → List Group
 groups_of decl = Class decl.class ∷ groups_of_filters decl.filters
-
--- what a kind feeds a hasher
-abbrev pub kind_writes : Kind → HashWrites
-kind_writes Activity = fed.u8 0
-kind_writes Service = fed.u8 1
-kind_writes Receiver = fed.u8 2
-
--- what a package, or every one, feeds a hasher
-abbrev pub owner_writes : Option (List ℕ) → HashWrites
-owner_writes None = fed.u8 0
-owner_writes (Some name) = fed.str name
-
--- what a group feeds a hasher
-abbrev pub group_writes : Group → HashWrites
-group_writes (Class class) = fed.str class
-group_writes (Action action) = fed.str action
-group_writes (Scheme scheme) = fed.str scheme
-group_writes Bare = fed.u8 1
-group_writes Typed = fed.u8 2
-group_writes (Main main) = fed.str main
-
--- what a key feeds a hasher
-abbrev pub key_writes : Key → HashWrites
-key_writes key = kind_writes key.kind ++ (owner_writes key.owner ++ group_writes key.group)

@@ -2,6 +2,5 @@ pub mod Groups
 pub mod Keys
 pub mod Lookups
 pub mod Members
-pub mod Same
 pub mod Lists
 pub mod Standing

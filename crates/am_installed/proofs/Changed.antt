@@ -1,5 +1,5 @@
 -- Packages stay distinct when one is taken out, or stopped.
-use Rattle.std.proofs.Common.{◌≡◌, ℕ, Bool, true, false, not, cond, eqb, List, [], ◌∷◌, refl, ap, subst, sym, arith}
+use Rattle.std.proofs.Common.{◌≡◌, ℕ, Bool, true, false, not, cond, eqb, List, [], ◌∷◌, refl, ap, subst, sym}
 use Rattle.std.specs.List.{AllByRecursion, IsDistinct}
 use Rattle.am_types.specs.declared.device.Package.{Package}
 use Rattle.am_model.specs.Boards.{with_stopped, without_package}
@@ -69,13 +69,4 @@ installed_stopped ps uid stopped installed = record {
   rising = subst (λ (l : List ℕ). IsStrictlyIncreasing l) (sym (uids_stopped ps uid stopped)) installed.rising;
   names = subst AreDistinct (sym (names_stopped ps uid stopped)) installed.names;
   each = All-from_recursion IsInstalled (with_stopped ps uid stopped) (each_stopped ps uid stopped (recursion_from_All IsInstalled ps installed.each));
-}
-
--- no package is installed
-pub installed_none : AreInstalled []
-unfolding IsDistinct
-installed_none = record {
-  rising = λ k h. absurd (omega (arith, h));
-  names = tt;
-  each = All-from_recursion IsInstalled [] tt;
 }

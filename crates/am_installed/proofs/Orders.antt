@@ -1,23 +1,22 @@
--- Grants, links and registered receivers stay in order, and each stands once, whatever changes.
-use Rattle.std.proofs.Common.{◌≡◌, ℕ, ◌<◌, ◌≤◌, ◌==◌, arith, Bool, true, false, not, ◌&&◌, ◌||◌, cond, ltb, eqb, List, [], ◌∷◌, filter, map, refl, sym, ap, ◌∙◌, subst}
+-- Grants, links and registered receivers stay in order whatever changes.
+use Rattle.std.proofs.Common.{◌≡◌, ℕ, ◌<◌, ◌≤◌, arith, Bool, true, false, not, ◌&&◌, ◌||◌, cond, ltb, eqb, List, [], ◌∷◌, filter, refl, sym, ap, ◌∙◌, subst, Result, Ok, Err}
 use Rattle.std.specs.Cmp.{IsTotalOrder, nat_cmp_total, on_total, then_total}
 use Rattle.std.specs.Cmp.Lexicographic.{nat_list_cmp_total, nat_list_eq_equiv, slice_cmp}
-use Rattle.std.specs.List.{AllByRecursion, list_any}
+use Rattle.std.specs.List.{AllByRecursion}
 use Rattle.std.specs.List.Sorted.{IsStrictlySortedBy}
 use Rattle.std.specs.Ordering.{nat_cmp, is_lt, ordering_reverse, ordering_then}
 use Rattle.std.specs.declared.cmp.Ordering.{Ordering}
 use Rattle.std.specs.declared.cmp.Ordering.TheVariants.{Less, Equal, Greater}
 use Rattle.std.proofs.lemmas.Bool.{false≢true, eq-eqb, ltb-true, ltb-false}
 use Rattle.std.proofs.lemmas.Map.Lookups.{exact_bytes, exact_unsigned}
-use Rattle.std.proofs.lemmas.List.Kept.{IsStrictlySortedBy-filter}
 use Rattle.am_types.specs.declared.device.Grant.{Grant}
 use Rattle.am_types.specs.declared.device.Link.{Link}
 use Rattle.am_types.specs.declared.resolve.Registration.{Registration}
-use Rattle.std.specs.Prelude.{nat_lt}
+use Rattle.std.specs.Prelude.{nat_lt, OnOk, OnErr}
 use Rattle.am_installed.specs.Places.{AreByNumber, place_registered}
 use Rattle.am_model.specs.Boards.{is_grant, is_granted, is_link, is_linked, place_grant, place_link, stands_before, with_grant, with_link}
 use Rattle.am_model.specs.Sound.{right_cmp, rights_approved, rights_granted}
-use Rattle.am_model.specs.Texts.{is_before, is_same}
+use Rattle.am_model.specs.Texts.{is_same}
 
 abbrev Right : Type 0
 Right = ℕ × List ℕ
@@ -143,44 +142,46 @@ links_placed k (f ∷ ls) = by (stands_before k.uid k.host f.uid f.host) (links_
     by false h = ap (λ (l : List Right). (f.uid, f.host) ∷ l) h
 
 -- what holds of the rights of all holds of those of fewer
-fewer_grants : (P : Right → Type 0) (p : Grant → Bool) (gs : List Grant) → AllByRecursion P (rights_granted gs) → AllByRecursion P (rights_granted (filter p gs))
-fewer_grants P p [] a = tt
-fewer_grants P p (g ∷ gs) a = by (p g) (fewer_grants P p gs a.1)
+left_grants : (P : Right → Type 0) (p : Grant → Bool) (gs : List Grant) → AllByRecursion P (rights_granted gs) → AllByRecursion P (rights_granted (filter p gs))
+left_grants P p [] a = tt
+left_grants P p (g ∷ gs) a = by (p g) (left_grants P p gs a.1)
   where
     by : (b : Bool) → AllByRecursion P (rights_granted (filter p gs)) → AllByRecursion P (rights_granted (cond b (g ∷ filter p gs) (filter p gs)))
     by true h = (a.0, h)
     by false h = h
 
-sorted_grants : (p : Grant → Bool) (gs : List Grant) → IsStrictlySortedBy right_cmp (rights_granted gs) → IsStrictlySortedBy right_cmp (rights_granted (filter p gs))
+-- grants stay in order when some go
+pub fewer_grants : (p : Grant → Bool) (gs : List Grant) → IsStrictlySortedBy right_cmp (rights_granted gs) → IsStrictlySortedBy right_cmp (rights_granted (filter p gs))
 unfolding IsStrictlySortedBy
-sorted_grants p [] s = tt
-sorted_grants p (g ∷ gs) s = by (p g) (sorted_grants p gs s.1)
+fewer_grants p [] s = tt
+fewer_grants p (g ∷ gs) s = by (p g) (fewer_grants p gs s.1)
   where
     by : (b : Bool) → IsStrictlySortedBy right_cmp (rights_granted (filter p gs)) → IsStrictlySortedBy right_cmp (rights_granted (cond b (g ∷ filter p gs) (filter p gs)))
-    by true h = (fewer_grants (λ (r : Right). right_cmp (g.uid, g.permission) r ≡ Less) p gs s.0, h)
+    by true h = (left_grants (λ (r : Right). right_cmp (g.uid, g.permission) r ≡ Less) p gs s.0, h)
     by false h = h
 
-fewer_links : (P : Right → Type 0) (p : Link → Bool) (ls : List Link) → AllByRecursion P (rights_approved ls) → AllByRecursion P (rights_approved (filter p ls))
-fewer_links P p [] a = tt
-fewer_links P p (l ∷ ls) a = by (p l) (fewer_links P p ls a.1)
+left_links : (P : Right → Type 0) (p : Link → Bool) (ls : List Link) → AllByRecursion P (rights_approved ls) → AllByRecursion P (rights_approved (filter p ls))
+left_links P p [] a = tt
+left_links P p (l ∷ ls) a = by (p l) (left_links P p ls a.1)
   where
     by : (b : Bool) → AllByRecursion P (rights_approved (filter p ls)) → AllByRecursion P (rights_approved (cond b (l ∷ filter p ls) (filter p ls)))
     by true h = (a.0, h)
     by false h = h
 
-sorted_links : (p : Link → Bool) (ls : List Link) → IsStrictlySortedBy right_cmp (rights_approved ls) → IsStrictlySortedBy right_cmp (rights_approved (filter p ls))
+-- links stay in order when some go
+pub fewer_links : (p : Link → Bool) (ls : List Link) → IsStrictlySortedBy right_cmp (rights_approved ls) → IsStrictlySortedBy right_cmp (rights_approved (filter p ls))
 unfolding IsStrictlySortedBy
-sorted_links p [] s = tt
-sorted_links p (l ∷ ls) s = by (p l) (sorted_links p ls s.1)
+fewer_links p [] s = tt
+fewer_links p (l ∷ ls) s = by (p l) (fewer_links p ls s.1)
   where
     by : (b : Bool) → IsStrictlySortedBy right_cmp (rights_approved (filter p ls)) → IsStrictlySortedBy right_cmp (rights_approved (cond b (l ∷ filter p ls) (filter p ls)))
-    by true h = (fewer_links (λ (r : Right). right_cmp (l.uid, l.host) r ≡ Less) p ls s.0, h)
+    by true h = (left_links (λ (r : Right). right_cmp (l.uid, l.host) r ≡ Less) p ls s.0, h)
     by false h = h
 
 -- grants stay in order when one is given or taken away
 pub grants_in_order : (grants : List Grant) (uid : ℕ) (permission : List ℕ) (held : Bool)
     → IsStrictlySortedBy right_cmp (rights_granted grants) → IsStrictlySortedBy right_cmp (rights_granted (with_grant grants uid permission held))
-grants_in_order grants uid permission false sorted = sorted_grants (λ (g : Grant). not (is_grant uid permission g)) grants sorted
+grants_in_order grants uid permission false sorted = fewer_grants (λ (g : Grant). not (is_grant uid permission g)) grants sorted
 grants_in_order grants uid permission true sorted = by (is_granted grants uid permission) refl
   where
     by : (b : Bool) → is_granted grants uid permission ≡ b
@@ -193,7 +194,7 @@ grants_in_order grants uid permission true sorted = by (is_granted grants uid pe
 -- and so do links
 pub links_in_order : (links : List Link) (uid : ℕ) (host : List ℕ) (approved : Bool)
     → IsStrictlySortedBy right_cmp (rights_approved links) → IsStrictlySortedBy right_cmp (rights_approved (with_link links uid host approved))
-links_in_order links uid host false sorted = sorted_links (λ (l : Link). not (is_link uid host l)) links sorted
+links_in_order links uid host false sorted = fewer_links (λ (l : Link). not (is_link uid host l)) links sorted
 links_in_order links uid host true sorted = by (is_linked links uid host) refl
   where
     by : (b : Bool) → is_linked links uid host ≡ b
@@ -203,53 +204,49 @@ links_in_order links uid host true sorted = by (is_linked links uid host) refl
         subst (λ (l : List Right). IsStrictlySortedBy right_cmp l) (links_placed (record { uid = uid; host = host }) links)
         (sorted_placed (uid, host) (rights_approved links) sorted (no_link uid host links e))
 
-below_all : (n m : ℕ) (rs : List Registration) → n < m → AllByRecursion (λ (s : Registration). m < s.number) rs → AllByRecursion (λ (s : Registration). n < s.number) rs
-below_all n m [] h a = tt
-below_all n m (s ∷ rs) h a = (let k : m < s.number = a.0 in omega (arith, h, k), below_all n m rs h a.1)
+no_less_all : (n m : ℕ) (rs : List Registration) → n ≤ m → AllByRecursion (λ (s : Registration). m ≤ s.number) rs → AllByRecursion (λ (s : Registration). n ≤ s.number) rs
+no_less_all n m [] h a = tt
+no_less_all n m (s ∷ rs) h a = (let k : m ≤ s.number = a.0 in omega (arith, h, k), no_less_all n m rs h a.1)
 
-below_placed : (n : ℕ) (r : Registration) (rs : List Registration) → n < r.number → AllByRecursion (λ (s : Registration). n < s.number) rs → AllByRecursion (λ (s : Registration). n < s.number) (place_registered r rs)
-below_placed n r [] h a = (h, tt)
-below_placed n r (s ∷ rs) h a = by (nat_lt r.number s.number) (below_placed n r rs h a.1)
+no_less_placed : (n : ℕ) (r : Registration) (rs : List Registration) → n ≤ r.number → AllByRecursion (λ (s : Registration). n ≤ s.number) rs → AllByRecursion (λ (s : Registration). n ≤ s.number) (place_registered r rs)
+no_less_placed n r [] h a = (h, tt)
+no_less_placed n r (s ∷ rs) h a = by (nat_lt r.number s.number) (no_less_placed n r rs h a.1)
   where
-    by : (b : Bool) → AllByRecursion (λ (s : Registration). n < s.number) (place_registered r rs)
-        → AllByRecursion (λ (s : Registration). n < s.number) (cond b (r ∷ s ∷ rs) (s ∷ place_registered r rs))
+    by : (b : Bool) → AllByRecursion (λ (s : Registration). n ≤ s.number) (place_registered r rs)
+        → AllByRecursion (λ (s : Registration). n ≤ s.number) (cond b (r ∷ s ∷ rs) (s ∷ place_registered r rs))
     by true rest = (h, a)
     by false rest = (a.0, rest)
 
-differ : (n m : ℕ) → n ≤ m → (n ≡ m → ⊥) → n < m
-differ n m h apart = by (ltb n m) refl
-  where
-    by : (b : Bool) → ltb n m ≡ b → n < m
-    by true e = ltb-true n m e
-    by false e = absurd (apart (let back : m ≤ n = ltb-false n m e in omega (arith, h, back)))
-
-fewer_below : (n : ℕ) (p : Registration → Bool) (rs : List Registration) → AllByRecursion (λ (s : Registration). n < s.number) rs → AllByRecursion (λ (s : Registration). n < s.number) (filter p rs)
-fewer_below n p [] a = tt
-fewer_below n p (s ∷ rs) a = by (p s) (fewer_below n p rs a.1)
-  where
-    by : (b : Bool) → AllByRecursion (λ (s : Registration). n < s.number) (filter p rs) → AllByRecursion (λ (s : Registration). n < s.number) (cond b (s ∷ filter p rs) (filter p rs))
-    by true h = (a.0, h)
-    by false h = h
-
--- registered receivers stay in order when one of a new number comes
-pub registered_in_order : (r : Registration) (rs : List Registration) → AllByRecursion (λ (s : Registration). s.number ≡ r.number → ⊥) rs → AreByNumber rs → AreByNumber (place_registered r rs)
-registered_in_order r [] new sorted = (tt, tt)
-registered_in_order r (s ∷ rs) new sorted = by (ltb r.number s.number) refl (registered_in_order r rs new.1 sorted.1)
+-- registered receivers stay in order when one comes
+pub registered_in_order : (r : Registration) (rs : List Registration) → AreByNumber rs → AreByNumber (place_registered r rs)
+registered_in_order r [] sorted = (tt, tt)
+registered_in_order r (s ∷ rs) sorted = by (ltb r.number s.number) refl (registered_in_order r rs sorted.1)
   where
     by : (b : Bool) → ltb r.number s.number ≡ b → AreByNumber (place_registered r rs) → AreByNumber (cond b (r ∷ s ∷ rs) (s ∷ place_registered r rs))
     by true e rest =
         let lower : r.number < s.number = ltb-true r.number s.number e in
-        ((lower, below_all r.number s.number rs lower sorted.0), sorted)
-    by false e rest =
-        let no_lower : s.number ≤ r.number = ltb-false r.number s.number e in
-        (below_placed s.number r rs (differ s.number r.number no_lower new.0) sorted.0, rest)
+        let no_greater : r.number ≤ s.number = omega (arith, lower) in
+        ((no_greater, no_less_all r.number s.number rs no_greater sorted.0), sorted)
+    by false e rest = (no_less_placed s.number r rs (ltb-false r.number s.number e) sorted.0, rest)
 
--- and when one goes
-pub registered_without : (number : ℕ) (rs : List Registration) → AreByNumber rs → AreByNumber (filter (λ (s : Registration). not (s.number == number)) rs)
-registered_without number [] sorted = tt
-registered_without number (s ∷ rs) sorted = by (not (s.number == number)) (registered_without number rs sorted.1)
+fewer_above : (n : ℕ) (p : Registration → Bool) (rs : List Registration) → AllByRecursion (λ (s : Registration). n ≤ s.number) rs → AllByRecursion (λ (s : Registration). n ≤ s.number) (filter p rs)
+fewer_above n p [] a = tt
+fewer_above n p (s ∷ rs) a = by (p s) (fewer_above n p rs a.1)
   where
-    by : (b : Bool) → AreByNumber (filter (λ (s : Registration). not (s.number == number)) rs)
-        → AreByNumber (cond b (s ∷ filter (λ (s : Registration). not (s.number == number)) rs) (filter (λ (s : Registration). not (s.number == number)) rs))
-    by true rest = (fewer_below s.number (λ (t : Registration). not (t.number == number)) rs sorted.0, rest)
+    by : (b : Bool) → AllByRecursion (λ (s : Registration). n ≤ s.number) (filter p rs) → AllByRecursion (λ (s : Registration). n ≤ s.number) (cond b (s ∷ filter p rs) (filter p rs))
+    by true h = (a.0, h)
+    by false h = h
+
+-- and when some go
+pub fewer_registered : (p : Registration → Bool) (rs : List Registration) → AreByNumber rs → AreByNumber (filter p rs)
+fewer_registered p [] sorted = tt
+fewer_registered p (s ∷ rs) sorted = by (p s) (fewer_registered p rs sorted.1)
+  where
+    by : (b : Bool) → AreByNumber (filter p rs) → AreByNumber (cond b (s ∷ filter p rs) (filter p rs))
+    by true rest = (fewer_above s.number p rs sorted.0, rest)
     by false rest = rest
+
+-- what holds of both outcomes of a change holds after it
+pub whatever : {T E X : Type 0} (P : X → Type 0) (r : Result T E) (old new changed : X) → OnOk r (new ≡ changed) → OnErr r (new ≡ old) → P old → P changed → P new
+whatever P (Ok x) old new changed ok err before after = subst P (sym ok) after
+whatever P (Err e) old new changed ok err before after = subst P (sym err) before

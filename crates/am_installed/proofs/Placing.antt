@@ -1,6 +1,9 @@
 -- Grants, links and registered receivers in their places.
-use Rattle.std.proofs.Common.{◌≡◌, ℕ, ◌+◌, ◌≤◌, Bool, true, false, cond, List, [], ◌∷◌, length, refl, ap, arith, suc, add-one}
-use Rattle.std.specs.Prelude.{nat_lt, insert}
+use Rattle.std.proofs.Common.{◌≡◌, ℕ, ◌+◌, ◌<◌, ◌≤◌, Bool, true, false, cond, ltb, List, [], ◌∷◌, ◌++◌, length, refl, ap, ◌∙◌, arith, suc, add-one}
+use Rattle.std.specs.Prelude.{nat_lt, insert, All}
+use Rattle.std.specs.List.{AllByRecursion}
+use Rattle.std.proofs.lemmas.Bool.{ltb-true}
+use Rattle.std.proofs.lemmas.List.Elements.{recursion_from_All}
 use Rattle.am_types.specs.declared.device.Grant.{Grant}
 use Rattle.am_types.specs.declared.device.Link.{Link}
 use Rattle.am_types.specs.declared.resolve.Registration.{Registration}
@@ -51,3 +54,15 @@ pub number_within : (number : ℕ) (rs : List Registration) → place_of_number 
 number_within number [] = omega arith
 number_within number (first ∷ others) =
     within_by (place_of_number number others) (length others) (nat_lt number first.number) (number_within number others)
+
+last_placed : (r : Registration) (rs : List Registration) → AllByRecursion (λ (s : Registration). s.number < r.number) rs → place_registered r rs ≡ rs ++ r ∷ []
+last_placed r [] a = refl
+last_placed r (s ∷ rs) a = ap (λ b. cond b (r ∷ s ∷ rs) (s ∷ place_registered r rs)) (by (ltb r.number s.number) refl) ∙ ap (λ l. s ∷ l) (last_placed r rs a.1)
+  where
+    by : (b : Bool) → ltb r.number s.number ≡ b → b ≡ false
+    by true e = absurd (let back : r.number < s.number = ltb-true r.number s.number e in let lower : s.number < r.number = a.0 in omega (arith, back, lower))
+    by false e = refl
+
+-- a registered receiver whose number is above all others stands behind them
+pub place_last : (r : Registration) (rs : List Registration) → All (λ (s : Registration). s.number < r.number) rs → place_registered r rs ≡ rs ++ r ∷ []
+place_last r rs above = last_placed r rs (recursion_from_All (λ (s : Registration). s.number < r.number) rs above)

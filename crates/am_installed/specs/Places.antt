@@ -1,5 +1,5 @@
 -- Where a grant, a link or a registered receiver belongs among others.
-use Rattle.std.specs.Prelude.{ℕ, ◌+◌, ◌<◌, nat_lt, List, [], ◌∷◌, if◌then◌else◌}
+use Rattle.std.specs.Prelude.{ℕ, ◌+◌, ◌≤◌, nat_lt, List, [], ◌∷◌, if◌then◌else◌}
 use Rattle.std.specs.List.{AllByRecursion}
 use Rattle.am_types.specs.declared.device.Grant.{Grant}
 use Rattle.am_types.specs.declared.device.Link.{Link}
@@ -29,7 +29,7 @@ place_registered r [] = r ∷ []
 place_registered r (first ∷ others) =
     if nat_lt r.number first.number then r ∷ first ∷ others else first ∷ place_registered r others
 
--- each number is below those behind it
+-- registered receivers by rising number: none stands behind one of a greater number
 abbrev pub AreByNumber : List Registration → Type 0
 AreByNumber [] = Unit {0}
-AreByNumber (first ∷ others) = AllByRecursion (λ (r : Registration). first.number < r.number) others × AreByNumber others
+AreByNumber (first ∷ others) = AllByRecursion (λ (r : Registration). first.number ≤ r.number) others × AreByNumber others

@@ -2,7 +2,7 @@
 ghost use Rattle.std.specs.Prelude.{◌≡◌, option_copied};
 ghost use Rattle.std.specs.Option.{option_map};
 ghost use Rattle.std.specs.List.Sorted.{IsStrictlyIncreasing};
-ghost use Rattle.am_model.specs.Boards.{package_at};
+ghost use Rattle.am_model.specs.Boards.{package_at, package_named};
 ghost use Rattle.am_model.specs.Receivers.{decl_in, declared};
 ghost use Rattle.am_model.specs.Sound.{uids_of};
 
@@ -19,6 +19,18 @@ pub fn package_at(packages: &List<Package>, uid: u32) -> Option<&Package>
         Ok(at) => Some(&packages[at]),
         Err(_) => None,
     }
+}
+
+/// The package of the name, if there is one. Takes no memory.
+pub(crate) fn package_named<'a>(packages: &'a List<Package>, name: &Text) -> Option<&'a Package>
+    ensures { option_copied result ≡ package_named packages.now name.now }
+{
+    for package in packages.as_slice() {
+        if package.name == *name {
+            return Some(package);
+        }
+    }
+    None
 }
 
 /// The enabled component of a kind that a package declares under a class, if there is one. Takes no

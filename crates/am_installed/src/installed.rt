@@ -2,10 +2,10 @@
 ghost use Rattle.std.specs.Prelude.{◌≡◌, ◌∷◌, ◌++◌, [], not, ◌==◌, false, filter, IfOk, IsOk, OnOk, OnErr, option_copied};
 ghost use Rattle.std.specs.Option.{option_map};
 ghost use Rattle.am_types.specs.declared.resolve.Registration.{Registration};
-ghost use Rattle.am_model.specs.Boards.{board_of, package_at, with_grant, with_link, with_stopped, without_package};
+ghost use Rattle.am_model.specs.Boards.{board_of, grants_without, links_without, package_at, package_named, registered_without, with_grant, with_link, with_stopped, without_package};
 ghost use Rattle.am_model.specs.Receivers.{declared};
-ghost use Rattle.am_installed.specs.Installed.{AreInstalled};
-ghost use Rattle.am_installed.specs.Places.{place_registered};
+ghost use Rattle.am_installed.specs.Installed.{AreGrantsInOrder, AreInstalled, AreLinksInOrder, IsInOrder};
+ghost use Rattle.am_installed.specs.Places.{AreByNumber, place_registered};
 
 use crate::{find, lists, rights};
 use am_types::{
@@ -30,7 +30,7 @@ pub struct Installed {
 
 impl Model for Installed {
     ghost use Rattle.am_model.specs.Boards.{Board};
-    ghost use Rattle.am_installed.specs.Installed.{AreInstalled};
+    ghost use Rattle.am_installed.specs.Installed.{IsInOrder};
 
     ghost Value = { Board };
 
@@ -44,13 +44,13 @@ impl Model for Installed {
       exempt = i.exempt;
     } };
 
-    ghost invariant = { λ i. AreInstalled i.packages };
+    ghost invariant = { λ i. IsInOrder (view i) };
 }
 
 impl Installed {
     /// What a device, such as a sound one, has before anything happened. Takes no memory.
     pub fn from_device(alloc: Global, device: Device) -> Self
-        requires { AreInstalled device.packages }
+        requires { IsInOrder (board_of device) }
         ensures { result ≡ board_of device }
     {
         let Device {
@@ -87,21 +87,24 @@ impl Installed {
 
     /// The grants in the order of uid, then permission by bytes. Takes no memory.
     pub fn grants(&self) -> &List<Grant>
-        ensures { result.now ≡ self.now.grants }
+        ensures grants { result.now ≡ self.now.grants }
+        ensures order { AreGrantsInOrder self.now.grants }
     {
         &self.grants
     }
 
     /// The links in the order of uid, then host by bytes. Takes no memory.
     pub fn links(&self) -> &List<Link>
-        ensures { result.now ≡ self.now.links }
+        ensures links { result.now ≡ self.now.links }
+        ensures order { AreLinksInOrder self.now.links }
     {
         &self.links
     }
 
     /// The registered receivers by rising number. Takes no memory.
     pub fn registered(&self) -> &List<Registration>
-        ensures { result.now ≡ self.now.registered }
+        ensures registered { result.now ≡ self.now.registered }
+        ensures order { AreByNumber self.now.registered }
     {
         &self.registered
     }
@@ -132,6 +135,13 @@ impl Installed {
         ensures { option_copied result ≡ package_at self.now.packages uid }
     {
         find::package_at(&self.packages, uid)
+    }
+
+    /// The package of the name, if there is one. Takes no memory.
+    pub fn package_named(&self, name: &Text) -> Option<&Package>
+        ensures { option_copied result ≡ package_named self.now.packages name.now }
+    {
+        find::package_named(&self.packages, name)
     }
 
     /// An enabled component of a kind with the uid of its package, if there is one. Takes no memory.
@@ -198,7 +208,19 @@ impl Installed {
         set
     }
 
-    /// Registers a receiver under a number. Without memory all is as before.
+    /// Takes the grants and the links of the uid out. Takes no memory.
+    pub fn drop_rights(&mut self, uid: u32)
+        ensures { self.new ≡ record self.old { grants = grants_without self.old.grants uid; links = links_without self.old.links uid } }
+    {
+        let mut grants = take(&mut self.grants, self.alloc);
+        let mut links = take(&mut self.links, self.alloc);
+        rights::drop_grants_of(&mut grants, uid);
+        rights::drop_links_of(&mut links, uid);
+        self.grants = List::new(grants);
+        self.links = List::new(links);
+    }
+
+    /// Registers a receiver, in its place by number. Without memory all is as before.
     pub fn register(&mut self, registration: Registration) -> Result<(), NoMemory>
         ensures registered { OnOk result (self.new ≡ record self.old { registered = place_registered registration self.old.registered }) }
         ensures same { OnErr result (self.new ≡ self.old) }
@@ -215,6 +237,15 @@ impl Installed {
     {
         let mut registered = take(&mut self.registered, self.alloc);
         lists::drop_registered(&mut registered, number);
+        self.registered = List::new(registered);
+    }
+
+    /// Takes the registered receivers of the uid out; the others stay in their order. Takes no memory.
+    pub fn unregister_uid(&mut self, uid: u32)
+        ensures { self.new ≡ record self.old { registered = registered_without self.old.registered uid } }
+    {
+        let mut registered = take(&mut self.registered, self.alloc);
+        lists::drop_registered_of(&mut registered, uid);
         self.registered = List::new(registered);
     }
 }

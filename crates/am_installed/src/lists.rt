@@ -1,6 +1,6 @@
 //! Packages and registered receivers as they come and go.
 ghost use Rattle.std.specs.Prelude.{◌≡◌, ◌∷◌, ◌++◌, [], not, ◌==◌, if◌then◌else◌, OnOk, OnErr, filter};
-ghost use Rattle.am_model.specs.Boards.{with_stopped, without_package};
+ghost use Rattle.am_model.specs.Boards.{registered_without, with_stopped, without_package};
 ghost use Rattle.am_installed.specs.Places.{place_of_number, place_registered};
 ghost use Rattle.am_types.specs.declared.resolve.Registration.{Registration};
 
@@ -81,4 +81,11 @@ pub(crate) fn drop_registered(registered: &mut Vec<Registration>, number: u64)
     ensures { registered.new.items ≡ filter (λ (r : Registration). not (r.number == number)) registered.old.items }
 {
     registered.retain(|registration| registration.number != number);
+}
+
+/// Takes the registered receivers of the uid out.
+pub(crate) fn drop_registered_of(registered: &mut Vec<Registration>, uid: u32)
+    ensures { registered.new.items ≡ registered_without registered.old.items uid }
+{
+    registered.retain(|registration| registration.uid != uid);
 }

@@ -1,6 +1,6 @@
 //! Grants and links, which stand by uid and then by the bytes of their text.
 ghost use Rattle.std.specs.Prelude.{◌≡◌, not, false, OnOk, OnErr, IsOk, filter};
-ghost use Rattle.am_model.specs.Boards.{is_grant, is_granted, is_link, is_linked, place_grant, place_link, stands_before, with_grant, with_link};
+ghost use Rattle.am_model.specs.Boards.{grants_without, is_grant, is_granted, is_link, is_linked, links_without, place_grant, place_link, stands_before, with_grant, with_link};
 ghost use Rattle.am_installed.specs.Places.{place_of_grant, place_of_link};
 
 use am_types::{Grant, Link, NoMemory, Text};
@@ -81,6 +81,13 @@ pub(crate) fn set_grant(
     put_grant(grants, uid, permission)
 }
 
+/// Takes the grants of the uid out.
+pub(crate) fn drop_grants_of(grants: &mut Vec<Grant>, uid: u32)
+    ensures { grants.new.items ≡ grants_without grants.old.items uid }
+{
+    grants.retain(|grant| grant.uid != uid);
+}
+
 /// The link is of that uid and host.
 fn is_link(uid: u32, host: &Text, link: &Link) -> bool
     ensures { result ≡ is_link uid host.now link.now }
@@ -148,4 +155,11 @@ pub(crate) fn set_link(
         return Ok(());
     }
     put_link(links, uid, host)
+}
+
+/// Takes the links of the uid out.
+pub(crate) fn drop_links_of(links: &mut Vec<Link>, uid: u32)
+    ensures { links.new.items ≡ links_without links.old.items uid }
+{
+    links.retain(|link| link.uid != uid);
 }

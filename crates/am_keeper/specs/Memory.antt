@@ -1,12 +1,9 @@
 -- A keeper and a store in memory.
-use Rattle.std.specs.Prelude.{◌≡◌, ℕ, Bool, ◌==◌, nat_eq, List, [], ◌∷◌, Option, Some, None, Result, Ok, Err, if◌then◌else◌, All}
-use Rattle.std.specs.List.{list_any, find}
-use Rattle.std.specs.Option.{unwrap_or, option_and_then, option_map_or}
-use Rattle.std.specs.Cmp.Lexicographic.{pointwise}
+use Rattle.std.specs.Prelude.{ℕ, Bool, ◌==◌, List, Option, Result, Ok, Err}
+use Rattle.std.specs.List.{list_any}
 use Rattle.am_keeper.specs.declared.failure.KeepFail.{KeepFail}
 use Rattle.am_keeper.specs.declared.failure.KeepFail.TheVariants.{Failed, NoMemory}
 use Rattle.am_keeper.specs.declared.rows.Rows.{Rows}
-use Rattle.am_keeper.specs.Rows.{IsInOrder, no_rows}
 use Rattle.am_keeper.specs.Keeping.{raised_by}
 
 -- what a keeper in memory holds: its rows and their place, the numbers of the calls that fail, and how many calls and faults there were

@@ -1,5 +1,5 @@
 //! A keeper, which puts rows, and a store, which hands keepers out and takes them back.
-ghost use Rattle.std.specs.Prelude.{◌≡◌, ◌↔◌, ◌⊎◌, ℕ, ◌≤◌, List as Items, Bool, Option, Some, None, IsTrue, IsNone, IfOk, OnErr, Err, OnOk};
+ghost use Rattle.std.specs.Prelude.{◌≡◌, ◌↔◌, ◌⊎◌, ℕ, ◌≤◌, List as Items, Bool, Option, Some, None, is_some, IsTrue, IfOk, OnErr, Err, OnOk};
 ghost use Rattle.std.specs.Option.{option_copied};
 ghost use Rattle.am_outside.specs.Counts.{HasRisen};
 ghost use Rattle.am_keeper.specs.declared.rows.Rows.{Rows as Told};
@@ -11,7 +11,7 @@ use am_types::Text;
 
 /// What puts rows into a store. A clause on rows says something where the store is honest: it has
 /// returned what was written into it.
-pub trait Keeper: Drop + Send {
+pub trait Keeper: Drop {
     /// Its rows, which it tells always or never.
     ghost rows: { Self → Option Told };
 
@@ -114,4 +114,7 @@ pub trait Store {
         ensures attached { IsTrue (tells self.old) → (at : Items ℕ) → has_attached self.new at ↔ has_attached self.old at }
         ensures failed_attaches { failed_attaches self.new ≡ failed_attaches self.old }
         ensures keepers { keeper_faults self.new ≡ raised_by (Self.Kept.faults keeper) (keeper_faults self.old) };
+
+    /// A store that tells its rows has honest keepers, which tell theirs.
+    ghost honest_where_told: { (store : Self) → IsTrue (tells store) → (keeper : Self.Kept) → Self.Kept.is_honest keeper × IsTrue (is_some (Self.Kept.rows keeper)) };
 }

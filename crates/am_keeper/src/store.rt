@@ -185,7 +185,7 @@ impl MemoryStore {
 }
 
 impl Store for MemoryStore {
-    ghost use Rattle.std.specs.Prelude.{IsTrue, true};
+    ghost use Rattle.std.specs.Prelude.{IsTrue, true, refl};
     ghost use Rattle.am_keeper.specs.Shelf.{rows_on, has_slot};
 
     type Kept = MemoryKeeper;
@@ -199,6 +199,8 @@ impl Store for MemoryStore {
     ghost failed_attaches = { λ s. s.failed_attaches };
 
     ghost keeper_faults = { λ s. s.keeper_faults };
+
+    ghost honest_where_told = { λ store tells keeper. (tt, refl) };
 
     fn attach(&mut self, path: Option<&Text>) -> Result<Attached<MemoryKeeper>, KeepFail>
         ensures exact { self.new ≡ after_attach self.old self.new.slots result }

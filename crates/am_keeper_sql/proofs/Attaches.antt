@@ -1,5 +1,5 @@
 -- What an open finds, and what a keeper over it holds true.
-use Rattle.std.proofs.Common.{◌≡◌, [], ◌∷◌, map, refl, sym, ap, subst, ◌∙◌}
+use Rattle.std.proofs.Common.{◌≡◌, [], ◌∷◌, map, Some, refl, sym, ap, subst, ◌∙◌}
 use Rattle.sqlite.specs.Effect.{Database}
 use Rattle.sqlite.specs.Store.{Ghosts}
 use Rattle.sqlite.specs.Held.{Held, state}
@@ -39,5 +39,5 @@ pub honest_in_memory : {F : Type 0} (g : Ghosts F) (database : Connected F) → 
 honest_in_memory g (Memory conn) h = record { in_memory = tt; honest = memory_is_honest conn }
 honest_in_memory g (File conn) h = absurd h
 
-pub told_none : (trees : Trees) → trees 0 ≡ [] → told_in trees ≡ no_rows
+pub told_none : (trees : Trees) → trees 0 ≡ [] → told_in trees ≡ Some no_rows
 told_none trees none = ap (λ rows. told_from no_rows (map values_of rows)) none

@@ -1,16 +1,17 @@
 -- What the calls of a keeper make of the rows that it tells.
 use Rattle.std.proofs.Common.{◌≡◌, Some, Result, Ok, Err, OnOk, OnErr, IfOk, sym, ap, subst, ◌∙◌}
 use Rattle.std.proofs.Math.Logic.{∥∥₁_elim, ∥∥₁_map}
-use Rattle.std.specs.Coded.{Coded-set}
+use Rattle.std.specs.Prelude.{IsSome, unwrap_or}
+use Rattle.std.specs.Coded.{Coded-set, coded_option}
 use Rattle.sqlite.specs.Effect.{Database}
 use Rattle.sqlite.specs.State.{State}
 use Rattle.am_keeper.specs.declared.failure.KeepFail.{KeepFail}
 use Rattle.am_keeper.specs.declared.rows.Row.{Row as Kept}
 use Rattle.am_keeper.specs.declared.rows.Rows.{Rows}
-use Rattle.am_keeper.specs.contracts.rows.Rows as rows
-use Rattle.am_keeper.specs.Rows.{with_row}
+use Rattle.am_keeper.specs.contracts.rows.Rows as rows_of
+use Rattle.am_keeper.specs.Rows.{no_rows, with_row}
 use Rattle.am_keeper.specs.Keeping.{Puts}
-use Rattle.am_keeper_sql.specs.Told.{shown_in, told_in, AllSay}
+use Rattle.am_keeper_sql.specs.Told.{told_in}
 use Rattle.am_keeper_sql.specs.Honest.{IsHonest, IsSettled, HoldsTable, Keeps, StaysSeen, told_by}
 
 -- what a keeper holds true of its database
@@ -18,14 +19,14 @@ abbrev pub HonestKeeps : State → Type 0
 HonestKeeps s = ∥ (IsHonest s → Keeps s) ∥₁
 
 pub keeps_seen : (old new : State) → Keeps old → StaysSeen old new → Keeps new
-keeps_seen old new k h = record { settled = h.settled; holds = subst HoldsTable (sym h.same) k.holds; all_say = subst (λ (db : Database). AllSay (shown_in db.trees)) (sym h.same) k.all_say }
+keeps_seen old new k h = record { settled = h.settled; holds = subst HoldsTable (sym h.same) k.holds; read = subst (λ (db : Database). IsSome (told_in db.trees)) (sym h.same) k.read }
 
 told_seen : (old new : State) → StaysSeen old new → told_by new ≡ told_by old
-told_seen old new h = ap (λ (db : Database). told_in db.trees) h.same
+told_seen old new h = ap (λ (db : Database). unwrap_or (told_in db.trees) no_rows) h.same
 
 -- two equal rows are so in one way, so what is kept may be used to show it
 rows_by : {old : State} (a b : Rows) → HonestKeeps old → IsHonest old → (Keeps old → a ≡ b) → a ≡ b
-rows_by a b keeps honest by = ∥∥₁_elim keeps (Coded-set rows.the_row.coded a b) (λ k. by (k honest))
+rows_by a b keeps honest by = ∥∥₁_elim keeps (Coded-set rows_of.the_row.coded a b) (λ k. by (k honest))
 
 module _ {X : Type 0} (old new : State) (row : Kept) (was : IsHonest new → IsHonest old) (keeps : HonestKeeps old) where
   module _ (r : Result X KeepFail) (put : IsHonest new → Keeps old → OnOk r (Keeps new × (told_by new ≡ with_row (told_by old) row)))
@@ -49,6 +50,9 @@ module _ (old new : State) (was : IsHonest new → IsHonest old) (keeps : Honest
   pub told_same : IsHonest new → told_by new ≡ told_by old
   told_same honest = rows_by (told_by new) (told_by old) keeps (was honest) (λ k. told_seen old new (seen honest k.settled k.holds))
 
-  pub told_rows : (r : Result Rows KeepFail) → (IsHonest new → HoldsTable old.now → IfOk r (λ rows. rows ≡ told_by old)) → IsHonest new → IfOk r (λ rows. rows ≡ told_by new)
-  told_rows (Ok rows) told honest = rows_by rows (told_by new) keeps (was honest) (λ k. told honest k.holds ∙ sym (told_seen old new (seen honest k.settled k.holds)))
+  pub told_rows : (r : Result Rows KeepFail) → (IsHonest new → HoldsTable old.now → IfOk r (λ rows. told_in old.now.trees ≡ Some rows)) → IsHonest new
+      → IfOk r (λ rows. told_in new.now.trees ≡ Some rows)
+  told_rows (Ok rows) told honest =
+      ∥∥₁_elim keeps (Coded-set (coded_option rows_of.the_row.coded) (told_in new.now.trees) (Some rows)) (λ k.
+      let it = k (was honest) in ap (λ (db : Database). told_in db.trees) (seen honest it.settled it.holds).same ∙ told honest it.holds)
   told_rows (Err e) told honest = tt

@@ -27,7 +27,8 @@ use Rattle.sqlite_catalog.proofs.AlterLemmas.{keys_are_unique}
 use Rattle.am_keeper.specs.declared.rows.Row.{Row as Kept}
 use Rattle.am_keeper.specs.declared.rows.Row.TheVariants.{Package, Grant, Link}
 use Rattle.am_keeper_sql.specs.Table.{kept, kept_schema, values_of}
-use Rattle.am_keeper_sql.specs.Told.{row_said, shown_in, AllSay}
+use Rattle.am_keeper_sql.specs.Told.{row_said, shown_in}
+use Rattle.am_keeper_sql.proofs.Said.{AllSay}
 use Rattle.am_keeper_sql.specs.Honest.{HoldsTable}
 use Rattle.am_keeper_sql.proofs.Rows.{key, key_of, key-said}
 use Rattle.am_keeper_sql.proofs.Permuted.{Apart, AreApart}

@@ -1,5 +1,7 @@
+mod Said
 mod Commutes
 mod Rows
+mod Values
 mod Permuted
 mod Places
 mod Keys
@@ -11,6 +13,10 @@ mod Rising
 mod Attaches
 mod Texts
 mod Found
+mod Failures
 pub mod Upserts
 pub mod Selects
 pub mod Reading
+mod Untold
+mod Begins
+mod Images

@@ -36,10 +36,11 @@ use Rattle.am_keeper.specs.declared.rows.Row.{Row as Kept}
 use Rattle.am_keeper.specs.declared.rows.Row.TheVariants.{Package, Grant, Link}
 use Rattle.am_keeper.specs.Rows.{no_rows, with_row}
 use Rattle.am_keeper_sql.specs.Table.{kept, kept_schema, values_of}
-use Rattle.am_keeper_sql.specs.Told.{values_for, row_said, with_said, told_from, told_in, shown_in, AllSay}
+use Rattle.am_keeper_sql.specs.Told.{values_for, row_said, shown_in}
+use Rattle.am_keeper_sql.proofs.Said.{AllSay, with_said, said_from, said_in, told_said, all_told}
 use Rattle.am_keeper_sql.specs.Honest.{HoldsTable, Keeps, told_by}
 use Rattle.am_keeper_sql.proofs.Rows.{key, key_of, key-said, key-values_for, values_for-said, with_row-tied}
-use Rattle.am_keeper_sql.proofs.Permuted.{Apart, AreApart, told_from-first, told_from-permuted, still_apart}
+use Rattle.am_keeper_sql.proofs.Permuted.{Apart, AreApart, said_from-first, said_from-permuted, still_apart}
 use Rattle.am_keeper_sql.proofs.Places.{placed, taken_out, one_met}
 use Rattle.am_keeper_sql.proofs.Keys.{places, some_is, agree_same, agree_key, says_at, keyed_at, rows_apart}
 use Rattle.am_keeper_sql.proofs.Texts.{updated, is_met, upsert_text}
@@ -85,7 +86,7 @@ module _ (db : Database) (holds : HoldsTable db) (says : AllSay (shown_in db.tre
 
   -- these are the rows of the table with the row put
   pub record IsPut (after : List Row) : Type 0 where
-    pub told : told_from no_rows (map values_of after) ≡ with_row (told_in db.trees) row
+    pub told : said_from no_rows (map values_of after) ≡ with_row (said_in db.trees) row
     pub rising : IsShaped shape.Table after
     pub all_say : AllSay (map values_of after)
 
@@ -93,8 +94,8 @@ module _ (db : Database) (holds : HoldsTable db) (says : AllSay (shown_in db.tre
   new_says n = subst (λ values. IsSome (row_said values)) (sym (values_of-given (Int n) row)) (subst IsSome (sym said) refl)
 
   -- told with a row of a key of its own before the others
-  told_before : (others : List Row) → AllByRecursion (Apart given) others → told_from no_rows (given ∷ others) ≡ with_row (told_from no_rows others) row
-  told_before others apart = told_from-first no_rows given others apart ∙ ap (with_said (told_from no_rows others)) said
+  told_before : (others : List Row) → AllByRecursion (Apart given) others → said_from no_rows (given ∷ others) ≡ with_row (said_from no_rows others) row
+  told_before others apart = said_from-first no_rows given others apart ∙ ap (with_said (said_from no_rows others)) said
 
   shown_with : (n : ℤ) (others after : List Row) → IsPermutation ((Int n ∷ given) ∷ others) after → IsPermutation (given ∷ map values_of others) (map values_of after)
   shown_with n others after same = subst (λ v. IsPermutation (v ∷ map values_of others) (map values_of after)) (values_of-given (Int n) row) (IsPermutation-map values_of _ _ same)
@@ -102,11 +103,11 @@ module _ (db : Database) (holds : HoldsTable db) (says : AllSay (shown_in db.tre
   -- the row goes beside others, none of which has its key
   put_beside : (n : ℤ) (others : List Row) → IsShaped shape.Table others → AllSay (map values_of others) → AllByRecursion (Apart given) (map values_of others) → AreApart (map values_of others)
       → is_taken others (Int n ∷ given) ≡ false
-      → (told_from no_rows (map values_of (put_row (Int n ∷ given) others)) ≡ with_row (told_from no_rows (map values_of others)) row)
+      → (said_from no_rows (map values_of (put_row (Int n ∷ given) others)) ≡ with_row (said_from no_rows (map values_of others)) row)
       × IsShaped shape.Table (put_row (Int n ∷ given) others) × AllSay (map values_of (put_row (Int n ∷ given) others))
   put_beside n others rising all apart among free =
       let same = shown_with n others _ (placed (Int n ∷ given) others free) in (
-        sym (told_from-permuted _ _ same (apart, among) no_rows) ∙ told_before (map values_of others) apart,
+        sym (said_from-permuted _ _ same (apart, among) no_rows) ∙ told_before (map values_of others) apart,
         IsShaped-put_row (Int n ∷ given) others refl rising,
         all-map (λ values. IsSome (row_said values)) values_of _ (all-put_row (λ r. IsSome (row_said (values_of r))) (Int n ∷ given) others (new_says n) (all_from_map (λ values. IsSome (row_said values)) values_of others all)),
       )
@@ -131,10 +132,10 @@ module _ (db : Database) (holds : HoldsTable db) (says : AllSay (shown_in db.tre
       let apart : AllByRecursion (Apart given) (map values_of others) = subst (λ k. AllByRecursion (λ y. k ≡ key y → ⊥) (map values_of others)) same among.0 in
       let all = all-map (λ values. IsSome (row_said values)) values_of others (all-filter _ _ (db.trees 0) (all_from_map (λ values. IsSome (row_said values)) values_of (db.trees 0) says)) in
       let it = put_beside n others (IsShaped-filter shape.Table _ (db.trees 0) holds.rising) all apart among.1 free in
-      let was : told_in db.trees ≡ with_row (told_from no_rows (map values_of others)) old.0 =
-      told_from-permuted _ _ moved (rows_apart db holds says) no_rows ∙ told_from-first no_rows (values_of r) (map values_of others) among.0 ∙ ap (with_said (told_from no_rows (map values_of others))) old.1 in
+      let was : said_in db.trees ≡ with_row (said_from no_rows (map values_of others)) old.0 =
+      said_from-permuted _ _ moved (rows_apart db holds says) no_rows ∙ said_from-first no_rows (values_of r) (map values_of others) among.0 ∙ ap (with_said (said_from no_rows (map values_of others))) old.1 in
       let keys : key_of old.0 ≡ key_of row = sym (key-said (values_of r) old.0 old.1) ∙ same ∙ key-values_for row in
-      let tied = sym (with_row-tied (told_from no_rows (map values_of others)) old.0 row keys) in
+      let tied = sym (with_row-tied (said_from no_rows (map values_of others)) old.0 row keys) in
       subst IsPut (sym is) (record { told = it.0 ∙ tied ∙ ap (λ rows. with_row rows row) (sym was); rising = it.1; all_say = it.2 })
 
 module _ (db : Database) (holds : HoldsTable db) (says : AllSay (shown_in db.trees)) (row : Kept) (said : row_said (values_for row) ≡ Some row)
@@ -204,5 +205,10 @@ upserted values row says old new (Ok count) keeps h =
     let same = values_for-said values row says in
     let said = ap row_said (sym same) ∙ says in
     let it = one_upsert s.0 s.1 s.2 s.3 s.4 s.5 s.6 old new count keeps.holds.schema keeps.settled (subst (λ xs. Executes upsert_text xs old new (Ok count)) (same ∙ s.7) h) in
-    let put = put_is old.now keeps.holds keeps.all_say row said s.0 s.1 s.2 s.3 s.4 s.5 s.6 s.7 new.now.trees it.3 in
-    (record { settled = it.0; holds = record { schema = it.1; sound = it.2; rising = put.rising }; all_say = put.all_say }, put.told)
+    let all = all_told no_rows (shown_in old.now.trees) keeps.read in
+    let put = put_is old.now keeps.holds all row said s.0 s.1 s.2 s.3 s.4 s.5 s.6 s.7 new.now.trees it.3 in
+    let was = told_said old.now.trees all in
+    let now = told_said new.now.trees put.all_say in (
+      record { settled = it.0; holds = record { schema = it.1; sound = it.2; rising = put.rising }; read = subst IsSome (sym now) refl },
+      rw (was, now) put.told,
+    )

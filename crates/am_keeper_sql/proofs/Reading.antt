@@ -1,6 +1,6 @@
 -- A selection that is read one row at a time.
 use Rattle.std.specs.Prelude.{IsSome}
-use Rattle.std.proofs.Common.{◌≡◌, inl, inr, List, [], ◌∷◌, ◌++◌, None, IsTrue, refl, sym, ap, subst, ◌∙◌}
+use Rattle.std.proofs.Common.{◌≡◌, inl, inr, List, [], ◌∷◌, ◌++◌, Some, None, IsTrue, refl, sym, ap, subst, ◌∙◌}
 use Rattle.std.specs.List.Sorted.{IsPermutation}
 use Rattle.sqlite.specs.Store.{Ghosts}
 use Rattle.sqlite.specs.Order.{Row}
@@ -13,14 +13,15 @@ use Rattle.sqlite.proofs.Callers.{begun_plain, unchanged_then}
 use Rattle.am_keeper.specs.declared.rows.Rows.{Rows}
 use Rattle.am_keeper.specs.Rows.{no_rows, with_row}
 use Rattle.am_keeper_sql.specs.Table.{kept_schema}
-use Rattle.am_keeper_sql.specs.Told.{row_said, with_said, told_from, told_in, shown_in, AllSay}
+use Rattle.am_keeper_sql.specs.Told.{row_said, shown_in, told_in}
+use Rattle.am_keeper_sql.proofs.Said.{AllSay, with_said, said_from}
 use Rattle.am_keeper_sql.specs.Honest.{HoldsTable, IsSettled, StaysSeen}
 use Rattle.am_keeper_sql.specs.Reading.{PutsNext}
 use Rattle.am_keeper_sql.proofs.Texts.{select_text, select_plain}
 use Rattle.am_keeper_sql.proofs.Seen.{shown_open, unchanged_seen}
 use Rattle.am_keeper_sql.proofs.Selects.{selects, told_shown}
 
-told_more : (rows : Rows) (given : List Row) (values : Row) → told_from rows (given ++ values ∷ []) ≡ with_said (told_from rows given) (row_said values)
+told_more : (rows : Rows) (given : List Row) (values : Row) → said_from rows (given ++ values ∷ []) ≡ with_said (said_from rows given) (row_said values)
 told_more rows [] values = refl
 told_more rows (first ∷ given) values = told_more (with_said rows (row_said first)) given values
 
@@ -34,7 +35,7 @@ module _ {S : Type 0} (g : Ghosts S) where
     pub given : List Row
     pub has : HasGiven g select_text [] new given
     pub same : IsUnchanged (state g old) (state g new)
-    pub told : told_from no_rows given ≡ rows
+    pub told : said_from no_rows given ≡ rows
     pub says : AllSay given
 
   pub begun_open : (old new : Held S) → HasBegun g select_text [] old new → IsTrue (state g old).is_open
@@ -54,7 +55,7 @@ module _ {S : Type 0} (g : Ghosts S) where
           given = read.given ++ next.values ∷ [];
           has = next.given select_text [] read.given read.has;
           same = unchanged_then _ _ _ read.same same;
-          told = told_more no_rows read.given next.values ∙ ap (λ o. with_said (told_from no_rows read.given) o) next.says ∙ ap (λ rows. with_row rows next.row) read.told ∙ sym next.put;
+          told = told_more no_rows read.given next.values ∙ ap (λ o. with_said (said_from no_rows read.given) o) next.says ∙ ap (λ rows. with_row rows next.row) read.told ∙ sym next.put;
           says = said_more read.given next.values read.says last;
         }
 
@@ -62,12 +63,11 @@ module _ {S : Type 0} (g : Ghosts S) where
     read_settled was = unchanged_seen (state g old) (state g mid) was read.same
 
     -- at the end of the selection the kept rows are those that the table tells
-    pub read_all : HoldsTable (state g old).now → Advances g mid new None → (was ≡ told_in (state g old).now.trees) × AllSay (shown_in (state g old).now.trees)
+    pub read_all : HoldsTable (state g old).now → Advances g mid new None → told_in (state g old).now.trees ≡ Some was
     read_all holds end =
         let db = (state g old).now in
         let shown : Shown select_text [] (state g mid) (state g new) read.given = end select_text [] read.given read.has in
         let same : (state g mid).now ≡ db = read.same.0.now_is in
         let of_mid : IsPermutation (shown_in (state g mid).now.trees) read.given = selects (state g mid) (state g new) read.given (ap (λ (d : Database). d.schema) same ∙ holds.schema) shown in
         let of_old : IsPermutation (shown_in db.trees) read.given = subst (λ (d : Database). IsPermutation (shown_in d.trees) read.given) same of_mid in
-        let told = told_shown db holds read.given of_old read.says in
-        (sym read.told ∙ told.0, told.1)
+        told_shown db holds read.given of_old read.says ∙ ap Some read.told

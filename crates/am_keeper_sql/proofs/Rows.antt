@@ -1,6 +1,8 @@
 -- Kept rows by their keys.
-use Rattle.std.proofs.Common.{◌≡◌, List, [], ◌∷◌, map, Option, Some, None, pos, refl, sym, ap, ◌∙◌}
+use Rattle.std.proofs.Common.{◌≡◌, inl, inr, List, [], ◌∷◌, map, Option, Some, None, pos, refl, sym, ap, ◌∙◌}
 use Rattle.std.specs.Prelude.{option_map}
+use Rattle.std.specs.Str.{is_utf8}
+use Rattle.std.proofs.lemmas.Bool.{cases_Bool}
 use Rattle.std.specs.declared.cmp.Ordering.TheVariants.{Equal}
 use Rattle.std.specs.Ordering.{nat_cmp}
 use Rattle.std.proofs.lemmas.Cmp.{tied_itself, nat_cmp_total}
@@ -44,15 +46,18 @@ value_of-cell_in : (v : Value) (c : Cell) → cell_in v ≡ Some c → value_of 
 value_of-cell_in Null c h = absurd (let e = h in cc)
 value_of-cell_in (Int n) c h = let same : Whole n ≡ c = (let e = h in cc) in ap value_of (sym same)
 value_of-cell_in (Real x) c h = absurd (let e = h in cc)
-value_of-cell_in (Text t) c h = let same : Words t ≡ c = (let e = h in cc) in ap value_of (sym same)
+value_of-cell_in (Text t) c h = elim (cases_Bool (is_utf8 t)) [
+  | inl fits ↦ let same : Words t ≡ c = (let e = rw fits at h in cc) in ap value_of (sym same)
+  | inr other ↦ absurd (let e = rw other at h in cc)
+]
 value_of-cell_in (Blob b) c h = absurd (let e = h in cc)
 
 -- a chain that gave something gave it through each step
-through : {A B : Type 0} (o : Option A) (f : A → Option B) (b : B) → (o >>= f) ≡ Some b → (a : A) × (o ≡ Some a) × (f a ≡ Some b)
+pub through : {A B : Type 0} (o : Option A) (f : A → Option B) (b : B) → (o >>= f) ≡ Some b → (a : A) × (o ≡ Some a) × (f a ≡ Some b)
 through None f b h = absurd (let e = h in cc)
 through (Some a) f b h = (a, refl, h)
 
-mapped : {A B : Type 0} (o : Option A) (f : A → B) (b : B) → option_map f o ≡ Some b → (a : A) × (o ≡ Some a) × (f a ≡ b)
+pub mapped : {A B : Type 0} (o : Option A) (f : A → B) (b : B) → option_map f o ≡ Some b → (a : A) × (o ≡ Some a) × (f a ≡ b)
 mapped None f b h = absurd (let e = h in cc)
 mapped (Some a) f b h = (a, refl, (let e = h in cc))
 
@@ -64,19 +69,14 @@ cells_in-are (v ∷ vs) cells h =
     let both : value_of first.0 ∷ map value_of rest.0 ≡ v ∷ vs = rw (value_of-cell_in v first.0 first.1, cells_in-are vs rest.0 rest.1) in
     ap (map value_of) (sym rest.2) ∙ both
 
-pub cells_in-values : (cells : List Cell) → cells_in (map value_of cells) ≡ Some cells
-cells_in-values [] = refl
-cells_in-values (Whole n ∷ cells) = rw (cells_in-values cells)
-cells_in-values (Words t ∷ cells) = rw (cells_in-values cells)
-
 -- values that say a kept row are its values
 pub values_for-said : (values : Row) (row : Kept) → row_said values ≡ Some row → values ≡ values_for row
 values_for-said values row h =
     let cells = through (cells_in values) row_in row h in
     sym (cells_in-are values cells.0 cells.1) ∙ ap (map value_of) (sym (cells_of-row_in cells.0 row cells.2))
 
-pub said-values : (values : Row) (cells : List Cell) → map value_of cells ≡ values → row_said values ≡ row_in cells
-said-values values cells h = ap row_said (sym h) ∙ ap (λ o. o >>= row_in) (cells_in-values cells)
+pub said-values : (values : Row) (cells : List Cell) → cells_in values ≡ Some cells → row_said values ≡ row_in cells
+said-values values cells h = ap (λ o. o >>= row_in) h
 
 pub key-said : (values : Row) (row : Kept) → row_said values ≡ Some row → key values ≡ key_of row
 key-said values row h = ap key (values_for-said values row h) ∙ key-values_for row
@@ -136,5 +136,5 @@ with_row-tied rows (Link x) (Package y) same = absurd (let e = same in cc)
 with_row-tied rows (Link x) (Grant y) same = absurd (let e = same in cc)
 
 -- what is read from the cells of values is what these say
-pub row_said_from : (values : Row) (cells : List Cell) (row : Kept) → map value_of cells ≡ values → row_in cells ≡ Some row → row_said values ≡ Some row
+pub row_said_from : (values : Row) (cells : List Cell) (row : Kept) → cells_in values ≡ Some cells → row_in cells ≡ Some row → row_said values ≡ Some row
 row_said_from values cells row h k = said-values values cells h ∙ k

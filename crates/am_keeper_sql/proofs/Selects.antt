@@ -1,5 +1,5 @@
 -- What the selection shows of the rows of the table.
-use Rattle.std.proofs.Common.{◌≡◌, List, [], ◌∷◌, map, refl, sym, ap, subst, ◌∙◌}
+use Rattle.std.proofs.Common.{◌≡◌, List, [], ◌∷◌, map, Some, refl, sym, ap, subst, ◌∙◌}
 use Rattle.std.specs.List.{flat_map}
 use Rattle.std.specs.List.Sorted.{IsPermutation}
 use Rattle.std.proofs.lemmas.List.Sorted.{IsPermutation-map, IsPermutation-sym}
@@ -10,9 +10,10 @@ use Rattle.sqlite.specs.Program.{overlay}
 use Rattle.sqlite.specs.Effect.{Database}
 use Rattle.sqlite.specs.State.{State, Shown}
 use Rattle.am_keeper_sql.specs.Honest.{HoldsTable}
-use Rattle.am_keeper_sql.specs.Told.{shown_in, told_from, told_in, AllSay}
+use Rattle.am_keeper_sql.specs.Told.{shown_in, told_in}
+use Rattle.am_keeper_sql.proofs.Said.{AllSay, said_from, told_said}
 use Rattle.am_keeper.specs.Rows.{no_rows}
-use Rattle.am_keeper_sql.proofs.Permuted.{told_from-permuted}
+use Rattle.am_keeper_sql.proofs.Permuted.{said_from-permuted}
 use Rattle.am_keeper_sql.proofs.Keys.{rows_apart}
 use Rattle.sqlite_trees.proofs.ListLemmas.{all-permutation}
 use Rattle.sqlite.proofs.Callers.{reads_as}
@@ -41,7 +42,7 @@ selects old new rows has h =
 
 -- what is read of the rows that the selection shows is what the table tells
 pub told_shown : (db : Database) → HoldsTable db → (found : List Row) → IsPermutation (shown_in db.trees) found → AllSay found
-    → (told_from no_rows found ≡ told_in db.trees) × AllSay (shown_in db.trees)
+    → told_in db.trees ≡ Some (said_from no_rows found)
 told_shown db holds found same says =
     let all = all-permutation _ found (shown_in db.trees) (IsPermutation-sym _ _ same) says in
-    (sym (told_from-permuted (shown_in db.trees) found same (rows_apart db holds all) no_rows), all)
+    told_said db.trees all ∙ ap Some (said_from-permuted (shown_in db.trees) found same (rows_apart db holds all) no_rows)

@@ -1,5 +1,5 @@
 -- What a keeper holds true of its database.
-use Rattle.std.specs.Prelude.{◌≡◌, false, IsTrue, ⊤}
+use Rattle.std.specs.Prelude.{◌≡◌, false, IsTrue, IsSome, unwrap_or, ⊤}
 use Rattle.sqlite.specs.Store.{Ghosts}
 use Rattle.sqlite.specs.Steps.{over_memory}
 use Rattle.sqlite.specs.Held.{state}
@@ -9,10 +9,11 @@ use Rattle.sqlite.specs.Tree.{Trees}
 use Rattle.sqlite_trees.specs.View.{IsShaped}
 use Rattle.sqlite_trees.specs.declared.store.Shape.TheVariants as shape
 use Rattle.am_keeper.specs.declared.rows.Rows.{Rows}
+use Rattle.am_keeper.specs.Rows.{no_rows}
 use Rattle.am_keeper_sql.specs.declared.database.Database.{Database as Connected}
 use Rattle.am_keeper_sql.specs.declared.database.Database.TheVariants.{Memory, File}
 use Rattle.am_keeper_sql.specs.Table.{kept_schema}
-use Rattle.am_keeper_sql.specs.Told.{shown_in, told_in, AllSay}
+use Rattle.am_keeper_sql.specs.Told.{told_in}
 
 -- the disk has returned what was written, and no fault has shut the connection
 pub record IsHonest (s : State) : Type 0 where
@@ -38,7 +39,7 @@ pub record HoldsTable (db : Database) : Type 0 where
 pub record Keeps (s : State) : Type 0 where
   pub settled : IsSettled s
   pub holds : HoldsTable s.now
-  pub all_say : AllSay (shown_in s.now.trees)
+  pub read : IsSome (told_in s.now.trees)
 
 -- the database that is seen is as before, and settled if it was
 pub record StaysSeen (old new : State) : Type 0 where
@@ -55,9 +56,9 @@ abbrev pub IsInMemory : {F : Type 0} → Connected F → Type 0
 IsInMemory (Memory conn) = ⊤
 IsInMemory (File conn) = ⊥
 
--- the rows that a database tells
+-- the rows that a keeper tells: those of its table, or none at all while one of them isn't read
 abbrev pub told_by : State → Rows
-told_by s = told_in s.now.trees
+told_by s = unwrap_or (told_in s.now.trees) no_rows
 
 -- the keeper is in memory, which returns what was written and which no fault shuts
 pub record IsHonestForGood {F : Type 0} (g : Ghosts F) (database : Connected F) : Type 0 where

@@ -3,3 +3,5 @@ pub mod Table
 pub mod Told
 pub mod Reading
 pub mod Honest
+pub mod Image
+pub mod Failing

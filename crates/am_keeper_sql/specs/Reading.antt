@@ -1,13 +1,21 @@
 -- What a selection puts that is read one row at a time.
-use Rattle.std.specs.Prelude.{◌≡◌, Bool, true, false, Some, None}
+use Rattle.std.specs.Prelude.{◌≡◌, Bool, true, false, Option, Some, None, Result, Ok, Err, ⊤}
 use Rattle.sqlite.specs.Store.{Ghosts}
 use Rattle.sqlite.specs.Order.{Row}
 use Rattle.sqlite.specs.Held.{Held}
 use Rattle.sqlite.specs.Given.{Advances}
+use Rattle.am_keeper.specs.declared.failure.KeepFail.{KeepFail}
+use Rattle.am_keeper.specs.declared.failure.KeepFail.TheVariants.{Failed, NoMemory}
 use Rattle.am_keeper.specs.declared.rows.Row.{Row as Kept}
 use Rattle.am_keeper.specs.declared.rows.Rows.{Rows}
 use Rattle.am_keeper.specs.Rows.{with_row}
 use Rattle.am_keeper_sql.specs.Told.{row_said}
+
+-- what is there is read, and it fails exactly where there is nothing to be read; memory may run out
+abbrev pub IsRead : {X : Type 0} → Option X → Result X KeepFail → Type 0
+IsRead wanted (Ok x) = wanted ≡ Some x
+IsRead wanted (Err Failed) = wanted ≡ None
+IsRead wanted (Err NoMemory) = ⊤
 
 -- one more row is given, and the kept row that it says was put
 pub record PutsNext {S : Type 0} (g : Ghosts S) (old new : Held S) (was now : Rows) : Type 0 where

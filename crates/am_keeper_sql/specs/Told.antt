@@ -1,6 +1,6 @@
 -- The kept rows that a table tells.
-use Rattle.std.specs.Prelude.{List, [], ◌∷◌, map, Option, Some, None, option_map, IsSome}
-use Rattle.std.specs.List.{AllByRecursion}
+use Rattle.std.specs.Prelude.{List, [], ◌∷◌, map, Option, Some, None, option_map, if◌then◌else◌}
+use Rattle.std.specs.Str.{is_utf8}
 use Rattle.sqlite.specs.declared.types.Value.{Value}
 use Rattle.sqlite.specs.declared.types.Value.TheVariants.{Null, Int, Real, Text, Blob}
 use Rattle.sqlite.specs.Order.{Row}
@@ -22,15 +22,15 @@ value_of (Words t) = Text t
 abbrev pub values_for : Kept → Row
 values_for row = map value_of (cells_of row)
 
--- a number or a text as a cell
+-- a number, or a text in UTF-8, as a cell
 abbrev pub cell_in : Value → Option Cell
 cell_in Null = None
 cell_in (Int n) = Some (Whole n)
 cell_in (Real x) = None
-cell_in (Text t) = Some (Words t)
+cell_in (Text t) = if is_utf8 t then Some (Words t) else None
 cell_in (Blob b) = None
 
--- values as cells, where each is a number or a text
+-- values as cells, if each is a number or a text
 abbrev pub cells_in : Row → Option (List Cell)
 cells_in [] = Some []
 cells_in (v ∷ vs) = cell_in v >>= (λ c. option_map (λ cs. c ∷ cs) (cells_in vs))
@@ -39,24 +39,15 @@ cells_in (v ∷ vs) = cell_in v >>= (λ c. option_map (λ cs. c ∷ cs) (cells_i
 abbrev pub row_said : Row → Option Kept
 row_said values = cells_in values >>= row_in
 
--- the rows with this one put, if there is one
-abbrev pub with_said : Rows → Option Kept → Rows
-with_said rows None = rows
-with_said rows (Some row) = with_row rows row
-
--- the rows with those put that the lists of values say, one after the other
-abbrev pub told_from : Rows → List Row → Rows
-told_from rows [] = rows
-told_from rows (values ∷ more) = told_from (with_said rows (row_said values)) more
+-- these rows with those put that the lists of values say, one after the other, if each list says one
+abbrev pub told_from : Rows → List Row → Option Rows
+told_from rows [] = Some rows
+told_from rows (values ∷ more) = row_said values >>= (λ row. told_from (with_row rows row) more)
 
 -- what the rows of the table show, less their rowids
 abbrev pub shown_in : Trees → List Row
 shown_in trees = map values_of (trees 0)
 
--- the kept rows that the table tells
-abbrev pub told_in : Trees → Rows
+-- the kept rows that the table tells, if each of its rows says one
+abbrev pub told_in : Trees → Option Rows
 told_in trees = told_from no_rows (shown_in trees)
-
--- each list of values says a kept row
-abbrev pub AllSay : List Row → Type 0
-AllSay = AllByRecursion (λ values. IsSome (row_said values))

@@ -1,91 +1,121 @@
 //! How a keeper comes to its database.
-ghost use Rattle.std.specs.Prelude.{◌≡◌, None, IfOk, []};
+ghost use Rattle.std.specs.Prelude.{◌≡◌, ◌≢◌, Some, None, IfOk, IfErr, IfSome};
 ghost use Rattle.std.specs.Option.{option_copied};
-ghost use Rattle.sqlite.specs.Held.{state};
-ghost use Rattle.sqlite.specs.Steps.{over_memory};
-ghost use Rattle.sqlite.specs.Files.{file_state, over_files};
+ghost use Rattle.sqlite_wal.specs.Files.{image_at};
+ghost use Rattle.sqlite.specs.Files.{over_files, IsCleanLeft};
+ghost use Rattle.am_keeper.specs.declared.rows.Rows.{Rows as Told};
 ghost use Rattle.am_keeper.specs.Rows.{IsInOrder, no_rows};
-ghost use Rattle.am_keeper_sql.specs.Honest.{IsHonest, IsSettled, HoldsTable, IsInMemory, IsHonestForGood, state_of, told_by};
+ghost use Rattle.am_keeper_sql.specs.Told.{told_in};
+ghost use Rattle.am_keeper_sql.specs.Image.{HoldsRows, FindsRows, IsRefused};
+ghost use Rattle.am_keeper_sql.specs.Honest.{IsHonest, IsInMemory, IsHonestForGood, state_of};
 
 use crate::database::Database;
 use crate::{SqlKeeper, connection};
 use am_keeper::{Attached, KeepFail};
 use am_types::Text;
-use sqlite::{Connection, FileFrom, FileStore, MemStore, Start, Unknown};
+use sqlite::{Connection, FileFrom, FileStore, Leftover, Start, Unknown};
 use std::alloc::Global;
 
-fn open_memory(alloc: Global) -> Result<Connection<MemStore>, KeepFail>
-    ensures settled { IfOk result (λ conn. IsSettled (state over_memory conn)) }
-    ensures holds { IfOk result (λ conn. HoldsTable (state over_memory conn).now) }
-    ensures empty { IfOk result (λ conn. (state over_memory conn).now.trees 0 ≡ []) }
+/// Attaches to no rows, in memory.
+fn in_memory<S: Start>(
+    alloc: Global,
+) -> Result<Attached<SqlKeeper<FileStore<FileFrom<S>>>>, KeepFail>
+    ensures rows { IfOk result (λ attached. attached.rows ≡ no_rows) }
+    ensures told { IfOk result (λ attached.
+        told_in (state_of over_files attached.keeper.database).now.trees ≡ Some attached.rows) }
+    ensures honest { IfOk result (λ attached. IsHonestForGood over_files attached.keeper.database) }
+    ensures in_order { IfOk result (λ attached. IsInOrder attached.rows) }
+    ensures fresh { IfOk result (λ attached. (attached.keeper.place ≡ None) × (attached.keeper.faults ≡ 0)) }
+    ensures memory { IfErr result (λ fail. fail ≡ KeepFail.NoMemory) }
 {
-    let mut conn = Connection::open_in_memory(alloc)?;
-    connection::prepare(&mut conn)?;
-    Ok(conn)
+    let conn = Connection::open_in_memory(alloc)?;
+    let (conn, rows) = match connection::begin(alloc, conn) {
+        Ok(begun) => begun,
+        Err((fail, _store)) => return Err(fail),
+    };
+    let keeper = SqlKeeper {
+        database: Database::Memory(conn),
+        place: None,
+        faults: 0,
+        alloc,
+    };
+    Ok(Attached { keeper, rows })
 }
 
-fn open_file<S: Start>(
-    rt: &HostRuntime,
-    path: &Text,
-    start: S,
-) -> Result<Connection<FileStore<FileFrom<S>>>, KeepFail>
-    ensures settled { IfOk result (λ conn. IsHonest (file_state conn) → IsSettled (file_state conn)) }
-    ensures holds { IfOk result (λ conn. IsHonest (file_state conn) → HoldsTable (file_state conn).now) }
-{
-    match Connection::open_from(rt, path.as_str(), false, start) {
-        Ok(mut conn) => {
-            connection::prepare(&mut conn)?;
-            Ok(conn)
-        }
-        Err((error, _)) => Err(connection::fail(error)),
-    }
-}
-
-fn open<S: Start>(
+/// Attaches to the rows in a file.
+fn in_file<S: Start>(
     rt: &HostRuntime,
     alloc: Global,
-    path: Option<&Text>,
+    path: &Text,
     start: S,
-) -> Result<Database<FileStore<FileFrom<S>>>, KeepFail>
-    ensures settled { IfOk result (λ database. IsHonest (state_of over_files database) → IsSettled (state_of over_files database)) }
-    ensures holds { IfOk result (λ database. IsHonest (state_of over_files database) → HoldsTable (state_of over_files database).now) }
-    ensures pathless { option_copied path.entry ≡ None → IfOk result (λ database. IsInMemory database × ((state_of over_files database).now.trees 0 ≡ [])) }
+) -> Result<Attached<SqlKeeper<FileStore<FileFrom<S>>>>, (KeepFail, Option<Leftover<FileFrom<S>>>)>
+    ensures told { IfOk result (λ attached. IsHonest (state_of over_files attached.keeper.database)
+        → told_in (state_of over_files attached.keeper.database).now.trees ≡ Some attached.rows) }
+    ensures found { IfOk result (λ attached. IsHonest (state_of over_files attached.keeper.database)
+        → FindsRows (image_at S.Start) attached.rows) }
+    ensures stored { IfOk result (λ attached. ¬ IsInMemory attached.keeper.database) }
+    ensures in_order { IfOk result (λ attached. IsInOrder attached.rows) }
+    ensures fresh { IfOk result (λ attached. (attached.keeper.place ≡ Some path.now) × (attached.keeper.faults ≡ 0)) }
+    ensures refused { IfErr result (λ refused. refused.0 ≡ KeepFail.Failed
+        → IfSome refused.1 (λ left. IsCleanLeft left → IsRefused (image_at S.Start) left)) }
 {
-    match path {
-        Some(path) => Ok(Database::File(open_file(rt, path, start)?)),
-        None => Ok(Database::Memory(open_memory(alloc)?)),
-    }
+    let Ok(place) = path.clone() else {
+        return Err((KeepFail::NoMemory, None));
+    };
+    let conn = match Connection::open_from(rt, path.as_str(), false, start) {
+        Ok(conn) => conn,
+        Err((error, left)) => return Err((connection::fail(error), left)),
+    };
+    let (conn, rows) = match connection::begin(alloc, conn) {
+        Ok(begun) => begun,
+        Err((fail, store)) => return Err((fail, Some(Leftover::Store(store)))),
+    };
+    let keeper = SqlKeeper {
+        database: Database::File(conn),
+        place: Some(place),
+        faults: 0,
+        alloc,
+    };
+    Ok(Attached { keeper, rows })
 }
 
-/// Attaches to the rows in the file at a path, or to none in memory without one. A file that can't
-/// be opened, a table of another shape, a row that is none and every refused statement are faults.
-/// The file is kept in WAL, and one process has it at a time. A journal that another program left
-/// is a fault until that program has recovered the file.
+/// Attaches to the rows in the file at a path, or to none in memory without one. `start` stands
+/// for what the file and its log hold: the rows are those that its table says. A file that is new
+/// gets the table. If it fails, what is left of the files comes with it, once the system has opened
+/// them: their disk had a fault, a limit was met, or they hold something else than the one table
+/// and its rows. The file is kept in WAL, and one process has it at a time. A journal that another
+/// program left is a fault until that program has recovered the file.
 pub fn attach_from<S: Start>(
     rt: &HostRuntime,
     alloc: Global,
     path: Option<&Text>,
     start: S,
-) -> Result<Attached<SqlKeeper<FileStore<FileFrom<S>>>>, KeepFail>
-    ensures told { IfOk result (λ attached. IsHonest (state_of over_files attached.keeper.database) → attached.rows ≡ told_by (state_of over_files attached.keeper.database)) }
-    ensures pathless { option_copied path.entry ≡ None → IfOk result (λ attached. (attached.rows ≡ no_rows) × IsHonestForGood over_files attached.keeper.database) }
+) -> Result<Attached<SqlKeeper<FileStore<FileFrom<S>>>>, (KeepFail, Option<Leftover<FileFrom<S>>>)>
+    ensures told { IfOk result (λ attached. IsHonest (state_of over_files attached.keeper.database)
+        → told_in (state_of over_files attached.keeper.database).now.trees ≡ Some attached.rows) }
+    ensures found { option_copied path.entry ≢ None
+        → IfOk result (λ attached. IsHonest (state_of over_files attached.keeper.database)
+        → FindsRows (image_at S.Start) attached.rows) }
+    ensures held { option_copied path.entry ≢ None
+        → IfOk result (λ attached. IsHonest (state_of over_files attached.keeper.database)
+        → (rows : Told) → HoldsRows (image_at S.Start) rows → attached.rows ≡ rows) }
+    ensures stored { option_copied path.entry ≢ None → IfOk result (λ attached. ¬ IsInMemory attached.keeper.database) }
+    ensures pathless { option_copied path.entry ≡ None
+        → IfOk result (λ attached. (attached.rows ≡ no_rows) × IsHonestForGood over_files attached.keeper.database) }
     ensures in_order { IfOk result (λ attached. IsInOrder attached.rows) }
     ensures place { IfOk result (λ attached. attached.keeper.place ≡ option_copied path.entry) }
     ensures no_faults { IfOk result (λ attached. attached.keeper.faults ≡ 0) }
+    ensures memory { option_copied path.entry ≡ None → IfErr result (λ refused. refused.0 ≡ KeepFail.NoMemory) }
+    ensures refused { IfErr result (λ refused. refused.0 ≡ KeepFail.Failed
+        → IfSome refused.1 (λ left. IsCleanLeft left → IsRefused (image_at S.Start) left)) }
 {
-    let place = match path {
-        Some(path) => Some(path.clone()?),
-        None => None,
-    };
-    let mut database = open(rt, alloc, path, start)?;
-    let rows = database.rows(alloc)?;
-    let keeper = SqlKeeper {
-        database,
-        place,
-        faults: 0,
-        alloc,
-    };
-    Ok(Attached { keeper, rows })
+    match path {
+        Some(path) => in_file(rt, alloc, path, start),
+        None => match in_memory(alloc) {
+            Ok(attached) => Ok(attached),
+            Err(fail) => Err((fail, None)),
+        },
+    }
 }
 
 /// The same, with nothing known of what the file held.
@@ -94,11 +124,18 @@ pub fn attach_sql(
     alloc: Global,
     path: Option<&Text>,
 ) -> Result<Attached<SqlKeeper>, KeepFail>
-    ensures told { IfOk result (λ attached. IsHonest (state_of over_files attached.keeper.database) → attached.rows ≡ told_by (state_of over_files attached.keeper.database)) }
-    ensures pathless { option_copied path.entry ≡ None → IfOk result (λ attached. (attached.rows ≡ no_rows) × IsHonestForGood over_files attached.keeper.database) }
+    ensures told { IfOk result (λ attached. IsHonest (state_of over_files attached.keeper.database)
+        → told_in (state_of over_files attached.keeper.database).now.trees ≡ Some attached.rows) }
+    ensures stored { option_copied path.entry ≢ None → IfOk result (λ attached. ¬ IsInMemory attached.keeper.database) }
+    ensures pathless { option_copied path.entry ≡ None
+        → IfOk result (λ attached. (attached.rows ≡ no_rows) × IsHonestForGood over_files attached.keeper.database) }
     ensures in_order { IfOk result (λ attached. IsInOrder attached.rows) }
     ensures place { IfOk result (λ attached. attached.keeper.place ≡ option_copied path.entry) }
     ensures no_faults { IfOk result (λ attached. attached.keeper.faults ≡ 0) }
+    ensures memory { option_copied path.entry ≡ None → IfErr result (λ fail. fail ≡ KeepFail.NoMemory) }
 {
-    attach_from(rt, alloc, path, Unknown)
+    match attach_from(rt, alloc, path, Unknown) {
+        Ok(attached) => Ok(attached),
+        Err((fail, _left)) => Err(fail),
+    }
 }

@@ -1,12 +1,13 @@
 //! Rows of the database as kept rows, and back.
-ghost use Rattle.std.specs.Prelude.{◌≡◌, map, Some, IfOk, OnOk};
+ghost use Rattle.std.specs.Prelude.{◌≡◌, Some, None, Err, IfOk, IfErr, OnOk};
 ghost use Rattle.sqlite.specs.Held.{state};
-ghost use Rattle.sqlite.specs.State.{IsUnchanged};
+ghost use Rattle.sqlite.specs.State.{HasCleanDisk, IsUnchanged};
 ghost use Rattle.sqlite.specs.Values.{bound, bound_value};
 ghost use Rattle.sqlite_value.specs.Value.{owned};
-ghost use Rattle.am_keeper_sql.specs.Told.{value_of, row_said};
+ghost use Rattle.am_keeper_sql.specs.Told.{cell_in, cells_in, row_said};
 ghost use Rattle.am_keeper_sql.specs.Honest.{IsHonest, IsSettled, StaysSeen};
-ghost use Rattle.am_keeper_sql.specs.Reading.{Moves};
+ghost use Rattle.am_keeper_sql.specs.Reading.{IsRead, Moves};
+ghost use Rattle.am_keeper_sql.specs.Failing.{Lasts, FailsToMove};
 
 use crate::connection::fail;
 use am_keeper::{KeepFail, Row, RowsBuilder};
@@ -18,7 +19,7 @@ use std::alloc::{AllocError, Global};
 
 /// A cell as a value of the database.
 fn value_of(cell: &Cell) -> ValueRef<'_>
-    ensures { bound_value (owned result) ≡ value_of cell.now }
+    ensures { cell_in (bound_value (owned result)) ≡ Some cell.now }
 {
     match cell {
         Cell::Whole(number) => ValueRef::Int(*number),
@@ -28,7 +29,7 @@ fn value_of(cell: &Cell) -> ValueRef<'_>
 
 /// Cells as values of the database.
 pub(crate) fn values_of(alloc: Global, cells: &[Cell]) -> Result<Vec<ValueRef<'_>>, AllocError>
-    ensures { IfOk result (λ values. bound values.items ≡ map value_of cells.now) }
+    ensures { IfOk result (λ values. cells_in (bound values.items) ≡ Some cells.now) }
 {
     let mut values = Vec::new(alloc);
     for cell in cells {
@@ -39,7 +40,7 @@ pub(crate) fn values_of(alloc: Global, cells: &[Cell]) -> Result<Vec<ValueRef<'_
 
 /// A value of the database as a cell: a number or a text.
 fn cell_of(alloc: Global, value: ValueRef<'_>) -> Result<Cell, KeepFail>
-    ensures { IfOk result (λ cell. value_of cell ≡ owned value.entry) }
+    ensures { IsRead (cell_in (owned value.entry)) result }
 {
     match value {
         ValueRef::Int(number) => Ok(Cell::Whole(number)),
@@ -52,24 +53,30 @@ fn cell_of(alloc: Global, value: ValueRef<'_>) -> Result<Cell, KeepFail>
 }
 
 fn cells_of(alloc: Global, row: &sqlite::Row) -> Result<List<Cell>, KeepFail>
-    ensures { IfOk result (λ cells. map value_of cells ≡ row.now) }
+    ensures { IsRead (cells_in row.now) result }
 {
     let mut cells = Vec::with_capacity(alloc, row.column_count())?;
     for at in 0..row.column_count() {
         let Ok(value) = row.get_ref(at) else {
             return Err(KeepFail::Failed);
         };
-        cells.push(cell_of(alloc, value)?)?;
+        match cell_of(alloc, value) {
+            Ok(cell) => cells.push(cell)?,
+            Err(fail) => return Err(fail),
+        }
     }
     Ok(List::new(cells))
 }
 
-/// The kept row that a row of the database says.
-#[tactic(auto, using(crate::proofs::Rows::row_said_from))]
+/// The kept row that a row of the database says. It fails exactly where that says none.
 fn kept_row(alloc: Global, row: &sqlite::Row) -> Result<Row, KeepFail>
-    ensures { IfOk result (λ kept. row_said row.now ≡ Some kept) }
+    ensures { IsRead (row_said row.now) result }
 {
-    match row_of(&cells_of(alloc, row)?) {
+    let cells = match cells_of(alloc, row) {
+        Ok(cells) => cells,
+        Err(fail) => return Err(fail),
+    };
+    match row_of(&cells) {
         Ok(row) => Ok(row),
         Err(RowFault::Shape) => Err(KeepFail::Failed),
         Err(RowFault::NoMemory) => Err(KeepFail::NoMemory),
@@ -84,9 +91,15 @@ pub(crate) fn put_next<S: Alter>(
 ) -> Result<bool, KeepFail>
     ensures same_reference { found.new.conn.ghost_name ≡ found.old.conn.ghost_name }
     ensures honest { IsHonest (state S.Store found.new.conn.now) → IsHonest (state S.Store found.old.conn.now) }
-    ensures seen { IsHonest (state S.Store found.new.conn.now) → IsSettled (state S.Store found.old.conn.now) → StaysSeen (state S.Store found.old.conn.now) (state S.Store found.new.conn.now) }
-    ensures same { IsHonest (state S.Store found.new.conn.now) → OnOk result (IsUnchanged (state S.Store found.old.conn.now) (state S.Store found.new.conn.now)) }
-    ensures put { IsHonest (state S.Store found.new.conn.now) → IfOk result (Moves S.Store found.old.conn.now found.new.conn.now rows.old rows.new) }
+    ensures seen { IsHonest (state S.Store found.new.conn.now) → IsSettled (state S.Store found.old.conn.now)
+        → StaysSeen (state S.Store found.old.conn.now) (state S.Store found.new.conn.now) }
+    ensures same { IsHonest (state S.Store found.new.conn.now)
+        → OnOk result (IsUnchanged (state S.Store found.old.conn.now) (state S.Store found.new.conn.now)) }
+    ensures put { IsHonest (state S.Store found.new.conn.now)
+        → IfOk result (Moves S.Store found.old.conn.now found.new.conn.now rows.old rows.new) }
+    ensures lasts { Lasts (state S.Store found.old.conn.now) (state S.Store found.new.conn.now) }
+    ensures failed { HasCleanDisk (state S.Store found.new.conn.now) → result ≡ Err KeepFail.Failed
+        → FailsToMove S.Store found.old.conn.now found.new.conn.now }
 {
     if let Err(error) = found.advance() {
         return Err(fail(error));
@@ -94,6 +107,9 @@ pub(crate) fn put_next<S: Alter>(
     let Some(row) = found.get() else {
         return Ok(false);
     };
-    rows.put(kept_row(alloc, row)?)?;
+    match kept_row(alloc, row) {
+        Ok(row) => rows.put(row)?,
+        Err(fail) => return Err(fail),
+    }
     Ok(true)
 }

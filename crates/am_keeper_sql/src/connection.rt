@@ -1,18 +1,27 @@
 //! What a keeper asks of a connection, over any store.
-ghost use Rattle.std.specs.Prelude.{◌≡◌, [], OnOk, OnErr};
+ghost use Rattle.std.specs.Prelude.{◌≡◌, ◌≢◌, ◌⊎◌, [], Some, Err, IsTrue, IfOk, IfErr, OnOk, OnErr};
+ghost use Rattle.sqlite_disk.specs.Disk.{MoreFaults};
+ghost use Rattle.sqlite_trees.specs.View.{IsClean};
 ghost use Rattle.sqlite.specs.Held.{state};
-ghost use Rattle.am_keeper.specs.Rows.{with_row};
+ghost use Rattle.sqlite.specs.State.{HasCleanDisk};
+ghost use Rattle.am_keeper.specs.declared.rows.Rows.{Rows as Told};
+ghost use Rattle.am_keeper.specs.Rows.{IsInOrder, with_row};
 ghost use Rattle.am_keeper_sql.specs.Table.{no_schema, kept_schema};
 ghost use Rattle.am_keeper_sql.specs.Honest.{IsHonest, IsSettled, HoldsTable, HasRisingRows, Keeps, StaysSeen, told_by};
+ghost use Rattle.am_keeper_sql.specs.Told.{told_in};
+ghost use Rattle.am_keeper_sql.specs.Image.{HasRows};
+ghost use Rattle.am_keeper_sql.specs.Failing.{Lasts, IsReady, Begins, FailsToBegin};
 
 use crate::{cells, shape, table};
-use am_keeper::{KeepFail, Row};
+use am_keeper::{KeepFail, Row, Rows};
 use am_rows::row_cells;
 use sqlite::{Alter, Connection, Error, ErrorCode};
 use std::alloc::Global;
 
-/// Want of memory, and else a fault.
-pub(crate) fn fail(error: Error) -> KeepFail {
+/// Out of memory, or else a fault.
+pub(crate) fn fail(error: Error) -> KeepFail
+    ensures { result ≡ KeepFail.Failed → error ≢ Error.SqliteFailure ErrorCode.OutOfMemory }
+{
     match error {
         Error::SqliteFailure(ErrorCode::OutOfMemory) => KeepFail::NoMemory,
         _ => KeepFail::Failed,
@@ -25,8 +34,11 @@ pub(crate) fn prepare<S: Alter>(conn: &mut Connection<S>) -> Result<(), KeepFail
     ensures ready { IsHonest (state S.Store conn.new) → IsSettled (state S.Store conn.old)
         → ((state S.Store conn.old).now.schema ≡ kept_schema → HasRisingRows (state S.Store conn.old).now.trees)
         → OnOk result (IsSettled (state S.Store conn.new) × HoldsTable (state S.Store conn.new).now) }
-    ensures fresh { IsHonest (state S.Store conn.new) → IsSettled (state S.Store conn.old) → (state S.Store conn.old).now.schema ≡ no_schema
-        → OnOk result ((state S.Store conn.new).now.trees 0 ≡ []) }
+    ensures begins { IsHonest (state S.Store conn.new) → IsSettled (state S.Store conn.old)
+        → OnOk result (Begins (state S.Store conn.old) (state S.Store conn.new)) }
+    ensures lasts { Lasts (state S.Store conn.old) (state S.Store conn.new) }
+    ensures failed { HasCleanDisk (state S.Store conn.new) → IsTrue (state S.Store conn.old).is_open
+        → result ≡ Err KeepFail.Failed → FailsToBegin (state S.Store conn.old) (state S.Store conn.new) }
 {
     if shape::is_blank(conn.schema()) {
         return match table::create(conn) {
@@ -41,6 +53,33 @@ pub(crate) fn prepare<S: Alter>(conn: &mut Connection<S>) -> Result<(), KeepFail
     }
 }
 
+/// Makes the table if nothing is there yet, and reads its rows. If that fails, the store is given
+/// back: it had a fault, or its database has no rows of a keeper, or memory ran out.
+pub(crate) fn begin<S: Alter + Drop>(
+    alloc: Global,
+    mut conn: Connection<S>,
+) -> Result<(Connection<S>, Rows), (KeepFail, S)>
+    requires { HasCleanDisk (state S.Store conn) → IsReady (state S.Store conn) }
+    ensures clean { IfOk result (λ begun. HasCleanDisk (state S.Store begun.0) → HasCleanDisk (state S.Store conn)) }
+    ensures keeps { IfOk result (λ begun. IsHonest (state S.Store begun.0) → Keeps (state S.Store begun.0)) }
+    ensures told { IfOk result (λ begun. IsHonest (state S.Store begun.0)
+        → told_in (state S.Store begun.0).now.trees ≡ Some begun.1) }
+    ensures has { IfOk result (λ begun. IsHonest (state S.Store begun.0) → HasRows (state S.Store conn).now begun.1) }
+    ensures in_order { IfOk result (λ begun. IsInOrder begun.1) }
+    ensures refused { IfErr result (λ refused. refused.0 ≡ KeepFail.Failed → IsClean (S.Store.view refused.1)
+        → HasCleanDisk (state S.Store conn)
+        × (MoreFaults (S.Store.faults conn.store) (S.Store.faults refused.1)
+        ⊎ ((rows : Told) → ¬ HasRows (state S.Store conn).now rows))) }
+{
+    if let Err(fail) = prepare(&mut conn) {
+        return Err((fail, conn.into_store()));
+    }
+    match table::select(alloc, &mut conn) {
+        Ok(rows) => Ok((conn, rows)),
+        Err(fail) => Err((fail, conn.into_store())),
+    }
+}
+
 /// Puts a row. A failure leaves the rows as they were.
 pub(crate) fn put<S: Alter>(
     alloc: Global,
@@ -49,8 +88,10 @@ pub(crate) fn put<S: Alter>(
 ) -> Result<(), KeepFail>
     ensures honest { IsHonest (state S.Store conn.new) → IsHonest (state S.Store conn.old) }
     ensures put { IsHonest (state S.Store conn.new) → Keeps (state S.Store conn.old)
-        → OnOk result (Keeps (state S.Store conn.new) × (told_by (state S.Store conn.new) ≡ with_row (told_by (state S.Store conn.old)) row.now)) }
-    ensures failed { IsHonest (state S.Store conn.new) → IsSettled (state S.Store conn.old) → OnErr result (StaysSeen (state S.Store conn.old) (state S.Store conn.new)) }
+        → OnOk result (Keeps (state S.Store conn.new)
+        × (told_by (state S.Store conn.new) ≡ with_row (told_by (state S.Store conn.old)) row.now)) }
+    ensures failed { IsHonest (state S.Store conn.new) → IsSettled (state S.Store conn.old)
+        → OnErr result (StaysSeen (state S.Store conn.old) (state S.Store conn.new)) }
 {
     let Ok(cells) = row_cells(alloc, row) else {
         return Err(KeepFail::NoMemory);

@@ -1,8 +1,8 @@
 //! The database of a keeper, in memory or in a file.
-ghost use Rattle.std.specs.Prelude.{◌≡◌, ◌↔◌, IfOk, OnOk, OnErr};
+ghost use Rattle.std.specs.Prelude.{◌≡◌, ◌↔◌, Some, IfOk, OnOk, OnErr};
 ghost use Rattle.am_keeper.specs.Rows.{IsInOrder, with_row};
 ghost use Rattle.am_keeper_sql.specs.Honest.{IsHonest, IsSettled, HoldsTable, Keeps, StaysSeen, IsHonestForGood, state_of, told_by};
-ghost use Rattle.am_keeper_sql.specs.Told.{shown_in, AllSay};
+ghost use Rattle.am_keeper_sql.specs.Told.{told_in};
 
 use crate::{connection, table};
 use am_keeper::{KeepFail, Row, Rows};
@@ -21,8 +21,10 @@ impl<F: Alter> Database<F> {
     pub fn put(&mut self, alloc: Global, row: &Row) -> Result<(), KeepFail>
         ensures honest { IsHonest (state_of F.Store self.new) → IsHonest (state_of F.Store self.old) }
         ensures put { IsHonest (state_of F.Store self.new) → Keeps (state_of F.Store self.old)
-            → OnOk result (Keeps (state_of F.Store self.new) × (told_by (state_of F.Store self.new) ≡ with_row (told_by (state_of F.Store self.old)) row.now)) }
-        ensures failed { IsHonest (state_of F.Store self.new) → IsSettled (state_of F.Store self.old) → OnErr result (StaysSeen (state_of F.Store self.old) (state_of F.Store self.new)) }
+            → OnOk result (Keeps (state_of F.Store self.new)
+            × (told_by (state_of F.Store self.new) ≡ with_row (told_by (state_of F.Store self.old)) row.now)) }
+        ensures failed { IsHonest (state_of F.Store self.new) → IsSettled (state_of F.Store self.old)
+            → OnErr result (StaysSeen (state_of F.Store self.old) (state_of F.Store self.new)) }
         ensures for_good { IsHonestForGood F.Store self.new ↔ IsHonestForGood F.Store self.old }
     {
         match self {
@@ -34,9 +36,11 @@ impl<F: Alter> Database<F> {
     /// The rows. The database stays as it was.
     pub fn rows(&mut self, alloc: Global) -> Result<Rows, KeepFail>
         ensures honest { IsHonest (state_of F.Store self.new) → IsHonest (state_of F.Store self.old) }
-        ensures told { IsHonest (state_of F.Store self.new) → HoldsTable (state_of F.Store self.old).now → IfOk result (λ rows. rows ≡ told_by (state_of F.Store self.old)) }
-        ensures all_say { IsHonest (state_of F.Store self.new) → HoldsTable (state_of F.Store self.old).now → IfOk result (λ rows. AllSay (shown_in (state_of F.Store self.old).now.trees)) }
-        ensures seen { IsHonest (state_of F.Store self.new) → IsSettled (state_of F.Store self.old) → HoldsTable (state_of F.Store self.old).now → StaysSeen (state_of F.Store self.old) (state_of F.Store self.new) }
+        ensures told { IsHonest (state_of F.Store self.new) → HoldsTable (state_of F.Store self.old).now
+            → IfOk result (λ rows. told_in (state_of F.Store self.old).now.trees ≡ Some rows) }
+        ensures seen { IsHonest (state_of F.Store self.new) → IsSettled (state_of F.Store self.old)
+            → HoldsTable (state_of F.Store self.old).now
+            → StaysSeen (state_of F.Store self.old) (state_of F.Store self.new) }
         ensures for_good { IsHonestForGood F.Store self.new ↔ IsHonestForGood F.Store self.old }
         ensures in_order { IfOk result IsInOrder }
     {

@@ -3,6 +3,7 @@ ghost use Rattle.std.specs.Prelude.{◌≡◌, ◌↔◌, ◌≤◌, Some, IsOk,
 ghost use Rattle.am_keeper.specs.Rows.{IsInOrder, with_row};
 ghost use Rattle.am_keeper.specs.Keeping.{Puts};
 ghost use Rattle.am_keeper_sql.specs.Faults.{faults_after};
+ghost use Rattle.am_keeper_sql.specs.Told.{told_in};
 ghost use Rattle.am_keeper_sql.specs.Honest.{IsHonest, Keeps, IsInMemory, IsHonestForGood, state_of, told_by};
 
 use crate::connection;
@@ -43,10 +44,12 @@ impl<F: Alter> SqlKeeper<F> {
         self.faults
     }
 
-    /// The rows now. The keeper is unchanged but for its count of faults.
+    /// The rows now, if each row of the table is one; else it fails. The keeper is unchanged but for its count of faults.
     pub fn told(&mut self) -> Result<Rows, KeepFail>
-        ensures rows { IsHonest (state_of F.Store self.new.database) → IfOk result (λ rows. rows ≡ told_by (state_of F.Store self.new.database)) }
-        ensures same { IsHonest (state_of F.Store self.new.database) → told_by (state_of F.Store self.new.database) ≡ told_by (state_of F.Store self.old.database) }
+        ensures rows { IsHonest (state_of F.Store self.new.database)
+            → IfOk result (λ rows. told_in (state_of F.Store self.new.database).now.trees ≡ Some rows) }
+        ensures same { IsHonest (state_of F.Store self.new.database)
+            → told_by (state_of F.Store self.new.database) ≡ told_by (state_of F.Store self.old.database) }
         ensures honest { IsHonest (state_of F.Store self.new.database) → IsHonest (state_of F.Store self.old.database) }
         ensures for_good { IsHonestForGood F.Store self.new.database ↔ IsHonestForGood F.Store self.old.database }
         ensures in_order { IfOk result IsInOrder }
@@ -62,7 +65,8 @@ impl<F: Alter> SqlKeeper<F> {
     /// Puts a row.
     fn put(&mut self, row: Row) -> Result<(), KeepFail>
         ensures rows { IsHonest (state_of F.Store self.new.database)
-            → Puts (λ told. with_row told row) (Some (told_by (state_of F.Store self.old.database))) (Some (told_by (state_of F.Store self.new.database))) result }
+            → Puts (λ told. with_row told row) (Some (told_by (state_of F.Store self.old.database)))
+            (Some (told_by (state_of F.Store self.new.database))) result }
         ensures honest { IsHonest (state_of F.Store self.new.database) → IsHonest (state_of F.Store self.old.database) }
         ensures for_good { IsHonestForGood F.Store self.new.database ↔ IsHonestForGood F.Store self.old.database }
         ensures place { self.new.place ≡ self.old.place }
@@ -75,7 +79,7 @@ impl<F: Alter> SqlKeeper<F> {
     }
 }
 
-impl<F: Alter + Drop + Send> Keeper for SqlKeeper<F> {
+impl<F: Alter + Drop> Keeper for SqlKeeper<F> {
     ghost rows = { λ k. Some (told_by (state_of F.Store k.database)) };
 
     ghost place = { λ k. k.place };

@@ -10,7 +10,7 @@ use sqlite_value::keys::Collation;
 
 /// Whether the column has this name and type, is never NULL and has no further rule.
 fn is_column(column: &Column, name: &str, kind: Kind) -> bool
-    ensures { IsTrue result → column.now ≡ column_of name.now kind }
+    ensures { IsTrue result ↔ (column.now ≡ column_of name.now kind) }
 {
     column.name.as_slice() == name.as_bytes()
         && column.kind == kind
@@ -24,6 +24,8 @@ fn are_key_columns(kind: &Column, uid: &Column, word: &Column) -> bool
     ensures kind { IsTrue result → kind.now ≡ column_of (codes "kind") Kind.Integer }
     ensures uid { IsTrue result → uid.now ≡ column_of (codes "uid") Kind.Integer }
     ensures word { IsTrue result → word.now ≡ column_of (codes "word") Kind.Text }
+    ensures all { kind.now ≡ column_of (codes "kind") Kind.Integer → uid.now ≡ column_of (codes "uid") Kind.Integer
+        → word.now ≡ column_of (codes "word") Kind.Text → IsTrue result }
 {
     is_column(kind, "kind", Kind::Integer)
         && is_column(uid, "uid", Kind::Integer)
@@ -35,6 +37,9 @@ fn are_other_columns(name: &Column, access: &Column, manifest: &Column, truth: &
     ensures access { IsTrue result → access.now ≡ column_of (codes "access") Kind.Text }
     ensures manifest { IsTrue result → manifest.now ≡ column_of (codes "manifest") Kind.Text }
     ensures truth { IsTrue result → truth.now ≡ column_of (codes "truth") Kind.Integer }
+    ensures all { name.now ≡ column_of (codes "name") Kind.Text → access.now ≡ column_of (codes "access") Kind.Text
+        → manifest.now ≡ column_of (codes "manifest") Kind.Text
+        → truth.now ≡ column_of (codes "truth") Kind.Integer → IsTrue result }
 {
     is_column(name, "name", Kind::Text)
         && is_column(access, "access", Kind::Text)
@@ -43,7 +48,7 @@ fn are_other_columns(name: &Column, access: &Column, manifest: &Column, truth: &
 }
 
 fn has_columns(columns: &Items<Column>) -> bool
-    ensures { IsTrue result → columns.now ≡ kept.columns }
+    ensures { IsTrue result ↔ (columns.now ≡ kept.columns) }
 {
     let [kind, uid, word, name, access, manifest, truth] = columns.as_slice() else {
         return false;
@@ -53,7 +58,7 @@ fn has_columns(columns: &Items<Column>) -> bool
 
 /// Whether these are the places of the kind, the uid and the word.
 fn is_key(places: &Items<usize>) -> bool
-    ensures { IsTrue result → places.now ≡ kept.primary }
+    ensures { IsTrue result ↔ (places.now ≡ kept.primary) }
 {
     places.as_slice() == [1, 2, 3].as_slice()
 }
@@ -63,6 +68,7 @@ fn has_key(table: &Table) -> bool
     ensures primary { IsTrue result → table.now.primary ≡ kept.primary }
     ensures orders { IsTrue result → table.now.orders ≡ kept.orders }
     ensures key { IsTrue result → table.now.key ≡ kept.key }
+    ensures all { table.now ≡ kept → IsTrue result }
 {
     let ([unique], [order]) = (table.uniques.as_slice(), table.orders.as_slice()) else {
         return false;
@@ -71,13 +77,13 @@ fn has_key(table: &Table) -> bool
 }
 
 fn are_none(terms: &Terms) -> bool
-    ensures { IsTrue result → terms.now ≡ [] }
+    ensures { IsTrue result ↔ (terms.now ≡ []) }
 {
     terms.roots.len() == 0
 }
 
 fn is_unstamped(stamps: &Stamps) -> bool
-    ensures { IsTrue result → stamps.now ≡ kept.stamps }
+    ensures { IsTrue result ↔ (stamps.now ≡ kept.stamps) }
 {
     stamps.places.len() == 0 && are_none(&stamps.terms) && stamps.formats.len() == 0
 }
@@ -88,6 +94,7 @@ fn has_no_rules(table: &Table) -> bool
     ensures computed { IsTrue result → table.now.computed ≡ kept.computed }
     ensures stamps { IsTrue result → table.now.stamps ≡ kept.stamps }
     ensures counted { IsTrue result → table.now.is_counted ≡ kept.is_counted }
+    ensures all { table.now ≡ kept → IsTrue result }
 {
     are_none(&table.checks)
         && table.references.len() == 0
@@ -98,7 +105,7 @@ fn has_no_rules(table: &Table) -> bool
 
 #[tactic(auto, using(crate::proofs::Shapes::table_is))]
 fn is_table(table: &Table) -> bool
-    ensures { IsTrue result → table.now ≡ kept }
+    ensures { IsTrue result ↔ (table.now ≡ kept) }
 {
     table.name.as_slice() == "kept".as_bytes()
         && table.tree == 0
@@ -112,13 +119,14 @@ fn is_of_key(index: &Index) -> bool
     ensures columns { IsTrue result → index.now.columns ≡ kept_index.columns }
     ensures order { IsTrue result → index.now.order ≡ kept_index.order }
     ensures unique { IsTrue result → index.now.is_unique ≡ kept_index.is_unique }
+    ensures all { index.now ≡ kept_index → IsTrue result }
 {
     is_key(&index.columns) && index.order.digits == 0 && index.is_unique
 }
 
 #[tactic(auto, using(crate::proofs::Shapes::index_is))]
 fn is_index(index: &Index) -> bool
-    ensures { IsTrue result → index.now ≡ kept_index }
+    ensures { IsTrue result ↔ (index.now ≡ kept_index) }
 {
     if index.name.as_slice() != "sqlite_autoindex_kept_1".as_bytes() {
         return false;
@@ -138,7 +146,7 @@ pub(crate) fn is_blank(schema: &Schema) -> bool
 
 /// Whether the one table is there, and nothing else.
 pub(crate) fn is_kept(schema: &Schema) -> bool
-    ensures { IsTrue result → schema.now ≡ kept_schema }
+    ensures { IsTrue result ↔ (schema.now ≡ kept_schema) }
 {
     let ([table], [index]) = (schema.tables.as_slice(), schema.indexes.as_slice()) else {
         return false;

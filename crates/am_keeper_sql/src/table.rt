@@ -1,11 +1,13 @@
 //! The one table of a store, and the three texts.
-ghost use Rattle.std.specs.Prelude.{◌≡◌, [], Some, IfOk, OnOk, OnErr};
+ghost use Rattle.std.specs.Prelude.{◌≡◌, [], Some, None, Err, IsTrue, IfOk, IfErr, OnOk, OnErr};
 ghost use Rattle.sqlite.specs.Held.{state};
+ghost use Rattle.sqlite.specs.State.{HasCleanDisk};
 ghost use Rattle.sqlite.specs.Values.{bound};
 ghost use Rattle.am_keeper.specs.declared.rows.Row.{Row as Kept};
 ghost use Rattle.am_keeper.specs.Rows.{IsInOrder, with_row};
 ghost use Rattle.am_keeper_sql.specs.Table.{no_schema, kept_schema};
-ghost use Rattle.am_keeper_sql.specs.Told.{row_said, shown_in, AllSay};
+ghost use Rattle.am_keeper_sql.specs.Failing.{Lasts, FailsOnly, FailsToTell};
+ghost use Rattle.am_keeper_sql.specs.Told.{row_said, told_in};
 ghost use Rattle.am_keeper_sql.specs.Honest.{IsHonest, IsSettled, HoldsTable, Keeps, StaysSeen, told_by};
 
 use crate::cells;
@@ -18,8 +20,14 @@ use std::alloc::Global;
 /// Makes the table.
 pub(crate) fn create<S: Alter>(conn: &mut Connection<S>) -> Result<usize, Error>
     ensures honest { IsHonest (state S.Store conn.new) → IsHonest (state S.Store conn.old) }
-    ensures made { IsHonest (state S.Store conn.new) → IsSettled (state S.Store conn.old) → (state S.Store conn.old).now.schema ≡ no_schema
-        → OnOk result (IsSettled (state S.Store conn.new) × HoldsTable (state S.Store conn.new).now × ((state S.Store conn.new).now.trees 0 ≡ [])) }
+    ensures made { IsHonest (state S.Store conn.new) → IsSettled (state S.Store conn.old)
+        → (state S.Store conn.old).now.schema ≡ no_schema
+        → OnOk result (IsSettled (state S.Store conn.new) × HoldsTable (state S.Store conn.new).now
+        × ((state S.Store conn.new).now.trees 0 ≡ [])) }
+    ensures lasts { Lasts (state S.Store conn.old) (state S.Store conn.new) }
+    ensures failed { HasCleanDisk (state S.Store conn.new) → IsTrue (state S.Store conn.old).is_open
+        → (state S.Store conn.old).now.schema ≡ no_schema
+        → IfErr result (FailsOnly (state S.Store conn.old) (state S.Store conn.new)) }
 {
     conn.execute(
         "CREATE TABLE kept (kind INTEGER NOT NULL, uid INTEGER NOT NULL, word TEXT NOT NULL, name TEXT NOT NULL, access TEXT NOT NULL, manifest TEXT NOT NULL, truth INTEGER NOT NULL, PRIMARY KEY (kind, uid, word)) STRICT",
@@ -33,9 +41,12 @@ pub(crate) fn upsert<S: Alter>(
     values: &[ValueRef<'_>],
 ) -> Result<usize, Error>
     ensures honest { IsHonest (state S.Store conn.new) → IsHonest (state S.Store conn.old) }
-    ensures put { IsHonest (state S.Store conn.new) → Keeps (state S.Store conn.old) → (row : Kept) → row_said (bound values.now) ≡ Some row
-        → OnOk result (Keeps (state S.Store conn.new) × (told_by (state S.Store conn.new) ≡ with_row (told_by (state S.Store conn.old)) row)) }
-    ensures refused { IsHonest (state S.Store conn.new) → IsSettled (state S.Store conn.old) → OnErr result (StaysSeen (state S.Store conn.old) (state S.Store conn.new)) }
+    ensures put { IsHonest (state S.Store conn.new) → Keeps (state S.Store conn.old) → (row : Kept)
+        → row_said (bound values.now) ≡ Some row
+        → OnOk result (Keeps (state S.Store conn.new)
+        × (told_by (state S.Store conn.new) ≡ with_row (told_by (state S.Store conn.old)) row)) }
+    ensures refused { IsHonest (state S.Store conn.new) → IsSettled (state S.Store conn.old)
+        → OnErr result (StaysSeen (state S.Store conn.old) (state S.Store conn.new)) }
 {
     conn.execute(
         "INSERT INTO kept (kind, uid, word, name, access, manifest, truth) VALUES (?1, ?2, ?3, ?4, ?5, ?6, ?7) ON CONFLICT (kind, uid, word) DO UPDATE SET name = excluded.name, access = excluded.access, manifest = excluded.manifest, truth = excluded.truth",
@@ -43,13 +54,19 @@ pub(crate) fn upsert<S: Alter>(
     )
 }
 
-/// The kept rows, selected in the order of kind, uid and word. The database stays as it was.
+/// The kept rows, selected in the order of kind, uid and word. The database stays as it was. It
+/// fails if the disk had a fault, or if a row of the table says no kept row.
 pub(crate) fn select<S: Alter>(alloc: Global, conn: &mut Connection<S>) -> Result<Rows, KeepFail>
     ensures honest { IsHonest (state S.Store conn.new) → IsHonest (state S.Store conn.old) }
-    ensures told { IsHonest (state S.Store conn.new) → HoldsTable (state S.Store conn.old).now → IfOk result (λ rows. rows ≡ told_by (state S.Store conn.old)) }
-    ensures all_say { IsHonest (state S.Store conn.new) → HoldsTable (state S.Store conn.old).now → IfOk result (λ rows. AllSay (shown_in (state S.Store conn.old).now.trees)) }
-    ensures seen { IsHonest (state S.Store conn.new) → IsSettled (state S.Store conn.old) → HoldsTable (state S.Store conn.old).now → StaysSeen (state S.Store conn.old) (state S.Store conn.new) }
+    ensures told { IsHonest (state S.Store conn.new) → HoldsTable (state S.Store conn.old).now
+        → IfOk result (λ rows. told_in (state S.Store conn.old).now.trees ≡ Some rows) }
+    ensures seen { IsHonest (state S.Store conn.new) → IsSettled (state S.Store conn.old)
+        → HoldsTable (state S.Store conn.old).now → StaysSeen (state S.Store conn.old) (state S.Store conn.new) }
     ensures in_order { IfOk result IsInOrder }
+    ensures lasts { Lasts (state S.Store conn.old) (state S.Store conn.new) }
+    ensures failed { HasCleanDisk (state S.Store conn.new) → IsTrue (state S.Store conn.old).is_open
+        → (state S.Store conn.old).step_limit ≡ None → HoldsTable (state S.Store conn.old).now
+        → result ≡ Err KeepFail.Failed → FailsToTell (state S.Store conn.old) (state S.Store conn.new) }
 {
     let mut rows = RowsBuilder::new(alloc);
     let mut found = match conn.query(
@@ -60,10 +77,14 @@ pub(crate) fn select<S: Alter>(alloc: Global, conn: &mut Connection<S>) -> Resul
         Err(error) => return Err(fail(error)),
     };
     'rows: for _ in 0..u64::MAX {
-        if !cells::put_next(alloc, &mut found, &mut rows)? {
+        let more = match cells::put_next(alloc, &mut found, &mut rows) {
+            Ok(more) => more,
+            Err(fail) => return Err(fail),
+        };
+        if !more {
             return Ok(rows.finish());
         }
     }
-    // No table has this many rows.
-    Err(KeepFail::Failed)
+    // No memory holds this many rows.
+    Err(KeepFail::NoMemory)
 }

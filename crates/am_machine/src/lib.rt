@@ -1,12 +1,13 @@
 //! The activity manager of one device for one thread, and the desks on which it is called.
 #![tactic(auto)]
 
-mod callers;
+mod acts;
 mod desk;
+mod history;
 mod manager;
 mod opened;
-mod query;
 mod sole;
+mod step;
 
 pub use desk::Desk;
 pub use manager::{Manager, begin};

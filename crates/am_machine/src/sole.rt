@@ -4,31 +4,32 @@ ghost use Rattle.am_history.specs.Desks.{opening_of};
 ghost use Rattle.am_history.specs.History.{IsLegal};
 
 use crate::{Desk, Manager};
+use am_keeper::Keeper;
 use am_types::{NoMemory, Request, Shown, Text};
 use std::marker::Model;
 
 /// The only desk of a manager. Its number is 0, and it has seen the manager's whole history.
 #[derive(Drop)]
-pub struct SoleDesk {
-    manager: Manager,
+pub struct SoleDesk<K: Keeper> {
+    manager: Manager<K>,
     // How many entries the manager had when it was handed over. Contracts alone read it.
     handed: u64,
 }
 
-impl Model for SoleDesk {
+impl<K: Keeper> Model for SoleDesk<K> {
     ghost use Rattle.std.specs.Prelude.{◌≤◌, length, take};
     ghost use Rattle.am_machine.specs.Managed.{Served};
 
-    ghost Value = { Served };
+    ghost Value = { Served K };
 
     ghost view = { λ d. record { managed = d.manager; handed = take d.handed d.manager.history } };
 
     ghost invariant = { λ d. d.handed ≤ length d.manager.history };
 }
 
-impl SoleDesk {
+impl<K: Keeper> SoleDesk<K> {
     /// The desk of that manager. Takes no memory.
-    pub fn new(manager: Manager) -> SoleDesk
+    pub fn new(manager: Manager<K>) -> SoleDesk<K>
         ensures made { result ≡ record { managed = manager; handed = manager.history } }
         ensures legal { IsLegal (opening_of manager.origin) manager.history }
     {
@@ -37,14 +38,14 @@ impl SoleDesk {
     }
 
     /// Hands the manager out. Its history is what the desk has seen. Takes no memory.
-    pub fn into_manager(self) -> Manager
+    pub fn into_manager(self) -> Manager<K>
         ensures { result ≡ self.managed }
     {
         self.manager
     }
 }
 
-impl Desk for SoleDesk {
+impl<K: Keeper> Desk for SoleDesk<K> {
     ghost use Rattle.std.specs.Prelude.{[]};
 
     ghost view = { λ d. record {

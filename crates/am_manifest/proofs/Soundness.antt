@@ -1,16 +1,17 @@
--- A device that is read is sound.
-use Rattle.std.proofs.Common.{◌≡◌, ℕ, ◌+◌, ◌<◌, ◌≤◌, Bool, true, false, cond, List, [], ◌∷◌, length, map, replicate, Option, Some, None, Result, Ok, Err, refl, sym, ap, subst, arith, nat_cmp}
+-- A manifest that is read is sound, and so is a device.
+use Rattle.std.proofs.Common.{◌≡◌, ℕ, ◌+◌, ◌<◌, ◌≤◌, Bool, true, false, cond, List, [], ◌∷◌, length, map, replicate, Option, Some, None, Result, Ok, Err, refl, sym, ap, ◌∙◌, subst, arith, nat_cmp}
 use Rattle.std.specs.Prelude.{All, IfOk, IsTrue, IfSome, codes, is_some, nat_lt}
 use Rattle.std.specs.declared.cmp.Ordering.TheVariants.{Less}
 use Rattle.std.specs.List.{AllByRecursion}
 use Rattle.std.specs.List.Sorted.{IsStrictlySortedBy}
 use Rattle.std.specs.Str.{bytes_eq}
 use Rattle.std.specs.Cmp.{nat_cmp_is}
-use Rattle.std.specs.Cmp.Lexicographic.{slice_cmp, nat_list_cmp_total}
+use Rattle.std.specs.Cmp.Lexicographic.{slice_cmp, nat_list_cmp_total, nat_list_eq_equiv}
 use Rattle.std.proofs.lemmas.Bool.{ltb-true, ltb-false}
 use Rattle.std.proofs.lemmas.List.Elements.{All-nil, All-cons, All-head, All-tail, All-set, All-replicate}
 use Rattle.std.proofs.lemmas.Map.Keys.{IsStrictlyIncreasing-from_sorted}
 use Rattle.toml.specs.Data.{Data, get, as_table}
+use Rattle.toml.specs.Parse.{parse_document}
 use Rattle.am_types.specs.declared.device.Device.{Device}
 use Rattle.am_types.specs.declared.device.Package.{Package}
 use Rattle.am_types.specs.declared.manifest.Decl.{Decl}
@@ -28,7 +29,7 @@ use Rattle.am_manifest.specs.declared.rights.Right.{Right}
 use Rattle.am_manifest.specs.declared.rights.Rights.{Rights}
 use Rattle.am_manifest.specs.declared.rights.RightKind.{RightKind}
 use Rattle.am_manifest.specs.declared.rights.RightKind.TheVariants.{Granted, Approved}
-use Rattle.am_manifest.specs.Manifests.{classes, decls_in, first_repeated, manifest_in, manifest_made, unless_repeated}
+use Rattle.am_manifest.specs.Manifests.{IsAppManifest, IsSoundManifest, classes, decls_in, first_repeated, manifest_alone, manifest_in, manifest_made, manifest_of, root_of, unless_repeated}
 use Rattle.am_manifest.specs.Rights.{array_key, limit_name, more_texts, place_among, right_entry, right_put, rights_from, rights_in, rights_of, texts_of, with_right, with_uids}
 use Rattle.am_manifest.specs.Devices.{actions_in, apart, device_in, device_made, first_taken, known_keys, manifest_at, manifest_found, owners_in, package_entry, package_of, packages_apart, packages_in, roots_apart, shares_key, unless_taken}
 use Rattle.am_manifest.proofs.Apart.{AreApart, are_apart, behind_one, behind_owners, distinct}
@@ -36,13 +37,6 @@ use Rattle.am_manifest.proofs.Held.{AreFewTexts, CountUp, sound_rights}
 use Rattle.am_manifest.proofs.FewFilters.{decls_within}
 use Rattle.am_uri.proofs.Order.{length_put, sorted_put}
 use Rattle.am_manifest_filters.proofs.StepsRead.{steps, same, within, each_length, optional_fits, required_fits}
-
--- a manifest as its table gives it
-record IsSoundManifest (m : Manifest) : Type 0 where
-  pub name : IsTrue (is_package_name m.«package»)
-  pub few : length m.decls ≤ 256
-  pub classes : AreDistinct (classes_of m.decls)
-  pub decls : All IsSoundDecl m.decls
 
 sound_manifest : (at : List ℕ) (value : Data) (m : Manifest) → manifest_in at value ≡ Ok m → IsSoundManifest m
 unfolding manifest_in manifest_made unless_repeated
@@ -57,6 +51,30 @@ sound_manifest at value m h =
         → (o : Option (List ℕ)) → first_repeated (classes decls) ≡ o → unless_repeated (record { «package» = name; decls = decls }) o ≡ Ok m → IsSoundManifest m
     by name decls fits few each None e g = subst IsSoundManifest (same _ m g) (record { name = fits; few = few; classes = distinct (classes decls) e; decls = each })
     by name decls fits few each (Some class) e g = absurd cc
+
+alone_sound : (value : Data) (m : Manifest) → manifest_alone value ≡ Ok m → IsAppManifest m
+unfolding manifest_alone
+alone_sound value m h =
+    let inside = steps (manifest_in [] value) _ m h in
+    by inside.value (sound_manifest [] value inside.value inside.is) (bytes_eq inside.value.«package» (codes "android")) refl inside.then
+  where
+    by : (made : Manifest) → IsSoundManifest made → (b : Bool) → bytes_eq made.«package» (codes "android") ≡ b
+        → cond b (Err (Duplicate (codes "android"))) (Ok made) ≡ Ok m → IsAppManifest m
+    by made sound true e g = absurd cc
+    by made sound false e g = subst IsAppManifest (same made m g) (record { sound = sound; other = nat_list_eq_equiv.symm (codes "android") made.«package» ∙ e })
+
+-- a manifest that is read by itself is an app's
+pub manifest_sound : (text : List ℕ) (m : Manifest) → manifest_of text ≡ Ok m → IsAppManifest m
+unfolding manifest_of
+manifest_sound text m h =
+    let short = steps (at_most 65536 (codes "text") (length text)) _ m h in
+    let root = steps (root_of (parse_document text)) _ m short.then in
+    alone_sound root.value m root.then
+
+-- an answer that is what reading a manifest gives is sound
+pub manifest_given : (answer : Result Manifest ReadFault) (value : Data) → Gives answer (manifest_alone value) → IfOk answer (λ manifest. IsAppManifest manifest)
+manifest_given (Ok manifest) value h = alone_sound value manifest h
+manifest_given (Err fault) value h = tt
 
 found_manifest : (at : List ℕ) (value : Data) (m : Manifest) → manifest_at at value ≡ Ok m → IsSoundManifest m
 unfolding manifest_at manifest_found

@@ -1,5 +1,5 @@
 -- The manifest of a package.
-use Rattle.std.specs.Prelude.{ℕ, codes, List, [], ◌∷◌, length, map, if◌then◌else◌, Option, Some, None, Result, Ok, Err, ◌++◌}
+use Rattle.std.specs.Prelude.{◌≡◌, ℕ, ◌≤◌, false, codes, List, [], ◌∷◌, length, map, All, if◌then◌else◌, Option, Some, None, Result, Ok, Err, ◌++◌, IsTrue}
 use Rattle.std.specs.Str.{bytes_eq}
 use Rattle.toml.specs.Data.{Data, Members, table}
 use Rattle.toml.specs.Parse.{parse_document}
@@ -8,6 +8,8 @@ use Rattle.am_types.specs.declared.manifest.Kind.TheVariants.{Activity, Service,
 use Rattle.am_types.specs.declared.manifest.Manifest.{Manifest}
 use Rattle.am_types.specs.declared.manifest.ManifestFault.{ManifestFault}
 use Rattle.am_types.specs.declared.manifest.ManifestFault.TheVariants.{NotToml, Duplicate}
+use Rattle.am_model.specs.Sound.{AreDistinct, IsSoundDecl, classes_of, is_package_name}
+use Rattle.am_model.specs.Texts.{is_same}
 use Rattle.am_uri.specs.declared.text.Form.TheVariants.{PackageName}
 use Rattle.am_manifest_filters.specs.Reading.{◌>>=◌}
 use Rattle.am_uri.specs.Texts.{is_among}
@@ -66,3 +68,15 @@ manifest_of text = do
   short ← at_most 65536 (codes "text") (length text)
   root ← root_of (parse_document text)
   manifest_alone root
+
+-- a manifest is sound: its package has a name of the right form, and at most 256 components of distinct classes
+pub record IsSoundManifest (m : Manifest) : Type 0 where
+  pub name : IsTrue (is_package_name m.«package»)
+  pub few : length m.decls ≤ 256
+  pub classes : AreDistinct (classes_of m.decls)
+  pub decls : All IsSoundDecl m.decls
+
+-- a manifest may be an app's: it is sound, and not that of the system's package
+pub record IsAppManifest (m : Manifest) : Type 0 where
+  pub sound : IsSoundManifest m
+  pub other : is_same (codes "android") m.«package» ≡ false

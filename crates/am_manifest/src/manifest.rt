@@ -3,7 +3,7 @@ ghost use Rattle.std.specs.Prelude.{◌≡◌, IfOk, Some, if◌then◌else◌, 
 ghost use Rattle.toml.specs.Parse.{parse_document};
 ghost use Rattle.toml.specs.View.{view};
 ghost use Rattle.am_manifest_filters.specs.Reading.{Gives, GivesBy};
-ghost use Rattle.am_manifest.specs.Manifests.{classes, decls_in, first_repeated, manifest_alone, manifest_in, manifest_made, manifest_of, root_of};
+ghost use Rattle.am_manifest.specs.Manifests.{IsAppManifest, classes, decls_in, first_repeated, manifest_alone, manifest_in, manifest_made, manifest_of, root_of};
 
 use crate::components::components_at;
 use am_manifest_filters::{ReadFault, at_most, required_text};
@@ -113,13 +113,17 @@ pub fn root_of(alloc: Global, text: &str) -> Result<Value, ReadFault>
 
 /// Reads a manifest by itself: at most 65,536 bytes of TOML. Its package may not be `android`.
 ///
+/// A manifest that is read is sound: the classes of its components, at most 256, are distinct, and what their filters
+/// list stays within the limits.
+///
 /// # Errors
 ///
 /// `ReadFault::Manifest` has the first fault that is met, with its place; `ReadFault::NoMemory` may come at any
 /// place.
 #[tactic(auto, unfolding(crate::specs::Manifests::manifest_of))]
 pub fn read_package(alloc: Global, text: &Text) -> Result<Manifest, ReadFault>
-    ensures { Gives result (manifest_of text.now) }
+    ensures reads { Gives result (manifest_of text.now) }
+    ensures sound { IfOk result (λ manifest. IsAppManifest manifest) }
 {
     let text = text.as_str();
     at_most(alloc, 65_536, "text", text.len())?;

@@ -4,7 +4,7 @@ use Rattle.am_types.specs.declared.intent.Intent.{Intent}
 use Rattle.am_types.specs.declared.uri.Uri.{Uri}
 use Rattle.am_types.specs.declared.filter.Filter.{Filter}
 use Rattle.am_types.specs.declared.filter.PathRule.TheVariants.{Literal}
-use Rattle.am_types.specs.declared.filter.Why.TheVariants.{Scheme, Path, Type_, Category}
+use Rattle.am_types.specs.declared.filter.Why.TheVariants.{Action, Scheme, Host, Path, Type_, Category}
 use Rattle.am_model.specs.Filters.{default_category, passes_authority, why}
 use Rattle.am_model.proofs.IntentLaws.{empty_intent}
 
@@ -86,3 +86,15 @@ type_case_refused = refl
 -- the default category is asked for
 pub default_refused : why (record view_filter { categories = codes "BROWSABLE" ∷ [] }) view_intent true ≡ Some Category
 default_refused = refl
+
+-- another action is the first reason, whatever else fails
+pub action_refused : why merged_filter (record view_intent { action = Some (codes "SEND"); uri = Some content_uri }) true ≡ Some Action
+action_refused = refl
+
+-- an intent without an action passes any
+pub no_action_passes : why view_filter (record view_intent { action = None }) false ≡ None
+no_action_passes = refl
+
+-- a host that isn't listed, before its path is asked for
+pub host_refused : why merged_filter (record view_intent { uri = Some (record uri_of_b { host = Some (codes "c.net") }) }) true ≡ Some Host
+host_refused = refl

@@ -1,6 +1,8 @@
 -- Sameness of intents and fill-ins, worked.
 use Rattle.std.proofs.Common.{◌≡◌, true, false, codes, pos, [], ◌∷◌, Some, Ok, Err, refl}
 use Rattle.std.specs.Prelude.{replicate}
+use Rattle.am_types.specs.declared.intent.Intent.{Intent}
+use Rattle.am_types.specs.declared.uri.Mime.{Mime}
 use Rattle.am_types.specs.declared.intent.Component.{Component}
 use Rattle.am_types.specs.declared.intent.Extra.TheVariants.{Whole, Truth}
 use Rattle.am_types.specs.declared.filter.FillFault.TheVariants.{ExtrasFull}
@@ -27,6 +29,14 @@ categories_differ = refl
 abbrev pub component_of_a : Component
 component_of_a = record { «package» = codes "com.a"; class = codes "com.a.Main" }
 
+-- plain text
+abbrev pub text_type : Mime
+text_type = record { main = codes "text"; sub = codes "plain" }
+
+-- an intent with all that can be filled in but a URI and a type
+abbrev pub full : Intent
+full = record view_intent { identifier = Some (codes "1"); «package» = Some (codes "com.a"); categories = codes "A" ∷ [] }
+
 -- an extra of the intent itself wins, and another is placed by its key
 pub own_extra_wins : fill_in (record view_intent { extras = record { key = codes "b"; value = Whole (pos 1) } ∷ [] }) (record empty_intent { extras = record { key = codes "a"; value = Whole (pos 2) } ∷ record { key = codes "b"; value = Whole (pos 3) } ∷ [] }) ≡ Ok (record view_intent { extras = record { key = codes "a"; value = Whole (pos 2) } ∷ record { key = codes "b"; value = Whole (pos 1) } ∷ [] })
 unfolding fill_in
@@ -46,3 +56,33 @@ uri_kept_out = refl
 pub extras_full : fill_in (record view_intent { extras = replicate 64 (record { key = codes "a"; value = Truth true }) }) (record empty_intent { extras = record { key = codes "b"; value = Truth false } ∷ [] }) ≡ Err ExtrasFull
 unfolding fill_in
 extras_full = refl
+
+-- what an intent has of its own stays
+pub own_fields_stay : fill_in full (record empty_intent { action = Some (codes "SEND"); identifier = Some (codes "2"); «package» = Some (codes "com.b"); categories = codes "B" ∷ [] }) ≡ Ok full
+unfolding fill_in
+own_fields_stay = refl
+
+-- and what it lacks is taken, each field for itself
+pub fields_taken : fill_in empty_intent (record full { component = Some component_of_a }) ≡ Ok full
+unfolding fill_in
+fields_taken = refl
+
+-- a type is taken where there is neither URI nor type
+pub type_taken : fill_in view_intent (record empty_intent { mime = Some text_type }) ≡ Ok (record view_intent { mime = Some text_type })
+unfolding fill_in
+type_taken = refl
+
+-- a URI of the intent itself keeps the other's type out
+pub type_kept_out : fill_in (record view_intent { uri = Some uri_of_a }) (record empty_intent { mime = Some text_type }) ≡ Ok (record view_intent { uri = Some uri_of_a })
+unfolding fill_in
+type_kept_out = refl
+
+-- URI and type are taken together
+pub both_taken : fill_in view_intent (record empty_intent { uri = Some uri_of_a; mime = Some text_type }) ≡ Ok (record view_intent { uri = Some uri_of_a; mime = Some text_type })
+unfolding fill_in
+both_taken = refl
+
+-- flags are those of either
+pub flags_united : fill_in (record view_intent { flags = record no_flags { new_task = true } }) (record empty_intent { flags = record no_flags { clear_top = true } }) ≡ Ok (record view_intent { flags = record no_flags { new_task = true; clear_top = true } })
+unfolding fill_in
+flags_united = refl

@@ -11,7 +11,7 @@ use Rattle.am_types.specs.declared.broadcast.SendFault.TheVariants.{Full, TooMan
 use Rattle.am_types.specs.declared.broadcast.FinishFault.TheVariants.{NotYours, NotOrdered}
 use Rattle.am_model.specs.Filters.{is_empty}
 use Rattle.am_model.specs.Broadcasts as broadcasts
-use Rattle.am_model.specs.Broadcasts.{Broadcasts, Normal, Delivery, InTurn, no_broadcasts, span, Answered, settled, settle_foreground, settle_background, late_head, is_head_due, is_delivery_due, keeping, normals_keeping, expired}
+use Rattle.am_model.specs.Broadcasts.{Broadcasts, Normal, Delivery, InTurn, no_broadcasts, span, Answered, settled, queue_of, with_queue, settle, settle_both, expired_queue, late_head, is_head_due, is_delivery_due, keeping, normals_keeping, expired}
 use Rattle.am_model.specs.Sending.{live, in_turn, at_once, deliveries_from, with_sent, send, held, Held, is_for_ordered, finished, finish_held, finish, answered_head, strike, unwanted, is_registered, forget, forget_registered, forget_uid}
 use Rattle.am_model.proofs.BroadcastLaws.{AreLive, IsSettled, settled_is_settled}
 
@@ -48,19 +48,19 @@ all_and_one test (first ∷ others) x pass last = by (test first) (λ rest. all_
     by false rest pass = cc
 
 -- the foreground queue settles
-foreground_settles : (now : ℕ) (all : Broadcasts) → AreLive all.normal → IsSettled all.background → IsStanding (settle_foreground now all)
+foreground_settles : (now : ℕ) (all : Broadcasts) → AreLive all.normal → IsSettled all.background → IsStanding (settle true now all)
 foreground_settles now all live background =
     record { normal = live; foreground = settled_is_settled all.next_delivery (now + span true) all.foreground; background = background }
 
 -- the background queue settles
-background_settles : (now : ℕ) (all : Broadcasts) → AreLive all.normal → IsSettled all.foreground → IsStanding (settle_background now all)
+background_settles : (now : ℕ) (all : Broadcasts) → AreLive all.normal → IsSettled all.foreground → IsStanding (settle false now all)
 background_settles now all live foreground =
     record { normal = live; foreground = foreground; background = settled_is_settled all.next_delivery (now + span false) all.background }
 
 -- both queues settle
-both_settle : (now : ℕ) (all : Broadcasts) → AreLive all.normal → IsStanding (settle_background now (settle_foreground now all))
+both_settle : (now : ℕ) (all : Broadcasts) → AreLive all.normal → IsStanding (settle_both now all)
 both_settle now all live =
-    background_settles now (settle_foreground now all) live (settled_is_settled all.next_delivery (now + span true) all.foreground)
+    background_settles now (settle true now all) live (settled_is_settled all.next_delivery (now + span true) all.foreground)
 
 -- a normal broadcast that is sent has a delivery, if it is live
 live_at_once : (number delivery : ℕ) (sending : Sending) (normal : List Normal) → AreLive normal
@@ -85,7 +85,7 @@ sent_stand all sending (Some ordered) stands = by sending.foreground
     sent : List InTurn
     sent = in_turn all.next_broadcast sending ordered ∷ []
 
-    by : (b : Bool) → IsStanding (cond b (settle_foreground sending.now (record numbered { foreground = all.foreground ++ sent })) (settle_background sending.now (record numbered { background = all.background ++ sent })))
+    by : (b : Bool) → IsStanding (settle b sending.now (with_queue b (queue_of b all ++ sent) numbered))
     by true = foreground_settles sending.now (record numbered { foreground = all.foreground ++ sent }) stands.normal stands.background
     by false = background_settles sending.now (record numbered { background = all.background ++ sent }) stands.normal stands.foreground
 
@@ -154,36 +154,31 @@ forget_uid_stands all uid now = forget_stands without (λ (spot : Spot). spot.ui
 pub forget_registered_stands : (all : Broadcasts) (number now : ℕ) → IsStanding (forget_registered all number now)
 forget_registered_stands all number now = forget_stands all (λ (spot : Spot). is_registered number spot.aim) now
 
+-- a queue whose deadline may be due
+expired_queue_stands : (foreground : Bool) (now : ℕ) (all : Broadcasts) → IsStanding all → IsStanding (expired_queue foreground now all)
+expired_queue_stands foreground now all stands = by (is_head_due now (queue_of foreground all))
+  where
+    late : List InTurn
+    late = late_head now (queue_of foreground all)
+
+    settles : (b : Bool) → IsStanding (settle b now (with_queue b late all))
+    settles true = foreground_settles now (record all { foreground = late }) stands.normal stands.background
+    settles false = background_settles now (record all { background = late }) stands.normal stands.foreground
+
+    by : (due : Bool) → IsStanding (cond due (settle foreground now (with_queue foreground late all)) all)
+    by true = settles foreground
+    by false = stands
+
 -- the passing of time
 pub expired_stand : (all : Broadcasts) (now : ℕ) → IsStanding all → IsStanding (expired all now)
-expired_stand all now stands = by (is_head_due now all.foreground)
+expired_stand all now stands = record {
+  normal = kept_live (λ delivery. not (is_delivery_due now delivery)) passed.normal;
+  foreground = after.foreground;
+  background = after.background;
+}
   where
-    without_late : Broadcasts → Broadcasts
-    without_late second = record second { normal = normals_keeping (λ delivery. not (is_delivery_due now delivery)) second.normal }
+    passed : Broadcasts
+    passed = expired_queue false now (expired_queue true now all)
 
-    last : (second : Broadcasts) → IsStanding second → IsStanding (without_late second)
-    last second stands =
-        record { normal = kept_live (λ delivery. not (is_delivery_due now delivery)) second.normal; foreground = stands.foreground; background = stands.background }
-
-    either : (b : Bool) (x y : Broadcasts) → IsStanding x → IsStanding y → IsStanding (cond b x y)
-    either true x y first second = first
-    either false x y first second = second
-
-    next : Broadcasts → Broadcasts
-    next first = cond (is_head_due now first.background) (settle_background now (record first { background = late_head now first.background })) first
-
-    then : (first : Broadcasts) → IsStanding first → IsStanding (next first)
-    then first stands =
-        either (is_head_due now first.background) (settle_background now (record first { background = late_head now first.background })) first
-        (background_settles now (record first { background = late_head now first.background }) stands.normal stands.foreground) stands
-
-    begin : Bool → Broadcasts
-    begin b = cond b (settle_foreground now (record all { foreground = late_head now all.foreground })) all
-
-    begun : (b : Bool) → IsStanding (begin b)
-    begun b =
-        either b (settle_foreground now (record all { foreground = late_head now all.foreground })) all
-        (foreground_settles now (record all { foreground = late_head now all.foreground }) stands.normal stands.background) stands
-
-    by : (b : Bool) → IsStanding (without_late (next (begin b)))
-    by b = last (next (begin b)) (then (begin b) (begun b))
+    after : IsStanding passed
+    after = expired_queue_stands false now (expired_queue true now all) (expired_queue_stands true now all stands)

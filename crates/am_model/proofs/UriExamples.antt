@@ -1,5 +1,5 @@
 -- Worked examples of URIs.
-use Rattle.std.proofs.Common.{◌≡◌, ℕ, List, [], codes, Option, Some, None, Ok, Err, replicate, refl}
+use Rattle.std.proofs.Common.{◌≡◌, ℕ, List, [], ◌++◌, codes, Option, Some, None, Ok, Err, replicate, refl}
 use Rattle.std.specs.Str.{is_utf8, chars}
 use Rattle.percent_encoding.specs.Percent.{percent_decode}
 use Rattle.am_types.specs.declared.uri.Uri.{Uri}
@@ -49,3 +49,31 @@ a_byte_that_is_no_text_is_refused = refl
 pub a_text_over_its_length_is_refused : uri_of (replicate 1025 58) ≡ Err TooLong
 unfolding uri_of
 a_text_over_its_length_is_refused = refl
+
+-- `a:` and then a path of that length
+abbrev long : ℕ → List ℕ
+long n = codes "a:/" ++ replicate n 98
+
+pub a_text_of_the_greatest_length : uri_of (long 1021) ≡ Ok (uri (long 1021) (codes "a") None None (codes "/" ++ replicate 1021 98))
+unfolding uri_of percent_decode is_utf8 chars lib.Utf8.encode
+a_text_of_the_greatest_length = refl
+
+pub a_text_of_one_byte_more_is_refused : uri_of (long 1022) ≡ Err TooLong
+unfolding uri_of
+a_text_of_one_byte_more_is_refused = refl
+
+pub a_port_without_digits_is_none : uri_of (codes "http://h:/") ≡ Ok (uri (codes "http://h:/") (codes "http") (Some (codes "h")) None (codes "/"))
+unfolding uri_of percent_decode is_utf8 chars lib.Utf8.encode
+a_port_without_digits_is_none = refl
+
+pub a_port_of_five_digits : uri_of (codes "http://h:99999/") ≡ Ok (uri (codes "http://h:99999/") (codes "http") (Some (codes "h")) (Some 99999) (codes "/"))
+unfolding uri_of percent_decode is_utf8 chars lib.Utf8.encode
+a_port_of_five_digits = refl
+
+pub a_port_of_six_digits_is_refused : uri_of (codes "http://h:000080/") ≡ Err BadPort
+unfolding uri_of
+a_port_of_six_digits_is_refused = refl
+
+pub the_last_of_two_at_signs_ends_the_user : uri_of (codes "http://u@v@h/") ≡ Ok (uri (codes "http://u@v@h/") (codes "http") (Some (codes "h")) None (codes "/"))
+unfolding uri_of percent_decode is_utf8 chars lib.Utf8.encode
+the_last_of_two_at_signs_ends_the_user = refl

@@ -3,6 +3,7 @@ use Rattle.std.specs.Prelude.{◌≡◌, ℕ, pos, true, false, codes, List, [],
 use Rattle.am_types.specs.declared.uri.Mime.{Mime}
 use Rattle.am_types.specs.declared.filter.Filter.{Filter}
 use Rattle.am_types.specs.declared.filter.Authority.{Authority}
+use Rattle.am_types.specs.declared.filter.PathRule.TheVariants.{Literal}
 use Rattle.am_types.specs.declared.manifest.Kind.TheVariants.{Activity}
 use Rattle.am_types.specs.declared.manifest.Decl.{Decl}
 use Rattle.am_types.specs.declared.visible.Signature.{Signature}
@@ -70,6 +71,18 @@ meets_host = refl
 -- another host doesn't
 pub meets_no_other_host : meets (takes (codes "https" ∷ []) (codes "a.com" ∷ []) []) (asks (codes "x.A") (Some (codes "https")) (Some (codes "b.com")) None) ≡ false
 meets_no_other_host = refl
+
+-- a filter's host is met by a signature without one
+pub meets_any_host : meets (takes (codes "https" ∷ []) (codes "a.com" ∷ []) []) (asks (codes "x.A") (Some (codes "https")) None None) ≡ true
+meets_any_host = refl
+
+-- a port of the filter isn't asked for
+pub meets_any_port : meets (record (takes (codes "https" ∷ []) [] []) { authorities = record { host = codes "a.com"; port = Some 8080 } ∷ [] }) (asks (codes "x.A") (Some (codes "https")) (Some (codes "a.com")) None) ≡ true
+meets_any_port = refl
+
+-- nor is a path
+pub meets_any_path : meets (record (takes (codes "https" ∷ []) (codes "a.com" ∷ []) []) { paths = Literal (codes "/x") ∷ [] }) (asks (codes "x.A") (Some (codes "https")) (Some (codes "a.com")) None) ≡ true
+meets_any_path = refl
 
 -- a host counts for nothing where no scheme is asked for
 pub host_without_scheme : meets (takes [] [] []) (asks (codes "x.A") None (Some (codes "b.com")) None) ≡ true

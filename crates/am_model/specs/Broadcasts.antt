@@ -137,17 +137,29 @@ settled next deadline (head ∷ others) =
     then with_results (result_of next head) (settled (next + length (result_of next head)) deadline others)
     else dispatched next deadline head others head.current
 
--- the broadcasts with the foreground queue settled at a moment
-abbrev pub settle_foreground : ℕ → Broadcasts → Broadcasts
-settle_foreground now all =
-    let after = settled all.next_delivery (now + span true) all.foreground in
-    record all { foreground = after.queue; results = all.results ++ after.results; next_delivery = after.next }
+-- one of the two queues
+abbrev pub queue_of : Bool → Broadcasts → List InTurn
+queue_of true all = all.foreground
+queue_of false all = all.background
 
--- the broadcasts with the background queue settled at a moment
-abbrev pub settle_background : ℕ → Broadcasts → Broadcasts
-settle_background now all =
-    let after = settled all.next_delivery (now + span false) all.background in
-    record all { background = after.queue; results = all.results ++ after.results; next_delivery = after.next }
+-- the broadcasts with that queue in the place of one of the two
+abbrev pub with_queue : Bool → List InTurn → Broadcasts → Broadcasts
+with_queue true queue all = record all { foreground = queue }
+with_queue false queue all = record all { background = queue }
+
+-- what settled, put back among the broadcasts
+abbrev pub settled_in : Bool → Settled → Broadcasts → Broadcasts
+settled_in foreground after all =
+    record (with_queue foreground after.queue all) { results = all.results ++ after.results; next_delivery = after.next }
+
+-- the broadcasts with one of the two queues settled at a moment
+abbrev pub settle : Bool → ℕ → Broadcasts → Broadcasts
+settle foreground now all =
+    settled_in foreground (settled all.next_delivery (now + span foreground) (queue_of foreground all)) all
+
+-- the broadcasts with both queues settled at a moment, the foreground queue first
+abbrev pub settle_both : ℕ → Broadcasts → Broadcasts
+settle_both now all = settle false now (settle true now all)
 
 -- the first receiver that is left did this, and is past
 abbrev pub turned : Doing → InTurn → List Spot → InTurn
@@ -192,10 +204,16 @@ keeping keeps broadcast = record broadcast { deliveries = filter keeps broadcast
 abbrev pub normals_keeping : (Delivery → Bool) → List Normal → List Normal
 normals_keeping keeps normal = filter (λ (n : Normal). not (is_empty n.deliveries)) (map (keeping keeps) normal)
 
+-- the broadcasts after the deadline of one of the two queues, if that is due: one receiver is passed over
+abbrev pub expired_queue : Bool → ℕ → Broadcasts → Broadcasts
+expired_queue foreground now all =
+    if is_head_due now (queue_of foreground all)
+    then settle foreground now (with_queue foreground (late_head now (queue_of foreground all)) all)
+    else all
+
 -- the broadcasts after the deadlines that are due at a moment: the foreground queue's, then the background queue's,
 -- each passing over one receiver at most; then the normal deliveries that are due leave
 abbrev pub expired : Broadcasts → ℕ → Broadcasts
 expired all now =
-    let first = if is_head_due now all.foreground then settle_foreground now (record all { foreground = late_head now all.foreground }) else all in
-    let second = if is_head_due now first.background then settle_background now (record first { background = late_head now first.background }) else first in
-    record second { normal = normals_keeping (λ delivery. not (is_delivery_due now delivery)) second.normal }
+    let passed = expired_queue false now (expired_queue true now all) in
+    record passed { normal = normals_keeping (λ delivery. not (is_delivery_due now delivery)) passed.normal }

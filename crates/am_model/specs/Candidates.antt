@@ -48,39 +48,52 @@ hit_at owner place decl None = []
 hit_at owner place decl (Some priority) =
     record { component = record { «package» = owner.name; class = decl.class }; uid = owner.uid; place = place; priority = priority } ∷ []
 
--- the component where a filter of it passes
-abbrev pub implicit_hit : Kind → Intent → Bool → Package → ℕ → Decl → List Hit
-implicit_hit kind intent need_default owner place decl =
-    hit_at owner place decl (priority_of kind intent need_default decl.filters)
+-- what is looked for: components of a kind that the intent finds, and whether a filter must list the default category
+pub record Search : Type 0 where
+  pub kind : Kind
+  pub intent : Intent
+  pub need_default : Bool
 
--- the component of a package that the intent finds: the named one whatever its filters say, else one of
--- the package that the intent names, if it names one, where a filter passes
-abbrev pub hit_of : Kind → Intent → Bool → Package → ℕ → Decl → Option Component → Option (List ℕ) → List Hit
-hit_of kind intent need_default owner place decl (Some component) limited =
+-- the component, if a filter of it passes
+abbrev pub implicit_hit : Search → Package → ℕ → Decl → List Hit
+implicit_hit search owner place decl =
+    hit_at owner place decl (priority_of search.kind search.intent search.need_default decl.filters)
+
+-- the intent names no package, or this one
+abbrev pub is_in : Option (List ℕ) → Package → Bool
+is_in None owner = true
+is_in (Some name) owner = is_same name owner.name
+
+-- the component of a package that is found: the named one whatever its filters say, else one of the package that the
+-- intent names, if it names one, where a filter passes
+abbrev pub hit_of : Search → Package → ℕ → Decl → Option Component → List Hit
+hit_of search owner place decl (Some component) =
     if is_named component owner.name decl.class then hit_at owner place decl (Some (pos 0)) else []
-hit_of kind intent need_default owner place decl None (Some name) =
-    if is_same name owner.name then implicit_hit kind intent need_default owner place decl else []
-hit_of kind intent need_default owner place decl None None =
-    implicit_hit kind intent need_default owner place decl
+hit_of search owner place decl None =
+    if is_in search.intent.«package» owner then implicit_hit search owner place decl else []
 
 -- only an enabled component is found
-abbrev pub enabled_hit : Kind → Intent → Bool → Package → ℕ → Decl → List Hit
-enabled_hit kind intent need_default owner place decl =
-    if decl.enabled then hit_of kind intent need_default owner place decl intent.component intent.«package» else []
+abbrev pub enabled_hit : Search → Package → ℕ → Decl → List Hit
+enabled_hit search owner place decl =
+    if decl.enabled then hit_of search owner place decl search.intent.component else []
 
--- the hits among the components of a kind that follow that place, in their order
-abbrev pub hits_from : Kind → Intent → Bool → Package → ℕ → List Decl → List Hit
-hits_from kind intent need_default owner place [] = []
-hits_from kind intent need_default owner place (first ∷ others) =
-    if is_kind kind first.kind
-    then enabled_hit kind intent need_default owner place first ++ hits_from kind intent need_default owner (place + 1) others
-    else hits_from kind intent need_default owner place others
+-- the hits among the components of the kind that follow that place, in their order
+abbrev pub hits_from : Search → Package → ℕ → List Decl → List Hit
+hits_from search owner place [] = []
+hits_from search owner place (first ∷ others) =
+    if is_kind search.kind first.kind
+    then enabled_hit search owner place first ++ hits_from search owner (place + 1) others
+    else hits_from search owner place others
 
--- the candidates: the hits of each package in the order of the packages, then by place
+-- the hits of each package in the order of the packages, then by place
+abbrev pub hits_in : Search → List Package → List Hit
+hits_in search [] = []
+hits_in search (first ∷ others) = hits_from search first 0 first.decls ++ hits_in search others
+
+-- the candidates: what the packages have of what is looked for
 abbrev pub candidates : List Package → Kind → Intent → Bool → List Hit
-candidates [] kind intent need_default = []
-candidates (first ∷ others) kind intent need_default =
-    hits_from kind intent need_default first 0 first.decls ++ candidates others kind intent need_default
+candidates packages kind intent need_default =
+    hits_in (record { kind = kind; intent = intent; need_default = need_default }) packages
 
 -- a hit in front of those of no greater priority, behind the others
 abbrev pub place_hit : Hit → List Hit → List Hit

@@ -61,18 +61,23 @@ declared_offers packages (first ∷ others) =
     declared_offer first (declared packages Receiver first.component) ++ declared_offers packages others
 
 -- the name of a package, if there is one
-abbrev pub name_in : Option Package → List ℕ
-name_in None = []
-name_in (Some found) = found.name
+abbrev pub name_in : Option Package → Option (List ℕ)
+name_in None = None
+name_in (Some found) = Some found.name
 
--- the name of the package of a uid; the system and the root are `android`
-abbrev pub name_of : List Package → ℕ → List ℕ
-name_of packages uid = if is_privileged uid then codes "android" else name_in (package_at packages uid)
+-- the name of the package of a uid, if there is one; the system and the root are `android`
+abbrev pub name_of : List Package → ℕ → Option (List ℕ)
+name_of packages uid = if is_privileged uid then Some (codes "android") else name_in (package_at packages uid)
+
+-- the texts are there and are the same
+abbrev pub is_text : List ℕ → Option (List ℕ) → Bool
+is_text text None = false
+is_text text (Some other) = is_same text other
 
 -- the intent names no package, or this one
-abbrev pub is_for : Option (List ℕ) → List ℕ → Bool
+abbrev pub is_for : Option (List ℕ) → Option (List ℕ) → Bool
 is_for None name = true
-is_for (Some limited) name = is_same limited name
+is_for (Some limited) name = is_text limited name
 
 -- a registered receiver that the intent finds: it names no component, and no other package
 abbrev pub finds_registered : List Package → Intent → Registration → Bool

@@ -15,7 +15,7 @@ use Rattle.am_types.specs.declared.broadcast.FinishFault.{FinishFault}
 use Rattle.am_types.specs.declared.broadcast.FinishFault.TheVariants.{NoDelivery, NotYours, NotOrdered}
 use Rattle.am_model.specs.Filters.{is_empty}
 use Rattle.am_model.specs.Broadcasts as broadcasts
-use Rattle.am_model.specs.Broadcasts.{Broadcasts, Normal, Delivery, InTurn, Current, Doing, Answered, Gone, span, turn, outcome_of, settle_foreground, settle_background, normals_keeping}
+use Rattle.am_model.specs.Broadcasts.{Broadcasts, Normal, Delivery, InTurn, Current, Doing, Answered, Gone, span, turn, outcome_of, queue_of, with_queue, settle, settle_both, normals_keeping}
 
 -- how many broadcasts of a sender are live
 abbrev pub live : Broadcasts → ℕ → ℕ
@@ -68,9 +68,8 @@ abbrev pub with_ordered : Broadcasts → Sending → Ordered → Broadcasts
 with_ordered all sending ordered =
     let sent = in_turn all.next_broadcast sending ordered in
     let numbered = record all { next_broadcast = all.next_broadcast + 1 } in
-    if sending.foreground
-    then settle_foreground sending.now (record numbered { foreground = all.foreground ++ sent ∷ [] })
-    else settle_background sending.now (record numbered { background = all.background ++ sent ∷ [] })
+    settle sending.foreground sending.now
+    (with_queue sending.foreground (queue_of sending.foreground all ++ sent ∷ []) numbered)
 
 -- the broadcasts with one more
 abbrev pub with_sent : Broadcasts → Sending → Option Ordered → Broadcasts
@@ -143,12 +142,12 @@ answered_head number doing (head ∷ others) =
 -- the broadcasts after that delivery or result was finished
 abbrev pub finished : Broadcasts → ℕ → Answer → ℕ → Broadcasts
 finished all number answer now =
-    settle_background now (settle_foreground now (record all {
+    settle_both now (record all {
       normal = normals_keeping (λ delivery. not (delivery.number == number)) all.normal;
       foreground = answered_head number (Answered answer) all.foreground;
       background = answered_head number (Answered answer) all.background;
       results = filter (λ (r : broadcasts.Result). not (r.delivery == number)) all.results;
-    }))
+    })
 
 -- the answer sets an outcome or aborts, which only an ordered delivery takes
 abbrev pub is_for_ordered : Answer → Bool
@@ -184,11 +183,11 @@ strike struck broadcast = strike_from struck broadcast broadcast.rest broadcast.
 -- the broadcasts without the receivers that are struck; both queues settle
 abbrev pub forget : Broadcasts → (Spot → Bool) → ℕ → Broadcasts
 forget all struck now =
-    settle_background now (settle_foreground now (record all {
+    settle_both now (record all {
       normal = normals_keeping (λ delivery. not (struck delivery.spot)) all.normal;
       foreground = map (strike struck) all.foreground;
       background = map (strike struck) all.background;
-    }))
+    })
 
 -- the spot is that registered receiver
 abbrev pub is_registered : ℕ → Aim → Bool

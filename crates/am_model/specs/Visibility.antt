@@ -1,5 +1,5 @@
 -- Which packages an app sees, by the queries of its manifest.
-use Rattle.std.specs.Prelude.{ℕ, Bool, true, false, ◌&&◌, ◌||◌, ◌==◌, codes, List, [], ◌∷◌, filter, if◌then◌else◌, Option, Some, None}
+use Rattle.std.specs.Prelude.{ℕ, Bool, true, false, ◌&&◌, ◌||◌, ◌==◌, codes, List, [], ◌∷◌, filter, if◌then◌else◌, Option, Some, None, is_some}
 use Rattle.std.specs.List.{list_any, list_all}
 use Rattle.am_types.specs.declared.intent.Intent.{Intent}
 use Rattle.am_types.specs.declared.uri.Mime.{Mime}
@@ -28,16 +28,22 @@ asked_scheme None None = None
 abbrev pub is_local_scheme : List ℕ → Bool
 is_local_scheme scheme = is_same scheme (codes "content") || is_same scheme (codes "file")
 
--- the filter takes the scheme: it lists it, or the signature has a type and the filter takes local content
-abbrev pub takes_scheme : Filter → List ℕ → Option Mime → Bool
-takes_scheme filter scheme None = lists filter.schemes scheme && is_empty filter.types
-takes_scheme filter scheme (Some mime) =
-    lists filter.schemes scheme || (is_empty filter.schemes && is_local_scheme scheme)
+-- where no scheme is asked for, the filter lists neither a scheme nor a type
+abbrev pub takes_no_scheme : Filter → Option (List ℕ) → Bool
+takes_no_scheme filter None = is_empty filter.schemes && is_empty filter.types
+takes_no_scheme filter (Some scheme) = true
 
--- the filter takes the scheme that is asked for; where none is, it lists neither a scheme nor a type
-abbrev pub takes_asked : Filter → Option (List ℕ) → Option Mime → Bool
-takes_asked filter None mime = is_empty filter.schemes && is_empty filter.types
-takes_asked filter (Some scheme) mime = takes_scheme filter scheme mime
+-- the filter takes the scheme that is asked for: it lists it, or it lists none and a type of content on the device is asked for
+abbrev pub takes_scheme : Filter → Option (List ℕ) → Option Mime → Bool
+takes_scheme filter None mime = true
+takes_scheme filter (Some scheme) mime =
+    lists filter.schemes scheme || ((is_some mime && is_empty filter.schemes) && is_local_scheme scheme)
+
+-- where a scheme is asked for and no type, the filter lists no type
+abbrev pub takes_no_type : Filter → Option (List ℕ) → Option Mime → Bool
+takes_no_type filter None mime = true
+takes_no_type filter (Some scheme) None = is_empty filter.types
+takes_no_type filter (Some scheme) (Some mime) = true
 
 -- the filter takes the type, if there is one
 abbrev pub takes_type : Filter → Option Mime → Bool
@@ -52,14 +58,22 @@ takes_host filter (Some scheme) (Some host) =
     (is_empty filter.schemes || is_empty filter.authorities)
     || list_any (λ (a : Authority). has_host (lowered a.host) (lowered host)) filter.authorities
 
+-- the filter takes the data that is asked for
+abbrev pub takes_data : Filter → Signature → Bool
+takes_data filter signature =
+    let scheme = asked_scheme signature.scheme signature.mime in
+    (((takes_no_scheme filter scheme
+    && takes_scheme filter scheme signature.mime)
+    && takes_no_type filter scheme signature.mime)
+    && takes_type filter signature.mime)
+    && takes_host filter signature.scheme signature.host
+
 -- the filter meets a signature
 abbrev pub meets : Filter → Signature → Bool
 meets filter signature =
-    (((lists filter.actions signature.action
+    (lists filter.actions signature.action
     && list_all (λ category. lists filter.categories category) signature.categories)
-    && takes_asked filter (asked_scheme signature.scheme signature.mime) signature.mime)
-    && takes_type filter signature.mime)
-    && takes_host filter signature.scheme signature.host
+    && takes_data filter signature
 
 -- a component that other apps may reach has a filter that meets one of the signatures
 abbrev pub shows : List Signature → Decl → Bool

@@ -3,6 +3,10 @@ use Rattle.std.proofs.Common.{◌≡◌, ℕ, Bool, true, false, cond, map, Opti
 use Rattle.std.specs.List.{find}
 use Rattle.am_types.specs.declared.pending.PendingFault.{PendingFault}
 use Rattle.am_types.specs.declared.pending.PendingFault.TheVariants.{Mutability}
+use Rattle.am_pending.specs.declared.key.Key.{Key}
+use Rattle.am_pending.specs.Keys.{asking, key_for}
+use Rattle.am_pending.specs.Records.{token_in}
+use Rattle.am_pending.proofs.Indexing.{none-has, the_one}
 use Rattle.am_model.specs.Pendings.{Asked, Pending, Pendings, found, get, has_key, is_clear, made, updated, without_token}
 
 -- the answer where the flags are clear
@@ -16,7 +20,7 @@ unfolding get
 unclear_get all asked unclear = ap (λ b. cond b (found all asked (find (has_key asked) all.records)) (Err Mutability)) unclear
 
 -- where no record has the key
-pub get_made : (all : Pendings) (asked : Asked) → is_clear asked.flags ≡ true → find (has_key asked) all.records ≡ None → get all asked ≡ made all all.records asked
+get_made : (all : Pendings) (asked : Asked) → is_clear asked.flags ≡ true → find (has_key asked) all.records ≡ None → get all asked ≡ made all all.records asked
 get_made all asked clear none = clear_get all asked None clear none
 
 abbrev Answer : Type 0
@@ -39,7 +43,7 @@ unfolding kept_or_updated
 found_some all asked kept b e = ap (λ a. cond {A = Answer} a (made all (without_token all.records kept.token) asked) (kept_or_updated all asked kept.token asked.flags.update_current)) e
 
 -- where the record that has it is canceled
-pub get_renewed : (all : Pendings) (asked : Asked) (kept : Pending) (token : ℕ) → is_clear asked.flags ≡ true → find (has_key asked) all.records ≡ Some kept → kept.token ≡ token → asked.flags.cancel_current ≡ true → get all asked ≡ made all (without_token all.records token) asked
+get_renewed : (all : Pendings) (asked : Asked) (kept : Pending) (token : ℕ) → is_clear asked.flags ≡ true → find (has_key asked) all.records ≡ Some kept → kept.token ≡ token → asked.flags.cancel_current ≡ true → get all asked ≡ made all (without_token all.records token) asked
 get_renewed all asked kept token clear is its cancel =
     clear_get all asked (Some kept) clear is ∙ found_some all asked kept true cancel ∙ ap (λ n. made all (without_token all.records n) asked) its
 
@@ -49,7 +53,7 @@ updated_by all asked token true = refl
 updated_by all asked token false = refl
 
 -- where the record that has it is kept
-pub get_kept : (all : Pendings) (asked : Asked) (kept : Pending) (token : ℕ) (all' : Pendings) → is_clear asked.flags ≡ true → find (has_key asked) all.records ≡ Some kept → kept.token ≡ token → asked.flags.cancel_current ≡ false →
+get_kept : (all : Pendings) (asked : Asked) (kept : Pending) (token : ℕ) (all' : Pendings) → is_clear asked.flags ≡ true → find (has_key asked) all.records ≡ Some kept → kept.token ≡ token → asked.flags.cancel_current ≡ false →
     all' ≡ record all { records = cond asked.flags.update_current (map (updated token asked.intent.extras) all.records) all.records } → get all asked ≡ Ok (Some token, all')
 get_kept all asked kept token all' clear is its cancel new =
     clear_get all asked (Some kept) clear is
@@ -57,3 +61,27 @@ get_kept all asked kept token all' clear is its cancel new =
     ∙ ap (λ n. kept_or_updated all asked n asked.flags.update_current) its
     ∙ updated_by all asked token asked.flags.update_current
     ∙ ap (answer token) (sym new)
+
+-- the same, by what is found of the key of what is asked for
+module _ (all : Pendings) (asked : Asked) (key : Key) (is : key ≡ key_for asked) (clear : is_clear asked.flags ≡ true) where
+  there : (o : Option ℕ) → token_in key all.records ≡ o → token_in (key_for asked) all.records ≡ o
+  there o h = ap (λ (k : Key). token_in k all.records) (sym is) ∙ h
+
+  pub asked_made : token_in key all.records ≡ None → made all all.records (asking asked.flags.no_create key) ≡ get all asked
+  asked_made none =
+      ap (λ (k : Key). made all all.records (asking asked.flags.no_create k)) is
+      ∙ sym (get_made all asked clear (none-has (key_for asked) all.records (there None none)))
+
+  module _ (token : ℕ) (has : token_in key all.records ≡ Some token) where
+    one : (kept : Pending) × (find (has_key asked) all.records ≡ Some kept) × (kept.token ≡ token)
+    one = the_one (find (has_key asked) all.records) token (there (Some token) has)
+
+    pub asked_renewed : asked.flags.cancel_current ≡ true → made all (without_token all.records token) (asking asked.flags.no_create key) ≡ get all asked
+    asked_renewed cancel =
+        ap (λ (k : Key). made all (without_token all.records token) (asking asked.flags.no_create k)) is
+        ∙ sym (get_renewed all asked one.0 token clear one.1 one.2 cancel)
+
+    pub asked_kept : asked.flags.cancel_current ≡ false → (all' : Pendings) → all' ≡ record all { records = cond asked.flags.update_current (map (updated token key.intent.extras) all.records) all.records } → get all asked ≡ Ok (Some token, all')
+    asked_kept cancel all' new =
+        get_kept all asked one.0 token all' clear one.1 one.2 cancel
+        (new ∙ ap (λ (k : Key). record all { records = cond asked.flags.update_current (map (updated token k.intent.extras) all.records) all.records }) is)

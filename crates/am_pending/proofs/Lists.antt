@@ -1,13 +1,17 @@
 -- What filters and additions leave to be found and counted.
-use Rattle.std.proofs.Common.{◌≡◌, ℕ, ◌+◌, Bool, true, false, not, ◌||◌, cond, List, [], ◌∷◌, ◌++◌, filter, count_by, All, Some, None, refl, sym, ap, ◌∙◌, subst, true≢false, arith}
+use Rattle.std.proofs.Common.{◌≡◌, ℕ, ◌+◌, Bool, true, false, not, ◌||◌, cond, List, [], ◌∷◌, ◌++◌, filter, count_by, Some, None, refl, sym, ap, ◌∙◌, true≢false, arith}
 use Rattle.std.specs.List.{find, list_any}
 use Rattle.std.specs.Option.{unwrap_or}
-use Rattle.std.proofs.lemmas.List.Elements.{All-head, All-tail}
 use Rattle.std.proofs.lemmas.List.Recursion.{or_push}
 use Rattle.std.proofs.lemmas.List.Sums.{sum_by-cons}
+use Rattle.am_model.proofs.Parts.{IsPart-filter, none_of_part}
 use Rattle.am_pending.specs.Once.{AtMostOne}
 
-or_second : (b c : Bool) → (b || c) ≡ false → c ≡ false
+pub or_first : (b c : Bool) → (b || c) ≡ false → b ≡ false
+or_first true c h = h
+or_first false c h = refl
+
+pub or_second : (b c : Bool) → (b || c) ≡ false → c ≡ false
 or_second true c h = absurd (true≢false h)
 or_second false c h = h
 
@@ -15,7 +19,11 @@ or_none : (b c : Bool) → b ≡ false → c ≡ false → (b || c) ≡ false
 or_none b c e f = ap (λ a. a || c) e ∙ f
 
 module _ {X : Type 0} where
-  some_same : (x y : X) → Some x ≡ Some y → x ≡ y
+  -- where none passes, none of those kept does
+  any-kept : (p keep : X → Bool) (xs : List X) → list_any p xs ≡ false → list_any p (filter keep xs) ≡ false
+  any-kept p keep xs h = none_of_part p (filter keep xs) xs (IsPart-filter keep xs) h
+
+  pub some_same : (x y : X) → Some x ≡ Some y → x ≡ y
   some_same x y e = ap (λ o. unwrap_or o x) e
 
   -- where none passes, none is found
@@ -46,24 +54,6 @@ module _ {X : Type 0} where
       by true false h k e rest = ap s (sym (some_same x y h)) ∙ e
       by false false h k e rest = rest h k
 
-  -- what is found passes the test
-  pub found-passes : (p : X → Bool) (xs : List X) (y : X) → find p xs ≡ Some y → p y ≡ true
-  found-passes p [] y h = cc
-  found-passes p (x ∷ xs) y h = by (p x) refl h (λ k. found-passes p xs y k)
-    where
-      by : (b : Bool) → p x ≡ b → cond b (Some x) (find p xs) ≡ Some y → (find p xs ≡ Some y → p y ≡ true) → p y ≡ true
-      by true e h rest = ap p (sym (some_same x y h)) ∙ e
-      by false e h rest = rest h
-
-  -- what holds of all holds of what is found
-  pub found-has : (P : X → Type 0) (p : X → Bool) (xs : List X) (y : X) → find p xs ≡ Some y → All P xs → P y
-  found-has P p [] y h all = cc
-  found-has P p (x ∷ xs) y h all = by (p x) h (λ k. found-has P p xs y k (All-tail P x xs all))
-    where
-      by : (b : Bool) → cond b (Some x) (find p xs) ≡ Some y → (find p xs ≡ Some y → P y) → P y
-      by true h rest = subst P (some_same x y h) (All-head P x xs all)
-      by false h rest = rest h
-
   -- what is found by one test is found by another that it alone passes
   pub found-otherwise : (q r : X → Bool) (xs : List X) (y : X) → find q xs ≡ Some y → r y ≡ true → AtMostOne r xs → find r xs ≡ Some y
   found-otherwise q r [] y h e m = h
@@ -83,16 +73,6 @@ module _ {X : Type 0} where
       by : (b : Bool) → (b || list_any r xs) ≡ false → filter (λ x. not (r x)) xs ≡ xs → cond (not b) (x ∷ filter (λ x. not (r x)) xs) (filter (λ x. not (r x)) xs) ≡ x ∷ xs
       by true h rest = absurd (true≢false h)
       by false h rest = ap (λ l. x ∷ l) rest
-
-  -- where none passes, none of those kept does
-  pub any-kept : (p keep : X → Bool) (xs : List X) → list_any p xs ≡ false → list_any p (filter keep xs) ≡ false
-  any-kept p keep [] h = refl
-  any-kept p keep (x ∷ xs) h = by (p x) (keep x) h refl (any-kept p keep xs (or_second (p x) (list_any p xs) h))
-    where
-      by : (b c : Bool) → (b || list_any p xs) ≡ false → p x ≡ b → list_any p (filter keep xs) ≡ false → list_any p (cond c (x ∷ filter keep xs) (filter keep xs)) ≡ false
-      by true c h e rest = absurd (true≢false h)
-      by false true h e rest = ap (λ b. b || list_any p (filter keep xs)) e ∙ rest
-      by false false h e rest = rest
 
   -- at most one of those kept passes
   pub most-kept : (p keep : X → Bool) (xs : List X) → AtMostOne p xs → AtMostOne p (filter keep xs)
@@ -140,27 +120,24 @@ module _ {X : Type 0} where
       by false true e f h rest = ap (λ a. cond a (Some x) (find q others)) e ∙ rest h
       by false false e f h rest = rest h
 
-  -- of two filters either may come first
-  pub filter-swap : (p q : X → Bool) (xs : List X) → filter p (filter q xs) ≡ filter q (filter p xs)
-  filter-swap p q [] = refl
-  filter-swap p q (x ∷ xs) = by (p x) (q x) refl refl (filter-swap p q xs)
+  -- what is found among those kept, by a test that tells whether they are kept
+  pub find-alike : (q keep : X → Bool) (b : Bool) → ((x : X) → q x ≡ true → keep x ≡ b) → (xs : List X) → find q (filter keep xs) ≡ cond b (find q xs) None
+  find-alike q keep true says [] = refl
+  find-alike q keep false says [] = refl
+  find-alike q keep b says (x ∷ xs) = by (keep x) (q x) b refl refl (says x) (find-alike q keep b says xs)
     where
-      by : (b c : Bool) → p x ≡ b → q x ≡ c → filter p (filter q xs) ≡ filter q (filter p xs) → filter p (cond c (x ∷ filter q xs) (filter q xs)) ≡ filter q (cond b (x ∷ filter p xs) (filter p xs))
-      by true true e f rest =
-          ap (λ a. cond a (x ∷ filter p (filter q xs)) (filter p (filter q xs))) e ∙ ap (λ l. x ∷ l) rest
-          ∙ sym (ap (λ a. cond a (x ∷ filter q (filter p xs)) (filter q (filter p xs))) f)
-      by true false e f rest = rest ∙ sym (ap (λ a. cond a (x ∷ filter q (filter p xs)) (filter q (filter p xs))) f)
-      by false true e f rest = ap (λ a. cond a (x ∷ filter p (filter q xs)) (filter p (filter q xs))) e ∙ rest
-      by false false e f rest = rest
+      others : List X
+      others = filter keep xs
 
-  -- a filter over what passed it changes nothing
-  pub filter-twice : (p : X → Bool) (xs : List X) → filter p (filter p xs) ≡ filter p xs
-  filter-twice p [] = refl
-  filter-twice p (x ∷ xs) = by (p x) refl (filter-twice p xs)
-    where
-      by : (b : Bool) → p x ≡ b → filter p (filter p xs) ≡ filter p xs → filter p (cond b (x ∷ filter p xs) (filter p xs)) ≡ cond b (x ∷ filter p xs) (filter p xs)
-      by true e rest = ap (λ a. cond a (x ∷ filter p (filter p xs)) (filter p (filter p xs))) e ∙ ap (λ l. x ∷ l) rest
-      by false e rest = rest
+      by : (k c b : Bool) → keep x ≡ k → q x ≡ c → (q x ≡ true → keep x ≡ b) → find q others ≡ cond b (find q xs) None → find q (cond k (x ∷ others) others) ≡ cond b (cond (q x) (Some x) (find q xs)) None
+      by true true true e f tells rest = ap (λ a. cond a (Some x) (find q others)) f ∙ sym (ap (λ a. cond a (Some x) (find q xs)) f)
+      by true true false e f tells rest = absurd (true≢false (sym e ∙ tells f))
+      by true false true e f tells rest = ap (λ a. cond a (Some x) (find q others)) f ∙ rest ∙ sym (ap (λ a. cond a (Some x) (find q xs)) f)
+      by true false false e f tells rest = ap (λ a. cond a (Some x) (find q others)) f ∙ rest
+      by false true true e f tells rest = absurd (true≢false (sym (tells f) ∙ e))
+      by false true false e f tells rest = rest
+      by false false true e f tells rest = rest ∙ sym (ap (λ a. cond a (Some x) (find q xs)) f)
+      by false false false e f tells rest = rest
 
   count_by-cons : (s : X → Bool) (x : X) (xs : List X) → count_by s (x ∷ xs) ≡ cond (s x) 1 0 + count_by s xs
   count_by-cons s x xs = sum_by-cons (λ x. cond (s x) 1 0) x xs

@@ -1,6 +1,7 @@
 -- What canceling, giving and using a token come to, by the record that is found.
-use Rattle.std.proofs.Common.{◌≡◌, ℕ, ◌==◌, Bool, true, false, not, cond, length, map, Option, Some, None, Result, Ok, Err, refl, ap, ◌∙◌}
+use Rattle.std.proofs.Common.{◌≡◌, ℕ, ◌==◌, Bool, true, false, not, cond, length, map, List, Option, Some, None, Result, Ok, Err, option_map, refl, subst, sym, ap, ◌∙◌}
 use Rattle.std.specs.Prelude.{IsOk, nat_le, nat_lt}
+use Rattle.std.specs.Cmp.{nat_eq_equiv, unsigned_Decides}
 use Rattle.am_types.specs.declared.intent.Intent.{Intent}
 use Rattle.am_types.specs.declared.filter.FillFault.{FillFault}
 use Rattle.am_types.specs.declared.filter.FillFault.TheVariants as fault
@@ -8,7 +9,25 @@ use Rattle.am_types.specs.declared.pending.PendingFault.{PendingFault}
 use Rattle.am_types.specs.declared.pending.PendingFault.TheVariants.{NoToken, NotCreator, NotHolder, HoldersFull}
 use Rattle.am_model.specs.Intents.{fill_in, filled, united_extras}
 use Rattle.am_model.specs.Pendings.{Pending, Pendings, cancel, canceled, give, given, is_holder, lent, no_record, use_token, used, used_as, with_holder, without_token}
-use Rattle.am_pending.specs.Records.{record_in}
+use Rattle.am_pending.specs.Answers.{IsChange}
+use Rattle.am_pending.specs.declared.key.Key.{Key}
+use Rattle.am_pending.specs.Records.{IsIndexed, Kept, before, pending_of, record_in}
+use Rattle.am_pending.proofs.Indexing.{mapped, with_holder-leaves}
+
+-- what a look-up by token found, in the records as the definitions see them
+pub there : (token : ℕ) (inside : List Pending) (all : Pendings) (o found : Option Kept) → option_map (pending_of token) o ≡ record_in token inside → o ≡ found → inside ≡ all.records → record_in token all.records ≡ option_map (pending_of token) found
+there token inside all o found is e view = ap (record_in token) (sym view) ∙ sym is ∙ ap (option_map (pending_of token)) e
+
+-- whether two numbers are the same
+pub is_one : (x y : ℕ) → x ≡ y → (x == y) ≡ true
+is_one x y e = ap (λ n. n == y) e ∙ nat_eq_equiv.refl y
+
+pub is_other : (x y : ℕ) → (x ≡ y → ⊥) → (x == y) ≡ false
+is_other x y h = by (x == y) refl
+  where
+    by : (b : Bool) → (x == y) ≡ b → b ≡ false
+    by true e = absurd (h ((unsigned_Decides x y).0 e))
+    by false e = refl
 
 module _ (all : Pendings) (token uid : ℕ) where
   pub cancel_none : record_in token all.records ≡ None → cancel all token uid ≡ Err NoToken
@@ -57,6 +76,32 @@ module _ (all : Pendings) (token uid to : ℕ) where
     pub give_new : (kept.creator == uid) ≡ true → is_holder kept to ≡ false → nat_le 64 (length kept.holders) ≡ false → give all token uid to ≡ Ok (record all { records = map (with_holder kept.token to) all.records })
     unfolding gift
     give_new e f l = give_is ∙ (λ i. gift all uid to kept (e i) (f i) (l i))
+
+err_ok : (fault : PendingFault) (new : Pendings) → (let r : Result Pendings PendingFault = Err fault in r) ≡ Ok new → ⊥
+err_ok fault new e = cc
+
+same_ok : (x y : Pendings) → (let r : Result Pendings PendingFault = Ok x in r) ≡ Ok y → x ≡ y
+same_ok x y e = cc
+
+-- after a gift the tables of tokens and of numbers are still in line
+module _ (tokens : Key → Option ℕ) (counts : ℕ → ℕ) (next token uid to : ℕ) where
+  gift-indexed : (all new : Pendings) (kept : Pending) (own has full : Bool) → gift all uid to kept own has full ≡ Ok new → IsIndexed all.records tokens counts next → IsIndexed new.records tokens counts next
+  unfolding gift
+  gift-indexed all new kept false has full e h = cc
+  gift-indexed all new kept true true full e h = subst (λ (p : Pendings). IsIndexed p.records tokens counts next) (same_ok all new e) h
+  gift-indexed all new kept true false true e h = cc
+  gift-indexed all new kept true false false e h =
+      subst (λ (p : Pendings). IsIndexed p.records tokens counts next) (same_ok (record all { records = map (with_holder kept.token to) all.records }) new e)
+      (mapped (with_holder kept.token to) (with_holder-leaves kept.token to) all.records tokens counts next h)
+
+  found-indexed : (all new : Pendings) (o : Option Pending) → record_in token all.records ≡ o → give all token uid to ≡ Ok new → IsIndexed all.records tokens counts next → IsIndexed new.records tokens counts next
+  found-indexed all new None is e h = absurd (err_ok NoToken new (sym (give_none all token uid to is) ∙ e))
+  found-indexed all new (Some kept) is e h =
+      gift-indexed all new kept (kept.creator == uid) (is_holder kept to) (nat_le 64 (length kept.holders)) (sym (give_is all token uid to kept is) ∙ e) h
+
+  pub given-indexed : (old new : List Pending) (r : Result (Unit {0}) PendingFault) → IsChange r (before old next) (before new next) (give (before old next) token uid to) → IsIndexed old tokens counts next → IsIndexed new tokens counts next
+  given-indexed old new (Ok x) e h = found-indexed (before old next) (before new next) (record_in token old) refl e h
+  given-indexed old new (Err fault) e h = subst (λ (p : Pendings). IsIndexed p.records tokens counts next) (sym e.1) h
 
 module _ (all : Pendings) (token uid : ℕ) (filled : Option Intent) where
   pub use_none : record_in token all.records ≡ None → use_token all token uid filled ≡ Err (no_record all token)

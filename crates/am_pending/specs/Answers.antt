@@ -1,10 +1,9 @@
 -- What the answer of a call says of what the definitions answer.
-use Rattle.std.specs.Prelude.{◌≡◌, Bool, false, Result, Ok, Err}
+use Rattle.std.specs.Prelude.{◌≡◌, Result, Ok, Err}
 use Rattle.am_types.specs.declared.pending.PendingFault.{PendingFault}
 use Rattle.am_types.specs.declared.pending.PendingFault.TheVariants.{NoMemory}
 use Rattle.am_types.specs.declared.pending.Used.{Used}
-use Rattle.am_model.specs.Pendings.{Asked, Pendings}
-use Rattle.am_pending.specs.declared.key.Key.{Key}
+use Rattle.am_model.specs.Pendings.{Pendings}
 
 -- the definitions refuse for the same reason; want of memory says nothing of them
 abbrev pub IsRefusal : {X : Type 0} → PendingFault → Result X PendingFault → Type 0
@@ -17,7 +16,7 @@ IsAnswer (Ok x) old new said = said ≡ Ok (x, new)
 IsAnswer (Err fault) old new said = IsRefusal fault said × (new ≡ old)
 
 -- what is kept is the definitions'; after a refusal all is as before
-abbrev pub IsChange : {A : Type 0} → Result (Unit {0}) PendingFault → A → A → Result A PendingFault → Type 0
+abbrev pub IsChange : Result (Unit {0}) PendingFault → Pendings → Pendings → Result Pendings PendingFault → Type 0
 IsChange (Ok x) old new said = said ≡ Ok new
 IsChange (Err fault) old new said = IsRefusal fault said × (new ≡ old)
 
@@ -25,20 +24,3 @@ IsChange (Err fault) old new said = IsRefusal fault said × (new ≡ old)
 abbrev pub IsUse : Result Used PendingFault → Result Used PendingFault → Type 0
 IsUse (Ok used) said = said ≡ Ok used
 IsUse (Err fault) said = IsRefusal fault said
-
--- what asks for a record of a key, or for none where there is none
-abbrev pub asking : Bool → Key → Asked
-asking no_create key = record {
-  creator = key.creator;
-  kind = key.kind;
-  code = key.code;
-  intent = key.intent;
-  flags = record {
-    one_shot = key.one_shot;
-    no_create = no_create;
-    cancel_current = false;
-    update_current = false;
-    immutable = key.immutable;
-    mutable = key.mutable;
-  };
-}

@@ -1,11 +1,10 @@
 -- Sameness of keys is an equivalence, and the same keys are hashed alike.
-use Rattle.std.specs.Prelude.{◌≡◌, ℕ, ◌==◌, Bool, true, false, ◌&&◌, ◌||◌, List, [], ◌∷◌, ◌++◌, Option, Some, None, refl}
+use Rattle.std.specs.Prelude.{◌≡◌, ℕ, Bool, true, false, ◌&&◌, ◌||◌, List, [], ◌∷◌, ◌++◌, Option, Some, None, refl}
 use Rattle.std.specs.Prelude.{pos}
 use Rattle.std.proofs.Common.{sym, ap, ◌∙◌, true≢false}
 use Rattle.std.specs.List.{list_all}
-use Rattle.std.specs.Ordering.{int_eq}
-use Rattle.std.specs.Cmp.{IsEquivalence, equiv, and_equiv, on_equiv, back_equiv, int_eq_equiv, nat_eq_equiv, first_so, second_so, unsigned_Decides, signed_Decides}
-use Rattle.std.specs.Cmp.Lexicographic.{bytes_decides, nat_list_eq_equiv}
+use Rattle.std.specs.Cmp.{IsEquivalence, equiv, and_equiv, on_equiv, back_equiv, int_eq_equiv, nat_eq_equiv, unsigned_Decides, signed_Decides}
+use Rattle.std.specs.Cmp.Lexicographic.{nat_list_eq_equiv}
 use Rattle.std.specs.Hash as fed
 use Rattle.am_types.specs.declared.intent.Intent.{Intent}
 use Rattle.am_types.specs.declared.intent.Component.{Component}
@@ -19,6 +18,7 @@ use Rattle.am_model.specs.Intents.{agree, is_same_mime, is_same_uri, is_same_com
 use Rattle.am_model.specs.Pendings.{is_same_truth}
 use Rattle.am_pending.specs.declared.key.Key.{Key}
 use Rattle.am_pending.specs.Keys.{is_same_key}
+use Rattle.am_pending.specs.Digests.{SameMembers, digest_on, one-listed, same_digest, same_members, same_text}
 
 -- where the values that are there are compared by an equivalence, so are values that may be there
 module _ {X : Type 0} {E : X → X → Bool} (e : IsEquivalence E) where
@@ -42,54 +42,48 @@ module _ {X : Type 0} {E : X → X → Bool} (e : IsEquivalence E) where
   pub agree_equiv : IsEquivalence (agree E)
   agree_equiv = record { refl = agree-refl; symm = agree-symm; congr = agree-congr }
 
-kind-refl : (x : Kind) → is_kind x x ≡ true
-kind-refl Activity = refl
-kind-refl Service = refl
-kind-refl Receiver = refl
+-- a comparison that tells all that differs is an equivalence
+module _ {X : Type 0} {E : X → X → Bool} (own : (x : X) → E x x ≡ true) (tells : (x y : X) → E x y ≡ true → x ≡ y) where
+  turned : (x y : X) (b c : Bool) → E x y ≡ b → E y x ≡ c → b ≡ c
+  turned x y true true h k = refl
+  turned x y true false h k = sym (own y) ∙ ap (E y) (sym (tells x y h)) ∙ k
+  turned x y false true h k = sym h ∙ ap (E x) (tells y x k) ∙ own x
+  turned x y false false h k = refl
 
-kind-symm : (x y : Kind) → is_kind x y ≡ is_kind y x
-kind-symm Activity Activity = refl
-kind-symm Activity Service = refl
-kind-symm Activity Receiver = refl
-kind-symm Service Activity = refl
-kind-symm Service Service = refl
-kind-symm Service Receiver = refl
-kind-symm Receiver Activity = refl
-kind-symm Receiver Service = refl
-kind-symm Receiver Receiver = refl
+  pub exact_equiv : IsEquivalence E
+  exact_equiv = record { refl = own; symm = λ x y. turned x y (E x y) (E y x) refl refl; congr = λ x y z h. ap (λ w. E w z) (tells x y h) }
 
-kind-congr : (x y z : Kind) → is_kind x y ≡ true → is_kind x z ≡ is_kind y z
-kind-congr Activity Activity z h = refl
-kind-congr Activity Service z h = absurd (true≢false (sym h))
-kind-congr Activity Receiver z h = absurd (true≢false (sym h))
-kind-congr Service Activity z h = absurd (true≢false (sym h))
-kind-congr Service Service z h = refl
-kind-congr Service Receiver z h = absurd (true≢false (sym h))
-kind-congr Receiver Activity z h = absurd (true≢false (sym h))
-kind-congr Receiver Service z h = absurd (true≢false (sym h))
-kind-congr Receiver Receiver z h = refl
+kind-own : (x : Kind) → is_kind x x ≡ true
+kind-own Activity = refl
+kind-own Service = refl
+kind-own Receiver = refl
+
+same_kind : (x y : Kind) → is_kind x y ≡ true → x ≡ y
+same_kind Activity Activity h = refl
+same_kind Activity Service h = absurd (true≢false (sym h))
+same_kind Activity Receiver h = absurd (true≢false (sym h))
+same_kind Service Activity h = absurd (true≢false (sym h))
+same_kind Service Service h = refl
+same_kind Service Receiver h = absurd (true≢false (sym h))
+same_kind Receiver Activity h = absurd (true≢false (sym h))
+same_kind Receiver Service h = absurd (true≢false (sym h))
+same_kind Receiver Receiver h = refl
+
+truth-own : (x : Bool) → is_same_truth x x ≡ true
+truth-own true = refl
+truth-own false = refl
+
+same_truth : (x y : Bool) → is_same_truth x y ≡ true → x ≡ y
+same_truth true true h = refl
+same_truth true false h = absurd (true≢false (sym h))
+same_truth false true h = absurd (true≢false (sym h))
+same_truth false false h = refl
 
 kind_equiv : IsEquivalence is_kind
-kind_equiv = record { refl = kind-refl; symm = kind-symm; congr = kind-congr }
-
-truth-refl : (x : Bool) → is_same_truth x x ≡ true
-truth-refl true = refl
-truth-refl false = refl
-
-truth-symm : (x y : Bool) → is_same_truth x y ≡ is_same_truth y x
-truth-symm true true = refl
-truth-symm true false = refl
-truth-symm false true = refl
-truth-symm false false = refl
-
-truth-congr : (x y z : Bool) → is_same_truth x y ≡ true → is_same_truth x z ≡ is_same_truth y z
-truth-congr true true z h = refl
-truth-congr true false z h = absurd (true≢false (sym h))
-truth-congr false true z h = absurd (true≢false (sym h))
-truth-congr false false z h = refl
+kind_equiv = exact_equiv kind-own same_kind
 
 truth_equiv : IsEquivalence is_same_truth
-truth_equiv = record { refl = truth-refl; symm = truth-symm; congr = truth-congr }
+truth_equiv = exact_equiv truth-own same_truth
 
 both : (s t : Bool) → s ≡ true → t ≡ true → (s && t) ≡ true
 both true t p q = q
@@ -105,52 +99,22 @@ and-swap true false = refl
 and-swap false true = refl
 and-swap false false = refl
 
-same_text : (s t : List ℕ) → is_same s t ≡ true → s ≡ t
-same_text s t h = (bytes_decides s t).0 h
+-- texts whose members are all listed elsewhere
+all-listed : (xs ys : List (List ℕ)) → ((t : List ℕ) → lists xs t ≡ true → lists ys t ≡ true) → list_all (λ t. lists ys t) xs ≡ true
+all-listed [] ys h = refl
+all-listed (x ∷ xs) ys h = both _ _ (h x (one-listed x xs)) (all-listed xs ys (λ t k. h t (or_second (is_same x t) (lists xs t) k)))
 
--- what is listed among texts that are all listed elsewhere is listed there
-lists-step : (b : List ℕ) (bs cs : List (List ℕ)) (x : List ℕ) (here : Bool) → is_same b x ≡ here → (here || lists bs x) ≡ true → lists cs b ≡ true → list_all (λ t. lists cs t) bs ≡ true → (lists bs x ≡ true → lists cs x ≡ true) → lists cs x ≡ true
-lists-step b bs cs x true e h first others else_ = ap (lists cs) (sym (same_text b x e)) ∙ first
-lists-step b bs cs x false e h first others else_ = else_ h
-
-lists-through : (bs cs : List (List ℕ)) (x : List ℕ) → lists bs x ≡ true → list_all (λ t. lists cs t) bs ≡ true → lists cs x ≡ true
-lists-through [] cs x h all = absurd (true≢false (sym h))
-lists-through (b ∷ bs) cs x h all =
-    lists-step b bs cs x (is_same b x) refl h (first_so (lists cs b) (list_all (λ t. lists cs t) bs) all) (second_so (lists cs b) (list_all (λ t. lists cs t) bs) all)
-    (λ k. lists-through bs cs x k (second_so (lists cs b) (list_all (λ t. lists cs t) bs) all))
-
-all-through : (xs bs cs : List (List ℕ)) → list_all (λ t. lists bs t) xs ≡ true → list_all (λ t. lists cs t) bs ≡ true → list_all (λ t. lists cs t) xs ≡ true
-all-through [] bs cs h k = refl
-all-through (x ∷ xs) bs cs h k =
-    both _ _
-    (lists-through bs cs x (first_so (lists bs x) (list_all (λ t. lists bs t) xs) h) k)
-    (all-through xs bs cs (second_so (lists bs x) (list_all (λ t. lists bs t) xs) h) k)
-
-lists-more : (y : List ℕ) (ys xs : List (List ℕ)) → list_all (λ t. lists ys t) xs ≡ true → list_all (λ t. lists (y ∷ ys) t) xs ≡ true
-lists-more y ys [] h = refl
-lists-more y ys (x ∷ xs) h =
-    both _ _
-    (or_second (is_same y x) (lists ys x) (first_so (lists ys x) (list_all (λ t. lists ys t) xs) h))
-    (lists-more y ys xs (second_so (lists ys x) (list_all (λ t. lists ys t) xs) h))
-
-own_first : (x : List ℕ) (xs : List (List ℕ)) → lists (x ∷ xs) x ≡ true
-own_first x xs = ap (λ s. s || lists xs x) (nat_list_eq_equiv.refl x)
-
-all-own : (xs : List (List ℕ)) → list_all (λ t. lists xs t) xs ≡ true
-all-own [] = refl
-all-own (x ∷ xs) = both _ _ (own_first x xs) (lists-more x xs xs (all-own xs))
-
-set-symm : (a b : List (List ℕ)) → are_same_set a b ≡ are_same_set b a
-set-symm a b = and-swap (list_all (λ t. lists b t) a) (list_all (λ t. lists a t) b)
-
-set-trans : (a b c : List (List ℕ)) → are_same_set a b ≡ true → are_same_set b c ≡ true → are_same_set a c ≡ true
-set-trans a b c h k =
-    both _ _
-    (all-through a b c (first_so (list_all (λ t. lists b t) a) (list_all (λ t. lists a t) b) h) (first_so (list_all (λ t. lists c t) b) (list_all (λ t. lists b t) c) k))
-    (all-through c b a (second_so (list_all (λ t. lists c t) b) (list_all (λ t. lists b t) c) k) (second_so (list_all (λ t. lists b t) a) (list_all (λ t. lists a t) b) h))
+-- sets with the same members are the same
+same_set : (xs ys : List (List ℕ)) → SameMembers xs ys → are_same_set xs ys ≡ true
+same_set xs ys h = both _ _ (all-listed xs ys (λ t k. sym (h t) ∙ k)) (all-listed ys xs (λ t k. h t ∙ k))
 
 set_equiv : IsEquivalence are_same_set
-set_equiv = equiv (record { symm = set-symm; trans = set-trans }) (λ a. both _ _ (all-own a) (all-own a))
+set_equiv =
+    equiv (record {
+      symm = λ a b. and-swap (list_all (λ t. lists b t) a) (list_all (λ t. lists a t) b);
+      trans = λ a b c h k. same_set a c (λ t. same_members a b h t ∙ same_members b c k t);
+    })
+    (λ a. same_set a a (λ t. refl))
 
 mime_equiv : IsEquivalence is_same_mime
 mime_equiv = and_equiv (on_equiv (λ (m : Mime). m.main) nat_list_eq_equiv) (on_equiv (λ (m : Mime). m.sub) nat_list_eq_equiv)
@@ -196,15 +160,6 @@ agree_fed E F alike None (Some y) h = absurd (true≢false (sym h))
 agree_fed E F alike (Some x) None h = absurd (true≢false (sym h))
 agree_fed E F alike (Some x) (Some y) h = ap (λ w. fed.isize (pos 1) ++ w) (alike x y h)
 
-text_fed : (x y : List ℕ) → is_same x y ≡ true → fed.str x ≡ fed.str y
-text_fed x y h = ap fed.str (same_text x y h)
-
-pair_fed : (x y v w : List ℕ) → (is_same x y && is_same v w) ≡ true → fed.str x ++ fed.str v ≡ fed.str y ++ fed.str w
-pair_fed x y v w h =
-    let a = same_text x y (first_so (is_same x y) (is_same v w) h) in
-    let b = same_text v w (second_so (is_same x y) (is_same v w) h) in
-    λ i. fed.str (a i) ++ fed.str (b i)
-
 abbrev uri_fed : Uri → fed.HashWrites
 uri_fed uri = fed.str uri.text
 
@@ -214,38 +169,73 @@ mime_fed mime = fed.str mime.main ++ fed.str mime.sub
 abbrev component_fed : Component → fed.HashWrites
 component_fed component = fed.str component.«package» ++ fed.str component.class
 
--- what a hasher is fed of a key: all that tells keys apart, but for the kind, the flags and the categories, whose order doesn't count
+abbrev kind_fed : Kind → fed.HashWrites
+kind_fed Activity = fed.isize (pos 0)
+kind_fed Service = fed.isize (pos 1)
+kind_fed Receiver = fed.isize (pos 2)
+
+abbrev set_fed : List (List ℕ) → fed.HashWrites
+set_fed texts = fed.u64 (digest_on 0 texts)
+
+-- what a hasher is fed of an intent: all that tells keys apart, the categories as a set
+abbrev pub fed_by_intent : Intent → fed.HashWrites
+fed_by_intent intent =
+    (((((fed.option fed.str intent.action
+    ++ fed.option uri_fed intent.uri)
+    ++ fed.option mime_fed intent.mime)
+    ++ fed.option fed.str intent.identifier)
+    ++ fed.option fed.str intent.«package»)
+    ++ fed.option component_fed intent.component)
+    ++ set_fed intent.categories
+
+-- what a hasher is fed of a key
 abbrev pub fed_by : Key → fed.HashWrites
 fed_by key =
-    fed.u32 key.creator ++ (fed.i64 key.code ++ (fed.option fed.str key.intent.action ++ (fed.option uri_fed key.intent.uri ++ (fed.option mime_fed key.intent.mime
-    ++ (fed.option fed.str key.intent.identifier ++ (fed.option fed.str key.intent.«package» ++ fed.option component_fed key.intent.component))))))
+    (((((fed.u32 key.creator
+    ++ kind_fed key.kind)
+    ++ fed.i64 key.code)
+    ++ fed.bool key.one_shot)
+    ++ fed.bool key.immutable)
+    ++ fed.bool key.mutable)
+    ++ fed_by_intent key.intent
 
--- the creators of the same keys
-pub creators : (x y : Key) → is_same_key x y ≡ true → (x.creator == y.creator) ≡ true
-creators x y h = first_so _ _ (first_so _ _ (first_so _ _ (first_so _ _ (first_so _ _ (first_so _ _ h)))))
+text_alike : fed.Alike is_same fed.str
+text_alike = record { fed = λ x y h. ap fed.str (same_text x y h) }
 
--- the codes of the same keys
-codes_same : (x y : Key) → is_same_key x y ≡ true → int_eq x.code y.code ≡ true
-codes_same x y h = second_so _ _ (first_so _ _ (first_so _ _ (first_so _ _ (first_so _ _ h))))
+agree_alike : {X : Type 0} {E : X → X → Bool} {F : X → fed.HashWrites} → fed.Alike E F → fed.Alike (agree E) (fed.option F)
+agree_alike {E = E} {F = F} alike = record { fed = agree_fed E F alike.fed }
 
--- the intents of the same keys
-intents_same : (x y : Key) → is_same_key x y ≡ true → filter_equals x.intent y.intent ≡ true
-intents_same x y h = second_so _ _ h
+kind_alike : fed.Alike is_kind kind_fed
+kind_alike = record { fed = λ x y h. ap kind_fed (same_kind x y h) }
+
+truth_alike : fed.Alike is_same_truth fed.bool
+truth_alike = record { fed = λ x y h. ap fed.bool (same_truth x y h) }
+
+set_alike : fed.Alike are_same_set set_fed
+set_alike = record { fed = λ x y h. ap fed.u64 (same_digest x y (same_members x y h)) }
+
+intent_alike : fed.Alike filter_equals fed_by_intent
+intent_alike =
+    fed.and-Alike (fed.and-Alike (fed.and-Alike (fed.and-Alike (fed.and-Alike (fed.and-Alike
+    (fed.on_Alike (λ (i : Intent). i.action) (agree_alike text_alike))
+    (fed.on_Alike (λ (i : Intent). i.uri) (agree_alike (fed.on_Alike (λ (u : Uri). u.text) text_alike))))
+    (fed.on_Alike (λ (i : Intent). i.mime) (agree_alike (fed.and-Alike (fed.on_Alike (λ (m : Mime). m.main) text_alike) (fed.on_Alike (λ (m : Mime). m.sub) text_alike)))))
+    (fed.on_Alike (λ (i : Intent). i.identifier) (agree_alike text_alike)))
+    (fed.on_Alike (λ (i : Intent). i.«package») (agree_alike text_alike)))
+    (fed.on_Alike (λ (i : Intent). i.component) (agree_alike (fed.and-Alike (fed.on_Alike (λ (c : Component). c.«package») text_alike) (fed.on_Alike (λ (c : Component). c.class) text_alike)))))
+    (fed.on_Alike (λ (i : Intent). i.categories) set_alike)
+
+key_alike : fed.Alike is_same_key fed_by
+key_alike =
+    fed.and-Alike (fed.and-Alike (fed.and-Alike (fed.and-Alike (fed.and-Alike (fed.and-Alike
+    (fed.on_Alike (λ (k : Key). k.creator) (fed.same_Alike fed.u32 unsigned_Decides))
+    (fed.on_Alike (λ (k : Key). k.kind) kind_alike))
+    (fed.on_Alike (λ (k : Key). k.code) (fed.same_Alike fed.i64 signed_Decides)))
+    (fed.on_Alike (λ (k : Key). k.one_shot) truth_alike))
+    (fed.on_Alike (λ (k : Key). k.immutable) truth_alike))
+    (fed.on_Alike (λ (k : Key). k.mutable) truth_alike))
+    (fed.on_Alike (λ (k : Key). k.intent) intent_alike)
 
 -- the same keys are hashed alike
 pub key_fed : (x y : Key) → is_same_key y x ≡ true → fed_by x ≡ fed_by y
-key_fed x y h =
-    let creator = sym ((unsigned_Decides y.creator x.creator).0 (creators y x h)) in
-    let code = sym ((signed_Decides y.code x.code).0 (codes_same y x h)) in
-    let e1 = first_so _ _ (intents_same y x h) in
-    let e2 = first_so _ _ e1 in
-    let e3 = first_so _ _ e2 in
-    let e4 = first_so _ _ e3 in
-    let e5 = first_so _ _ e4 in
-    let action = sym (agree_fed is_same fed.str text_fed y.intent.action x.intent.action (first_so _ _ e5)) in
-    let uri = sym (agree_fed is_same_uri uri_fed (λ u v k. text_fed u.text v.text k) y.intent.uri x.intent.uri (second_so _ _ e5)) in
-    let mime = sym (agree_fed is_same_mime mime_fed (λ u v k. pair_fed u.main v.main u.sub v.sub k) y.intent.mime x.intent.mime (second_so _ _ e4)) in
-    let identifier = sym (agree_fed is_same fed.str text_fed y.intent.identifier x.intent.identifier (second_so _ _ e3)) in
-    let owner = sym (agree_fed is_same fed.str text_fed y.intent.«package» x.intent.«package» (second_so _ _ e2)) in
-    let component = sym (agree_fed is_same_component component_fed (λ u v k. pair_fed u.«package» v.«package» u.class v.class k) y.intent.component x.intent.component (second_so _ _ e1)) in
-    λ i. fed.u32 (creator i) ++ (fed.i64 (code i) ++ (action i ++ (uri i ++ (mime i ++ (identifier i ++ (owner i ++ component i))))))
+key_fed x y h = sym (key_alike.fed y x h)

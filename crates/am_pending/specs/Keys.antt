@@ -1,22 +1,24 @@
 -- What tells one pending intent from another.
-use Rattle.std.specs.Prelude.{Bool, false, ◌&&◌, ◌==◌, List}
-use Rattle.am_types.specs.declared.intent.Named.{Named}
+use Rattle.std.specs.Prelude.{ℕ, ℤ, Bool, false, ◌&&◌, ◌==◌}
 use Rattle.std.specs.Ordering.{int_eq}
+use Rattle.am_types.specs.declared.intent.Intent.{Intent}
+use Rattle.am_types.specs.declared.manifest.Kind.{Kind}
+use Rattle.am_types.specs.declared.pending.PendingFlags.{PendingFlags}
 use Rattle.am_pending.specs.declared.key.Key.{Key}
 use Rattle.am_model.specs.Candidates.{is_kind}
 use Rattle.am_model.specs.Intents.{filter_equals}
 use Rattle.am_model.specs.Pendings.{Asked, is_same_truth}
 
--- what asks for the record of a key
-abbrev pub asked_by : Key → Asked
-asked_by key = record {
+-- what asks for the record of a key, or for none where there is none
+abbrev pub asking : Bool → Key → Asked
+asking no_create key = record {
   creator = key.creator;
   kind = key.kind;
   code = key.code;
   intent = key.intent;
   flags = record {
     one_shot = key.one_shot;
-    no_create = false;
+    no_create = no_create;
     cancel_current = false;
     update_current = false;
     immutable = key.immutable;
@@ -24,21 +26,25 @@ asked_by key = record {
   };
 }
 
--- the key of what is asked for
-abbrev pub key_for : Asked → Key
-key_for asked = record {
-  creator = asked.creator;
-  kind = asked.kind;
-  code = asked.code;
-  one_shot = asked.flags.one_shot;
-  immutable = asked.flags.immutable;
-  mutable = asked.flags.mutable;
-  intent = asked.intent;
+-- what asks for the record of a key
+abbrev pub asked_by : Key → Asked
+asked_by key = asking false key
+
+-- the key of a creator's intent for a kind, a code and flags
+abbrev pub key_with : ℕ → Kind → ℤ → Intent → PendingFlags → Key
+key_with creator kind code intent flags = record {
+  creator = creator;
+  kind = kind;
+  code = code;
+  one_shot = flags.one_shot;
+  immutable = flags.immutable;
+  mutable = flags.mutable;
+  intent = intent;
 }
 
--- the key, with other extras of its intent
-abbrev pub keyed : List Named → Key → Key
-keyed extras key = record key { intent = record (key.intent) { extras = extras } }
+-- the key of what is asked for
+abbrev pub key_for : Asked → Key
+key_for asked = key_with asked.creator asked.kind asked.code asked.intent asked.flags
 
 -- two keys are the same: extras and flags of their intents don't count
 abbrev pub is_same_key : Key → Key → Bool

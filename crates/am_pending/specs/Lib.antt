@@ -1,7 +1,6 @@
 pub mod Answers
-pub mod Calls
+pub mod Digests
 pub mod Keys
-pub mod InTurn
 pub mod KeyLaws
 pub mod Once
 pub mod Records

@@ -1,30 +1,24 @@
--- Records as a table keeps them: by token, with the token of each key and each creator's number of live records. A canceled
--- record stays for a while, marked as such; it is no record any more for the definitions.
-use Rattle.std.specs.Prelude.{◌≡◌, ℕ, ◌<◌, ◌==◌, Bool, true, false, not, List, [], ◌∷◌, ◌++◌, All, map, filter, nat_eq, unwrap_or, if◌then◌else◌, Option, Some, None, option_map}
+-- Records as they are kept: by token, with the token of each key and each creator's number of records.
+use Rattle.std.specs.Prelude.{◌≡◌, ℕ, ◌+◌, ◌-◌, ◌<◌, ◌==◌, Bool, not, cond, if◌then◌else◌, List, [], ◌∷◌, ◌++◌, All, map, filter, nat_eq, unwrap_or, Option, None, option_map, Result}
+use Rattle.am_types.specs.declared.intent.Intent.{Intent}
 use Rattle.am_types.specs.declared.intent.Named.{Named}
+use Rattle.am_types.specs.declared.filter.FillFault.{FillFault}
+use Rattle.am_types.specs.declared.pending.PendingFault.{PendingFault}
 use Rattle.std.specs.List.{find}
-use Rattle.std.specs.List.Sorted.{IsStrictlySortedBy}
-use Rattle.std.specs.Map.{lookup, keys_of}
-use Rattle.std.specs.BTreeMap.{insert_entry}
-use Rattle.std.specs.Ordering.{nat_cmp}
-use Rattle.am_model.specs.Pendings.{Pending, count_of, has_key}
+use Rattle.std.specs.Map.{lookup}
+use Rattle.am_model.specs.Pendings.{Pending, Pendings, count_of, fresh, has_key, is_holder, lent, made, updated, without_token}
 use Rattle.am_pending.specs.declared.key.Key.{Key}
-use Rattle.am_pending.specs.Keys.{asked_by, is_same_key, keyed}
+use Rattle.am_pending.specs.Keys.{asked_by, asking, is_same_key}
 use Rattle.am_pending.specs.Once.{AtMostOne}
 
--- a record: its key, with the whole intent, those besides the creator who hold its token, and whether it is canceled
+-- a record: its key, with the whole intent, and those besides the creator who hold its token
 pub record Kept : Type 0 where
   pub key : Key
   pub holders : List ℕ
-  pub canceled : Bool
 
--- a live record without holders
+-- a record without holders
 abbrev pub unheld : Key → Kept
-unheld key = record { key = key; holders = []; canceled = false }
-
--- the record, canceled
-abbrev pub as_canceled : Kept → Kept
-as_canceled kept = record kept { canceled = true }
+unheld key = record { key = key; holders = [] }
 
 -- a record under its token, as the definitions see it
 abbrev pub pending_of : ℕ → Kept → Pending
@@ -44,34 +38,21 @@ pending_of token kept = record {
 abbrev pub pendings_of : List (ℕ × Kept) → List Pending
 pendings_of entries = map (λ (e : ℕ × Kept). pending_of e.0 e.1) entries
 
--- the records that aren't canceled
-abbrev pub live : List (ℕ × Kept) → List (ℕ × Kept)
-live entries = filter (λ (e : ℕ × Kept). not e.1.canceled) entries
+-- the records, before the next token
+abbrev pub before : List Pending → ℕ → Pendings
+before records next = record { records = records; next = next }
 
--- the records as the definitions see them
-abbrev pub live_of : List (ℕ × Kept) → List Pending
-live_of entries = pendings_of (live entries)
+-- the uid made the record, or was given its token
+abbrev pub is_holder_of : Kept → ℕ → Bool
+is_holder_of kept uid = is_holder (pending_of 0 kept) uid
 
--- the token of the record that has the key, if there is one
-abbrev pub token_in : Key → List Pending → Option ℕ
-token_in key records = option_map (λ (kept : Pending). kept.token) (find (has_key (asked_by key)) records)
-
--- the record of the token, if there is one
-abbrev pub record_in : ℕ → List Pending → Option Pending
-record_in token records = find (λ (kept : Pending). kept.token == token) records
-
--- a token, if there is a record of it
-abbrev pub live_token : List Pending → Option ℕ → Option ℕ
-live_token records None = None
-live_token records (Some token) = option_map (λ (kept : Pending). kept.token) (record_in token records)
-
--- the records, with another in the place of the one under the token
-abbrev pub changed_at : ℕ → (Kept → Kept) → List (ℕ × Kept) → List (ℕ × Kept)
-changed_at token change entries = map (λ (e : ℕ × Kept). if e.0 == token then (e.0, change e.1) else e) entries
+-- what is lent of the record, with a fill-in if there is one
+abbrev pub lent_by : Kept → Option Intent → Result Intent FillFault
+lent_by kept fill = lent (pending_of 0 kept) fill
 
 -- the record with other extras
 abbrev pub with_extras : List Named → Kept → Kept
-with_extras extras kept = record kept { key = keyed extras kept.key }
+with_extras extras kept = record kept { key = record (kept.key) { intent = record (kept.key.intent) { extras = extras } } }
 
 -- the record with one more holder
 abbrev pub held_by : ℕ → Kept → Kept
@@ -81,18 +62,17 @@ held_by to kept = record kept { holders = kept.holders ++ to ∷ [] }
 abbrev pub let_go_by : ℕ → Kept → Kept
 let_go_by uid kept = record kept { holders = filter (λ holder. not (holder == uid)) kept.holders }
 
--- the records in the order of their tokens; of two under the same token the first counts
-abbrev pub in_order : List (ℕ × Kept) → List (ℕ × Kept)
-in_order [] = []
-in_order (e ∷ es) = insert_entry nat_cmp (in_order es) e.0 e.1
+-- the record has the token
+abbrev pub is_token : ℕ → Pending → Bool
+is_token token kept = kept.token == token
 
--- the records of other creators
-abbrev pub others_than : ℕ → List (ℕ × Kept) → List (ℕ × Kept)
-others_than uid entries = filter (λ (e : ℕ × Kept). not (e.1.key.creator == uid)) entries
+-- the record of the token, if there is one
+abbrev pub record_in : ℕ → List Pending → Option Pending
+record_in token records = find (is_token token) records
 
--- the records, each without a holder
-abbrev pub let_go_by_all : ℕ → List (ℕ × Kept) → List (ℕ × Kept)
-let_go_by_all uid entries = map (λ (e : ℕ × Kept). (e.0, let_go_by uid e.1)) entries
+-- the token of the record that has the key, if there is one
+abbrev pub token_in : Key → List Pending → Option ℕ
+token_in key records = option_map (λ (kept : Pending). kept.token) (find (has_key (asked_by key)) records)
 
 -- the token of a key in a table of tokens
 abbrev pub token_at : List (Key × ℕ) → Key → Option ℕ
@@ -102,16 +82,52 @@ token_at tokens key = lookup (λ k. is_same_key k key) tokens
 abbrev pub count_at : List (ℕ × ℕ) → ℕ → ℕ
 count_at counts uid = unwrap_or (lookup (nat_eq uid) counts) 0
 
--- each key has the token of its record, beside tokens without a record; no two records have the same key, and each creator has
--- its number of records
-pub record Indexes (records : List Pending) (tokens : Key → Option ℕ) (counts : ℕ → ℕ) : Type 0 where
-  pub found : (key : Key) → live_token records (tokens key) ≡ token_in key records
-  pub apart : (key : Key) → AtMostOne (has_key (asked_by key)) records
-  pub counted : (uid : ℕ) → counts uid ≡ count_of records uid
+-- the key has that token, or none, and the others have what they had
+abbrev pub IsSetAt : List (Key × ℕ) → List (Key × ℕ) → Key → Option ℕ → Type 0
+IsSetAt old new key token = (other : Key) → token_at new other ≡ cond (is_same_key other key) token (token_at old other)
 
--- the records stand in the order of their tokens, the two other tables are theirs, and all tokens are below the next one
-pub record IsIndexed (records : List (ℕ × Kept)) (tokens : List (Key × ℕ)) (counts : List (ℕ × ℕ)) (next : ℕ) : Type 0 where
-  pub rising : IsStrictlySortedBy nat_cmp (keys_of records)
-  pub below : All (λ (e : ℕ × Kept). e.0 < next) records
-  pub known : (key : Key) (token : ℕ) → token_at tokens key ≡ Some token → token < next
-  pub indexes : Indexes (live_of records) (token_at tokens) (count_at counts)
+-- the keys of a creator have no token, and the others have what they had
+abbrev pub AreUnsetOf : List (Key × ℕ) → List (Key × ℕ) → ℕ → Type 0
+AreUnsetOf old new uid = (other : Key) → token_at new other ≡ cond (other.creator == uid) None (token_at old other)
+
+-- a uid's number where a creator has one more
+abbrev pub raised : List (ℕ × ℕ) → ℕ → ℕ → ℕ
+raised counts creator uid = count_at counts uid + cond (uid == creator) 1 0
+
+-- a uid's number where a creator has one less
+abbrev pub lowered : List (ℕ × ℕ) → ℕ → ℕ → ℕ
+lowered counts creator uid = count_at counts uid - cond (uid == creator) 1 0
+
+-- a uid's number where a creator's is forgotten
+abbrev pub forgotten : List (ℕ × ℕ) → ℕ → ℕ → ℕ
+forgotten counts creator uid = cond (uid == creator) 0 (count_at counts uid)
+
+-- a fresh record of the key beside those that stay
+abbrev pub with_fresh : Pendings → List Pending → Key → Pendings
+with_fresh all stay key = record { records = stay ++ fresh all.next (asked_by key) ∷ []; next = all.next + 1 }
+
+-- without the record of a token
+abbrev pub without : Pendings → ℕ → Pendings
+without all token = record all { records = without_token all.records token }
+
+-- what comes of a key that no record has
+abbrev pub made_for : Pendings → Bool → Key → Result (Option ℕ × Pendings) PendingFault
+made_for all no_create key = made all all.records (asking no_create key)
+
+-- what comes of a key whose record, that of the token, is canceled
+abbrev pub renewed_for : Pendings → ℕ → Bool → Key → Result (Option ℕ × Pendings) PendingFault
+renewed_for all token no_create key = made all (without_token all.records token) (asking no_create key)
+
+-- with other extras of the key's intent for the record of the token, if it is to be updated
+abbrev pub kept_at : Pendings → ℕ → Key → Bool → Pendings
+kept_at all token key update =
+    record all { records = if update then map (updated token key.intent.extras) all.records else all.records }
+
+-- no two records have the same key or token, all tokens are below the next one, each key has the token of its record, and
+-- each creator its number of records
+pub record IsIndexed (records : List Pending) (tokens : Key → Option ℕ) (counts : ℕ → ℕ) (next : ℕ) : Type 0 where
+  pub apart : (key : Key) → AtMostOne (has_key (asked_by key)) records
+  pub once : (token : ℕ) → AtMostOne (is_token token) records
+  pub below : All (λ (kept : Pending). kept.token < next) records
+  pub found : (key : Key) → tokens key ≡ token_in key records
+  pub counted : (uid : ℕ) → counts uid ≡ count_of records uid

@@ -1,19 +1,19 @@
 //! What tells one pending intent from another.
-ghost use Rattle.std.specs.Prelude.{◌≡◌, IfOk, option_map};
+ghost use Rattle.std.specs.Prelude.{◌≡◌, bit_xor, cond, fold, option_map};
 ghost use Rattle.std.specs.Option.{option_copied};
 ghost use Rattle.std.specs.Cmp.{partial_equiv_from_equiv};
 ghost use Rattle.am_types.specs.declared.uri.Uri.{Uri};
 ghost use Rattle.am_model.specs.Candidates.{is_kind};
 ghost use Rattle.am_model.specs.Pendings.{is_same_truth};
-ghost use Rattle.am_pending.specs.Keys.{key_for, keyed};
+ghost use Rattle.am_model.specs.Texts.{lists};
+ghost use Rattle.am_pending.specs.Digests.{digest, digest_on};
+ghost use Rattle.am_pending.specs.KeyLaws.{fed_by_intent};
+ghost use Rattle.am_pending.specs.Keys.{key_with};
 
 use am_filter::filter_equals;
 use am_types::{Intent, Kind, List, Named, PendingFlags, Text, Uri};
-use indexmap::Equivalent;
-use std::alloc::{AllocError, Global};
-use std::hash::{Hash, Hasher};
-use std::marker::Model;
-use std::sync::Arc;
+use std::alloc::AllocError;
+use std::hash::{DefaultHasher, Hash, Hasher};
 
 /// Who made a pending intent and what for: the key of its record. Extras and flags of the intent don't count.
 #[derive(Drop)]
@@ -49,10 +49,62 @@ fn uri_text(uri: &Option<Uri>) -> Option<&Text>
     }
 }
 
+/// The text is listed.
+fn lists(texts: &[Text], text: &Text) -> bool
+    ensures { result ≡ lists texts.now text.now }
+{
+    texts.iter().any(|listed| *listed == *text)
+}
+
+/// The hash of a text.
+#[tactic(auto, unfolding(crate::specs::Digests::digest))]
+fn digest(text: &Text) -> u64
+    ensures { result ≡ digest text.now }
+{
+    let mut hasher = DefaultHasher::new();
+    text.hash(&mut hasher);
+    hasher.finish()
+}
+
+/// The number, with the text's hash joined unless the text is listed behind it.
+fn joined(sum: u64, text: &Text, behind: &[Text]) -> u64
+    ensures { result ≡ cond (lists behind.now text.now) sum (bit_xor sum (digest text.now)) }
+{
+    if lists(behind, text) {
+        sum
+    } else {
+        sum ^ digest(text)
+    }
+}
+
+/// The hashes of the texts, each text once, joined by "exclusive or": the same for the same set of texts in any order.
+fn digest_of_set(texts: &[Text]) -> u64
+    ensures { result ≡ digest_on 0 texts.now }
+{
+    let mut sum = 0u64;
+    for place in 0..texts.len() {
+        sum = joined(sum, &texts[place], &texts[place + 1..]);
+    }
+    sum
+}
+
+/// Feeds all of the intent that tells keys apart.
+fn hash_intent<H: Hasher>(intent: &Intent, state: &mut H)
+    ensures { state.new ≡ fold H.write state.old (fed_by_intent intent.now) }
+{
+    intent.action.hash(state);
+    uri_text(&intent.uri).hash(state);
+    intent.mime.hash(state);
+    intent.identifier.hash(state);
+    intent.package.hash(state);
+    intent.component.hash(state);
+    digest_of_set(intent.categories.as_slice()).hash(state);
+}
+
 impl Key {
     /// The key of what is asked for with these flags. Takes no memory.
     pub fn asked(creator: u32, kind: Kind, code: i64, intent: Intent, flags: PendingFlags) -> Key
-        ensures { result ≡ key_for (record { creator = creator; kind = kind; code = code; intent = intent; flags = flags }) }
+        ensures { result ≡ key_with creator kind code intent flags }
     {
         Key {
             creator,
@@ -62,22 +114,6 @@ impl Key {
             immutable: flags.immutable,
             mutable: flags.mutable,
             intent,
-        }
-    }
-
-    /// The same key, with other extras.
-    pub fn with_extras(&self, extras: List<Named>) -> Result<Key, AllocError>
-        ensures { IfOk result (λ key. key ≡ keyed extras self.now) }
-    {
-        match self.clone() {
-            Ok(mut key) => {
-                key.intent.extras = extras;
-                Ok(key)
-            }
-            Err(error) => {
-                drop(extras);
-                Err(error)
-            }
         }
     }
 
@@ -140,115 +176,11 @@ impl Hash for Key {
 
     fn hash<H: Hasher>(&self, state: &mut H) {
         self.creator.hash(state);
+        self.kind.hash(state);
         self.code.hash(state);
-        self.intent.action.hash(state);
-        uri_text(&self.intent.uri).hash(state);
-        self.intent.mime.hash(state);
-        self.intent.identifier.hash(state);
-        self.intent.package.hash(state);
-        self.intent.component.hash(state);
-    }
-}
-
-/// A key that a record and the table of tokens have together, so that its texts are kept once.
-#[derive(Drop)]
-pub struct SharedKey {
-    key: Arc<Key, Global>,
-    /// The key's creator once more, so that who may cancel or give a token is told without the key.
-    creator: u32,
-}
-
-impl Model for SharedKey {
-    ghost use Rattle.std.specs.Arc.{arc_value};
-    ghost use Rattle.am_pending.specs.declared.key.Key as keys;
-
-    ghost Value = { keys.Key };
-
-    ghost view = { λ shared. arc_value shared.key };
-
-    ghost use Rattle.std.specs.Prelude.{◌≡◌};
-
-    ghost invariant = { λ shared. shared.creator ≡ (arc_value shared.key).creator };
-}
-
-impl SharedKey {
-    /// The key with its two owners. Without memory it is dropped.
-    pub fn pair(alloc: Global, key: Key) -> Result<(SharedKey, SharedKey), AllocError>
-        ensures { IfOk result (λ both. (both.0 ≡ key) × (both.1 ≡ key)) }
-    {
-        let creator = key.creator;
-        match Arc::new(alloc, key) {
-            Ok(key) => {
-                let other = SharedKey {
-                    key: Arc::try_clone(&key)?,
-                    creator,
-                };
-                Ok((SharedKey { key, creator }, other))
-            }
-            Err(failed) => {
-                drop(failed);
-                Err(AllocError)
-            }
-        }
-    }
-
-    /// The key.
-    pub fn get(&self) -> &Key
-        ensures { result.now ≡ self.now }
-    {
-        &*self.key
-    }
-
-    /// The key's creator.
-    pub fn creator(&self) -> u32
-        ensures { result ≡ self.now.creator }
-    {
-        self.creator
-    }
-}
-
-impl PartialEq for SharedKey {
-    ghost use Rattle.am_pending.specs.Keys.{is_same_key};
-    ghost use Rattle.am_pending.specs.KeyLaws.{key_equiv};
-
-    ghost eq = { λ x y. is_same_key y x };
-
-    ghost laws = { partial_equiv_from_equiv key_equiv };
-
-    fn eq(&self, other: &Self) -> bool {
-        *self.get() == *other.get()
-    }
-}
-
-impl Eq for SharedKey {
-    ghost use Rattle.am_pending.specs.KeyLaws.{key_equiv};
-
-    ghost laws = { key_equiv };
-}
-
-impl Hash for SharedKey {
-    ghost use Rattle.am_pending.specs.KeyLaws.{fed_by, key_fed};
-
-    ghost hash_input = { fed_by };
-
-    ghost respects_eq = { key_fed };
-
-    fn hash<H: Hasher>(&self, state: &mut H) {
-        self.get().hash(state)
-    }
-}
-
-impl Equivalent<SharedKey> for &Key {
-    ghost use Rattle.am_pending.specs.Keys.{is_same_key};
-    ghost use Rattle.am_pending.specs.KeyLaws.{key_equiv, key_fed};
-
-    ghost equivalent = { λ q k. is_same_key k q.now };
-
-    ghost respects_hash = { λ q. key_fed q.now };
-
-    ghost respects_eq = { λ q. key_equiv.congr q.now };
-
-    fn equivalent(&self, key: &SharedKey) -> bool {
-        **self == *key.get()
+        self.one_shot.hash(state);
+        self.immutable.hash(state);
+        self.mutable.hash(state);
+        hash_intent(&self.intent, state);
     }
 }

@@ -1,15 +1,17 @@
 //! The calls on pending intents.
-ghost use Rattle.std.specs.Prelude.{◌≡◌, ◌≤◌, ◌+◌, if◌then◌else◌, map, IfOk, IsOk, None, Some, Ok, Err, OnOk, OnErr};
+ghost use Rattle.std.specs.Prelude.{◌≡◌, ◌≤◌, ◌<◌, ◌+◌, IfOk, IsOk, None, Some, Ok, Err, OnOk, OnErr};
 ghost use Rattle.std.specs.Option.{option_copied};
-ghost use Rattle.am_model.specs.Pendings.{cancel, forget_uid, get, give, is_clear, lent, made, no_pendings, no_record, updated, use_token, without_token};
-ghost use Rattle.am_pending.specs.Answers.{IsAnswer, IsChange, IsUse, asking};
-ghost use Rattle.am_pending.specs.Records.{pending_of, token_in};
+ghost use Rattle.am_model.specs.Pendings.{cancel, count_of, forget_uid, get, give, is_clear, no_pendings, no_record, use_token, without_token};
+ghost use Rattle.am_pending.specs.Answers.{IsAnswer, IsChange, IsUse};
+ghost use Rattle.am_pending.specs.Records.{kept_at, lent_by, made_for, renewed_for, token_in, with_fresh, without};
 
+use crate::index;
 use crate::key::Key;
-use crate::records::Record;
-use crate::table::Table;
+use crate::record::Record;
+use crate::records::Records;
 use am_filter::fill_in;
 use am_types::{FillFault, Intent, Kind, PendingFault, PendingFlags, Steps, Used};
+use indexmap::IndexMap;
 use std::alloc::{AllocError, Global};
 use std::marker::Model;
 use std::sync::ledger::Ledger;
@@ -17,19 +19,30 @@ use std::sync::ledger::Ledger;
 /// The most live records of a creator.
 const MOST_RECORDS: u32 = 1024;
 
-/// The live pending intents of all creators. Contracts see the records in the order of their tokens, and the next token.
+/// The live pending intents of all creators. Contracts see the records in the order of their tokens, and the next
+/// token.
+///
+/// A step, wherever a call counts steps, is one look-up of a record: by its key, or by its token to read, change or
+/// remove it. Keeping the tables of tokens and of numbers in line with the records takes none.
 #[derive(Drop)]
 pub struct Pending {
     alloc: Global,
-    table: Table,
+    records: Records,
+    tokens: IndexMap<Key, u64>,
+    /// How many records each creator has.
+    counts: IndexMap<u32, u32>,
+    next: u64,
 }
 
 impl Model for Pending {
     ghost use Rattle.am_model.specs.Pendings.{Pendings};
+    ghost use Rattle.am_pending.specs.Records.{IsIndexed, count_at, token_at};
 
     ghost Value = { Pendings };
 
-    ghost view = { λ p. p.table };
+    ghost view = { λ p. record { records = p.records; next = p.next } };
+
+    ghost invariant = { λ p. IsIndexed p.records (token_at p.tokens.entries) (count_at p.counts.entries) p.next };
 }
 
 /// Exactly one of mutable and immutable is given.
@@ -39,11 +52,11 @@ fn is_clear(flags: PendingFlags) -> bool
     flags.mutable != flags.immutable
 }
 
-/// The record's intent, with what is filled in where it is mutable.
+/// The record's intent, with what is filled in if it is mutable.
 fn lent(alloc: Global, kept: &Record, fill: Option<&Intent>) -> Result<Intent, FillFault>
-    ensures ok { IfOk result (λ intent. lent (pending_of 0 kept.now) (option_copied fill.entry) ≡ Ok intent) }
-    ensures full { (result ≡ Err FillFault.ExtrasFull) → (lent (pending_of 0 kept.now) (option_copied fill.entry) ≡ Err FillFault.ExtrasFull) }
-    ensures wanting { result ≡ Err FillFault.NoMemory → IsOk (lent (pending_of 0 kept.now) (option_copied fill.entry)) }
+    ensures ok { IfOk result (λ intent. lent_by kept.now (option_copied fill.entry) ≡ Ok intent) }
+    ensures full { (result ≡ Err FillFault.ExtrasFull) → (lent_by kept.now (option_copied fill.entry) ≡ Err FillFault.ExtrasFull) }
+    ensures wanting { result ≡ Err FillFault.NoMemory → IsOk (lent_by kept.now (option_copied fill.entry)) }
 {
     let key = kept.key();
     match fill {
@@ -62,16 +75,18 @@ impl Pending {
     {
         Pending {
             alloc,
-            table: Table::new(alloc),
+            records: Records::new(alloc),
+            tokens: IndexMap::new(alloc),
+            counts: IndexMap::new(alloc),
+            next: 1,
         }
     }
 
-    /// The token of the creator's record for the intent, kind, code and flags, or none where `no_create` is given and there
-    /// is no such record. Extras and flags of the intent don't tell records apart; `cancel_current` cancels the record that is
-    /// there, and `update_current` gives it the new extras. Refusals: `Mutability` unless exactly one of `mutable` and
-    /// `immutable` is given; `Full` where a record would be made and the creator has 1,024. A step is one reading of a kept
-    /// record; a call that makes one now and then goes over all records besides, to take the canceled ones away. Memory is
-    /// wanting only where nothing is refused. (`PendingIntent`; AOSP, `PendingIntentController.getIntentSender`.)
+    /// The token of the creator's record for the intent, kind, code and flags, or none if `no_create` is given and
+    /// there is no such record. Extras and flags of the intent don't tell records apart; `cancel_current` cancels the
+    /// record that is there, and `update_current` gives it the new extras. Refusals: `Mutability` unless exactly one of
+    /// `mutable` and `immutable` is given; `Full` if a record would be made and the creator has 1,024; `NoMemory` only
+    /// if nothing else is refused. (`PendingIntent`; AOSP, `PendingIntentController.getIntentSender`.)
     pub fn get<L: Ledger>(
         &mut self,
         creator: u32,
@@ -92,56 +107,54 @@ impl Pending {
             return Err(PendingFault::Mutability);
         }
         let key = Key::asked(creator, kind, code, intent, flags);
-        match self.table.find(&key, steps) {
+        match self.find(&key, steps) {
             None => self.make(key, flags.no_create),
             Some(token) if flags.cancel_current => self.renew(token, key, flags.no_create, steps),
             Some(token) => {
-                let kept = self.keep(token, key, flags.update_current, steps);
-                if kept.is_err() {
-                    return Err(PendingFault::NoMemory);
-                }
+                self.keep(token, key, flags.update_current, steps);
                 Ok(Some(token))
             }
         }
     }
 
-    /// Keeps the record, with the extras of the key's intent where it is to be updated. Without memory all stays.
-    fn keep<L: Ledger>(
-        &mut self,
-        token: u64,
-        key: Key,
-        update: bool,
-        steps: &mut Steps<L>,
-    ) -> Result<(), AllocError>
-        ensures kept { OnOk result (self.new ≡ record self.old { records = if update then map (updated token key.intent.extras) self.old.records else self.old.records }) }
-        ensures err { OnErr result (self.new ≡ self.old) }
+    /// The token of the record that has the key.
+    fn find<L: Ledger>(&self, key: &Key, steps: &mut Steps<L>) -> Option<u64>
+        ensures found { result ≡ token_in key.now self.now.records }
+        ensures steps { steps.new ≡ steps.old + 1 }
+    {
+        steps.tick();
+        self.tokens.get(key).copied()
+    }
+
+    /// Keeps the record, with the extras of the key's intent if it is to be updated. Takes no memory.
+    fn keep<L: Ledger>(&mut self, token: u64, key: Key, update: bool, steps: &mut Steps<L>)
+        ensures kept { self.new ≡ kept_at self.old token key update }
         ensures steps { steps.new ≤ steps.old + 1 }
     {
-        if !update {
+        if update {
+            self.records.set_extras(token, key.into_extras(), steps);
+        } else {
             drop(key);
-            return Ok(());
         }
-        self.table
-            .set_extras(self.alloc, token, key.into_extras(), steps)
     }
 
     /// Makes a record for a key that none has, unless none is to be made.
     fn make(&mut self, key: Key, no_create: bool) -> Result<Option<u64>, PendingFault>
         requires next { self.old.next ≤ 1125899906842624 }
         requires absent { token_in key self.old.records ≡ None }
-        ensures answer { IsAnswer result self.old self.new (made self.old self.old.records (asking no_create key)) }
-        ensures wanting { result ≡ Err PendingFault.NoMemory → IsOk (made self.old self.old.records (asking no_create key)) }
+        ensures answer { IsAnswer result self.old self.new (made_for self.old no_create key) }
+        ensures wanting { result ≡ Err PendingFault.NoMemory → IsOk (made_for self.old no_create key) }
         ensures next { self.new.next ≤ self.old.next + 1 }
     {
         if no_create {
             drop(key);
             return Ok(None);
         }
-        if self.table.live(key.creator) >= MOST_RECORDS {
+        if self.count(key.creator) >= MOST_RECORDS {
             drop(key);
             return Err(PendingFault::Full);
         }
-        match self.table.add(self.alloc, key) {
+        match self.add(key) {
             Ok(token) => Ok(Some(token)),
             Err(_) => Err(PendingFault::NoMemory),
         }
@@ -157,28 +170,129 @@ impl Pending {
     ) -> Result<Option<u64>, PendingFault>
         requires next { self.old.next ≤ 1125899906842624 }
         requires found { token_in key self.old.records ≡ Some old }
-        ensures answer { IsAnswer result self.old self.new (made self.old (without_token self.old.records old) (asking no_create key)) }
-        ensures wanting { result ≡ Err PendingFault.NoMemory → IsOk (made self.old (without_token self.old.records old) (asking no_create key)) }
+        ensures answer { IsAnswer result self.old self.new (renewed_for self.old old no_create key) }
+        ensures wanting { result ≡ Err PendingFault.NoMemory → IsOk (renewed_for self.old old no_create key) }
         ensures next { self.new.next ≤ self.old.next + 1 }
         ensures steps { steps.new ≤ steps.old + 1 }
     {
         if no_create {
-            self.table.cancel_found(old, &key, steps);
             drop(key);
+            self.remove(old, steps);
             return Ok(None);
         }
-        if self.table.live_besides(old, &key) >= MOST_RECORDS {
+        if self.count_besides(old, &key) >= MOST_RECORDS {
             drop(key);
             return Err(PendingFault::Full);
         }
-        match self.table.replace(self.alloc, old, key, steps) {
+        match self.replace(old, key, steps) {
             Ok(token) => Ok(Some(token)),
             Err(_) => Err(PendingFault::NoMemory),
         }
     }
 
-    /// Cancels a token, by its creator. Refusals: `NoToken` where the token isn't live; `NotCreator`. A step is one reading of a
-    /// kept record. Takes no memory. (`PendingIntent.cancel`.)
+    /// How many records the creator has.
+    fn count(&self, creator: u32) -> u32
+        ensures { result ≡ count_of self.now.records creator }
+    {
+        index::count_of(&self.counts, creator)
+    }
+
+    /// How many records the key's creator has besides the one that has the key.
+    fn count_besides(&self, old: u64, key: &Key) -> u32
+        requires { token_in key.now self.now.records ≡ Some old }
+        ensures { result ≡ count_of (without_token self.now.records old) key.now.creator }
+    {
+        index::count_of(&self.counts, key.creator).saturating_sub(1)
+    }
+
+    /// Adds a record without holders under the next token, which it tells. Without memory all stays.
+    fn add(&mut self, key: Key) -> Result<u64, AllocError>
+        requires next { self.old.next ≤ 1125899906842624 }
+        requires absent { token_in key self.old.records ≡ None }
+        requires few { count_of self.old.records key.creator < 1024 }
+        ensures token { IfOk result (λ token. token ≡ self.old.next) }
+        ensures ok { OnOk result (self.new ≡ with_fresh self.old self.old.records key) }
+        ensures err { OnErr result (self.new ≡ self.old) }
+    {
+        match key.clone() {
+            Ok(other) => self.put(key, other),
+            Err(error) => {
+                drop(key);
+                Err(error)
+            }
+        }
+    }
+
+    /// Adds a record without holders under the next token, which it tells, with a copy of its key for the table of
+    /// tokens. Without memory all stays.
+    fn put(&mut self, key: Key, other: Key) -> Result<u64, AllocError>
+        requires next { self.old.next ≤ 1125899906842624 }
+        requires absent { token_in key self.old.records ≡ None }
+        requires few { count_of self.old.records key.creator < 1024 }
+        requires same { other ≡ key }
+        ensures token { IfOk result (λ token. token ≡ self.old.next) }
+        ensures ok { OnOk result (self.new ≡ with_fresh self.old self.old.records key) }
+        ensures err { OnErr result (self.new ≡ self.old) }
+    {
+        let (creator, token) = (key.creator, self.next);
+        if index::make_room(&mut self.tokens, &mut self.counts).is_err() {
+            drop(key);
+            drop(other);
+            return Err(AllocError);
+        }
+        match self.records.push(token, Record::new(self.alloc, key)) {
+            Ok(()) => {
+                index::put_token(&mut self.tokens, other, token);
+                index::raise(&mut self.counts, creator);
+                self.next += 1;
+                Ok(token)
+            }
+            Err(error) => {
+                drop(other);
+                Err(error)
+            }
+        }
+    }
+
+    /// Adds a record without holders under the next token, which it tells, in the place of the one with its key.
+    /// Without memory all stays.
+    fn replace<L: Ledger>(
+        &mut self,
+        old: u64,
+        key: Key,
+        steps: &mut Steps<L>,
+    ) -> Result<u64, AllocError>
+        requires next { self.old.next ≤ 1125899906842624 }
+        requires found { token_in key self.old.records ≡ Some old }
+        ensures token { IfOk result (λ token. token ≡ self.old.next) }
+        ensures ok { OnOk result (self.new ≡ with_fresh self.old (without_token self.old.records old) key) }
+        ensures err { OnErr result (self.new ≡ self.old) }
+        ensures steps { steps.new ≤ steps.old + 1 }
+    {
+        let token = self.next;
+        self.records.push(token, Record::new(self.alloc, key))?;
+        if let Some(gone) = self.records.take(old, steps) {
+            index::set_token(&mut self.tokens, gone.key(), token);
+            drop(gone);
+        }
+        self.next += 1;
+        Ok(token)
+    }
+
+    /// Takes the token's record away, if there is one. Takes no memory.
+    fn remove<L: Ledger>(&mut self, token: u64, steps: &mut Steps<L>)
+        ensures others { self.new ≡ without self.old token }
+        ensures steps { steps.new ≡ steps.old + 1 }
+    {
+        if let Some(gone) = self.records.take(token, steps) {
+            index::unset_token(&mut self.tokens, gone.key());
+            index::lower(&mut self.counts, gone.creator());
+            drop(gone);
+        }
+    }
+
+    /// Cancels a token, by its creator. Refusals: `NoToken` if the token isn't live; `NotCreator`. Takes no memory.
+    /// (`PendingIntent.cancel`.)
     pub fn cancel<L: Ledger>(
         &mut self,
         token: u64,
@@ -188,14 +302,21 @@ impl Pending {
         ensures answer { IsChange result self.old self.new (cancel self.old token uid) }
         ensures next { self.new.next ≡ self.old.next }
         ensures memory { (result ≡ Err PendingFault.NoMemory) → ⊥ }
-        ensures steps { steps.new ≤ steps.old + 1 }
+        ensures steps { steps.new ≤ steps.old + 2 }
     {
-        self.table.cancel(token, uid, steps)
+        let Some(kept) = self.records.read(token, steps) else {
+            return Err(PendingFault::NoToken);
+        };
+        if kept.creator() != uid {
+            return Err(PendingFault::NotCreator);
+        }
+        self.remove(token, steps);
+        Ok(())
     }
 
-    /// Gives a token to another uid, by its creator. Refusals: `NoToken` where the token isn't live; `NotCreator`;
-    /// `HoldersFull` at 64 holders, unless that uid is the creator or a holder already, which changes nothing. A step is
-    /// one reading of a kept record. (Own: an intent's sender is handed from process to process on a device.)
+    /// Gives a token to another uid, by its creator. Refusals: `NoToken` if the token isn't live; `NotCreator`;
+    /// `HoldersFull` at 64 holders, unless that uid is the creator or a holder already, which changes nothing. (Own: an
+    /// intent's sender is handed from process to process on a device.)
     pub fn give<L: Ledger>(
         &mut self,
         token: u64,
@@ -208,13 +329,13 @@ impl Pending {
         ensures next { self.new.next ≡ self.old.next }
         ensures steps { steps.new ≤ steps.old + 1 }
     {
-        self.table.give(token, uid, to, steps)
+        self.records.give(token, uid, to, steps)
     }
 
-    /// What a token stands for, used by a uid: a mutable record takes what that one fills in. Nothing changes, also where
-    /// the token is for one use, which the answer tells. Refusals in this order: `NoToken` where the token was never made;
-    /// `Canceled` where it isn't live any more; `NotHolder` where the uid neither made it nor was given it; `ExtrasFull`. A
-    /// step is one reading of a kept record. (`PendingIntent.send`; AOSP, `PendingIntentRecord.sendInner`.)
+    /// What a token stands for, used by a uid: a mutable record takes what that one fills in. Nothing changes, even if
+    /// the token is for one use, which the answer tells. Refusals in this order: `NoToken` if the token was never made;
+    /// `Canceled` if it isn't live any more; `NotHolder` if the uid neither made it nor was given it; `ExtrasFull`.
+    /// (`PendingIntent.send`; AOSP, `PendingIntentRecord.sendInner`.)
     pub fn use_token<L: Ledger>(
         &self,
         token: u64,
@@ -226,7 +347,7 @@ impl Pending {
         ensures wanting { result ≡ Err PendingFault.NoMemory → IsOk (use_token self.now token uid (option_copied fill.entry)) }
         ensures steps { steps.new ≤ steps.old + 1 }
     {
-        let Some(kept) = self.table.read(token, steps) else {
+        let Some(kept) = self.records.read(token, steps) else {
             return Err(self.no_record(token));
         };
         if !kept.is_holder(uid) {
@@ -249,17 +370,20 @@ impl Pending {
     fn no_record(&self, token: u64) -> PendingFault
         ensures { result ≡ no_record self.now token }
     {
-        if token == 0 || token >= self.table.next() {
+        if token == 0 || token >= self.next {
             PendingFault::NoToken
         } else {
             PendingFault::Canceled
         }
     }
 
-    /// Cancels the records of a uid, which then holds no token any more. Takes no memory.
+    /// Cancels the records of a uid, which then holds no token any more. It goes over all records, and takes no memory.
     pub fn forget_uid(&mut self, uid: u32)
         ensures { self.new ≡ forget_uid self.old uid }
     {
-        self.table.forget(uid);
+        self.records.forget_creator(uid);
+        self.records.forget_holder(uid);
+        index::forget_tokens(&mut self.tokens, uid);
+        index::forget_count(&mut self.counts, uid);
     }
 }

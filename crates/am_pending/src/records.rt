@@ -1,145 +1,136 @@
-//! Records of pending intents.
-ghost use Rattle.std.specs.Prelude.{◌≡◌, ◌==◌, IsOk, OnOk, OnErr, Err};
-ghost use Rattle.std.specs.List.{list_any};
+//! Records in the order of their tokens.
+ghost use Rattle.std.specs.Prelude.{◌≡◌, ℕ, Err, IsOk, ◌+◌, ◌<◌, ◌==◌, ◌++◌, ◌∷◌, [], not, All, map, filter, OnOk, OnErr, option_map};
+ghost use Rattle.std.specs.Option.{option_copied};
+ghost use Rattle.am_model.specs.Pendings.{Pending, give, updated, without_holder, without_token};
 ghost use Rattle.am_pending.specs.Answers.{IsChange};
-ghost use Rattle.am_pending.specs.Calls.{canceled_by, given_by, is_holder_of};
-ghost use Rattle.am_pending.specs.Records.{as_canceled, let_go_by, unheld, with_extras};
+ghost use Rattle.am_pending.specs.Records.{before, pending_of, record_in};
 
-use crate::key::{Key, SharedKey};
-use am_types::{List, Named, PendingFault};
+use crate::record::Record;
+use am_types::{List, Named, PendingFault, Steps};
 use std::alloc::{AllocError, Global};
+use std::collections::BTreeMap;
 use std::marker::Model;
+use std::sync::ledger::Ledger;
 
-/// The most holders of a token besides its creator.
-const MOST_HOLDERS: usize = 64;
-
-/// A record: its key, with the whole intent, the uids besides the creator's that hold its token, and whether it is canceled.
+/// Records under their tokens. Whoever reads, changes or removes one of them by its token takes a step. Contracts see
+/// them as the definitions do, in the order of their tokens.
 #[derive(Drop)]
-pub struct Record {
-    key: SharedKey,
-    holders: Vec<u32>,
-    canceled: bool,
+pub struct Records {
+    by_token: BTreeMap<u64, Record, Global>,
 }
 
-impl Model for Record {
-    ghost use Rattle.am_pending.specs.Records.{Kept};
+impl Model for Records {
+    ghost use Rattle.std.specs.Prelude.{List as Items};
+    ghost use Rattle.am_model.specs.Pendings.{Pending};
+    ghost use Rattle.am_pending.specs.Records.{pendings_of};
 
-    ghost Value = { Kept };
+    ghost Value = { Items Pending };
 
-    ghost view = { λ r. record { key = r.key; holders = r.holders.items; canceled = r.canceled } };
+    ghost view = { λ r. pendings_of r.by_token.entries };
 }
 
-/// The uid is among the holders.
-fn was_given(holders: &[u32], uid: u32) -> bool
-    ensures { result ≡ list_any (λ holder. holder == uid) holders.now }
-{
-    holders.iter().any(|holder| *holder == uid)
-}
-
-impl Record {
-    /// A live record without holders. Takes no memory.
-    pub fn new(alloc: Global, key: SharedKey) -> Record
-        ensures { result ≡ unheld key }
+impl Records {
+    /// No record. Takes no memory.
+    pub fn new(alloc: Global) -> Records
+        ensures { result ≡ [] }
     {
-        Record {
-            key,
-            holders: Vec::new(alloc),
-            canceled: false,
+        Records {
+            by_token: BTreeMap::new(alloc),
         }
     }
 
-    /// The key, with the whole intent.
-    pub fn key(&self) -> &Key
-        ensures { result.now ≡ self.now.key }
+    /// The record of the token.
+    pub fn read<L: Ledger>(&self, token: u64, steps: &mut Steps<L>) -> Option<&Record>
+        ensures found { option_map (pending_of token) (option_copied result) ≡ record_in token self.now }
+        ensures steps { steps.new ≡ steps.old + 1 }
     {
-        self.key.get()
+        steps.tick();
+        self.by_token.get(&token)
     }
 
-    /// The uid that made the record.
-    pub fn creator(&self) -> u32
-        ensures { result ≡ self.now.key.creator }
+    /// Adds a record under a token above all others. Without memory all stays.
+    pub fn push(&mut self, token: u64, kept: Record) -> Result<(), AllocError>
+        requires { All (λ (other : Pending). other.token < token) self.old }
+        ensures ok { OnOk result (self.new ≡ self.old ++ pending_of token kept ∷ []) }
+        ensures err { OnErr result (self.new ≡ self.old) }
     {
-        self.key.creator()
+        match self.by_token.insert(token, kept) {
+            Ok(_) => Ok(()),
+            Err(failed) => {
+                drop(failed);
+                Err(AllocError)
+            }
+        }
     }
 
-    /// Whether the record is canceled.
-    pub fn is_canceled(&self) -> bool
-        ensures { result ≡ self.now.canceled }
+    /// Takes the record of the token out. Takes no memory.
+    pub fn take<L: Ledger>(&mut self, token: u64, steps: &mut Steps<L>) -> Option<Record>
+        ensures found { option_map (pending_of token) result ≡ record_in token self.old }
+        ensures others { self.new ≡ without_token self.old token }
+        ensures steps { steps.new ≡ steps.old + 1 }
     {
-        self.canceled
+        steps.tick();
+        self.by_token.remove(&token)
     }
 
-    /// Whether the uid made the record or was given its token.
-    pub fn is_holder(&self, uid: u32) -> bool
-        ensures { result ≡ is_holder_of self.now uid }
+    /// Gives the intent of the token's record other extras. Takes no memory.
+    pub fn set_extras<L: Ledger>(&mut self, token: u64, extras: List<Named>, steps: &mut Steps<L>)
+        ensures changed { self.new ≡ map (updated token extras) self.old }
+        ensures steps { steps.new ≡ steps.old + 1 }
     {
-        self.creator() == uid || was_given(self.holders.as_slice(), uid)
+        steps.tick();
+        let Some(kept) = self.by_token.get_mut(&token) else {
+            drop(extras);
+            return;
+        };
+        kept.set_extras(extras);
     }
 
-    /// Marks the record as canceled. Takes no memory.
-    pub fn mark_canceled(&mut self)
-        ensures { self.new ≡ as_canceled self.old }
+    /// Gives a token to another uid, by its creator. Looks the record up once. Without memory all stays.
+    pub fn give<L: Ledger>(
+        &mut self,
+        token: u64,
+        uid: u32,
+        to: u32,
+        steps: &mut Steps<L>,
+    ) -> Result<(), PendingFault>
+        ensures answer { (next : ℕ) → IsChange result (before self.old next) (before self.new next) (give (before self.old next) token uid to) }
+        ensures wanting { result ≡ Err PendingFault.NoMemory → (next : ℕ) → IsOk (give (before self.old next) token uid to) }
+        ensures steps { steps.new ≡ steps.old + 1 }
     {
-        self.canceled = true;
-    }
-
-    /// Cancels the record, by its creator. Refusals: `NoToken` where it is canceled already; `NotCreator`. Takes no memory.
-    pub fn cancel(&mut self, uid: u32) -> Result<(), PendingFault>
-        ensures answer { IsChange result self.old self.new (canceled_by uid self.old) }
-        ensures memory { (result ≡ Err PendingFault.NoMemory) → ⊥ }
-    {
-        if self.canceled {
+        steps.tick();
+        let Some(kept) = self.by_token.get_mut(&token) else {
             return Err(PendingFault::NoToken);
-        }
-        if self.creator() != uid {
+        };
+        if uid != kept.creator() {
             return Err(PendingFault::NotCreator);
         }
-        self.canceled = true;
-        Ok(())
-    }
-
-    /// Gives the token to another uid, by the creator. Refusals: `NoToken` where the record is canceled; `NotCreator`;
-    /// `HoldersFull` at 64 holders, unless that uid is the creator or a holder already, which changes nothing.
-    pub fn give(&mut self, uid: u32, to: u32) -> Result<(), PendingFault>
-        ensures answer { IsChange result self.old self.new (given_by uid to self.old) }
-        ensures wanting { result ≡ Err PendingFault.NoMemory → IsOk (given_by uid to self.old) }
-    {
-        if self.canceled {
-            return Err(PendingFault::NoToken);
-        }
-        if self.creator() != uid {
-            return Err(PendingFault::NotCreator);
-        }
-        if self.is_holder(to) {
+        if kept.is_holder(to) {
             return Ok(());
         }
-        if self.holders.len() >= MOST_HOLDERS {
+        if kept.is_full() {
             return Err(PendingFault::HoldersFull);
         }
-        if self.holders.push(to).is_err() {
+        if kept.hold(to).is_err() {
             return Err(PendingFault::NoMemory);
         }
         Ok(())
     }
 
-    /// Gives the intent other extras, and tells the new key for its other owner. Without memory all stays.
-    pub fn set_extras(
-        &mut self,
-        alloc: Global,
-        extras: List<Named>,
-    ) -> Result<SharedKey, AllocError>
-        ensures ok { OnOk result (self.new ≡ with_extras extras self.old) }
-        ensures err { OnErr result (self.new ≡ self.old) }
+    /// Takes the records of a creator out. Takes no memory.
+    pub fn forget_creator(&mut self, uid: u32)
+        ensures { self.new ≡ filter (λ (kept : Pending). not (kept.creator == uid)) self.old }
     {
-        let (key, other) = SharedKey::pair(alloc, self.key.get().with_extras(extras)?)?;
-        self.key = key;
-        Ok(other)
+        self.by_token.retain(|_, kept| kept.creator() != uid);
     }
 
-    /// Takes a holder away. Takes no memory.
-    pub fn let_go(&mut self, uid: u32)
-        ensures { self.new ≡ let_go_by uid self.old }
+    /// Takes a holder away from each record. Takes no memory.
+    pub fn forget_holder(&mut self, uid: u32)
+        ensures { self.new ≡ map (without_holder uid) self.old }
     {
-        self.holders.retain(|holder| *holder != uid);
+        self.by_token.retain(|_, kept| {
+            kept.let_go(uid);
+            true
+        });
     }
 }

@@ -1,5 +1,5 @@
 -- What a finish finds and leaves.
-use Rattle.std.proofs.Common.{◌≡◌, ℕ, Bool, true, false, not, ◌&&◌, ◌||◌, cond, List, [], ◌∷◌, refl, ap}
+use Rattle.std.proofs.Common.{◌≡◌, ℕ, Bool, true, false, not, ◌&&◌, cond, List, [], ◌∷◌, refl, ap}
 use Rattle.std.specs.Prelude.{Option, Some, None, is_some, ◌==◌, Ok, Err}
 use Rattle.std.specs.Option.{option_map}
 use Rattle.std.specs.List.{filter, list_all}
@@ -8,25 +8,20 @@ use Rattle.am_types.specs.declared.broadcast.FinishFault.{FinishFault}
 use Rattle.am_types.specs.declared.broadcast.FinishFault.TheVariants.{NoDelivery, NotYours, NotOrdered}
 use Rattle.am_model.specs.Filters.{is_empty}
 use Rattle.am_model.specs.Broadcasts.{Broadcasts, Normal, Delivery, InTurn, Doing, normals_keeping}
-use Rattle.am_model.specs.Sending.{Held, or_held, held_in_deliveries, held_in_normals, is_current, answered_head, is_for_ordered, finished, finish_held}
-use Rattle.am_queue_ordered.specs.Lines.{is_head, head_turned}
-use Rattle.am_queue_normal.specs.Batches.{at_once_by}
-use Rattle.am_queue_normal.specs.Kept.{AllLive}
+use Rattle.am_model.specs.Sending.{Held, or_held, held_in_deliveries, held_in_normals, answered_head, is_for_ordered, finished, finish_held}
+use Rattle.am_queue_ordered.specs.Heads.{is_head, head_turned}
+use Rattle.am_queue_normal.specs.Kept.{AllLive, at_once_by, is_other}
 use Rattle.am_queue.specs.Sound.{has_current, IsSound}
 use Rattle.am_queue.specs.Taken.{fault_of}
 
--- the delivery isn't that one
-abbrev pub other_than : ℕ → Delivery → Bool
-other_than number delivery = not (delivery.number == number)
-
 -- a delivery that isn't held is none of these
-unheld_in : (number : ℕ) (deliveries : List Delivery) → held_in_deliveries number deliveries ≡ None → filter (other_than number) deliveries ≡ deliveries
+unheld_in : (number : ℕ) (deliveries : List Delivery) → held_in_deliveries number deliveries ≡ None → filter (is_other number) deliveries ≡ deliveries
 unheld_in number [] none = refl
 unheld_in number (first ∷ others) none = by (first.number == number) none (unheld_in number others)
   where
     by : (same : Bool) → cond same (Some (at_once_by first.spot.uid)) (held_in_deliveries number others) ≡ None
-        → (held_in_deliveries number others ≡ None → filter (other_than number) others ≡ others)
-        → cond (not same) (first ∷ filter (other_than number) others) (filter (other_than number) others) ≡ first ∷ others
+        → (held_in_deliveries number others ≡ None → filter (is_other number) others ≡ others)
+        → cond (not same) (first ∷ filter (is_other number) others) (filter (is_other number) others) ≡ first ∷ others
     by true none rest = absurd cc
     by false none rest = ap (λ l. first ∷ l) (rest none)
 
@@ -40,7 +35,7 @@ both true b pass = (refl, pass)
 both false b pass = cc
 
 -- where a delivery isn't held all stay without it
-pub unheld : (number : ℕ) (normal : List Normal) → held_in_normals number normal ≡ None → AllLive normal → normals_keeping (other_than number) normal ≡ normal
+pub unheld : (number : ℕ) (normal : List Normal) → held_in_normals number normal ≡ None → AllLive normal → normals_keeping (is_other number) normal ≡ normal
 unheld number [] none live = refl
 unheld number (n ∷ others) none live =
     let parts = neither (held_in_deliveries number n.deliveries) (held_in_normals number others) none in
@@ -67,18 +62,15 @@ head_current : (number : ℕ) (queue : List InTurn) → is_head number queue ≡
 head_current number [] is = cc
 head_current number (head ∷ others) is = rw is refl
 
--- what none has, the head hasn't
-head_none : (number : ℕ) (queue : List InTurn) → has_current number queue ≡ false → is_head number queue ≡ false
-head_none number [] none = refl
-head_none number (head ∷ others) none = by (is_current number head.current) none
-  where
-    by : (b : Bool) → b || has_current number others ≡ false → b ≡ false
-    by true none = cc
-    by false none = refl
-
 -- the heads of both queues have different deliveries
 pub heads_differ : (number : ℕ) (all : Broadcasts) → IsSound all → is_head number all.foreground ≡ true → is_head number all.background ≡ false
-heads_differ number all sound is = head_none number all.background (sound.differ number (head_current number all.foreground is))
+heads_differ number all sound is =
+    false_unless (is_head number all.background)
+    (λ other. sound.queues.differ number (head_current number all.foreground is) (head_current number all.background other))
+  where
+    false_unless : (b : Bool) → (b ≡ true → ⊥) → b ≡ false
+    false_unless true never = absurd (never refl)
+    false_unless false never = refl
 
 -- without a fault it is finished
 pub finished_without : (all : Broadcasts) (number uid : ℕ) (answer : Answer) (now : ℕ) (held : Option Held) → fault_of uid answer held ≡ None

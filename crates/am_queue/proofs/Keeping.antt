@@ -1,12 +1,12 @@
 -- Each call keeps all broadcasts sound.
-use Rattle.std.proofs.Common.{◌≡◌, ℕ, ◌+◌, ◌<◌, ◌≤◌, Bool, true, false, List, [], ◌∷◌, ◌++◌, length, refl, sym, ◌∙◌, arith, ◌⊎◌, inl, inr}
+use Rattle.std.proofs.Common.{◌≡◌, ℕ, ◌+◌, ◌*◌, ◌<◌, ◌≤◌, Bool, true, false, List, [], ◌∷◌, ◌++◌, length, arith, ◌⊎◌, inl, inr}
 use Rattle.std.proofs.lemmas.List.Sums.{sum_by-cons}
 use Rattle.am_model.specs.Broadcasts as broadcasts
-use Rattle.am_model.specs.Broadcasts.{Broadcasts, Normal, InTurn, Settled, settled, settle_foreground, settle_background, span}
+use Rattle.am_model.specs.Broadcasts.{Broadcasts, Normal, InTurn, settled, queue_of, with_queue, settle, span}
 use Rattle.am_queue_ordered.specs.Counts.{Follows, queued_of, results_of}
 use Rattle.am_queue_normal.specs.Kept.{normals_of}
 use Rattle.am_queue.specs.Results.{AreRising}
-use Rattle.am_queue.specs.Sound.{owed_in, has_current, IsSound, AreSound, all_of}
+use Rattle.am_queue.specs.Sound.{owed_in, has_current, ShareNumbers, IsSound, AreSound, all_of}
 use Rattle.am_queue.proofs.Rising.{settled_rising}
 use Rattle.am_queue.proofs.Soundness.{AreMild, settled_owes, settled_rises, settled_current}
 
@@ -15,68 +15,69 @@ pub as_many_owed : (queue : List InTurn) → length queue ≤ owed_in queue
 as_many_owed [] = omega arith
 as_many_owed (b ∷ others) = rw sum_by-cons (omega (arith, as_many_owed others))
 
--- a test that isn't true is false
-false_unless : (b : Bool) → (b ≡ true → ⊥) → b ≡ false
-false_unless true never = absurd (never refl)
-false_unless false never = refl
+-- both queues are short, since each broadcast in them may still take a number
+pub are_short : (all : Broadcasts) → IsSound all → length all.foreground + length all.background ≤ 1025 * 1125899906842625
+are_short all sound =
+    omega (arith, sound.queues.suffice, sound.broadcasts, as_many_owed all.foreground, as_many_owed all.background)
 
-not_both : (b : Bool) → b ≡ true → b ≡ false → ⊥
-not_both b is isnt = let wrong : true ≡ false = sym is ∙ isnt in cc
+module _ (next bound : ℕ) (one other : List InTurn) (share : ShareNumbers next bound one other) where
+  -- either queue is the first
+  pub swapped : ShareNumbers next bound other one
+  swapped = record {
+    suffice = omega (arith, share.suffice);
+    one_free = share.other_free;
+    other_free = share.one_free;
+    differ = λ number is other_is. share.differ number other_is is;
+  }
 
--- a queue that settled has no delivery with a number that is free now
-settled_below : (next deadline : ℕ) (queue : List InTurn) → ((number : ℕ) → next ≤ number → has_current number queue ≡ false)
-    → (number : ℕ) → (settled next deadline queue).next ≤ number → has_current number (settled next deadline queue).queue ≡ false
-settled_below next deadline queue below number free = false_unless _ (λ is. by (settled_current next deadline queue number is))
-  where
-    by : (has_current number queue ≡ true) ⊎ ((next ≤ number) × (number < (settled next deadline queue).next)) → ⊥
-    by (inl old) = not_both _ old (below number (omega (arith, settled_rises next deadline queue, free)))
-    by (inr new) = omega (arith, new.1, free)
+  -- one of them settles
+  pub one_settles : (deadline : ℕ) → ShareNumbers (settled next deadline one).next bound (settled next deadline one).queue other
+  one_settles deadline = record {
+    suffice = omega (arith, share.suffice, settled_owes next deadline one);
+    one_free = λ number free is. new number free (settled_current next deadline one number is);
+    other_free = λ number free is. share.other_free number (omega (arith, settled_rises next deadline one, free)) is;
+    differ = λ number is other_is. apart number other_is (settled_current next deadline one number is);
+  }
+    where
+      new : (number : ℕ) → (settled next deadline one).next ≤ number
+          → (has_current number one ≡ true) ⊎ ((next ≤ number) × (number < (settled next deadline one).next)) → ⊥
+      new number free (inl old) = share.one_free number (omega (arith, settled_rises next deadline one, free)) old
+      new number free (inr given) = omega (arith, given.1, free)
 
--- the foreground queue settles
-pub sound_foreground : (now : ℕ) (all : Broadcasts) → IsSound all → IsSound (settle_foreground now all)
-sound_foreground now all sound = record {
-  numbers = omega (arith, sound.numbers, settled_owes all.next_delivery deadline all.foreground);
+      apart : (number : ℕ) → has_current number other ≡ true
+          → (has_current number one ≡ true) ⊎ ((next ≤ number) × (number < (settled next deadline one).next)) → ⊥
+      apart number is (inl old) = share.differ number old is
+      apart number is (inr given) = share.other_free number given.0 is
+
+  -- one of them changes mildly
+  pub one_changes : (after : List InTurn) → AreMild one after → ShareNumbers next bound after other
+  one_changes after mild = record {
+    suffice = omega (arith, share.suffice, mild.owe_less);
+    one_free = λ number free is. share.one_free number free (mild.current number is);
+    other_free = share.other_free;
+    differ = λ number is other_is. share.differ number (mild.current number is) other_is;
+  }
+
+-- one of the two queues settles
+pub sound_settled : (foreground : Bool) (now : ℕ) (all : Broadcasts) → IsSound all → IsSound (settle foreground now all)
+sound_settled true now all sound = record {
+  queues = one_settles all.next_delivery (1025 * all.next_broadcast) all.foreground all.background sound.queues (now + 10000);
   broadcasts = sound.broadcasts;
-  foreground = settled_below all.next_delivery deadline all.foreground sound.foreground;
-  background = λ number free. sound.background number (omega (arith, settled_rises all.next_delivery deadline all.foreground, free));
-  differ = λ number is. by number (settled_current all.next_delivery deadline all.foreground number is);
-  rising = settled_rising all.next_delivery deadline all.foreground all.results sound.rising;
+  rising = settled_rising all.next_delivery (now + 10000) all.foreground all.results sound.rising;
 }
-  where
-    deadline : ℕ
-    deadline = now + span true
-
-    by : (number : ℕ) → (has_current number all.foreground ≡ true) ⊎ ((all.next_delivery ≤ number) × (number < (settled all.next_delivery deadline all.foreground).next)) → has_current number all.background ≡ false
-    by number (inl old) = sound.differ number old
-    by number (inr new) = sound.background number new.0
-
--- the background queue settles
-pub sound_background : (now : ℕ) (all : Broadcasts) → IsSound all → IsSound (settle_background now all)
-sound_background now all sound = record {
-  numbers = omega (arith, sound.numbers, settled_owes all.next_delivery deadline all.background);
+sound_settled false now all sound = record {
+  queues = swapped _ _ _ _ (one_settles all.next_delivery (1025 * all.next_broadcast) all.background all.foreground (swapped _ _ _ _ sound.queues) (now + 60000));
   broadcasts = sound.broadcasts;
-  foreground = λ number free. sound.foreground number (omega (arith, settled_rises all.next_delivery deadline all.background, free));
-  background = settled_below all.next_delivery deadline all.background sound.background;
-  differ = λ number is. false_unless _ (λ other. by number is (settled_current all.next_delivery deadline all.background number other));
-  rising = settled_rising all.next_delivery deadline all.background all.results sound.rising;
+  rising = settled_rising all.next_delivery (now + 60000) all.background all.results sound.rising;
 }
-  where
-    deadline : ℕ
-    deadline = now + span false
-
-    by : (number : ℕ) → has_current number all.foreground ≡ true → (has_current number all.background ≡ true) ⊎ ((all.next_delivery ≤ number) × (number < (settled all.next_delivery deadline all.background).next)) → ⊥
-    by number is (inl old) = not_both _ old (sound.differ number is)
-    by number is (inr new) = not_both _ is (sound.foreground number new.0)
 
 -- all with other parts, and the queues changed mildly
-pub sound_mild : (all : Broadcasts) (normal : List Normal) (foreground background : List InTurn) (results : List broadcasts.Result) → IsSound all → AreRising 0 all.next_delivery results → AreMild all.foreground foreground → AreMild all.background background
+pub sound_mild : (all : Broadcasts) (normal : List Normal) (foreground background : List InTurn) (results : List broadcasts.Result)
+    → IsSound all → AreRising 0 all.next_delivery results → AreMild all.foreground foreground → AreMild all.background background
     → IsSound (all_of normal foreground background results all.next_broadcast all.next_delivery)
 sound_mild all normal foreground background results sound rising first second = record {
-  numbers = omega (arith, sound.numbers, first.owe_less, second.owe_less);
+  queues = swapped _ _ _ _ (one_changes _ _ _ _ (swapped _ _ _ _ (one_changes _ _ _ _ sound.queues foreground first)) background second);
   broadcasts = sound.broadcasts;
-  foreground = λ number free. false_unless _ (λ is. not_both _ (first.current number is) (sound.foreground number free));
-  background = λ number free. false_unless _ (λ is. not_both _ (second.current number is) (sound.background number free));
-  differ = λ number is. false_unless _ (λ other. not_both _ (second.current number other) (sound.differ number (first.current number is)));
   rising = rising;
 }
 
@@ -93,32 +94,24 @@ mild end room room' counts counts' all normal foreground background results soun
   results_fit = omega (arith, sound.results_fit, first.as_many, second.as_many, more);
 }
 
--- the foreground queue settled
-pub foreground : (end room room' now : ℕ) (counts counts' : List (ℕ × ℕ)) (all : Broadcasts) (queue : List InTurn) (results : List broadcasts.Result) (next : ℕ)
-    → AreSound end room counts all
-    → queue ≡ (settled all.next_delivery (now + 10000) all.foreground).queue → results ≡ all.results ++ (settled all.next_delivery (now + 10000) all.foreground).results
-    → next ≡ (settled all.next_delivery (now + 10000) all.foreground).next
-    → length queue + room ≤ length all.foreground + room'
-    → Follows counts counts' (λ uid. queued_of all.foreground uid + results_of all.results uid) (λ uid. queued_of queue uid + results_of results uid)
-    → AreSound end room' counts' (all_of all.normal queue all.background results all.next_broadcast next)
-foreground end room room' now counts counts' all queue results next sound queue_is results_are next_is fits follows = record {
-  sound = rw (queue_is, results_are, next_is) (sound_foreground now all sound.sound);
+-- one of the two queues settled
+pub settles : (foreground : Bool) (end room room' now deadline : ℕ) (counts counts' : List (ℕ × ℕ)) (all : Broadcasts) (queue : List InTurn) (results : List broadcasts.Result) (next : ℕ)
+    → AreSound end room counts all → deadline ≡ now + span foreground
+    → queue ≡ (settled all.next_delivery deadline (queue_of foreground all)).queue
+    → results ≡ all.results ++ (settled all.next_delivery deadline (queue_of foreground all)).results
+    → next ≡ (settled all.next_delivery deadline (queue_of foreground all)).next
+    → length queue + room ≤ length (queue_of foreground all) + room'
+    → Follows counts counts' (λ uid. queued_of (queue_of foreground all) uid + results_of all.results uid) (λ uid. queued_of queue uid + results_of results uid)
+    → AreSound end room' counts' (record (with_queue foreground queue all) { results = results; next_delivery = next })
+settles true end room room' now deadline counts counts' all queue results next sound deadline_is queue_is results_are next_is fits follows = record {
+  sound = rw (queue_is, results_are, next_is, deadline_is) (sound_settled true now all sound.sound);
   counted = λ uid. omega (arith, sound.counted uid, follows uid);
-  end_before = omega (arith, sound.end_before, next_is, settled_rises all.next_delivery (now + 10000) all.foreground);
+  end_before = omega (arith, sound.end_before, next_is, settled_rises all.next_delivery deadline all.foreground);
   results_fit = omega (arith, sound.results_fit, fits);
 }
-
--- the background queue settled
-pub background : (end room room' now : ℕ) (counts counts' : List (ℕ × ℕ)) (all : Broadcasts) (queue : List InTurn) (results : List broadcasts.Result) (next : ℕ)
-    → AreSound end room counts all
-    → queue ≡ (settled all.next_delivery (now + 60000) all.background).queue → results ≡ all.results ++ (settled all.next_delivery (now + 60000) all.background).results
-    → next ≡ (settled all.next_delivery (now + 60000) all.background).next
-    → length queue + room ≤ length all.background + room'
-    → Follows counts counts' (λ uid. queued_of all.background uid + results_of all.results uid) (λ uid. queued_of queue uid + results_of results uid)
-    → AreSound end room' counts' (all_of all.normal all.foreground queue results all.next_broadcast next)
-background end room room' now counts counts' all queue results next sound queue_is results_are next_is fits follows = record {
-  sound = rw (queue_is, results_are, next_is) (sound_background now all sound.sound);
+settles false end room room' now deadline counts counts' all queue results next sound deadline_is queue_is results_are next_is fits follows = record {
+  sound = rw (queue_is, results_are, next_is, deadline_is) (sound_settled false now all sound.sound);
   counted = λ uid. omega (arith, sound.counted uid, follows uid);
-  end_before = omega (arith, sound.end_before, next_is, settled_rises all.next_delivery (now + 60000) all.background);
+  end_before = omega (arith, sound.end_before, next_is, settled_rises all.next_delivery deadline all.background);
   results_fit = omega (arith, sound.results_fit, fits);
 }

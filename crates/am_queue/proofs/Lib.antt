@@ -1,4 +1,3 @@
-pub mod BySender
 pub mod Finishing
 pub mod Keeping
 pub mod Ordering

@@ -6,7 +6,7 @@ use Rattle.std.proofs.lemmas.List.{length-take-le, take_all}
 use Rattle.std.specs.Prelude.{nat_lt, insert, ⊤}
 use Rattle.am_types.specs.declared.broadcast.Item.{Item}
 use Rattle.am_model.specs.Sending.{place_item, by_number}
-use Rattle.am_queue_normal.specs.Numbers.{Rise}
+use Rattle.am_queue_normal.specs.Kept.{Rise}
 use Rattle.am_queue.specs.Inbox.{place_of}
 
 -- an item in its place

@@ -11,7 +11,7 @@ use Rattle.std.specs.List.{filter}
 use Rattle.am_model.specs.Broadcasts as broadcasts
 use Rattle.am_model.specs.Broadcasts.{InTurn, Current, settled, is_over, result_of, with_results, dispatched}
 use Rattle.am_model.specs.Sending.{held_in_results}
-use Rattle.am_queue_normal.specs.Batches.{at_once_by}
+use Rattle.am_queue_normal.specs.Kept.{at_once_by}
 use Rattle.am_queue.specs.Results.{AreRising, IsOnly, of_number}
 
 -- they may rise from an earlier number

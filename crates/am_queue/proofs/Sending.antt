@@ -1,5 +1,5 @@
 -- A broadcast that is sent keeps all broadcasts sound.
-use Rattle.std.proofs.Common.{◌≡◌, ℕ, ◌+◌, ◌≤◌, Bool, true, false, ◌||◌, cond, List, [], ◌∷◌, ◌++◌, length, length-append, refl, sym, ap, ◌∙◌, arith}
+use Rattle.std.proofs.Common.{◌≡◌, ℕ, ◌+◌, ◌*◌, ◌≤◌, Bool, true, false, ◌||◌, cond, List, [], ◌∷◌, ◌++◌, length, length-append, refl, sym, ap, ◌∙◌, arith, add-zero}
 use Rattle.std.proofs.lemmas.List.Sums.{sum_by-append}
 use Rattle.std.proofs.lemmas.List.Folds.{list_any-append}
 use Rattle.std.proofs.lemmas.Bool.Decides.{nat_tests}
@@ -10,11 +10,12 @@ use Rattle.am_queue.specs.Taken.{refusal_of}
 use Rattle.am_types.specs.declared.broadcast.Sending.{Sending}
 use Rattle.am_types.specs.declared.broadcast.Ordered.{Ordered}
 use Rattle.am_model.specs.Broadcasts as broadcasts
-use Rattle.am_model.specs.Broadcasts.{Broadcasts, Normal, InTurn}
+use Rattle.am_model.specs.Broadcasts.{Broadcasts, Normal, InTurn, queue_of, with_queue}
 use Rattle.am_model.specs.Sending.{at_once, in_turn, is_current, live}
 use Rattle.am_queue_ordered.proofs.Counting.{count_by-append}
 use Rattle.am_queue_ordered.specs.Counts.{count_of, one_for, queued_of}
-use Rattle.am_queue.specs.Sound.{owed, owed_in, has_current, IsSound, AreSound, all_of}
+use Rattle.am_queue.specs.Sound.{owed, owed_in, has_current, ShareNumbers, IsSound, AreSound, all_of, with_last}
+use Rattle.am_queue.proofs.Keeping.{swapped}
 use Rattle.am_queue.proofs.Rising.{rising_further}
 
 -- one broadcast more of a sender
@@ -22,14 +23,19 @@ one_for_it : (sender uid : ℕ) → cond (sender == uid) 1 0 ≡ one_for sender 
 one_for_it sender uid = grind (arith, nat_tests)
 
 -- numbers that were given out
+numbered : (next bound bound' count : ℕ) (one other : List InTurn) → bound + count ≤ bound' → ShareNumbers next bound one other → ShareNumbers (next + count) bound' one other
+numbered next bound bound' count one other more share = record {
+  suffice = omega (arith, share.suffice, more);
+  one_free = λ number free is. share.one_free number (omega (arith, free)) is;
+  other_free = λ number free is. share.other_free number (omega (arith, free)) is;
+  differ = share.differ;
+}
+
 pub sound_numbered : (all : Broadcasts) (normal : List Normal) (count : ℕ) → IsSound all → all.next_broadcast ≤ 1125899906842624 → count ≤ 1024
     → IsSound (all_of normal all.foreground all.background all.results (all.next_broadcast + 1) (all.next_delivery + count))
 sound_numbered all normal count sound few short = record {
-  numbers = omega (arith, sound.numbers);
+  queues = numbered all.next_delivery (1025 * all.next_broadcast) (1025 * (all.next_broadcast + 1)) count all.foreground all.background (omega (arith, short)) sound.queues;
   broadcasts = omega (arith, few);
-  foreground = λ number free. sound.foreground number (omega (arith, free));
-  background = λ number free. sound.background number (omega (arith, free));
-  differ = sound.differ;
   rising = rising_further 0 all.next_delivery (all.next_delivery + count) all.results (omega arith) sound.rising;
 }
 
@@ -49,14 +55,7 @@ at_once_sound end room first counts counts' all sending sound few short counted 
 pub passed_sound : (end room : ℕ) (counts : List (ℕ × ℕ)) (all : Broadcasts) → AreSound end room counts all → all.next_broadcast ≤ 1125899906842624
     → AreSound end room counts (all_of all.normal all.foreground all.background all.results (all.next_broadcast + 1) all.next_delivery)
 passed_sound end room counts all sound few = record {
-  sound = record {
-    numbers = omega (arith, sound.sound.numbers);
-    broadcasts = omega (arith, few);
-    foreground = sound.sound.foreground;
-    background = sound.sound.background;
-    differ = sound.sound.differ;
-    rising = sound.sound.rising;
-  };
+  sound = rw add-zero at (sound_numbered all all.normal 0 sound.sound few (omega arith));
   counted = sound.counted;
   end_before = sound.end_before;
   results_fit = sound.results_fit;
@@ -86,37 +85,35 @@ module _ (queue : List InTurn) (number : ℕ) (sending : Sending) (ordered : Ord
   more_queued : (uid : ℕ) → queued_of (queue ++ in_turn number sending ordered ∷ []) uid ≡ queued_of queue uid + one_for sending.sender uid
   more_queued uid = omega (arith, count_by-append (λ (b : InTurn). b.sender == uid) queue (in_turn number sending ordered ∷ []), one_for_it sending.sender uid)
 
--- an ordered broadcast that is sent to the foreground queue
-pub foreground_sent : (end room room' : ℕ) (counts counts' : List (ℕ × ℕ)) (all : Broadcasts) (sending : Sending) (ordered : Ordered) → AreSound end room counts all → all.next_broadcast ≤ 1125899906842624
+-- one of two queues with one more
+one_put : (next bound bound' : ℕ) (one other : List InTurn) (number : ℕ) (sending : Sending) (ordered : Ordered) → bound + (length sending.to + 1) ≤ bound'
+    → ShareNumbers next bound one other → ShareNumbers next bound' (one ++ in_turn number sending ordered ∷ []) other
+one_put next bound bound' one other number sending ordered more share = record {
+  suffice = omega (arith, share.suffice, more, more_owed one number sending ordered);
+  one_free = λ delivery free is. share.one_free delivery free (sym (no_more_current one number sending ordered delivery) ∙ is);
+  other_free = share.other_free;
+  differ = λ delivery is other_is. share.differ delivery (sym (no_more_current one number sending ordered delivery) ∙ is) other_is;
+}
+
+-- an ordered broadcast that is sent
+pub last_sent : (foreground : Bool) (end room room' : ℕ) (counts counts' : List (ℕ × ℕ)) (all : Broadcasts) (sending : Sending) (ordered : Ordered) → AreSound end room counts all → all.next_broadcast ≤ 1125899906842624
     → length sending.to ≤ 1024 → ((uid : ℕ) → count_of counts' uid ≡ count_of counts uid + one_for sending.sender uid)
     → length all.foreground + length all.background + 1 ≤ room'
-    → AreSound end room' counts' (all_of all.normal (all.foreground ++ in_turn all.next_broadcast sending ordered ∷ []) all.background all.results (all.next_broadcast + 1) all.next_delivery)
-foreground_sent end room room' counts counts' all sending ordered sound few short counted fits = record {
+    → AreSound end room' counts' (with_last foreground (in_turn all.next_broadcast sending ordered) all)
+last_sent true end room room' counts counts' all sending ordered sound few short counted fits = record {
   sound = record {
-    numbers = omega (arith, sound.sound.numbers, more_owed all.foreground all.next_broadcast sending ordered);
+    queues = one_put all.next_delivery (1025 * all.next_broadcast) (1025 * (all.next_broadcast + 1)) all.foreground all.background all.next_broadcast sending ordered (omega (arith, short)) sound.sound.queues;
     broadcasts = omega (arith, few);
-    foreground = λ number free. no_more_current all.foreground all.next_broadcast sending ordered number ∙ sound.sound.foreground number free;
-    background = sound.sound.background;
-    differ = λ number is. sound.sound.differ number (sym (no_more_current all.foreground all.next_broadcast sending ordered number) ∙ is);
     rising = sound.sound.rising;
   };
   counted = λ uid. omega (arith, counted uid, sound.counted uid, more_queued all.foreground all.next_broadcast sending ordered uid);
   end_before = sound.end_before;
   results_fit = rw length-append (omega (arith, fits));
 }
-
--- or to the background queue
-pub background_sent : (end room room' : ℕ) (counts counts' : List (ℕ × ℕ)) (all : Broadcasts) (sending : Sending) (ordered : Ordered) → AreSound end room counts all → all.next_broadcast ≤ 1125899906842624
-    → length sending.to ≤ 1024 → ((uid : ℕ) → count_of counts' uid ≡ count_of counts uid + one_for sending.sender uid)
-    → length all.foreground + length all.background + 1 ≤ room'
-    → AreSound end room' counts' (all_of all.normal all.foreground (all.background ++ in_turn all.next_broadcast sending ordered ∷ []) all.results (all.next_broadcast + 1) all.next_delivery)
-background_sent end room room' counts counts' all sending ordered sound few short counted fits = record {
+last_sent false end room room' counts counts' all sending ordered sound few short counted fits = record {
   sound = record {
-    numbers = omega (arith, sound.sound.numbers, more_owed all.background all.next_broadcast sending ordered);
+    queues = swapped _ _ _ _ (one_put all.next_delivery (1025 * all.next_broadcast) (1025 * (all.next_broadcast + 1)) all.background all.foreground all.next_broadcast sending ordered (omega (arith, short)) (swapped _ _ _ _ sound.sound.queues));
     broadcasts = omega (arith, few);
-    foreground = sound.sound.foreground;
-    background = λ number free. no_more_current all.background all.next_broadcast sending ordered number ∙ sound.sound.background number free;
-    differ = λ number is. no_more_current all.background all.next_broadcast sending ordered number ∙ sound.sound.differ number is;
     rising = sound.sound.rising;
   };
   counted = λ uid. omega (arith, counted uid, sound.counted uid, more_queued all.background all.next_broadcast sending ordered uid);
@@ -125,24 +122,14 @@ background_sent end room room' counts counts' all sending ordered sound few shor
 }
 
 -- the same of an ordered broadcast whose start is known to stand, and of what the code keeps then
-pub foreground_put : (end room room' : ℕ) (counts counts' : List (ℕ × ℕ)) (all : Broadcasts) (sending : Sending) (queue : List InTurn) (results : List broadcasts.Result) (ordered : Option Ordered) → IsSome ordered
-    → IfSome ordered (λ ordered. queue ≡ all.foreground ++ in_turn all.next_broadcast sending ordered ∷ []) → results ≡ all.results
+pub last_put : (foreground : Bool) (end room room' : ℕ) (counts counts' : List (ℕ × ℕ)) (all : Broadcasts) (sending : Sending) (queue : List InTurn) (results : List broadcasts.Result) (ordered : Option Ordered) → IsSome ordered
+    → IfSome ordered (λ ordered. queue ≡ queue_of foreground all ++ in_turn all.next_broadcast sending ordered ∷ []) → results ≡ all.results
     → AreSound end room counts all → all.next_broadcast ≤ 1125899906842624 → length sending.to ≤ 1024 → ((uid : ℕ) → count_of counts' uid ≡ count_of counts uid + one_for sending.sender uid)
     → length all.foreground + length all.background + 1 ≤ room'
-    → AreSound end room' counts' (all_of all.normal queue all.background results (all.next_broadcast + 1) all.next_delivery)
-foreground_put end room room' counts counts' all sending queue results None some queue_is results_are sound few short counted fits = absurd cc
-foreground_put end room room' counts counts' all sending queue results (Some ordered) some queue_is results_are sound few short counted fits =
-    rw (queue_is, results_are) (foreground_sent end room room' counts counts' all sending ordered sound few short counted fits)
-
--- and in the background queue
-pub background_put : (end room room' : ℕ) (counts counts' : List (ℕ × ℕ)) (all : Broadcasts) (sending : Sending) (queue : List InTurn) (results : List broadcasts.Result) (ordered : Option Ordered) → IsSome ordered
-    → IfSome ordered (λ ordered. queue ≡ all.background ++ in_turn all.next_broadcast sending ordered ∷ []) → results ≡ all.results
-    → AreSound end room counts all → all.next_broadcast ≤ 1125899906842624 → length sending.to ≤ 1024 → ((uid : ℕ) → count_of counts' uid ≡ count_of counts uid + one_for sending.sender uid)
-    → length all.foreground + length all.background + 1 ≤ room'
-    → AreSound end room' counts' (all_of all.normal all.foreground queue results (all.next_broadcast + 1) all.next_delivery)
-background_put end room room' counts counts' all sending queue results None some queue_is results_are sound few short counted fits = absurd cc
-background_put end room room' counts counts' all sending queue results (Some ordered) some queue_is results_are sound few short counted fits =
-    rw (queue_is, results_are) (background_sent end room room' counts counts' all sending ordered sound few short counted fits)
+    → AreSound end room' counts' (with_queue foreground queue (record all { results = results; next_broadcast = all.next_broadcast + 1 }))
+last_put foreground end room room' counts counts' all sending queue results None some queue_is results_are sound few short counted fits = absurd cc
+last_put foreground end room room' counts counts' all sending queue results (Some ordered) some queue_is results_are sound few short counted fits =
+    rw (queue_is, results_are) (last_sent foreground end room room' counts counts' all sending ordered sound few short counted fits)
 
 -- a refusal is what the definition answers
 pub refused : {X : Type 0} (all : Broadcasts) (sender receivers : ℕ) (sent : X) (fault : SendFault) → refusal_of all sender receivers ≡ Some fault

@@ -10,7 +10,7 @@ use Rattle.am_model.specs.Broadcasts.{InTurn, Current, Doing, Gone, Settled, tur
 use Rattle.am_model.specs.Filters.{is_empty}
 use Rattle.am_model.specs.Sending.{is_current, strike, strike_from, strike_rest, unwanted}
 use Rattle.am_queue_ordered.proofs.Counting.{count_by-cons}
-use Rattle.am_queue_ordered.specs.Lines.{head_turned}
+use Rattle.am_queue_ordered.specs.Heads.{head_turned}
 use Rattle.am_queue_ordered.specs.Counts.{queued_of}
 use Rattle.am_queue.specs.Sound.{undelivered, owed, owed_in, has_current}
 

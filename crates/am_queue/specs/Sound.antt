@@ -1,9 +1,9 @@
 -- What holds of all broadcasts at every moment: numbers that are still free, and heads whose deliveries differ.
-use Rattle.std.specs.Prelude.{◌≡◌, ℕ, ◌+◌, ◌*◌, ◌≤◌, Bool, true, false, List, [], ◌∷◌, length, Option, Some, None, if◌then◌else◌}
+use Rattle.std.specs.Prelude.{◌≡◌, ℕ, ◌+◌, ◌*◌, ◌≤◌, Bool, true, List, [], ◌∷◌, ◌++◌, length, Option, Some, None}
 use Rattle.std.specs.List.{list_any, sum_by}
 use Rattle.am_types.specs.declared.broadcast.Spot.{Spot}
 use Rattle.am_model.specs.Broadcasts as broadcasts
-use Rattle.am_model.specs.Broadcasts.{Broadcasts, Normal, InTurn, Current, is_head_due, late_head, settle_foreground, settle_background}
+use Rattle.am_model.specs.Broadcasts.{Broadcasts, Normal, InTurn, Current, queue_of, with_queue}
 use Rattle.am_model.specs.Sending.{live, is_current}
 use Rattle.am_queue_ordered.specs.Counts.{count_of}
 use Rattle.am_queue.specs.Results.{AreRising}
@@ -26,13 +26,18 @@ owed_in queue = sum_by owed queue
 abbrev pub has_current : ℕ → List InTurn → Bool
 has_current number queue = list_any (λ (b : InTurn). is_current number b.current) queue
 
--- the delivery numbers suffice, no two deliveries in the queues have the same, and those of the results rise
+-- two queues: the delivery numbers below a bound suffice for both, those from the next one on are free, and no delivery
+-- of one has the number of one of the other
+pub record ShareNumbers (next : ℕ) (bound : ℕ) (one : List InTurn) (other : List InTurn) : Type 0 where
+  pub suffice : next + owed_in one + owed_in other ≤ bound
+  pub one_free : (number : ℕ) → next ≤ number → has_current number one ≡ true → ⊥
+  pub other_free : (number : ℕ) → next ≤ number → has_current number other ≡ true → ⊥
+  pub differ : (number : ℕ) → has_current number one ≡ true → has_current number other ≡ true → ⊥
+
+-- the queues share the delivery numbers, the numbers of broadcasts have an end, and those of the results rise
 pub record IsSound (all : Broadcasts) : Type 0 where
-  pub numbers : all.next_delivery + owed_in all.foreground + owed_in all.background ≤ 1025 * all.next_broadcast
+  pub queues : ShareNumbers all.next_delivery (1025 * all.next_broadcast) all.foreground all.background
   pub broadcasts : all.next_broadcast ≤ 1125899906842625
-  pub foreground : (number : ℕ) → all.next_delivery ≤ number → has_current number all.foreground ≡ false
-  pub background : (number : ℕ) → all.next_delivery ≤ number → has_current number all.background ≡ false
-  pub differ : (number : ℕ) → has_current number all.foreground ≡ true → has_current number all.background ≡ false
   pub rising : AreRising 0 all.next_delivery all.results
 
 -- each sender's number is that of its live broadcasts
@@ -50,19 +55,15 @@ all_of normal foreground background results next_broadcast next_delivery = recor
   next_delivery = next_delivery;
 }
 
--- the parts are sound, their senders' numbers count them, and there is room for so many more results as stand in the queues
+-- the parts are sound, their senders' numbers count them, and there is room for a result of each in the queues
 pub record AreSound (end : ℕ) (room : ℕ) (counts : List (ℕ × ℕ)) (all : Broadcasts) : Type 0 where
   pub sound : IsSound all
   pub counted : AreCounted counts all
   pub end_before : end ≤ all.next_delivery
   pub results_fit : length all.foreground + length all.background ≤ room
 
--- the broadcasts after the foreground queue passed a late receiver over
-abbrev pub foreground_expired : ℕ → Broadcasts → Broadcasts
-foreground_expired now all =
-    if is_head_due now all.foreground then settle_foreground now (record all { foreground = late_head now all.foreground }) else all
-
--- the broadcasts after the background queue passed a late receiver over
-abbrev pub background_expired : ℕ → Broadcasts → Broadcasts
-background_expired now all =
-    if is_head_due now all.background then settle_background now (record all { background = late_head now all.background }) else all
+-- the broadcasts with one more at the end of one of the two queues
+abbrev pub with_last : Bool → InTurn → Broadcasts → Broadcasts
+with_last foreground sent all =
+    with_queue foreground (queue_of foreground all ++ sent ∷ [])
+    (record all { next_broadcast = all.next_broadcast + 1 })

@@ -16,11 +16,6 @@ abbrev pub is_taken : Taken → broadcasts.Result → Bool
 is_taken (Delivery number) result = result.delivery == number
 is_taken (Sender uid) result = result.sender == uid
 
--- the same of a sender and a delivery number
-abbrev pub is_key_taken : Taken → ℕ × ℕ → Bool
-is_key_taken (Delivery number) key = key.1 == number
-is_key_taken (Sender uid) key = key.0 == uid
-
 -- whose a delivery is, and whether it is an ordered broadcast's
 abbrev pub held_as : ℕ × Bool → Held
 held_as holder = record { uid = holder.0; ordered = holder.1 }

@@ -6,4 +6,4 @@ mod puts;
 mod queues;
 mod results;
 
-pub use queues::Queues;
+pub use queues::{LAST_BROADCAST, LAST_MOMENT, Queues};

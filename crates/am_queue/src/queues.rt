@@ -2,25 +2,37 @@
 ghost use Rattle.std.specs.Prelude.{◌≡◌, ℕ, ◌+◌, ◌≤◌, not, ◌==◌, ◌<◌, ◌≢◌, [], ◌∷◌, ◌++◌, false, filter, map, length, Ok, Err, IsOk, IsSome, IsTrue, ◌↔◌, IfSome, IfOk, IfErr, OnOk, OnErr};
 ghost use Rattle.std.specs.Option.{option_map};
 ghost use Rattle.am_model.specs.Broadcasts as broadcasts;
-ghost use Rattle.am_model.specs.Broadcasts.{no_broadcasts, settle_foreground, settle_background, late_head, is_head_due, is_delivery_due, normals_keeping, due, expired, span};
+ghost use Rattle.am_model.specs.Broadcasts.{no_broadcasts, queue_of, with_queue, settle, settle_both, is_head_due, expired_queue, normals_keeping, due, expired, span};
 ghost use Rattle.am_model.specs.Filters.{is_empty};
 ghost use Rattle.am_model.specs.Sending.{live, in_turn, with_normal, with_ordered, with_sent, send, held, answered_head, finish, forget, forget_uid, forget_registered, inbox, result_items, strike, unwanted};
-ghost use Rattle.am_queue_ordered.specs.Deeds.{doing_of};
+ghost use Rattle.am_queue_ordered.specs.Doings.{doing_of};
 ghost use Rattle.am_queue_ordered.specs.Struck.{strikes};
-ghost use Rattle.am_queue_ordered.specs.Lines.{head_turned};
+ghost use Rattle.am_queue_ordered.specs.Heads.{head_turned};
 ghost use Rattle.am_queue.specs.Taken.{fault_of, held_as, is_taken, refusal_of};
-ghost use Rattle.am_queue.specs.Sound.{foreground_expired, background_expired};
-ghost use Rattle.am_queue_normal.specs.Kept.{deliveries_in};
+ghost use Rattle.am_queue.specs.Sound.{with_last};
+ghost use Rattle.am_queue_normal.specs.Kept.{deliveries_in, is_early, is_other};
 
 use crate::inbox::{SHOWN, first_by_number, push_item};
-use crate::puts::{Begin, put_normal, put_turn};
+use crate::puts::{Last, put_normal, put_turn};
 use crate::results::{Results, Taken};
-use am_queue_normal::Deliveries;
-use am_queue_ordered::{Counts, Deed, Line, Struck};
+use am_queue_normal::{Begin, Normals};
+use am_queue_ordered::{Counts, Doing, Queue, Struck};
 use am_types::{Answer, FinishFault, Item, List, NoMemory, SendFault, Sending, Steps};
 use std::alloc::{AllocError, Global};
 use std::marker::Model;
 use std::sync::ledger::Ledger;
+
+/// The greatest moment that the calls take, in milliseconds: every deadline after it is still a number of 64 bits.
+pub const LAST_MOMENT: u64 = 4_611_686_018_427_387_904;
+
+/// The number of the last broadcast that can be sent.
+pub const LAST_BROADCAST: u64 = 1_125_899_906_842_624;
+
+/// How many live broadcasts a sender may have.
+const MOST_LIVE: u32 = 64;
+
+/// How many receivers a broadcast may have.
+const MOST_RECEIVERS: usize = 1024;
 
 /// How long a delivery of the foreground queue may take, in milliseconds.
 const FOREGROUND_SPAN: u64 = 10_000;
@@ -28,13 +40,14 @@ const FOREGROUND_SPAN: u64 = 10_000;
 /// How long another delivery may take, in milliseconds.
 const BACKGROUND_SPAN: u64 = 60_000;
 
-/// All live broadcasts, and the next numbers.
+/// All live broadcasts, and the next numbers. The calls take moments up to `LAST_MOMENT`: the manager
+/// counts a later one as that.
 #[derive(Drop)]
 pub struct Queues {
     alloc: Global,
-    normals: Deliveries,
-    foreground: Line,
-    background: Line,
+    normals: Normals,
+    foreground: Queue,
+    background: Queue,
     /// With room for those of all that stand in the queues.
     results: Results,
     /// How many broadcasts of each sender are live.
@@ -50,7 +63,8 @@ impl Model for Queues {
 
     ghost Value = { Broadcasts };
 
-    ghost view = { λ q. all_of q.normals.normal q.foreground q.background q.results.list q.next_broadcast q.next_delivery };
+    ghost view = { λ q.
+        all_of q.normals.normal q.foreground q.background q.results.list q.next_broadcast q.next_delivery };
 
     ghost invariant = { λ q. AreSound q.normals.end q.results.room q.live
         (all_of q.normals.normal q.foreground q.background q.results.list q.next_broadcast q.next_delivery) };
@@ -63,9 +77,9 @@ impl Queues {
     {
         Queues {
             alloc,
-            normals: Deliveries::new(alloc),
-            foreground: Line::new(alloc),
-            background: Line::new(alloc),
+            normals: Normals::new(alloc),
+            foreground: Queue::new(alloc),
+            background: Queue::new(alloc),
             results: Results::new(alloc),
             live: Counts::new(alloc),
             next_broadcast: 1,
@@ -75,9 +89,9 @@ impl Queues {
 
     /// Whether the numbers of broadcasts suffice for one more. Takes no memory.
     pub fn can_send(&self) -> bool
-        ensures { IsTrue result ↔ (self.now.next_broadcast ≤ 1125899906842624) }
+        ensures { IsTrue result ↔ (self.now.next_broadcast ≤ LAST_BROADCAST) }
     {
-        self.next_broadcast <= 1_125_899_906_842_624
+        self.next_broadcast <= LAST_BROADCAST
     }
 
     /// Whether some deadline is at most `now`. A step is a reading of a deadline. Takes no memory.
@@ -85,8 +99,8 @@ impl Queues {
         ensures due { result ≡ due self.now now }
         ensures cost { steps.new ≤ steps.old + 3 }
     {
-        self.foreground.is_due(now, steps)
-            || self.background.is_due(now, steps)
+        self.is_head_due(true, now, steps)
+            || self.is_head_due(false, now, steps)
             || self.normals.is_due(now, steps)
     }
 
@@ -94,10 +108,10 @@ impl Queues {
     fn refusal(&self, sender: u32, receivers: usize) -> Option<SendFault>
         ensures { result ≡ refusal_of self.now sender receivers }
     {
-        if self.live.get(sender) >= 64 {
+        if self.live.get(sender) >= MOST_LIVE {
             return Some(SendFault::Full);
         }
-        if receivers > 1024 {
+        if receivers > MOST_RECEIVERS {
             return Some(SendFault::TooMany);
         }
         None
@@ -105,7 +119,7 @@ impl Queues {
 
     /// Gives out the number of a broadcast without receivers.
     fn pass_number(&mut self) -> u64
-        requires { self.old.next_broadcast ≤ 1125899906842624 }
+        requires { self.old.next_broadcast ≤ LAST_BROADCAST }
         ensures number { result ≡ self.old.next_broadcast }
         ensures passed { self.new ≡ record self.old { next_broadcast = self.old.next_broadcast + 1 } }
     {
@@ -116,8 +130,8 @@ impl Queues {
 
     /// Sends a normal broadcast to some receivers.
     fn put_at_once(&mut self, sending: Sending) -> Result<u64, AllocError>
-        requires broadcasts { self.old.next_broadcast ≤ 1125899906842624 }
-        requires moment { sending.now ≤ 4611686018427387904 }
+        requires broadcasts { self.old.next_broadcast ≤ LAST_BROADCAST }
+        requires moment { sending.now ≤ LAST_MOMENT }
         requires not_full { live self.old sending.sender < 64 }
         requires some { is_empty sending.to ≡ false }
         requires few { length sending.to ≤ 1024 }
@@ -147,99 +161,58 @@ impl Queues {
         }
     }
 
-    /// Puts an ordered broadcast to the foreground queue.
-    fn put_foreground(&mut self, sending: Sending) -> Result<u64, AllocError>
-        requires broadcasts { self.old.next_broadcast ≤ 1125899906842624 }
+    /// Puts an ordered broadcast at the end of one of the two queues.
+    fn put_last(&mut self, foreground: bool, sending: Sending) -> Result<u64, AllocError>
+        requires broadcasts { self.old.next_broadcast ≤ LAST_BROADCAST }
         requires ordered { IsSome sending.ordered }
         requires not_full { live self.old sending.sender < 64 }
         requires few { length sending.to ≤ 1024 }
         ensures number { IfOk result (λ number. number ≡ self.old.next_broadcast) }
-        ensures put { OnOk result (IfSome sending.ordered (λ ordered. self.new ≡ record self.old {
-          foreground = self.old.foreground ++ in_turn self.old.next_broadcast sending ordered ∷ [];
-          next_broadcast = self.old.next_broadcast + 1;
-        })) }
+        ensures put { OnOk result (IfSome sending.ordered (λ ordered.
+            self.new ≡ with_last foreground (in_turn self.old.next_broadcast sending ordered) self.old)) }
         ensures same { OnErr result (self.new ≡ self.old) }
     {
         let number = self.next_broadcast;
         let more = self.foreground.len() + self.background.len() + 1;
-        let (results, live) = (&mut self.results, &mut self.live);
-        match put_turn(
-            self.alloc,
-            &mut self.foreground,
-            results,
-            more,
-            live,
+        let last = Last {
+            alloc: self.alloc,
             number,
-            sending,
-        ) {
-            Ok(()) => {
-                self.next_broadcast = number + 1;
-                Ok(number)
-            }
-            Err(error) => Err(error),
-        }
-    }
-
-    /// Puts an ordered broadcast to the background queue.
-    fn put_background(&mut self, sending: Sending) -> Result<u64, AllocError>
-        requires broadcasts { self.old.next_broadcast ≤ 1125899906842624 }
-        requires ordered { IsSome sending.ordered }
-        requires not_full { live self.old sending.sender < 64 }
-        requires few { length sending.to ≤ 1024 }
-        ensures number { IfOk result (λ number. number ≡ self.old.next_broadcast) }
-        ensures put { OnOk result (IfSome sending.ordered (λ ordered. self.new ≡ record self.old {
-          background = self.old.background ++ in_turn self.old.next_broadcast sending ordered ∷ [];
-          next_broadcast = self.old.next_broadcast + 1;
-        })) }
-        ensures same { OnErr result (self.new ≡ self.old) }
-    {
-        let number = self.next_broadcast;
-        let more = self.foreground.len() + self.background.len() + 1;
-        let (results, live) = (&mut self.results, &mut self.live);
-        match put_turn(
-            self.alloc,
-            &mut self.background,
-            results,
             more,
-            live,
-            number,
-            sending,
-        ) {
-            Ok(()) => {
-                self.next_broadcast = number + 1;
-                Ok(number)
-            }
-            Err(error) => Err(error),
+        };
+        let (results, live) = (&mut self.results, &mut self.live);
+        if foreground {
+            put_turn(last, &mut self.foreground, results, live, sending)?;
+            self.next_broadcast = number + 1;
+            Ok(number)
+        } else {
+            put_turn(last, &mut self.background, results, live, sending)?;
+            self.next_broadcast = number + 1;
+            Ok(number)
         }
     }
 
     /// Sends an ordered broadcast.
     fn put_in_turn(&mut self, sending: Sending) -> Result<u64, AllocError>
-        requires broadcasts { self.old.next_broadcast ≤ 1125899906842624 }
-        requires moment { sending.now ≤ 4611686018427387904 }
+        requires broadcasts { self.old.next_broadcast ≤ LAST_BROADCAST }
+        requires moment { sending.now ≤ LAST_MOMENT }
         requires ordered { IsSome sending.ordered }
         requires not_full { live self.old sending.sender < 64 }
         requires few { length sending.to ≤ 1024 }
         ensures number { IfOk result (λ number. number ≡ self.old.next_broadcast) }
-        ensures sent { OnOk result (IfSome sending.ordered (λ ordered. self.new ≡ with_ordered self.old sending ordered)) }
+        ensures sent { OnOk result (IfSome sending.ordered (λ ordered.
+            self.new ≡ with_ordered self.old sending ordered)) }
         ensures same { OnErr result (self.new ≡ self.old) }
     {
-        let now = sending.now;
-        if sending.foreground {
-            let number = self.put_foreground(sending)?;
-            self.settle_foreground(now);
-            Ok(number)
-        } else {
-            let number = self.put_background(sending)?;
-            self.settle_background(now);
-            Ok(number)
-        }
+        let (foreground, now) = (sending.foreground, sending.now);
+        let number = self.put_last(foreground, sending)?;
+        self.settle(foreground, now);
+        Ok(number)
     }
 
     /// Sends a broadcast that isn't refused.
     fn put(&mut self, sending: Sending) -> Result<u64, AllocError>
-        requires broadcasts { self.old.next_broadcast ≤ 1125899906842624 }
-        requires moment { sending.now ≤ 4611686018427387904 }
+        requires broadcasts { self.old.next_broadcast ≤ LAST_BROADCAST }
+        requires moment { sending.now ≤ LAST_MOMENT }
         requires not_full { live self.old sending.sender < 64 }
         requires few { length sending.to ≤ 1024 }
         ensures number { IfOk result (λ number. number ≡ self.old.next_broadcast) }
@@ -258,10 +231,11 @@ impl Queues {
 
     /// Sends a broadcast, and answers its number: `Full` where its sender has 64 live broadcasts,
     /// else `TooMany` where it has more than 1,024 receivers. It takes all memory that the
-    /// broadcast's course needs. After a refusal, and without memory, all is as before.
+    /// broadcast's course needs. After a refusal, and without memory, all is as before. The moment is
+    /// at most `LAST_MOMENT`.
     pub fn send(&mut self, call: Sending) -> Result<u64, SendFault>
-        requires broadcasts { self.old.next_broadcast ≤ 1125899906842624 }
-        requires moment { call.now ≤ 4611686018427387904 }
+        requires broadcasts { self.old.next_broadcast ≤ LAST_BROADCAST }
+        requires moment { call.now ≤ LAST_MOMENT }
         ensures sent { IfOk result (λ number. send self.old call ≡ Ok (number, self.new)) }
         ensures refused { IfErr result (λ fault. fault ≢ SendFault.NoMemory → send self.old call ≡ Err fault) }
         ensures no_memory { result ≡ Err SendFault.NoMemory → IsOk (send self.old call) }
@@ -281,14 +255,14 @@ impl Queues {
 
     /// The first 64 deliveries and results of a uid by rising number. An ordered one has the outcome
     /// so far.
-    pub fn inbox(&self, alloc: Global, uid: u32) -> Result<List<Item>, NoMemory>
+    pub fn inbox(&self, uid: u32) -> Result<List<Item>, NoMemory>
         ensures { IfOk result (λ items. items ≡ inbox self.now uid) }
     {
-        let mut items = self.normals.items(alloc, uid, SHOWN)?;
+        let mut items = self.normals.items(self.alloc, uid, SHOWN)?;
         push_item(&mut items, self.foreground.item(uid)?)?;
         push_item(&mut items, self.background.item(uid)?)?;
         self.results.push_items(uid, &mut items)?;
-        Ok(List::new(first_by_number(alloc, items)?))
+        Ok(List::new(first_by_number(self.alloc, items)?))
     }
 
     /// Equal queues, which have taken the same memory for the course of their broadcasts.
@@ -308,87 +282,82 @@ impl Queues {
         })
     }
 
-    /// The foreground queue settles at a moment.
-    fn settle_foreground(&mut self, now: u64)
-        requires { now ≤ 4611686018427387904 }
-        ensures { self.new ≡ settle_foreground now self.old }
+    /// One of the two queues settles at a moment.
+    fn settle(&mut self, foreground: bool, now: u64)
+        requires { now ≤ LAST_MOMENT }
+        ensures { self.new ≡ settle foreground now self.old }
     {
-        self.next_delivery = self.results.settle(
-            &mut self.foreground,
-            &mut self.live,
-            self.next_delivery,
-            now + FOREGROUND_SPAN,
-        );
-    }
-
-    /// The background queue settles at a moment.
-    fn settle_background(&mut self, now: u64)
-        requires { now ≤ 4611686018427387904 }
-        ensures { self.new ≡ settle_background now self.old }
-    {
-        self.next_delivery = self.results.settle(
-            &mut self.background,
-            &mut self.live,
-            self.next_delivery,
-            now + BACKGROUND_SPAN,
-        );
-    }
-
-    /// The head's first receiver in the foreground queue did this.
-    fn turn_foreground(&mut self, deed: Deed)
-        ensures { self.new ≡ record self.old { foreground = head_turned (doing_of deed) self.old.foreground } }
-    {
-        self.foreground.turn_head(deed);
-    }
-
-    /// The head's first receiver in the background queue did this.
-    fn turn_background(&mut self, deed: Deed)
-        ensures { self.new ≡ record self.old { background = head_turned (doing_of deed) self.old.background } }
-    {
-        self.background.turn_head(deed);
-    }
-
-    /// The foreground queue passes a late receiver over.
-    fn expire_foreground<L: Ledger>(&mut self, now: u64, steps: &mut Steps<L>)
-        requires { now ≤ 4611686018427387904 }
-        ensures queue { self.new ≡ foreground_expired now self.old }
-        ensures cost { steps.new ≤ steps.old + 1 }
-    {
-        if self.foreground.is_due(now, steps) {
-            self.turn_foreground(Deed::Late);
-            self.settle_foreground(now);
+        let deadline = now + span(foreground);
+        let (results, live, next) = (&mut self.results, &mut self.live, self.next_delivery);
+        if foreground {
+            self.next_delivery = results.settle(&mut self.foreground, live, next, deadline);
+        } else {
+            self.next_delivery = results.settle(&mut self.background, live, next, deadline);
         }
     }
 
-    /// The background queue passes a late receiver over.
-    fn expire_background<L: Ledger>(&mut self, now: u64, steps: &mut Steps<L>)
-        requires { now ≤ 4611686018427387904 }
-        ensures queue { self.new ≡ background_expired now self.old }
+    /// Both queues settle at a moment.
+    fn settle_both(&mut self, now: u64)
+        requires { now ≤ LAST_MOMENT }
+        ensures { self.new ≡ settle_both now self.old }
+    {
+        self.settle(true, now);
+        self.settle(false, now);
+    }
+
+    /// The first receiver of the head of one of the two queues did this.
+    fn turn_head(&mut self, foreground: bool, doing: Doing)
+        ensures { self.new
+            ≡ with_queue foreground (head_turned (doing_of doing) (queue_of foreground self.old)) self.old }
+    {
+        if foreground {
+            self.foreground.turn_head(doing);
+        } else {
+            self.background.turn_head(doing);
+        }
+    }
+
+    /// Whether the head of one of the two queues has a delivery that is due.
+    fn is_head_due<L: Ledger>(&self, foreground: bool, now: u64, steps: &mut Steps<L>) -> bool
+        ensures due { result ≡ is_head_due now (queue_of foreground self.now) }
         ensures cost { steps.new ≤ steps.old + 1 }
     {
-        if self.background.is_due(now, steps) {
-            self.turn_background(Deed::Late);
-            self.settle_background(now);
+        if foreground {
+            self.foreground.is_due(now, steps)
+        } else {
+            self.background.is_due(now, steps)
+        }
+    }
+
+    /// One of the two queues passes a late receiver over.
+    fn expire_queue<L: Ledger>(&mut self, foreground: bool, now: u64, steps: &mut Steps<L>)
+        requires { now ≤ LAST_MOMENT }
+        ensures queue { self.new ≡ expired_queue foreground now self.old }
+        ensures cost { steps.new ≤ steps.old + 1 }
+    {
+        if self.is_head_due(foreground, now, steps) {
+            self.turn_head(foreground, Doing::Late);
+            self.settle(foreground, now);
         }
     }
 
     /// The normal deliveries that are due leave.
     fn expire_normal<L: Ledger>(&mut self, now: u64, steps: &mut Steps<L>)
-        ensures normal { self.new ≡ record self.old { normal = normals_keeping (λ delivery. not (is_delivery_due now delivery)) self.old.normal } }
+        ensures normal { self.new ≡ record self.old { normal = normals_keeping (is_early now) self.old.normal } }
         ensures cost { steps.new + deliveries_in self.new.normal ≤ steps.old + 1 + deliveries_in self.old.normal }
     {
         self.normals.expire(now, &mut self.live, steps);
     }
 
     /// Handles the deadlines that are due: one receiver of each queue at most, and all normal
-    /// deliveries. A step is a reading of a deadline. Takes no memory.
+    /// deliveries. A step is a reading of a deadline. `now` is at most `LAST_MOMENT`. Takes no memory.
     pub fn expire<L: Ledger>(&mut self, now: u64, steps: &mut Steps<L>)
-        requires { now ≤ 4611686018427387904 }
+        requires { now ≤ LAST_MOMENT }
         ensures expired { self.new ≡ expired self.old now }
         ensures cost { steps.new + deliveries_in self.new.normal ≤ steps.old + 3 + deliveries_in self.old.normal }
     {
-        self.expire_foreground(now, steps);
-        self.expire_background(now, steps);
+        self.expire_queue(true, now, steps);
+        self.expire_queue(false, now, steps);
         self.expire_normal(now, steps);
     }
 
@@ -413,7 +382,7 @@ impl Queues {
 
     /// Finishes the normal delivery of that number, if there is one.
     fn finish_normal(&mut self, number: u64)
-        ensures { self.new ≡ record self.old { normal = normals_keeping (λ delivery. not (delivery.number == number)) self.old.normal } }
+        ensures { self.new ≡ record self.old { normal = normals_keeping (is_other number) self.old.normal } }
     {
         if self.normals.holder(number).is_some() {
             self.normals.finish(number, &mut self.live);
@@ -428,9 +397,9 @@ impl Queues {
         } }
     {
         if self.foreground.is_head(number) {
-            self.turn_foreground(Deed::Answered(answer));
+            self.turn_head(true, Doing::Answered(answer));
         } else if self.background.is_head(number) {
-            self.turn_background(Deed::Answered(answer));
+            self.turn_head(false, Doing::Answered(answer));
         } else {
             drop(answer);
         }
@@ -438,14 +407,16 @@ impl Queues {
 
     /// Takes results out.
     fn take_results(&mut self, taken: &Taken)
-        ensures { self.new ≡ record self.old { results = filter (λ kept. not (is_taken taken.now kept)) self.old.results } }
+        ensures { self.new
+            ≡ record self.old { results = filter (λ kept. not (is_taken taken.now kept)) self.old.results } }
     {
         self.results.take_out(taken, &mut self.live);
     }
 
     /// Takes the result of that number out, if there is one.
     fn finish_result(&mut self, number: u64)
-        ensures { self.new ≡ record self.old { results = filter (λ kept. not (kept.delivery == number)) self.old.results } }
+        ensures { self.new
+            ≡ record self.old { results = filter (λ kept. not (kept.delivery == number)) self.old.results } }
     {
         if self.results.holder(number).is_some() {
             self.take_results(&Taken::Delivery(number));
@@ -454,7 +425,8 @@ impl Queues {
 
     /// Finishes a delivery, or takes a result: `NoDelivery` where none of that number stands,
     /// `NotYours` where it is another uid's, and `NotOrdered` where the answer sets an outcome or
-    /// aborts, and it isn't an ordered delivery. After a refusal all is as before. Takes no memory.
+    /// aborts, and it isn't an ordered delivery. After a refusal all is as before. `now` is at most
+    /// `LAST_MOMENT`. Takes no memory.
     pub fn finish(
         &mut self,
         delivery: u64,
@@ -462,7 +434,7 @@ impl Queues {
         answer: Answer,
         now: u64,
     ) -> Result<(), FinishFault>
-        requires { now ≤ 4611686018427387904 }
+        requires { now ≤ LAST_MOMENT }
         ensures finished { OnOk result (finish self.old delivery uid answer now ≡ Ok self.new) }
         ensures refused { IfErr result (λ fault. finish self.old delivery uid answer now ≡ Err fault) }
         ensures same { OnErr result (self.new ≡ self.old) }
@@ -476,8 +448,7 @@ impl Queues {
                 self.finish_normal(delivery);
                 self.answer_head(delivery, answer);
                 self.finish_result(delivery);
-                self.settle_foreground(now);
-                self.settle_background(now);
+                self.settle_both(now);
                 Ok(())
             }
         }
@@ -498,12 +469,11 @@ impl Queues {
 
     /// Strikes receivers everywhere, and settles both queues.
     fn forget(&mut self, struck: &Struck, now: u64)
-        requires { now ≤ 4611686018427387904 }
+        requires { now ≤ LAST_MOMENT }
         ensures { self.new ≡ forget self.old (strikes struck.now) now }
     {
         self.strike(struck);
-        self.settle_foreground(now);
-        self.settle_background(now);
+        self.settle_both(now);
     }
 
     /// A uid wants no result any more.
@@ -517,10 +487,10 @@ impl Queues {
         self.background.unwant(uid);
     }
 
-    /// Strikes the receivers of a uid, and takes its results; it wants none any more. Takes no
-    /// memory.
+    /// Strikes the receivers of a uid, and takes its results; it wants none any more. `now` is at most
+    /// `LAST_MOMENT`. Takes no memory.
     pub fn forget_uid(&mut self, uid: u32, now: u64)
-        requires { now ≤ 4611686018427387904 }
+        requires { now ≤ LAST_MOMENT }
         ensures { self.new ≡ forget_uid self.old uid now }
     {
         self.unwant(uid);
@@ -528,9 +498,9 @@ impl Queues {
         self.forget(&Struck::Uid(uid), now);
     }
 
-    /// Strikes a registered receiver. Takes no memory.
+    /// Strikes a registered receiver. `now` is at most `LAST_MOMENT`. Takes no memory.
     pub fn forget_registered(&mut self, number: u64, now: u64)
-        requires { now ≤ 4611686018427387904 }
+        requires { now ≤ LAST_MOMENT }
         ensures { self.new ≡ forget_registered self.old number now }
     {
         self.forget(&Struck::Registered(number), now);

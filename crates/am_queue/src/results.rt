@@ -4,12 +4,11 @@ ghost use Rattle.std.specs.Option.{option_map};
 ghost use Rattle.am_model.specs.Broadcasts.{settled};
 ghost use Rattle.am_model.specs.Sending.{held_in_results, result_items};
 ghost use Rattle.am_queue_ordered.specs.Counts.{Covers, Follows, queued_of, results_of};
-ghost use Rattle.am_queue_ordered.specs.Turns.{final_item};
-ghost use Rattle.am_queue_normal.specs.Batches.{at_once_by};
-ghost use Rattle.am_queue.specs.Results.{AreRising, BySender, IsOnly, key_of, of_number, own};
-ghost use Rattle.am_queue.specs.Taken.{is_key_taken, is_taken};
+ghost use Rattle.am_queue_normal.specs.Kept.{at_once_by};
+ghost use Rattle.am_queue.specs.Results.{AreRising, IsOnly, of_number};
+ghost use Rattle.am_queue.specs.Taken.{is_taken};
 
-use am_queue_ordered::{Counts, Final, Line};
+use am_queue_ordered::{Counts, Final, Queue};
 use am_types::Item;
 use std::alloc::{AllocError, Global};
 use std::marker::Model;
@@ -32,15 +31,6 @@ impl Taken {
             Taken::Sender(uid) => kept.sender() == *uid,
         }
     }
-
-    fn takes_key(&self, key: &(u32, u64)) -> bool
-        ensures { result ≡ is_key_taken self.now key.now }
-    {
-        match self {
-            Taken::Delivery(number) => key.1 == *number,
-            Taken::Sender(uid) => key.0 == *uid,
-        }
-    }
 }
 
 /// The results that wait for their senders.
@@ -48,63 +38,15 @@ impl Taken {
 pub(crate) struct Results {
     /// By rising delivery number.
     kept: Vec<Final>,
-    /// The sender and the delivery number of each, by rising sender. Each sender's are in the order
-    /// of its results.
-    keys: Vec<(u32, u64)>,
 }
 
 impl Model for Results {
     ghost use Rattle.std.specs.Prelude.{◌-◌, vec_capacity, vec_len};
-    ghost use Rattle.am_queue.specs.Results.{AreKeys, BySender, Waiting, lesser};
+    ghost use Rattle.am_queue.specs.Results.{Waiting};
 
     ghost Value = { Waiting };
 
-    ghost view = { λ r. record {
-      list = r.kept.items;
-      room = lesser (vec_capacity r.kept - vec_len r.kept) (vec_capacity r.keys - vec_len r.keys);
-    } };
-
-    ghost invariant = { λ r. BySender 0 r.keys.items × AreKeys r.keys.items r.kept.items };
-}
-
-/// Puts the key of a result to the others.
-fn put_key(keys: &mut Vec<(u32, u64)>, kept: &Final)
-    requires order { BySender 0 keys.old.items }
-    requires room { vec_len keys.old < vec_capacity keys.old }
-    ensures order { BySender 0 keys.new.items }
-    ensures own { (uid : ℕ) → own uid keys.new.items ≡ own uid keys.old.items ++ own uid (key_of kept.now ∷ []) }
-    ensures len { vec_len keys.new ≡ vec_len keys.old + 1 }
-    ensures capacity { vec_capacity keys.new ≡ vec_capacity keys.old }
-{
-    let sender = kept.sender();
-    let place = keys.partition_point(|key| key.0 <= sender);
-    // There is room, so it can't fail.
-    drop(keys.insert(place, (sender, kept.delivery())));
-}
-
-/// Puts the keys of results to the others.
-fn put_keys(keys: &mut Vec<(u32, u64)>, more: &[Final])
-    requires order { BySender 0 keys.old.items }
-    requires room { vec_len keys.old + length more.now ≤ vec_capacity keys.old }
-    ensures order { BySender 0 keys.new.items }
-    ensures own { (uid : ℕ) → own uid keys.new.items ≡ own uid keys.old.items ++ own uid (map key_of more.now) }
-    ensures len { vec_len keys.new ≡ vec_len keys.old + length more.now }
-    ensures capacity { vec_capacity keys.new ≡ vec_capacity keys.old }
-{
-    for kept in more {
-        put_key(keys, kept);
-    }
-}
-
-/// The keys of a sender.
-fn run(keys: &[(u32, u64)], uid: u32) -> &[(u32, u64)]
-    requires { BySender 0 keys.now }
-    ensures { result.now ≡ own uid keys.now }
-{
-    let first = keys.partition_point(|key| key.0 < uid);
-    let rest = &keys[first..];
-    let count = rest.partition_point(|key| key.0 == uid);
-    &rest[..count]
+    ghost view = { λ r. record { list = r.kept.items; room = vec_capacity r.kept - vec_len r.kept } };
 }
 
 /// The place of the result with that delivery number.
@@ -145,7 +87,6 @@ impl Results {
     {
         Results {
             kept: Vec::new(alloc),
-            keys: Vec::new(alloc),
         }
     }
 
@@ -156,7 +97,6 @@ impl Results {
         ensures no_less { self.old.room ≤ self.new.room }
     {
         self.kept.reserve(more)?;
-        self.keys.reserve(more)?;
         Ok(())
     }
 
@@ -164,26 +104,23 @@ impl Results {
     /// memory.
     pub(crate) fn settle(
         &mut self,
-        line: &mut Line,
+        queue: &mut Queue,
         live: &mut Counts,
         next: u64,
         deadline: u64,
     ) -> u64
-        requires room { length line.old ≤ self.old.room }
-        requires counted { Covers live.old (queued_of line.old) }
-        requires small { next + length line.old + 1 < 2 ^ 64 }
-        ensures queue { line.new ≡ (settled next deadline line.old).queue }
-        ensures results { self.new.list ≡ self.old.list ++ (settled next deadline line.old).results }
-        ensures next { result ≡ (settled next deadline line.old).next }
-        ensures room { length line.new + self.old.room ≤ length line.old + self.new.room }
+        requires room { length queue.old ≤ self.old.room }
+        requires counted { Covers live.old (queued_of queue.old) }
+        requires small { next + length queue.old + 1 < 2 ^ 64 }
+        ensures queue { queue.new ≡ (settled next deadline queue.old).queue }
+        ensures results { self.new.list ≡ self.old.list ++ (settled next deadline queue.old).results }
+        ensures next { result ≡ (settled next deadline queue.old).next }
+        ensures room { length queue.new + self.old.room ≤ length queue.old + self.new.room }
         ensures live { Follows live.old live.new
-            (λ uid. queued_of line.old uid + results_of self.old.list uid)
-            (λ uid. queued_of line.new uid + results_of self.new.list uid) }
+            (λ uid. queued_of queue.old uid + results_of self.old.list uid)
+            (λ uid. queued_of queue.new uid + results_of self.new.list uid) }
     {
-        let before = self.kept.len();
-        let after = line.settle(&mut self.kept, live, next, deadline);
-        put_keys(&mut self.keys, &self.kept[before..]);
-        after
+        queue.settle(&mut self.kept, live, next, deadline)
     }
 
     /// Whose the result with that delivery number is. Takes no memory.
@@ -205,30 +142,16 @@ impl Results {
         ensures room { self.old.room ≤ self.new.room }
     {
         take_kept(&mut self.kept, taken, live);
-        self.keys.retain(|key| !taken.takes_key(key));
-    }
-
-    /// Puts the result with that delivery number as an item behind others, if there is one.
-    fn push_item(&self, number: u64, items: &mut Vec<Item>) -> Result<(), AllocError>
-        requires { (end : ℕ) × AreRising 0 end self.now.list }
-        ensures { OnOk result (items.new.items ≡ items.old.items ++ map final_item (of_number number self.now.list)) }
-    {
-        match place_of(&self.kept, number) {
-            None => Ok(()),
-            Some(place) => {
-                items.push(self.kept[place].item()?)?;
-                Ok(())
-            }
-        }
     }
 
     /// Puts the results of a uid behind other items.
     pub(crate) fn push_items(&self, uid: u32, items: &mut Vec<Item>) -> Result<(), AllocError>
-        requires { (end : ℕ) × AreRising 0 end self.now.list }
         ensures { OnOk result (items.new.items ≡ items.old.items ++ result_items uid self.now.list) }
     {
-        for key in run(&self.keys, uid) {
-            self.push_item(key.1, items)?;
+        for kept in &self.kept {
+            if kept.sender() == uid {
+                items.push(kept.item()?)?;
+            }
         }
         Ok(())
     }
@@ -240,7 +163,6 @@ impl Results {
     {
         let mut copy = Results {
             kept: self.kept.clone()?,
-            keys: self.keys.clone()?,
         };
         copy.reserve(more)?;
         Ok(copy)

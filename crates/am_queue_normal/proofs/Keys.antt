@@ -1,24 +1,31 @@
--- When two deadlines with their numbers are the same, and which comes first.
-use Rattle.std.proofs.Common.{◌≡◌, ℕ, ◌≤◌, Bool, true, false, not, ◌&&◌, ◌||◌, cond, List, [], ◌∷◌, refl, ap, ◌∙◌, arith}
+-- When two pairs are the same, and which comes first.
+use Rattle.std.proofs.Common.{◌≡◌, ℕ, ◌<◌, ◌≤◌, Bool, true, false, not, ◌&&◌, ◌||◌, cond, List, refl, arith, nat_cmp}
 use Rattle.std.proofs.lemmas.Bool.Decides.{nat_tests}
+use Rattle.std.specs.Prelude.{◌==◌}
 use Rattle.std.specs.Ordering.{is_gt}
 use Rattle.std.specs.BTreeMap.{is_at}
-use Rattle.std.specs.List.{filter}
-use Rattle.am_queue_normal.specs.Deadlines.{by_both, has, is_same}
+use Rattle.am_queue_normal.specs.Pairs.{by_both, has, is_same, IsNext, NoneFrom}
 
--- a key is at another where both parts are the same
-pub same_key : (at first at' first' : ℕ) → is_at (by_both (at, first)) (at', first') ≡ is_same at first at' first'
-same_key at first at' first' = grind (arith, nat_tests)
+-- two numbers that are the same are one
+pub same_from : (a b : ℕ) → a == b ≡ true → a ≡ b
+same_from a b same = grind (arith, nat_tests)
 
--- a key that isn't greater has no later deadline
-pub not_later : (at first at' first' : ℕ) → is_gt (by_both (at, first) (at', first')) ≡ false → at ≤ at'
-not_later at first at' first' not_gt = grind (arith, nat_tests)
+pub is_same_as_itself : (a : ℕ) → a == a ≡ true
+is_same_as_itself a = grind (arith, nat_tests)
 
--- of two that aren't greater than each other both parts are the same
-pub same_both : (at first at' first' : ℕ) → is_gt (by_both (at, first) (at', first')) ≡ false → is_gt (by_both (at', first') (at, first)) ≡ false → (at ≡ at') × (first ≡ first')
-same_both at first at' first' up down = (grind (arith, nat_tests), grind (arith, nat_tests))
+-- a number is at another where they are the same
+pub same_number : (number other : ℕ) → is_at (nat_cmp number) other ≡ (number == other)
+same_number number other = grind (arith, nat_tests)
 
--- one more deadline
+-- a pair is at another where both parts are the same
+pub same_key : (key number key' number' : ℕ) → is_at (by_both (key, number)) (key', number') ≡ is_same key number key' number'
+same_key key number key' number' = grind (arith, nat_tests)
+
+-- a pair that isn't greater has no greater key
+pub not_later : (key number key' number' : ℕ) → is_gt (by_both (key, number) (key', number')) ≡ false → key ≤ key'
+not_later key number key' number' not_gt = grind (arith, nat_tests)
+
+-- one more
 pub added : (a b : Bool) → cond a true b ≡ a || b
 added true b = refl
 added false b = refl
@@ -28,27 +35,35 @@ pub removed : (a b : Bool) → cond a false b ≡ not a && b
 removed true b = refl
 removed false b = refl
 
--- those of some keys that pass a test
-pub has_filter : (test : ℕ → ℕ → Bool) (keys : List (ℕ × ℕ)) (at first : ℕ) → has (filter (λ (key : ℕ × ℕ). test key.0 key.1) keys) at first ≡ test at first && has keys at first
-has_filter test [] at first = never (test at first)
-  where
-    never : (x : Bool) → false ≡ x && false
-    never true = refl
-    never false = refl
-has_filter test (key ∷ keys) at first =
-    by (test key.0 key.1) (is_same at first key.0 key.1) refl refl (same_key at first key.0 key.1) (has_filter test keys at first)
-  where
-    same_test : is_same at first key.0 key.1 ≡ true → test at first ≡ test key.0 key.1
-    same_test same =
-        let e : at ≡ key.0 = grind (arith, nat_tests) in
-        let f : first ≡ key.1 = grind (arith, nat_tests) in
-        ap (λ a. test a first) e ∙ ap (λ b. test key.0 b) f
+-- a test that isn't true is false
+pub false_unless : (b : Bool) → (b ≡ true → ⊥) → b ≡ false
+false_unless true never = absurd (never refl)
+false_unless false never = refl
 
-    by : (passes same : Bool) → test key.0 key.1 ≡ passes → is_same at first key.0 key.1 ≡ same → is_at (by_both (at, first)) (key.0, key.1) ≡ is_same at first key.0 key.1
-        → has (filter (λ (key : ℕ × ℕ). test key.0 key.1) keys) at first ≡ test at first && has keys at first
-        → has (cond passes (key ∷ filter (λ (key : ℕ × ℕ). test key.0 key.1) keys) (filter (λ (key : ℕ × ℕ). test key.0 key.1) keys)) at first
-        ≡ test at first && (is_at (by_both (at, first)) (key.0, key.1) || has keys at first)
-    by true true is same here rest = rw (here, same, same_test same, is) refl
-    by false true is same here rest = rw (here, same, rest, same_test same, is) refl
-    by true false is same here rest = rw (here, same) rest
-    by false false is same here rest = rw (here, same) rest
+-- the pairs of a key from a number on aren't less than that pair
+pub from_pair : (key from number : ℕ) → from ≤ number → is_gt (by_both (key, from) (key, number)) ≡ false
+from_pair key from number up = grind (arith, nat_tests)
+
+module _ (pairs : List (ℕ × ℕ)) (key from first second : ℕ)
+    (up : is_gt (by_both (key, from) (first, second)) ≡ false)
+    (least : (q : ℕ × ℕ) → is_gt (by_both (key, from) q) ≡ false → has pairs q.0 q.1 ≡ true → is_gt (by_both (first, second) q) ≡ false) where
+  -- the least pair from one on, where it has the key, has the key's next number
+  pub next_there : has pairs first second ≡ true → first ≡ key → IsNext (has pairs key) from second
+  next_there there same = (
+    higher,
+    rw (← same) there,
+    λ number low less. false_unless (has pairs key number) (λ is. lower number less (least (key, number) (from_pair key from number low) is)),
+  )
+    where
+      higher : from ≤ second
+      higher = let it : is_gt (by_both (key, from) (key, second)) ≡ false = rw same at up in grind (arith, nat_tests)
+
+      lower : (number : ℕ) → number < second → is_gt (by_both (first, second) (key, number)) ≡ false → ⊥
+      lower number less not_gt = let it : is_gt (by_both (key, second) (key, number)) ≡ false = rw same at not_gt in grind (arith, nat_tests)
+
+  -- where it has another key, the key has no number from there on
+  pub next_other : (first ≡ key → ⊥) → NoneFrom (has pairs key) from
+  next_other differs number low = false_unless (has pairs key number) (λ is. differs (same number (least (key, number) (from_pair key from number low) is)))
+    where
+      same : (number : ℕ) → is_gt (by_both (first, second) (key, number)) ≡ false → first ≡ key
+      same number not_gt = grind (arith, nat_tests)

@@ -1,12 +1,6 @@
-pub mod Changes
+pub mod Adding
 pub mod Finding
-pub mod Items
-pub mod Keeping
+pub mod Grouping
 pub mod Keys
-pub mod Listing
-pub mod Numbering
-pub mod Owns
-pub mod Retiring
-pub mod Shown
-pub mod Slots
-pub mod Standing
+pub mod Ordered
+pub mod Removing

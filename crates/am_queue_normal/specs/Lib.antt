@@ -1,4 +1,3 @@
-pub mod Deadlines
 pub mod Kept
-pub mod Batches
-pub mod Numbers
+pub mod Pairs
+pub mod Posted

@@ -1,13 +1,9 @@
 //! The deliveries of normal broadcasts, found by number, by deadline and by uid.
 #![tactic(auto)]
 
-mod batch;
-mod deadlines;
 mod deliveries;
-mod numbers;
-mod places;
+mod delivery;
+mod normals;
+mod pairs;
 
-pub use batch::Batch;
-pub use deadlines::Deadlines;
-pub use deliveries::Deliveries;
-pub use numbers::Numbers;
+pub use normals::{Begin, Normals};

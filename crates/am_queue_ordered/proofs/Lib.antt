@@ -1,4 +1,4 @@
 pub mod Counting
 pub mod Outcomes
-pub mod Queues
+pub mod Waiting
 pub mod Settling

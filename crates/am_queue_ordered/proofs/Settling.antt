@@ -4,7 +4,7 @@ use Rattle.std.specs.Prelude.{◌==◌}
 use Rattle.am_model.specs.Broadcasts as broadcasts
 use Rattle.am_model.specs.Broadcasts.{InTurn, Settled, settled, is_over, result_of, with_results}
 use Rattle.am_queue_ordered.proofs.Counting.{count_by-append}
-use Rattle.am_queue_ordered.specs.Lines.{is_head_over, behind_head, head_result}
+use Rattle.am_queue_ordered.specs.Heads.{is_head_over, behind_head, head_result}
 use Rattle.am_queue_ordered.specs.Counts.{Covers, Follows, queued_of, results_of}
 
 -- a queue is on its way from how it began to how it settles

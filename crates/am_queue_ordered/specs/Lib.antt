@@ -1,5 +1,5 @@
 pub mod Counts
-pub mod Deeds
-pub mod Lines
+pub mod Doings
+pub mod Heads
 pub mod Struck
 pub mod Turns

@@ -3,14 +3,14 @@
 
 mod counts;
 mod ended;
-mod line;
+mod in_turn;
 mod past;
+mod queue;
 mod struck;
-mod turn;
 
 pub use counts::Counts;
 pub use ended::Final;
-pub use line::Line;
-pub use past::{Current, Deed, Past};
+pub use in_turn::InTurn;
+pub use past::{Current, Doing, Past};
+pub use queue::Queue;
 pub use struck::Struck;
-pub use turn::Turn;

@@ -1,16 +1,17 @@
 //! A receiver that is past, and the delivery of the one whose turn it is.
-ghost use Rattle.std.specs.Prelude.{◌≡◌, ◌&&◌, ◌||◌, not, is_some};
+ghost use Rattle.std.specs.Prelude.{◌≡◌, ◌+◌, ◌≤◌, ◌&&◌, ◌||◌, not, is_some};
 ghost use Rattle.std.specs.Option.{option_copied};
-ghost use Rattle.am_model.specs.Broadcasts.{is_abort};
+ghost use Rattle.am_model.specs.Broadcasts.{is_abort, is_late};
 ghost use Rattle.am_queue_ordered.specs.Turns.{set_by};
 
-use am_types::{Answer, Outcome, Spot};
+use am_types::{Answer, Outcome, Spot, Steps};
 use std::alloc::AllocError;
 use std::marker::Model;
+use std::sync::ledger::Ledger;
 
 /// What a receiver did with an ordered broadcast.
 #[derive(Drop)]
-pub enum Deed {
+pub enum Doing {
     Answered(Answer),
     /// Its deadline passed.
     Late,
@@ -22,7 +23,7 @@ pub enum Deed {
 #[derive(Drop)]
 pub struct Past {
     spot: Spot,
-    deed: Deed,
+    doing: Doing,
 }
 
 impl Model for Past {
@@ -30,28 +31,28 @@ impl Model for Past {
 
     ghost Value = { broadcasts.Past };
 
-    ghost use Rattle.am_queue_ordered.specs.Deeds.{doing_of};
+    ghost use Rattle.am_queue_ordered.specs.Doings.{doing_of};
 
-    ghost view = { λ p. record { spot = p.spot; doing = doing_of p.deed } };
+    ghost view = { λ p. record { spot = p.spot; doing = doing_of p.doing } };
 }
 
 impl Past {
-    ghost use Rattle.am_queue_ordered.specs.Deeds.{doing_of};
+    ghost use Rattle.am_queue_ordered.specs.Doings.{doing_of};
 
-    pub fn new(spot: Spot, deed: Deed) -> Self
-        ensures { result ≡ record { spot = spot; doing = doing_of deed } }
+    pub fn new(spot: Spot, doing: Doing) -> Self
+        ensures { result ≡ record { spot = spot; doing = doing_of doing } }
     {
-        Past { spot, deed }
+        Past { spot, doing }
     }
 
     /// The outcome that it set.
     pub fn outcome(&self) -> Option<&Outcome>
         ensures { option_copied result ≡ set_by self.now.doing }
     {
-        match &self.deed {
-            Deed::Answered(answer) => answer.set.as_ref(),
-            Deed::Late => None,
-            Deed::Gone => None,
+        match &self.doing {
+            Doing::Answered(answer) => answer.set.as_ref(),
+            Doing::Late => None,
+            Doing::Gone => None,
         }
     }
 
@@ -59,10 +60,10 @@ impl Past {
     pub fn sets(&self, ended: bool) -> bool
         ensures { result ≡ (is_some (set_by self.now.doing) && not ended) }
     {
-        match &self.deed {
-            Deed::Answered(answer) => answer.set.is_some() && !ended,
-            Deed::Late => false,
-            Deed::Gone => false,
+        match &self.doing {
+            Doing::Answered(answer) => answer.set.is_some() && !ended,
+            Doing::Late => false,
+            Doing::Gone => false,
         }
     }
 
@@ -70,10 +71,10 @@ impl Past {
     pub fn ends(&self, ended: bool, no_abort: bool) -> bool
         ensures { result ≡ (ended || (not no_abort && is_abort self.now.doing)) }
     {
-        match &self.deed {
-            Deed::Answered(answer) => ended || (!no_abort && answer.abort),
-            Deed::Late => ended,
-            Deed::Gone => ended,
+        match &self.doing {
+            Doing::Answered(answer) => ended || (!no_abort && answer.abort),
+            Doing::Late => ended,
+            Doing::Gone => ended,
         }
     }
 
@@ -81,24 +82,24 @@ impl Past {
     pub fn into_outcome(self) -> Option<Outcome>
         ensures { result ≡ set_by self.doing }
     {
-        let Past { spot, deed } = self;
+        let Past { spot, doing } = self;
         drop(spot);
-        match deed {
-            Deed::Answered(answer) => answer.set,
-            Deed::Late => None,
-            Deed::Gone => None,
+        match doing {
+            Doing::Answered(answer) => answer.set,
+            Doing::Late => None,
+            Doing::Gone => None,
         }
     }
 }
 
-impl Clone for Deed {
+impl Clone for Doing {
     ghost is_clone = { λ x y. y ≡ x };
 
-    fn clone(&self) -> Result<Deed, AllocError> {
+    fn clone(&self) -> Result<Doing, AllocError> {
         match self {
-            Deed::Answered(answer) => Ok(Deed::Answered(answer.clone()?)),
-            Deed::Late => Ok(Deed::Late),
-            Deed::Gone => Ok(Deed::Gone),
+            Doing::Answered(answer) => Ok(Doing::Answered(answer.clone()?)),
+            Doing::Late => Ok(Doing::Late),
+            Doing::Gone => Ok(Doing::Gone),
         }
     }
 }
@@ -109,7 +110,7 @@ impl Clone for Past {
     fn clone(&self) -> Result<Past, AllocError> {
         Ok(Past {
             spot: self.spot.clone()?,
-            deed: self.deed.clone()?,
+            doing: self.doing.clone()?,
         })
     }
 }
@@ -154,9 +155,12 @@ impl Current {
         self.number
     }
 
-    pub fn deadline(&self) -> u64
-        ensures { result ≡ self.now.deadline }
+    /// Whether it is late. A step is a reading of its deadline, and there is no other. Takes no memory.
+    pub fn is_late<L: Ledger>(&self, now: u64, steps: &mut Steps<L>) -> bool
+        ensures late { result ≡ is_late now (Some self.now) }
+        ensures cost { steps.new ≤ steps.old + 1 }
     {
-        self.deadline
+        steps.tick();
+        self.deadline <= now
     }
 }

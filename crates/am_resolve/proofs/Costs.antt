@@ -1,5 +1,5 @@
 -- Narrowing tests no filter outside the intent's group, and none twice: hits are components of distinct classes.
-use Rattle.std.proofs.Common.{◌≡◌, ℕ, ◌+◌, ◌≤◌, ◌<◌, Bool, true, false, not, cond, eqb, List, [], ◌∷◌, ◌++◌, Option, Some, None, ℤ, count_by, refl, sym, ap, ◌∙◌, subst, arith, zero-add}
+use Rattle.std.proofs.Common.{◌≡◌, ℕ, ◌+◌, ◌≤◌, Bool, true, false, cond, eqb, List, [], ◌∷◌, ◌++◌, Option, Some, None, ℤ, count_by, refl, sym, ap, ◌∙◌, arith, zero-add}
 use Rattle.std.specs.List.{AllByRecursion, IsDistinct}
 use Rattle.std.specs.Prelude.{int_lt, pos}
 use Rattle.std.proofs.lemmas.List.Elements.{recursion_from_All}
@@ -11,14 +11,14 @@ use Rattle.am_types.specs.declared.manifest.Decl.{Decl}
 use Rattle.am_types.specs.declared.manifest.Kind.{Kind}
 use Rattle.am_types.specs.declared.resolve.Hit.{Hit}
 use Rattle.am_model.specs.Boards.{package_at}
-use Rattle.am_model.specs.Candidates.{by_priority, candidates, enabled_hit, hit_at, hit_of, hits, hits_from, is_kind, is_named, place_hit, priority_of}
+use Rattle.am_model.specs.Candidates.{Search, by_priority, hit_at, hit_of, hits, hits_from, hits_in, is_in, is_kind, is_named, place_hit, priority_of}
 use Rattle.am_model.specs.Sound.{AreDistinct, classes_of}
 use Rattle.am_model.specs.Texts.{is_same}
 use Rattle.am_installed.specs.Installed.{AreInstalled, IsInstalled}
 use Rattle.am_installed.proofs.Rising.{Above, Rises, apart, rises}
 use Rattle.am_index.specs.Groups.{group_size, in_group, size_of}
 use Rattle.am_index.specs.Members.{Member, members, members_from}
-use Rattle.am_index.specs.Same.{is_same-Decides, is_same_itself}
+use Rattle.am_index.proofs.Same.{is_same-Decides, is_same_itself}
 use Rattle.am_resolve.specs.Narrowing.{cost_at, cost_in, cost_of}
 
 -- what a component costs by itself
@@ -81,6 +81,10 @@ add_le : (a b c d : ℕ) → a ≤ b → c ≤ d → a + c ≤ b + d
 add_le a b c d h k = omega (arith, h, k)
 
 module _ (packages : List Package) (intent : Intent) (kind : Kind) (need_default : Bool) where
+  -- what is looked for
+  abbrev what : Search
+  what = record { kind = kind; intent = intent; need_default = need_default }
+
   cost-append : (xs ys : List Hit) → cost_of packages intent (xs ++ ys) ≡ cost_of packages intent xs + cost_of packages intent ys
   cost-append [] ys = sym (zero-add (cost_of packages intent ys))
   cost-append (x ∷ xs) ys =
@@ -121,27 +125,26 @@ module _ (packages : List Package) (intent : Intent) (kind : Kind) (need_default
     when true hs n h = h
     when false hs n h = omega arith
 
-    of_decl : (place : ℕ) (d : Decl) (c : Option Component) (l : Option (List ℕ)) → cost_in intent d.class owner.decls ≡ own intent d
-        → cost_of packages intent (hit_of kind intent need_default owner place d c l) ≤ own intent d
-    of_decl place d (Some c) l e = when (is_named c owner.name d.class) _ _ (one place d (Some (pos 0)) e)
-    of_decl place d None (Some name) e = when (is_same name owner.name) _ _ (one place d (priority_of kind intent need_default d.filters) e)
-    of_decl place d None None e = one place d (priority_of kind intent need_default d.filters) e
+    of_decl : (place : ℕ) (d : Decl) (c : Option Component) → cost_in intent d.class owner.decls ≡ own intent d
+        → cost_of packages intent (hit_of what owner place d c) ≤ own intent d
+    of_decl place d (Some c) e = when (is_named c owner.name d.class) _ _ (one place d (Some (pos 0)) e)
+    of_decl place d None e = when (is_in intent.«package» owner) _ _ (one place d (priority_of kind intent need_default d.filters) e)
 
     -- and those of some components no more than these
     from : (position place : ℕ) (ds : List Decl) → AllByRecursion (λ (d : Decl). cost_in intent d.class owner.decls ≡ own intent d) ds
-        → cost_of packages intent (hits_from kind intent need_default owner place ds) ≤ size_of intent (members_from kind owner position place ds)
+        → cost_of packages intent (hits_from what owner place ds) ≤ size_of intent (members_from kind owner position place ds)
     from position place [] a = omega arith
     from position place (d ∷ ds) a =
         by (is_kind kind d.kind) d.enabled (from (position + 1) (place + 1) ds a.1) (from (position + 1) place ds a.1)
       where
         by : (k enabled : Bool)
-            → cost_of packages intent (hits_from kind intent need_default owner (place + 1) ds) ≤ size_of intent (members_from kind owner (position + 1) (place + 1) ds)
-            → cost_of packages intent (hits_from kind intent need_default owner place ds) ≤ size_of intent (members_from kind owner (position + 1) place ds)
-            → cost_of packages intent (cond k (cond enabled (hit_of kind intent need_default owner place d intent.component intent.«package») [] ++ hits_from kind intent need_default owner (place + 1) ds) (hits_from kind intent need_default owner place ds))
+            → cost_of packages intent (hits_from what owner (place + 1) ds) ≤ size_of intent (members_from kind owner (position + 1) (place + 1) ds)
+            → cost_of packages intent (hits_from what owner place ds) ≤ size_of intent (members_from kind owner (position + 1) place ds)
+            → cost_of packages intent (cond k (cond enabled (hit_of what owner place d intent.component) [] ++ hits_from what owner (place + 1) ds) (hits_from what owner place ds))
             ≤ size_of intent (cond k (cond enabled (record { owner = owner; position = position; place = place; decl = d } ∷ members_from kind owner (position + 1) (place + 1) ds) (members_from kind owner (position + 1) (place + 1) ds)) (members_from kind owner (position + 1) place ds))
         by true true next other =
-            let joined = cost-append (hit_of kind intent need_default owner place d intent.component intent.«package») (hits_from kind intent need_default owner (place + 1) ds) in
-            rw joined (add_le _ _ _ _ (of_decl place d intent.component intent.«package» a.0) next)
+            let joined = cost-append (hit_of what owner place d intent.component) (hits_from what owner (place + 1) ds) in
+            rw joined (add_le _ _ _ _ (of_decl place d intent.component a.0) next)
         by true false next other = next
         by false enabled next other = other
 
@@ -152,14 +155,14 @@ module _ (packages : List Package) (intent : Intent) (kind : Kind) (need_default
       assoc : (a b c : ℕ) → a + (b + c) ≡ (a + b) + c
       assoc a b c = omega arith
 
-  of_packages : (ps : List Package) → Found packages ps → AllByRecursion IsInstalled ps → cost_of packages intent (candidates ps kind intent need_default) ≤ size_of intent (members kind ps)
+  of_packages : (ps : List Package) → Found packages ps → AllByRecursion IsInstalled ps → cost_of packages intent (hits_in what ps) ≤ size_of intent (members kind ps)
   of_packages [] f i = omega arith
   of_packages (p ∷ ps) f i =
-      rw (cost-append (hits_from kind intent need_default p 0 p.decls) (candidates ps kind intent need_default), size-append (members_from kind p 0 0 p.decls) (members kind ps))
+      rw (cost-append (hits_from what p 0 p.decls) (hits_in what ps), size-append (members_from kind p 0 0 p.decls) (members kind ps))
       (add_le _ _ _ _ (from p f.0 0 0 p.decls (each_own intent p.decls i.0.classes)) (of_packages ps f.1 i.1))
 
   -- narrowing what was found takes no more tests than the group has filters
   pub narrowing_cost : AreInstalled packages → cost_of packages intent (hits packages kind intent need_default) ≤ group_size packages kind intent
   narrowing_cost installed =
-      rw (cost-by_priority (candidates packages kind intent need_default))
+      rw (cost-by_priority (hits_in what packages))
       (of_packages packages (each_found packages (rises packages installed.rising)) (recursion_from_All IsInstalled packages installed.each))

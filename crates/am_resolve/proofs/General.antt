@@ -1,5 +1,5 @@
 -- A hit's component is looked up in the one package of its uid.
-use Rattle.std.proofs.Common.{◌≡◌, ℕ, ◌<◌, Bool, true, false, ◌&&◌, ◌||◌, cond, eqb, List, [], ◌∷◌, Option, Some, None, refl, sym, ap, ◌∙◌, arith}
+use Rattle.std.proofs.Common.{◌≡◌, ℕ, ◌<◌, Bool, true, false, ◌&&◌, ◌||◌, cond, eqb, List, [], ◌∷◌, Some, refl, sym, ap, ◌∙◌, arith}
 use Rattle.std.specs.List.{list_any}
 use Rattle.std.proofs.lemmas.Bool.{eqb-true}
 use Rattle.am_types.specs.declared.device.Package.{Package}
@@ -9,7 +9,7 @@ use Rattle.am_types.specs.declared.resolve.Hit.{Hit}
 use Rattle.am_model.specs.Boards.{package_at}
 use Rattle.am_model.specs.Targets.{is_general, is_hit_of, takes_any_host}
 use Rattle.am_model.specs.Texts.{is_same}
-use Rattle.am_installed.proofs.Rising.{Above, Rises, apart}
+use Rattle.am_installed.proofs.Rising.{Above, Rises}
 use Rattle.am_resolve.specs.Narrowing.{is_general_at, is_general_in}
 
 -- a package of another uid has no component of the hit

@@ -1,4 +1,3 @@
-pub mod Adding
 pub mod Costs
 pub mod General
 pub mod Owners

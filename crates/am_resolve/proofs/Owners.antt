@@ -6,13 +6,12 @@ use Rattle.std.specs.Cmp.Lexicographic.{nat_list_eq_equiv}
 use Rattle.std.proofs.lemmas.Bool.{eq-eqb}
 use Rattle.am_types.specs.declared.intent.Component.{Component}
 use Rattle.am_types.specs.declared.intent.Intent.{Intent}
-use Rattle.am_types.specs.declared.manifest.Kind.{Kind}
 use Rattle.am_types.specs.declared.manifest.Kind.TheVariants.{Receiver}
 use Rattle.am_types.specs.declared.manifest.Decl.{Decl}
 use Rattle.am_types.specs.declared.device.Package.{Package}
 use Rattle.am_types.specs.declared.resolve.Hit.{Hit}
 use Rattle.am_model.specs.Boards.{package_at}
-use Rattle.am_model.specs.Candidates.{by_priority, candidates, enabled_hit, hit_at, hit_of, hits, hits_from, implicit_hit, is_kind, is_named, place_hit, priority_of}
+use Rattle.am_model.specs.Candidates.{Search, by_priority, enabled_hit, hit_at, hit_of, hits, hits_from, hits_in, implicit_hit, is_in, is_kind, is_named, place_hit, priority_of}
 use Rattle.am_model.specs.Receivers.{decl_in, declared, with_uid}
 use Rattle.am_model.specs.Sound.{AreDistinct, names_of}
 use Rattle.am_model.specs.Texts.{is_same}
@@ -60,7 +59,7 @@ all_either : (Q : Hit → Type 0) (b : Bool) (hs others : List Hit) → AllByRec
 all_either Q true hs others a b = a
 all_either Q false hs others a b = b
 
-module _ (Q : Hit → Type 0) (kind : Kind) (intent : Intent) (need_default : Bool) where
+module _ (Q : Hit → Type 0) (what : Search) where
   -- it holds of each hit of the package
   abbrev HoldsOf : Package → Type 0
   HoldsOf p = (place : ℕ) (decl : Decl) (priority : ℤ) → Q (record { component = record { «package» = p.name; class = decl.class }; uid = p.uid; place = place; priority = priority })
@@ -69,31 +68,29 @@ module _ (Q : Hit → Type 0) (kind : Kind) (intent : Intent) (need_default : Bo
   all_at p holds place decl None = tt
   all_at p holds place decl (Some priority) = (holds place decl priority, tt)
 
-  all_of : (p : Package) → HoldsOf p → (place : ℕ) (decl : Decl) (component : Option Component) (limited : Option (List ℕ))
-      → AllByRecursion Q (hit_of kind intent need_default p place decl component limited)
-  all_of p holds place decl (Some component) limited =
+  all_of : (p : Package) → HoldsOf p → (place : ℕ) (decl : Decl) (component : Option Component)
+      → AllByRecursion Q (hit_of what p place decl component)
+  all_of p holds place decl (Some component) =
       all_either Q (is_named component p.name decl.class) (hit_at p place decl (Some (pos 0))) [] (all_at p holds place decl (Some (pos 0))) tt
-  all_of p holds place decl None (Some name) =
-      all_either Q (is_same name p.name) (implicit_hit kind intent need_default p place decl) []
-      (all_at p holds place decl (priority_of kind intent need_default decl.filters)) tt
-  all_of p holds place decl None None = all_at p holds place decl (priority_of kind intent need_default decl.filters)
+  all_of p holds place decl None =
+      all_either Q (is_in what.intent.«package» p) (implicit_hit what p place decl) []
+      (all_at p holds place decl (priority_of what.kind what.intent what.need_default decl.filters)) tt
 
-  all_from : (p : Package) → HoldsOf p → (place : ℕ) (decls : List Decl) → AllByRecursion Q (hits_from kind intent need_default p place decls)
+  all_from : (p : Package) → HoldsOf p → (place : ℕ) (decls : List Decl) → AllByRecursion Q (hits_from what p place decls)
   all_from p holds place [] = tt
   all_from p holds place (first ∷ others) =
-      all_either Q (is_kind kind first.kind)
-      (enabled_hit kind intent need_default p place first ++ hits_from kind intent need_default p (place + 1) others)
-      (hits_from kind intent need_default p place others)
-      (all_append Q (enabled_hit kind intent need_default p place first) (hits_from kind intent need_default p (place + 1) others)
-      (all_either Q first.enabled (hit_of kind intent need_default p place first intent.component intent.«package») [] (all_of p holds place first intent.component intent.«package») tt)
+      all_either Q (is_kind what.kind first.kind)
+      (enabled_hit what p place first ++ hits_from what p (place + 1) others)
+      (hits_from what p place others)
+      (all_append Q (enabled_hit what p place first) (hits_from what p (place + 1) others)
+      (all_either Q first.enabled (hit_of what p place first what.intent.component) [] (all_of p holds place first what.intent.component) tt)
       (all_from p holds (place + 1) others))
       (all_from p holds place others)
 
-  all_candidates : (ps : List Package) → AllByRecursion HoldsOf ps → AllByRecursion Q (candidates ps kind intent need_default)
+  all_candidates : (ps : List Package) → AllByRecursion HoldsOf ps → AllByRecursion Q (hits_in what ps)
   all_candidates [] holds = tt
   all_candidates (p ∷ ps) holds =
-      all_append Q (hits_from kind intent need_default p 0 p.decls) (candidates ps kind intent need_default)
-      (all_from p holds.0 0 p.decls) (all_candidates ps holds.1)
+      all_append Q (hits_from what p 0 p.decls) (hits_in what ps) (all_from p holds.0 0 p.decls) (all_candidates ps holds.1)
 
   all_placed : (h : Hit) (hs : List Hit) → Q h → AllByRecursion Q hs → AllByRecursion Q (place_hit h hs)
   all_placed h [] q a = (q, tt)
@@ -109,14 +106,18 @@ module _ (Q : Hit → Type 0) (kind : Kind) (intent : Intent) (need_default : Bo
 abbrev pub IsFoundByUid : List Package → Hit → Type 0
 IsFoundByUid packages hit = declared packages Receiver hit.component ≡ with_uid hit.uid (decl_at packages hit)
 
+-- receivers that the intent finds
+abbrev receivers_of : Intent → Search
+receivers_of intent = record { kind = Receiver; intent = intent; need_default = false }
+
 own_hits : (packages : List Package) (intent : Intent) (ps : List Package) → AllByRecursion (IsOwn packages) ps
-    → AllByRecursion (HoldsOf (IsFoundByUid packages) Receiver intent false) ps
+    → AllByRecursion (HoldsOf (IsFoundByUid packages) (receivers_of intent)) ps
 own_hits packages intent [] own = tt
 own_hits packages intent (p ∷ ps) own = (λ place decl priority. own.0 decl.class, own_hits packages intent ps own.1)
 
 -- each hit's component is found by its uid
 pub hits_found_by_uid : (packages : List Package) (intent : Intent) → AreInstalled packages → AllByRecursion (IsFoundByUid packages) (hits packages Receiver intent false)
 hits_found_by_uid packages intent installed =
-    all_by_priority (IsFoundByUid packages) Receiver intent false (candidates packages Receiver intent false)
-    (all_candidates (IsFoundByUid packages) Receiver intent false packages
+    all_by_priority (IsFoundByUid packages) (receivers_of intent) (hits_in (receivers_of intent) packages)
+    (all_candidates (IsFoundByUid packages) (receivers_of intent) packages
     (own_hits packages intent packages (each_own packages (rises packages installed.rising) installed.names)))

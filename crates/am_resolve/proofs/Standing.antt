@@ -1,5 +1,5 @@
 -- An index stands for packages whether they are stopped or not, and after one that was added is taken out again.
-use Rattle.std.proofs.Common.{◌≡◌, ℕ, ◌+◌, Bool, true, false, not, cond, eqb, List, [], ◌∷◌, ◌++◌, filter, refl, sym, ap, ◌∙◌, subst, Result, Ok, Err, arith, Some, None, length, ◌==◌, suc}
+use Rattle.std.proofs.Common.{◌≡◌, ℕ, ◌+◌, Bool, true, false, not, cond, eqb, List, [], ◌∷◌, ◌++◌, refl, sym, ap, ◌∙◌, subst, Result, Ok, Err, arith, Some, None, length, ◌==◌, suc}
 use Rattle.std.specs.List.{IsDistinct, slice_get}
 use Rattle.std.specs.List.Sorted.{IsStrictlyIncreasing}
 use Rattle.std.specs.Prelude.{OnOk, OnErr, is_err}
@@ -11,14 +11,14 @@ use Rattle.am_types.specs.declared.device.Package.{Package}
 use Rattle.am_types.specs.declared.manifest.Decl.{Decl}
 use Rattle.am_model.specs.Boards.{with_stopped, without_package}
 use Rattle.am_model.specs.Candidates.{is_kind}
-use Rattle.am_model.specs.Sound.{AreSoundPackages, IsSoundPackage, uids_of}
+use Rattle.am_model.specs.Sound.{AreSoundPackages, IsSoundPackage}
 use Rattle.am_installed.specs.Installed.{AreInstalled, IsInstalled}
 use Rattle.am_installed.proofs.Changed.{uids_stopped}
 use Rattle.am_installed.proofs.Rising.{below_last, rises, without_new}
 use Rattle.am_index.specs.declared.index.FilterIndex.{FilterIndex}
 use Rattle.am_index.specs.declared.key.Key.{Key}
 use Rattle.am_index.specs.Keys.{is_under}
-use Rattle.am_index.specs.Members.{Member, members_from, spot_of, spots_of_package, spots_under, spots_where}
+use Rattle.am_index.specs.Members.{members_from, spots_of_package, spots_under, spots_where}
 use Rattle.am_index.specs.Standing.{CanBeListed, StandsFor}
 use Rattle.am_index.proofs.Stands.{spots_under-cons}
 

@@ -3,13 +3,13 @@ ghost use Rattle.std.specs.Prelude.{◌≡◌, ◌∷◌, ◌++◌, ◌+◌, ◌
 ghost use Rattle.std.specs.Option.{option_map};
 ghost use Rattle.am_types.specs.declared.manifest.Kind.TheVariants.{Activity, Receiver};
 ghost use Rattle.am_types.specs.declared.resolve.Registration.{Registration};
-ghost use Rattle.am_model.specs.Boards.{board_of, package_at, with_grant, with_link, with_stopped, without_package};
+ghost use Rattle.am_model.specs.Boards.{board_of, grants_without, links_without, package_at, package_named, registered_without, with_grant, with_link, with_stopped, without_package};
 ghost use Rattle.am_model.specs.Candidates.{hits};
 ghost use Rattle.am_model.specs.Receivers.{declared, receivers};
 ghost use Rattle.am_model.specs.Sound.{IsSound};
 ghost use Rattle.am_model.specs.Targets.{target};
-ghost use Rattle.am_installed.specs.Installed.{AreInstalled};
-ghost use Rattle.am_installed.specs.Places.{place_registered};
+ghost use Rattle.am_installed.specs.Installed.{AreGrantsInOrder, AreInstalled, AreLinksInOrder};
+ghost use Rattle.am_installed.specs.Places.{AreByNumber, place_registered};
 ghost use Rattle.am_index.specs.Groups.{group_size};
 
 use crate::narrow::narrowed;
@@ -142,6 +142,13 @@ impl Board {
         self.installed.package_at(uid)
     }
 
+    /// The package of the name, if there is one. Takes no memory.
+    pub fn package_named(&self, name: &Text) -> Option<&Package>
+        ensures { option_copied result ≡ package_named self.now.packages name.now }
+    {
+        self.installed.package_named(name)
+    }
+
     /// The packages in the order of their uids. Takes no memory.
     pub fn packages(&self) -> &List<Package>
         ensures packages { result.now ≡ self.now.packages }
@@ -152,21 +159,24 @@ impl Board {
 
     /// The grants in the order of uid, then permission by bytes. Takes no memory.
     pub fn grants(&self) -> &List<Grant>
-        ensures { result.now ≡ self.now.grants }
+        ensures grants { result.now ≡ self.now.grants }
+        ensures order { AreGrantsInOrder self.now.grants }
     {
         self.installed.grants()
     }
 
     /// The links in the order of uid, then host by bytes. Takes no memory.
     pub fn links(&self) -> &List<Link>
-        ensures { result.now ≡ self.now.links }
+        ensures links { result.now ≡ self.now.links }
+        ensures order { AreLinksInOrder self.now.links }
     {
         self.installed.links()
     }
 
     /// The registered receivers by rising number. Takes no memory.
     pub fn registered(&self) -> &List<Registration>
-        ensures { result.now ≡ self.now.registered }
+        ensures registered { result.now ≡ self.now.registered }
+        ensures order { AreByNumber self.now.registered }
     {
         self.installed.registered()
     }
@@ -232,6 +242,13 @@ impl Board {
         self.installed.set_link(uid, host, approved)
     }
 
+    /// Takes the grants and the links of the uid out. Takes no memory.
+    pub fn drop_rights(&mut self, uid: u32)
+        ensures { self.new ≡ record self.old { grants = grants_without self.old.grants uid; links = links_without self.old.links uid } }
+    {
+        self.installed.drop_rights(uid);
+    }
+
     /// Registers a receiver, in its place by number. Without memory all is as before.
     pub fn register(&mut self, registration: Registration) -> Result<(), NoMemory>
         ensures registered { OnOk result (self.new ≡ record self.old { registered = place_registered registration self.old.registered }) }
@@ -245,5 +262,12 @@ impl Board {
         ensures { self.new ≡ record self.old { registered = filter (λ (r : Registration). not (r.number == number)) self.old.registered } }
     {
         self.installed.unregister(number);
+    }
+
+    /// Takes the registered receivers of the uid out; the others stay in their order. Takes no memory.
+    pub fn unregister_uid(&mut self, uid: u32)
+        ensures { self.new ≡ record self.old { registered = registered_without self.old.registered uid } }
+    {
+        self.installed.unregister_uid(uid);
     }
 }

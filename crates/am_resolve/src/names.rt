@@ -1,10 +1,10 @@
 //! What is known of the package of a uid.
-ghost use Rattle.std.specs.Prelude.{◌≡◌};
+ghost use Rattle.std.specs.Prelude.{◌≡◌, option_copied};
 ghost use Rattle.am_model.specs.Gates.{is_privileged};
-ghost use Rattle.am_model.specs.Receivers.{is_for, is_stopped, name_of};
+ghost use Rattle.am_model.specs.Receivers.{is_for, is_stopped, is_text, name_of};
 
 use am_installed::{Installed, package_at};
-use am_types::Intent;
+use am_types::{Intent, Text};
 
 /// The uid of the root.
 const ROOT: u32 = 0;
@@ -21,20 +21,30 @@ pub(crate) fn is_for(installed: &Installed, intent: &Intent, uid: u32) -> bool
 {
     match &intent.package {
         None => true,
-        Some(name) => name.as_str() == name_of(installed, uid),
+        Some(name) => is_text(name, name_of(installed, uid)),
     }
 }
 
-/// The name of the package of the uid, empty if there is none.
-fn name_of(installed: &Installed, uid: u32) -> &str
-    ensures { result.now ≡ name_of installed.now.packages uid }
+/// The other text is there, and the texts are the same.
+fn is_text(text: &Text, other: Option<&str>) -> bool
+    ensures { result ≡ is_text text.now (option_copied other.entry) }
+{
+    match other {
+        None => false,
+        Some(other) => text.as_str() == other,
+    }
+}
+
+/// The name of the package of the uid, if there is one.
+fn name_of(installed: &Installed, uid: u32) -> Option<&str>
+    ensures { option_copied result ≡ name_of installed.now.packages uid }
 {
     if is_privileged(uid) {
-        return SYSTEM_NAME;
+        return Some(SYSTEM_NAME);
     }
     match installed.package_at(uid) {
-        None => "",
-        Some(package) => package.name.as_str(),
+        None => None,
+        Some(package) => Some(package.name.as_str()),
     }
 }
 

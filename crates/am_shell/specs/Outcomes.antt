@@ -3,7 +3,8 @@ use Rattle.std.specs.Prelude.{◌≡◌, ℕ, List, [], Some, None, Ok}
 use Rattle.am_types.specs.declared.device.Device.{Device}
 use Rattle.am_types.specs.declared.history.Entry.{Entry}
 use Rattle.am_history.specs.State.{opening}
-use Rattle.am_history.specs.Desks.{DeskView}
+use Rattle.am_keeper.specs.Rows.{no_rows}
+use Rattle.am_history.specs.Desks.{DeskView, Origin}
 use Rattle.am_history.specs.History.{IsLegal, entries_of}
 use Rattle.am_http.specs.declared.end.End.{End}
 use Rattle.am_http.specs.declared.end.Served.{Served}
@@ -16,10 +17,14 @@ use Rattle.am_shell.specs.Devices.{Describes, IsRefused, IsUnread}
 use Rattle.am_shell.specs.Outside.{Outside, Streams}
 use Rattle.am_shell.specs.Words.{device_file}
 
+-- where a manager comes from that begins with a device and keeps nothing
+abbrev pub origin_of : Device → Origin
+origin_of device = record { device = device; rows = no_rows; place = None }
+
 -- the only desk of a manager that was opened with that device, and which has seen that history
 abbrev pub sole_desk : Device → List Entry → DeskView
 sole_desk device seen = record {
-  origin = record { device = device };
+  origin = origin_of device;
   number = 0;
   sharing = record { id = []; desks = 1; handed = [] };
   seen = seen;

@@ -1,13 +1,16 @@
 //! One session of a device over an input and an output.
-ghost use Rattle.std.specs.Prelude.{◌≡◌, ◌≤◌, [], IfOk, OnErr};
+ghost use Rattle.std.specs.Prelude.{◌≡◌, ◌≤◌, [], None, IfOk, OnErr};
+ghost use Rattle.am_keeper.specs.Memory.{fresh_keeper};
+ghost use Rattle.am_keeper.specs.Rows.{no_rows};
 ghost use Rattle.am_model.specs.Sound.{IsSound};
 ghost use Rattle.am_http.specs.Links.{source_of, sink_of};
 ghost use Rattle.am_shell.specs.Outcomes.{Serves};
 
 use am_http::{Buffers, End, serve_connection};
+use am_keeper::{MemoryKeeper, RowsBuilder};
 use am_machine::{SoleDesk, begin};
 use am_outside::{Clock, Sink, Source};
-use am_types::{Device, NoMemory};
+use am_types::{Device, List, NoMemory};
 use std::alloc::Global;
 
 /// Serves one session from the opening state of a sound device, and answers how it ended. After `NoMemory`
@@ -36,7 +39,15 @@ pub fn serve_session<S: Source, W: Sink, C: Clock>(
     ensures unasked { OnErr result (clock.new ≡ clock.old) }
 {
     let mut buffers = Buffers::new(alloc)?;
-    let mut desk = SoleDesk::new(begin(alloc, device)?);
+    let mut desk = SoleDesk::new(begin(alloc, device, nothing_kept(alloc))?);
     let served = serve_connection(alloc, &mut desk, input, output, clock, &mut buffers);
     Ok(served.end)
+}
+
+/// A keeper in memory, which begins with no rows and is lost with the session.
+fn nothing_kept(alloc: Global) -> MemoryKeeper
+    ensures { result ≡ fresh_keeper no_rows None [] }
+{
+    let rows = RowsBuilder::new(alloc).finish();
+    MemoryKeeper::new(alloc, rows, List::new(Vec::new(alloc)))
 }

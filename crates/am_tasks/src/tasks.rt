@@ -341,10 +341,10 @@ impl Tasks {
 
     /// The tasks as the uid sees them, from front to back: its own instances, or all where it is
     /// the system or the root. A task without one is left out.
-    pub fn views(&self, alloc: Global, uid: u32) -> Result<List<TaskView>, NoMemory>
+    pub fn views(&self, uid: u32) -> Result<List<TaskView>, NoMemory>
         ensures { IfOk result (λ shown. shown ≡ views self.now uid) }
     {
-        task_views(alloc, &self.tasks, uid)
+        task_views(self.alloc, &self.tasks, uid)
     }
 
     /// Ends all instances of a uid. Takes no memory.

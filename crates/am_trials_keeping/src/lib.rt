@@ -1,12 +1,9 @@
-//! Trials of what a device keeps: the outside in memory, keepers in memory and in a database, and rows as cells.
+//! Trials of what a device keeps: the outside in memory, keepers in memory, and rows as cells; and rows as lines of words.
 #![tactic(auto)]
 
 #[cfg(test)]
 mod keeper;
-#[cfg(test)]
-mod keeper_sql;
-#[cfg(test)]
-mod lines;
+pub mod lines;
 #[cfg(test)]
 mod outside;
 #[cfg(test)]

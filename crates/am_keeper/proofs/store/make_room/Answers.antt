@@ -1,5 +1,4 @@
-use Rattle.std.proofs.Common.{IsTrue, subst, sym, ◌∙◌}
-use Rattle.am_keeper.proofs.Slots.{rows_in_slots-push, has_slot-there, has_slot-push}
+use Rattle.am_keeper.proofs.Slots.{rows_in_slots-push, has_slot-push}
 use Rattle.am_keeper.proofs.store.make_room.Goals as goal
 
 pub returns-clause-rows : goal.returns-clause-rows

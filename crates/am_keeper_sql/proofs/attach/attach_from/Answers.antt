@@ -1,12 +1,8 @@
-use Rattle.std.proofs.Common.{◌∙◌}
-use Rattle.sqlite.specs.Files.{over_files}
-use Rattle.am_keeper_sql.specs.Honest.{state_of}
-use Rattle.am_keeper_sql.proofs.Attaches.{honest_in_memory, told_none}
+use Rattle.sqlite.specs.WalFiles.{image_at}
+use Rattle.am_keeper_sql.proofs.Failures.{each_value}
+use Rattle.am_keeper_sql.proofs.Images.{same_rows}
 use Rattle.am_keeper_sql.proofs.attach.attach_from.Goals as goal
 
-pub returns-clause-pathless : goal.returns-clause-pathless
-returns-clause-pathless g c none =
-    let opened = c.in_ok-database.ensures.pathless none in
-    let was = honest_in_memory over_files c.in_ok-database.database opened.0 in
-    let now = c.in_ok-rows.ensures.for_good.1 was in
-    (c.in_ok-rows.ensures.told now.honest (c.in_ok-database.ensures.holds was.honest) ∙ told_none (state_of over_files c.in_ok-database.database).now.trees opened.1, now)
+pub returns-in-Some-clause-held : goal.returns-in-Some-clause-held
+returns-in-Some-clause-held g c some =
+    each_value c.in_file.result (λ attached found honest rows held. same_rows (image_at g.S.Start) attached.rows rows (found honest) held) c.in_file.ensures.found

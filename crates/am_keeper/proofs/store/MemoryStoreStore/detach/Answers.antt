@@ -1,5 +1,4 @@
 use Rattle.std.proofs.Common.{◌≡◌, IsTrue, ap, sym, subst, ◌∙◌}
-use Rattle.am_keeper.specs.declared.store.Slot.{Slot}
 use Rattle.am_keeper.specs.Shelf.{Shelf, has_slot}
 use Rattle.am_keeper.proofs.store.MemoryStoreStore.detach.Goals as goal
 

@@ -11,5 +11,5 @@ returns-in-Some-clause-refused c =
 pub returns-in-None-clause-finished : goal.returns-in-None-clause-finished
 unfolding finish
 returns-in-None-clause-finished c =
-    rw (c.held.ensures, c.settle_background.ensures, c.settle_foreground.ensures, c.finish_result.ensures, c.answer_head.ensures, c.finish_normal.ensures)
+    rw (c.held.ensures, c.settle_both.ensures, c.finish_result.ensures, c.answer_head.ensures, c.finish_normal.ensures)
     (finished_without c.args.self.now c.args.delivery c.args.uid c.args.answer c.args.now _ (sym c.fault_of.ensures ∙ c.in-None.is))

@@ -1,6 +1,6 @@
 use Rattle.std.specs.List.{flat_map}
 use Rattle.am_model.specs.Sending.{result_items, turn_items}
-use Rattle.am_queue_normal.specs.Numbers.{items_of}
+use Rattle.am_queue_normal.specs.Kept.{items_of}
 use Rattle.am_queue.proofs.Ordering.{shown_of_first}
 use Rattle.am_queue.proofs.queues.Queues.inbox.Goals as goal
 

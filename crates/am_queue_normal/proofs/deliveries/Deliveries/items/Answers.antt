@@ -1,34 +1,43 @@
-use Rattle.std.proofs.Common.{arith}
-use Rattle.am_queue_normal.specs.Numbers.{Rise, items_of}
-use Rattle.am_queue_normal.proofs.Items.{all_from, items_rise, none_left, all_found, first_found, one_more_found}
+use Rattle.std.proofs.Common.{◌≡◌, ◌+◌, ◌++◌, ◌∷◌, [], ◌∙◌, length, length-append, ap, sym, arith}
+use Rattle.std.proofs.lemmas.List.{take_all}
+use Rattle.am_queue_normal.specs.Posted.{is_to, item_of, items_at}
+use Rattle.am_queue_normal.proofs.Finding.{all_below, enough_below, items_to, next_below, nothing_below, passes_found, passes_within}
 use Rattle.am_queue_normal.proofs.deliveries.Deliveries.items.Goals as goal
 
 pub loop-items-init : goal.loop-items-init
-loop-items-init c = rw c.new-items.ensures.items (all_from (items_of c.args.uid c.args.self.now.normal), omega arith)
+loop-items-init c = rw c.new-items.ensures.items (sym (nothing_below c.args.uid c.args.self.now), omega arith)
 
-pub returns-in-None-clause-first : goal.returns-in-None-clause-first
-returns-in-None-clause-first c =
-    let all = items_of c.args.uid c.args.self.now.normal in
-    all_found c.args.most c.loop-items.items.items _ all c.loop-items.invariant.0 (none_left c.loop-items.from all c.in-None.ensures.next) c.loop-items.invariant.1
+pub returns-in-None : goal.returns-in-None
+returns-in-None c =
+    let es = c.args.self.now in
+    let all : c.loop-items.items.items ≡ items_to c.args.uid es =
+    c.loop-items.invariant.0 ∙ all_below c.args.uid c.loop-items.from c.args.end es c.requires c.in-None.ensures in
+    all ∙ sym (take_all c.args.most (items_to c.args.uid es) (omega (arith, c.loop-items.invariant.1, ap length all)))
 
-pub returns-in-None-clause-rise : goal.returns-in-None-clause-rise
-returns-in-None-clause-rise c = rw (← c.self.view_is) (items_rise c.args.uid 0 c.self.inside.end c.self.inside.batches.items c.self.invariant.0)
+pub overflow_add-from : goal.overflow_add-from
+overflow_add-from c =
+    omega (arith, c.ranges.end.fits, passes_within (is_to c.args.uid) c.args.end c.in-Some.number c.args.self.now c.requires c.in-Some.ensures.1)
 
-pub returns-in_err-push_item-in-Some-clause-rise :
-    goal.returns-in_err-push_item-in-Some-clause-rise
-returns-in_err-push_item-in-Some-clause-rise c = rw (← c.self.view_is) (items_rise c.args.uid 0 c.self.inside.end c.self.inside.batches.items c.self.invariant.0)
+pub loop-items-smaller : goal.loop-items-smaller
+loop-items-smaller c =
+    omega (arith, c.in-Some.ensures.0, passes_within (is_to c.args.uid) c.args.end c.in-Some.number c.args.self.now c.requires c.in-Some.ensures.1)
 
 pub loop-items-preserved : goal.loop-items-preserved
 loop-items-preserved c =
-    let all = items_of c.args.uid c.args.self.now.normal in
-    let rise : Rise 0 all = rw (← c.self.view_is) (items_rise c.args.uid 0 c.self.inside.end c.self.inside.batches.items c.self.invariant.0) in
-    one_more_found c.loop-items.from c.in-Some.number c.args.most c.loop-items.items.items c.push_item.new.items.items all rise c.in-Some.ensures.next.0 c.in-Some.ensures.next.2
-    c.loop-items.invariant.0 (omega arith) c.in_ok-push_item-in-Some.ensures
+    let es = c.args.self.now in
+    let items = c.loop-items.items.items in
+    let number = c.in-Some.number in
+    let found = passes_found (is_to c.args.uid) number es c.in-Some.ensures.1 in
+    let one_more : c.push_item.new.items.items ≡ items ++ item_of (number, found.0) ∷ [] =
+    c.in_ok-push_item-in-Some.ensures ∙ ap (λ o. items ++ items_at number o) found.1 in
+    let longer : length c.push_item.new.items.items ≡ length items + 1 = ap length one_more ∙ length-append items (item_of (number, found.0) ∷ []) in (
+      one_more ∙ ap (λ l. l ++ item_of (number, found.0) ∷ []) c.loop-items.invariant.0
+          ∙ sym (next_below c.args.uid c.loop-items.from c.args.end es c.requires number found.0 c.in-Some.ensures found.1),
+      omega (arith, longer, c.loop-items-test.true, c.len.ensures),
+    )
 
-pub returns-clause-first : goal.returns-clause-first
-returns-clause-first c =
-    let all = items_of c.args.uid c.args.self.now.normal in
-    first_found c.args.most c.loop-items.items.items _ all c.loop-items.invariant.0 c.loop-items.invariant.1 (omega arith)
-
-pub returns-clause-rise : goal.returns-clause-rise
-returns-clause-rise c = rw (← c.self.view_is) (items_rise c.args.uid 0 c.self.inside.end c.self.inside.batches.items c.self.invariant.0)
+pub returns : goal.returns
+returns c =
+    let exact : length c.loop-items.items.items ≡ c.args.most = omega (arith, c.loop-items.invariant.1) in
+    c.loop-items.invariant.0
+    ∙ sym (enough_below c.args.uid c.loop-items.from c.args.end c.args.self.now c.requires c.args.most (sym (ap length c.loop-items.invariant.0) ∙ exact))

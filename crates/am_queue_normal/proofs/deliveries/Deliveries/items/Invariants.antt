@@ -1,13 +1,10 @@
-use Rattle.std.proofs.Common.{◌≡◌, ◌-◌, ◌≤◌, ◌++◌, length}
-use Rattle.std.specs.List.{filter}
-use Rattle.am_queue_normal.specs.Numbers.{items_of}
-use Rattle.am_queue_normal.proofs.Items.{is_from}
+use Rattle.std.proofs.Common.{◌≡◌, ◌≤◌, ◌-◌, length}
+use Rattle.am_queue_normal.proofs.Finding.{items_below}
 use Rattle.am_queue_normal.proofs.deliveries.Deliveries.items.Given as goal
 
--- what was found so far, and the items from here on, are all
+-- the items so far are those below a number, and no more than asked for
 abbrev pub invariant-loop-items : goal.invariant-loop-items
-invariant-loop-items l =
-    (l.items.items ++ filter (is_from l.from) (items_of l.uid l.self.normal) ≡ items_of l.uid l.self.normal) × (length l.items.items ≤ l.most)
+invariant-loop-items l = (l.items.items ≡ items_below l.uid l.from l.self) × (length l.items.items ≤ l.most)
 
 abbrev pub decreases-loop-items : goal.decreases-loop-items
-decreases-loop-items l = l.self.end - l.from
+decreases-loop-items l = l.end - l.from

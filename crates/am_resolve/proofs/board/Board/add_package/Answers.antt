@@ -1,9 +1,7 @@
 use Rattle.std.proofs.Common.{◌++◌, ◌∷◌, [], List, sym, subst, ◌∙◌}
 use Rattle.am_types.specs.declared.device.Package.{Package}
 use Rattle.am_model.specs.Boards as boards
-use Rattle.am_model.specs.Sound.{uids_of}
 use Rattle.am_installed.specs.Installed.{AreInstalled}
-use Rattle.am_index.specs.declared.index.FilterIndex.{FilterIndex}
 use Rattle.am_index.specs.Standing.{StandsFor}
 use Rattle.am_resolve.proofs.Standing.{from_err, from_ok, listable, without_last}
 use Rattle.am_resolve.proofs.board.Board.add_package.Goals as goal

@@ -1,0 +1,136 @@
+//! The live state, and time.
+ghost use Rattle.std.specs.Prelude.{◌≡◌, ◌≤◌, All, IfOk};
+ghost use Rattle.am_model.specs.Sound.{IsSound, IsSoundPackage};
+ghost use Rattle.am_history.specs.State.{opening, uid_after, uids_of, uid_of};
+ghost use Rattle.am_history.specs.Steps.{at_moment, due, moment_after};
+
+use crate::callers;
+use am_pending::Pending;
+use am_queue::Queues;
+use am_resolve::Board;
+use am_services::Services;
+use am_tasks::Tasks;
+use am_types::{Device, NoMemory, Package, Steps, Text};
+use std::alloc::Global;
+use std::marker::Model;
+use std::sync::ledger::Ledger;
+
+/// The last moment, in milliseconds: a later one counts as this.
+const LAST_MOMENT: u64 = 4_611_686_018_427_387_904;
+
+/// The live state of a device. Contracts see it as the state of the definitions.
+#[derive(Drop)]
+pub struct Live {
+    pub(crate) alloc: Global,
+    system_key: Text,
+    root_key: Option<Text>,
+    pub(crate) board: Board,
+    pub(crate) queues: Queues,
+    pending: Pending,
+    pub(crate) tasks: Tasks,
+    pub(crate) services: Services,
+    next_uid: u32,
+    next_registration: u64,
+    pub(crate) moment: u64,
+}
+
+impl Model for Live {
+    ghost use Rattle.std.specs.Prelude.{◌≤◌, length};
+    ghost use Rattle.am_history.specs.State.{State};
+
+    ghost Value = { State };
+
+    ghost view = { λ l. record {
+      system_key = l.system_key;
+      root_key = l.root_key;
+      board = l.board;
+      broadcasts = l.queues;
+      pendings = l.pending;
+      tasks = l.tasks;
+      services = l.services;
+      next_uid = l.next_uid;
+      next_registration = l.next_registration;
+      moment = l.moment;
+    } };
+
+    // Deadlines behind a moment are below 2^64, and a device has at most 256 packages.
+    ghost invariant = { λ l. (l.moment ≤ 4611686018427387904) × (length l.board.packages ≤ 256) };
+}
+
+/// The next uid of a device with these packages: one more than the greatest of 9999 and their uids.
+fn uid_after(packages: &[Package]) -> u32
+    requires { All IsSoundPackage packages.now }
+    ensures { result ≡ uid_after (uids_of packages.now) }
+{
+    let mut greatest: u32 = 9_999;
+    for package in packages {
+        greatest = greatest.max(package.uid);
+    }
+    greatest + 1
+}
+
+impl Live {
+    /// The state of a sound device before the first call. It keeps the allocator for its later calls.
+    pub fn from_device(alloc: Global, device: Device) -> Result<Live, NoMemory>
+        requires { IsSound device }
+        ensures { IfOk result (λ live. live ≡ opening device) }
+    {
+        let next_uid = uid_after(device.packages.as_slice());
+        let system_key = device.system_key.clone()?;
+        let root_key = device.root_key.clone()?;
+        let board = Board::from_device(alloc, device)?;
+        Ok(Live {
+            alloc,
+            system_key,
+            root_key,
+            board,
+            queues: Queues::new(alloc),
+            pending: Pending::new(alloc),
+            tasks: Tasks::new(alloc),
+            services: Services::new(alloc),
+            next_uid,
+            next_registration: 1,
+            moment: 0,
+        })
+    }
+
+    /// The uid that has the key, if there is one. Takes no memory.
+    pub fn uid_of(&self, key: &Text) -> Option<u32>
+        ensures { result ≡ uid_of self.now key.now }
+    {
+        callers::uid_of(&self.system_key, &self.root_key, self.board.packages(), key)
+    }
+
+    /// The moment of a call at `now`, in milliseconds: never before the last one, and 2^62 at most. Takes
+    /// no memory.
+    pub fn moment_after(&self, now: u64) -> u64
+        ensures moment { result ≡ moment_after self.now now }
+        ensures last { result ≤ 4611686018427387904 }
+    {
+        self.moment.max(now.min(LAST_MOMENT))
+    }
+
+    /// Whether some deadline is at the moment of a call at `now`, or before it. A step is a reading of a
+    /// deadline. Takes no memory.
+    pub fn is_due<L: Ledger>(&self, now: u64, steps: &mut Steps<L>) -> bool
+        ensures { result ≡ due self.now now }
+    {
+        self.queues.due(self.moment_after(now), steps)
+    }
+
+    /// Handles the deadlines that are due at a moment, which is the last one then. Takes no memory.
+    pub fn settle<L: Ledger>(&mut self, moment: u64, steps: &mut Steps<L>)
+        requires { moment ≤ 4611686018427387904 }
+        ensures { self.new ≡ at_moment self.old moment }
+    {
+        self.queues.expire(moment, steps);
+        self.moment = moment;
+    }
+
+    /// The last moment, in milliseconds. Takes no memory.
+    pub fn moment(&self) -> u64
+        ensures { result ≡ self.now.moment }
+    {
+        self.moment
+    }
+}

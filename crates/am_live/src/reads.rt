@@ -1,0 +1,102 @@
+//! What is read of the state.
+ghost use Rattle.std.specs.Prelude.{◌≡◌, ◌≤◌, length, IfOk, OnOk, OnErr};
+ghost use Rattle.am_model.specs.Candidates.{hits};
+ghost use Rattle.am_model.specs.Gates.{is_privileged};
+ghost use Rattle.am_model.specs.Sending.{inbox};
+ghost use Rattle.am_model.specs.Tasks.{views};
+ghost use Rattle.am_history.specs.Activities.{components_of};
+ghost use Rattle.am_history.specs.Services.{services_of};
+ghost use Rattle.am_history.specs.Steps.{at_moment};
+
+use crate::{Live, callers};
+use am_types::{Component, Hit, Intent, Item, Kind, List, NoMemory, ServiceView, Steps, TaskView};
+use std::alloc::Global;
+use std::sync::ledger::Ledger;
+
+impl Live {
+    /// The components of the kind that the intent finds, by falling priority, then in the order of uid and
+    /// place. Each full test of a filter is a step.
+    pub fn query<L: Ledger>(
+        &self,
+        kind: Kind,
+        intent: &Intent,
+        default_only: bool,
+        steps: &mut Steps<L>,
+    ) -> Result<List<Component>, NoMemory>
+        ensures { IfOk result
+            (λ names. names ≡ components_of (hits self.now.board.packages kind intent.now default_only)) }
+    {
+        let found = self
+            .board
+            .query(self.alloc, kind, intent, default_only, steps)?;
+        let names = components_of(self.alloc, found)?;
+        Ok(names)
+    }
+
+    /// The tasks that the caller sees, from front to back.
+    pub fn tasks(&self, caller: u32) -> Result<List<TaskView>, NoMemory>
+        ensures { IfOk result (λ shown. shown ≡ views self.now.tasks caller) }
+    {
+        self.tasks.views(caller)
+    }
+
+    /// The services that run and that the caller sees, in the order of their first start.
+    pub fn services(&self, caller: u32) -> Result<List<ServiceView>, NoMemory>
+        ensures { IfOk result (λ shown. shown ≡ services_of self.now.services caller) }
+    {
+        self.services.views(caller)
+    }
+
+    /// What waits for the caller, at most 64 items by rising number.
+    pub fn inbox(&self, caller: u32) -> Result<List<Item>, NoMemory>
+        ensures { IfOk result (λ items. items ≡ inbox self.now.broadcasts caller) }
+    {
+        self.queues.inbox(caller)
+    }
+
+    /// What waits for the caller once the deadlines are handled that are due at a moment, which is the last
+    /// one then. After `NoMemory` the state is as before.
+    pub fn inbox_at<L: Ledger>(
+        &mut self,
+        caller: u32,
+        moment: u64,
+        steps: &mut Steps<L>,
+    ) -> Result<List<Item>, NoMemory>
+        requires { moment ≤ 4611686018427387904 }
+        ensures state { OnOk result (self.new ≡ at_moment self.old moment) }
+        ensures items { IfOk result (λ items. items ≡ inbox self.new.broadcasts caller) }
+        ensures same { OnErr result (self.new ≡ self.old) }
+    {
+        let mut queues = self.queues.copy()?;
+        queues.expire(moment, steps);
+        let items = queues.inbox(caller);
+        if items.is_ok() {
+            self.queues = queues;
+            self.moment = moment;
+        }
+        items
+    }
+
+    /// How many packages are installed. Takes no memory.
+    pub fn package_count(&self) -> u32
+        ensures { result ≡ length self.now.board.packages }
+    {
+        self.board.packages().as_slice().len() as u32
+    }
+
+    /// Whether the caller is the system or the root. Takes no memory.
+    pub fn is_privileged(caller: u32) -> bool
+        ensures { result ≡ is_privileged caller }
+    {
+        callers::is_privileged(caller)
+    }
+}
+
+/// The names of the components that were found.
+fn components_of(alloc: Global, found: List<Hit>) -> Result<List<Component>, NoMemory>
+    ensures { IfOk result (λ names. names ≡ components_of found) }
+{
+    let found = found.into_items().into_iter();
+    let names = found.map(|hit| hit.component).collect(alloc)?;
+    Ok(List::new(names))
+}

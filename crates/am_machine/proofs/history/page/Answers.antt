@@ -1,0 +1,25 @@
+use Rattle.std.proofs.Common.{◌≡◌, ◌∙◌, ℕ, ◌-◌, List, drop, take, length, sym, ap, Result, Ok, Err}
+use Rattle.std.specs.Prelude.{IfOk}
+use Rattle.std.proofs.lemmas.List.{take_min, length-drop}
+use Rattle.std.proofs.Math.Seq.{take-length}
+use Rattle.am_types.specs.declared.failure.NoMemory.{NoMemory}
+use Rattle.am_types.specs.declared.history.Entry.{Entry}
+use Rattle.am_machine.proofs.history.page.Goals as goal
+
+pub returns : goal.returns
+returns c = by c.copied.result c.copied.ensures
+  where
+    behind : List Entry
+    behind = drop c.args.from c.args.history.now
+
+    rest : List Entry
+    rest = take (length c.args.history.now - c.args.from) behind
+
+    -- the slice is all that stands behind
+    whole : rest ≡ behind
+    whole = ap (λ (n : ℕ). take n behind) (sym (length-drop c.args.from c.args.history.now)) ∙ take-length behind
+
+    by : (copy : Result (List Entry) NoMemory) → IfOk copy (λ entries. entries ≡ take c.min-end.result rest) → IfOk copy (λ entries. entries ≡ take 64 behind)
+    by (Ok entries) is =
+        is ∙ ap (λ (n : ℕ). take n rest) c.min-end.ensures ∙ take_min 64 rest ∙ ap (λ (l : List Entry). take 64 l) whole
+    by (Err error) is = tt

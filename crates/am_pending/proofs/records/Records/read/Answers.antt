@@ -1,0 +1,10 @@
+use Rattle.std.proofs.Common.{◌∙◌, ap, option_map}
+use Rattle.am_pending.specs.Records.{pending_of, record_in}
+use Rattle.am_pending.proofs.Changes.{lookup-records}
+use Rattle.am_pending.proofs.records.Records.read.Goals as goal
+
+pub returns-clause-found : goal.returns-clause-found
+returns-clause-found g c =
+    ap (option_map (pending_of c.args.token)) c.get.ensures.value
+    ∙ lookup-records c.args.token c.self.inside.by_token.entries
+    ∙ ap (record_in c.args.token) c.self.view_is

@@ -1,5 +1,0 @@
-use Rattle.am_pending.proofs.Tables.{none_indexed}
-use Rattle.am_pending.proofs.table.Table.new.Goals as goal
-
-pub invariant_of-result : goal.invariant_of-result
-invariant_of-result c = none_indexed c.new.result c.new-2.result.entries c.new-3.result.entries c.new.ensures c.new-2.ensures.empty c.new-3.ensures.empty

@@ -1,0 +1,92 @@
+//! The tokens of keys, and how many records each creator has.
+ghost use Rattle.std.specs.Prelude.{◌≡◌, ℕ, ◌≤◌, ◌<◌, None, Some, OnOk};
+ghost use Rattle.indexmap.specs.IndexMap.{spare};
+ghost use Rattle.am_pending.specs.Records.{AreUnsetOf, IsSetAt, count_at, forgotten, lowered, raised, token_at};
+
+use crate::key::Key;
+use indexmap::IndexMap;
+use std::alloc::AllocError;
+
+/// Makes room for one more key and for one more creator.
+pub fn make_room(
+    tokens: &mut IndexMap<Key, u64>,
+    counts: &mut IndexMap<u32, u32>,
+) -> Result<(), AllocError>
+    ensures tokens { tokens.new.entries ≡ tokens.old.entries }
+    ensures counts { counts.new.entries ≡ counts.old.entries }
+    ensures room { OnOk result ((1 ≤ spare tokens.new) × (1 ≤ spare counts.new)) }
+{
+    tokens.reserve(1)?;
+    counts.reserve(1)
+}
+
+/// Gives the key a token, where there is room for it.
+pub fn put_token(tokens: &mut IndexMap<Key, u64>, key: Key, token: u64)
+    requires { 1 ≤ spare tokens.old }
+    ensures { IsSetAt tokens.old.entries tokens.new.entries key (Some token) }
+{
+    match tokens.insert(key, token) {
+        Ok(_) => {}
+        Err(failed) => drop(failed),
+    }
+}
+
+/// Gives the key, which has one, another token. Takes no memory.
+pub fn set_token(tokens: &mut IndexMap<Key, u64>, key: &Key, token: u64)
+    requires { token_at tokens.old.entries key.now ≡ None → ⊥ }
+    ensures { IsSetAt tokens.old.entries tokens.new.entries key.now (Some token) }
+{
+    if let Some(place) = tokens.get_mut(key) {
+        *place = token;
+    }
+}
+
+/// Takes the key's token away. Takes no memory.
+pub fn unset_token(tokens: &mut IndexMap<Key, u64>, key: &Key)
+    ensures { IsSetAt tokens.old.entries tokens.new.entries key.now None }
+{
+    tokens.swap_remove(key);
+}
+
+/// Takes the tokens of a creator's keys away. Takes no memory.
+pub fn forget_tokens(tokens: &mut IndexMap<Key, u64>, uid: u32)
+    ensures { AreUnsetOf tokens.old.entries tokens.new.entries uid }
+{
+    tokens.retain(|key, _| key.creator != uid);
+}
+
+/// How many records the creator has.
+pub fn count_of(counts: &IndexMap<u32, u32>, creator: u32) -> u32
+    ensures { result ≡ count_at counts.now.entries creator }
+{
+    counts.get(&creator).copied().unwrap_or(0)
+}
+
+/// The creator has one record more, where there is room for its number.
+pub fn raise(counts: &mut IndexMap<u32, u32>, creator: u32)
+    requires room { 1 ≤ spare counts.old }
+    requires few { count_at counts.old.entries creator < 1024 }
+    ensures { (uid : ℕ) → count_at counts.new.entries uid ≡ raised counts.old.entries creator uid }
+{
+    let count = count_of(counts, creator);
+    let _old = counts.insert(creator, count + 1);
+}
+
+/// The creator has one record less. Takes no memory.
+pub fn lower(counts: &mut IndexMap<u32, u32>, creator: u32)
+    ensures { (uid : ℕ) → count_at counts.new.entries uid ≡ lowered counts.old.entries creator uid }
+{
+    let left = count_of(counts, creator).saturating_sub(1);
+    if left == 0 {
+        forget_count(counts, creator);
+    } else if let Some(count) = counts.get_mut(&creator) {
+        *count = left;
+    }
+}
+
+/// Takes a creator's number of records away. Takes no memory.
+pub fn forget_count(counts: &mut IndexMap<u32, u32>, uid: u32)
+    ensures { (other : ℕ) → count_at counts.new.entries other ≡ forgotten counts.old.entries uid other }
+{
+    counts.swap_remove(&uid);
+}

@@ -1,0 +1,9 @@
+use Rattle.std.proofs.Common.{◌∙◌}
+use Rattle.std.specs.BTreeMap.{is_at}
+use Rattle.am_queue_normal.specs.Pairs.{has, by_both}
+use Rattle.am_queue_normal.proofs.Keys.{same_key, removed}
+use Rattle.am_queue_normal.proofs.pairs.Pairs.remove.Goals as goal
+
+pub returns : goal.returns
+returns c = λ key' number'.
+    rw (← c.self.view_is, ← same_key c.args.key c.args.number key' number') (c.remove.ensures.updates.0 (key', number') ∙ removed (is_at (by_both (c.args.key, c.args.number)) (key', number')) (has c.self.inside.keys.keys key' number'))

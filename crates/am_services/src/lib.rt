@@ -1,0 +1,6 @@
+//! Services that run.
+#![tactic(auto)]
+
+mod services;
+
+pub use services::Services;

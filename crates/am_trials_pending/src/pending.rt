@@ -1,0 +1,390 @@
+//! Pending intents that are asked for, used, canceled and given away. Each step is a line of words, with its answer.
+ghost use Rattle.std.specs.Prelude.{◌≡◌, ◌≤◌, ◌<◌, ◌+◌};
+
+mod rows;
+
+use self::rows::{AFTER_MANY, STEPS};
+use am_pending::Pending;
+use am_trials_words::empty_intent;
+use am_types::{
+    Component, Extra, Intent, Kind, List, Named, PendingFault, PendingFlags, Steps, Text, Used,
+};
+use std::alloc::{AllocError, Global};
+use std::marker::Brand;
+use std::sync::ledger::{Blank, Ledger};
+use std::test::Fail;
+
+/// The step at that place of a table, and what is answered to it.
+fn step(table: &'static str, place: usize) -> (&'static str, &'static str) {
+    let row = table.lines().nth(place).unwrap_or("");
+    row.split_once(" => ").unwrap_or((row, "no row"))
+}
+
+/// The word at that place of a line.
+fn word(line: &str, place: usize) -> &str {
+    line.split(' ').nth(place).unwrap_or("")
+}
+
+fn uid(line: &str, place: usize) -> u32 {
+    word(line, place).parse::<u32>().unwrap_or(0)
+}
+
+fn token(line: &str) -> u64 {
+    word(line, 1).parse::<u64>().unwrap_or(0)
+}
+
+/// Extras, each a key, an equals sign and a whole number, with commas between them.
+fn extras(alloc: Global, word: &str) -> Result<List<Named>, AllocError> {
+    let mut extras = Vec::new(alloc);
+    for pair in word.split(',') {
+        if let Some((key, value)) = pair.split_once('=') {
+            let value = Extra::Whole(value.parse::<i64>().unwrap_or(0));
+            let key = Text::of(alloc, key)?;
+            extras.push(Named { key, value })?;
+        }
+    }
+    Ok(List::new(extras))
+}
+
+/// An intent that asks for nothing, with these extras.
+fn unaimed(alloc: Global, extras: List<Named>) -> Intent {
+    let mut intent = empty_intent(alloc);
+    intent.extras = extras;
+    intent
+}
+
+/// The texts behind plus signs.
+fn categories(alloc: Global, word: &str) -> Result<List<Text>, AllocError> {
+    let mut categories = Vec::new(alloc);
+    for category in word.split('+').skip(1) {
+        categories.push(Text::of(alloc, category)?)?;
+    }
+    Ok(List::new(categories))
+}
+
+/// An intent with that action, or for that component, and with categories.
+fn intent(alloc: Global, word: &str, extras: List<Named>) -> Result<Intent, AllocError> {
+    let mut intent = unaimed(alloc, extras);
+    intent.categories = categories(alloc, word)?;
+    let word = word.split('+').next().unwrap_or("");
+    match word.split_once('/') {
+        Some((package, class)) => intent.component = Some(component(alloc, package, class)?),
+        None => intent.action = Some(Text::of(alloc, word)?),
+    }
+    Ok(intent)
+}
+
+fn component(alloc: Global, package: &str, class: &str) -> Result<Component, AllocError> {
+    let package = Text::of(alloc, package)?;
+    let class = Text::of(alloc, class)?;
+    Ok(Component { package, class })
+}
+
+fn kind(word: &str) -> Kind {
+    match word {
+        "activity" => Kind::Activity,
+        "service" => Kind::Service,
+        _ => Kind::Receiver,
+    }
+}
+
+fn flags(word: &str) -> PendingFlags {
+    PendingFlags {
+        one_shot: word.contains('o'),
+        no_create: word.contains('n'),
+        cancel_current: word.contains('c'),
+        update_current: word.contains('u'),
+        immutable: word.contains('i'),
+        mutable: word.contains('m'),
+    }
+}
+
+fn fault(fault: PendingFault) -> &'static str {
+    match fault {
+        PendingFault::Mutability => "mutability",
+        PendingFault::Full => "full",
+        PendingFault::NoToken => "no token",
+        PendingFault::NotCreator => "not creator",
+        PendingFault::NotHolder => "not holder",
+        PendingFault::Canceled => "canceled",
+        PendingFault::ExtrasFull => "extras full",
+        PendingFault::HoldersFull => "holders full",
+        PendingFault::NoMemory => "no memory",
+    }
+}
+
+fn done(answer: Result<(), PendingFault>) -> &'static str {
+    match answer {
+        Ok(()) => "done",
+        Err(why) => fault(why),
+    }
+}
+
+/// What a token stands for, in words.
+fn shown(alloc: Global, used: &Used) -> Result<String, AllocError> {
+    let mut words = format!(in alloc; "{}", used.creator)?;
+    if used.one_shot {
+        words.push_str(" once")?;
+    }
+    for extra in used.intent.extras.as_slice() {
+        if let Extra::Whole(value) = &extra.value {
+            write!(words, " {}={value}", extra.key.as_str())?;
+        }
+    }
+    Ok(words)
+}
+
+fn got<L: Ledger>(
+    alloc: Global,
+    pending: &mut Pending,
+    line: &str,
+    steps: &mut Steps<L>,
+) -> Result<String, AllocError>
+    requires { pending.old.next ≤ 1125899906842624 }
+    ensures { pending.new.next ≤ pending.old.next + 1 }
+{
+    let asked = intent(alloc, word(line, 4), extras(alloc, word(line, 5))?)?;
+    let code = word(line, 3).parse::<i64>().unwrap_or(0);
+    match pending.get(
+        uid(line, 1),
+        kind(word(line, 6)),
+        code,
+        asked,
+        flags(word(line, 2)),
+        steps,
+    ) {
+        Ok(Some(token)) => format!(in alloc; "{token}"),
+        Ok(None) => String::from_str(alloc, "none"),
+        Err(why) => String::from_str(alloc, fault(why)),
+    }
+}
+
+fn used<L: Ledger>(
+    alloc: Global,
+    pending: &Pending,
+    line: &str,
+    steps: &mut Steps<L>,
+) -> Result<String, AllocError> {
+    let fill = unaimed(alloc, extras(alloc, word(line, 3))?);
+    let answer = match pending.use_token(token(line), uid(line, 2), Some(&fill), steps) {
+        Ok(used) => {
+            let words = shown(alloc, &used);
+            drop(used);
+            words
+        }
+        Err(why) => String::from_str(alloc, fault(why)),
+    };
+    drop(fill);
+    answer
+}
+
+/// What is answered to a line.
+fn said<L: Ledger>(
+    alloc: Global,
+    pending: &mut Pending,
+    line: &str,
+    steps: &mut Steps<L>,
+) -> Result<String, AllocError>
+    requires { pending.old.next ≤ 1125899906842624 }
+    ensures { pending.new.next ≤ pending.old.next + 1 }
+{
+    let answer = match word(line, 0) {
+        "get" => return got(alloc, pending, line, steps),
+        "use" => return used(alloc, pending, line, steps),
+        "cancel" => done(pending.cancel(token(line), uid(line, 2), steps)),
+        "give" => done(pending.give(token(line), uid(line, 2), uid(line, 3), steps)),
+        "forget" => {
+            pending.forget_uid(uid(line, 1));
+            "done"
+        }
+        _ => "what?",
+    };
+    String::from_str(alloc, answer)
+}
+
+/// The place of the first step whose answer isn't the one that was written, or the number of steps.
+fn first_wrong<L: Ledger>(
+    alloc: Global,
+    pending: &mut Pending,
+    table: &'static str,
+    steps: &mut Steps<L>,
+) -> Result<usize, AllocError>
+    requires { pending.old.next ≤ 2001 }
+{
+    let count = table.lines().count().min(100);
+    for i in 0..count {
+        let (line, wanted) = step(table, i);
+        let answer = said(alloc, pending, line, steps)?;
+        if answer.as_str() != wanted {
+            return Ok(i);
+        }
+    }
+    Ok(count)
+}
+
+fn tried<L: Ledger>(alloc: Global, blank: Blank) -> Result<usize, AllocError>
+    requires name { blank.name ≡ L.name }
+    requires parts { blank.parts ≡ L.parts }
+    requires some { 0 < blank.parts }
+{
+    let mut steps = Steps::<L>::new(blank);
+    let mut pending = Pending::new(alloc);
+    first_wrong(alloc, &mut pending, STEPS, &mut steps)
+}
+
+#[test]
+fn each_step_is_answered(rt: HostRuntime) -> Result<(), Fail> {
+    assert_eq!(rt; tried::<Brand>(rt.alloc(), Blank::new(1))?, 54);
+    Ok(())
+}
+
+/// Whether a record is made for that code.
+fn is_made<L: Ledger>(
+    alloc: Global,
+    pending: &mut Pending,
+    code: u32,
+    steps: &mut Steps<L>,
+) -> Result<bool, AllocError>
+    requires { pending.old.next ≤ 1125899906842624 }
+    ensures { pending.new.next ≤ pending.old.next + 1 }
+{
+    let asked = intent(alloc, "x.P", List::new(Vec::new(alloc)))?;
+    let code = i64::from(code);
+    Ok(
+        pending
+            .get(10000, Kind::Receiver, code, asked, flags("m"), steps)
+            .is_ok(),
+    )
+}
+
+/// How many of 1,030 records of a creator are made, and how many of 70 holders of one are taken.
+fn limited<L: Ledger>(alloc: Global, blank: Blank) -> Result<(u32, u32), AllocError>
+    requires name { blank.name ≡ L.name }
+    requires parts { blank.parts ≡ L.parts }
+    requires some { 0 < blank.parts }
+{
+    let mut steps = Steps::<L>::new(blank);
+    let mut pending = Pending::new(alloc);
+    let mut made = 0u32;
+    for code in 0..1030u32 {
+        if is_made(alloc, &mut pending, code, &mut steps)? {
+            made += 1;
+        }
+    }
+    let mut held = 0u32;
+    for to in 0..70u32 {
+        if pending.give(1000, 10000, 20000 + to, &mut steps).is_ok() {
+            held += 1;
+        }
+    }
+    Ok((made, held))
+}
+
+#[test]
+fn a_creator_has_1024_records_and_a_token_64_holders(rt: HostRuntime) -> Result<(), Fail> {
+    let (made, held) = limited::<Brand>(rt.alloc(), Blank::new(1))?;
+    assert_eq!(rt; made, 1024);
+    assert_eq!(rt; held, 64);
+    Ok(())
+}
+
+/// An intent with a category of that number.
+fn categorized(alloc: Global, number: u32) -> Result<Intent, AllocError> {
+    let category = format!(in alloc; "x.P+c{number}")?;
+    intent(alloc, category.as_str(), List::new(Vec::new(alloc)))
+}
+
+/// Whether the record of that category has the token that comes after its number.
+fn is_numbered<L: Ledger>(
+    alloc: Global,
+    pending: &mut Pending,
+    number: u32,
+    steps: &mut Steps<L>,
+) -> Result<bool, AllocError>
+    requires { pending.old.next ≤ 1125899906842624 }
+    ensures { pending.new.next ≤ pending.old.next + 1 }
+{
+    let asked = categorized(alloc, number)?;
+    let got = pending.get(10000, Kind::Receiver, 0, asked, flags("m"), steps);
+    Ok(got == Ok(Some(u64::from(number) + 1)))
+}
+
+/// How many of 1,024 categories have records with the tokens that come after their numbers.
+fn numbered<L: Ledger>(
+    alloc: Global,
+    pending: &mut Pending,
+    steps: &mut Steps<L>,
+) -> Result<u32, AllocError>
+    requires { pending.old.next ≤ 1025 }
+    ensures { pending.new.next ≤ pending.old.next + 1024 }
+{
+    let mut right = 0u32;
+    for number in 0..1024u32 {
+        if is_numbered(alloc, pending, number, steps)? {
+            right += 1;
+        }
+    }
+    Ok(right)
+}
+
+/// How many of 1,024 categories are told apart when they are new, and how many when they are known.
+fn told_apart<L: Ledger>(alloc: Global, blank: Blank) -> Result<(u32, u32), AllocError>
+    requires name { blank.name ≡ L.name }
+    requires parts { blank.parts ≡ L.parts }
+    requires some { 0 < blank.parts }
+{
+    let mut steps = Steps::<L>::new(blank);
+    let mut pending = Pending::new(alloc);
+    let new = numbered(alloc, &mut pending, &mut steps)?;
+    let known = numbered(alloc, &mut pending, &mut steps)?;
+    Ok((new, known))
+}
+
+#[test]
+fn categories_tell_records_apart(rt: HostRuntime) -> Result<(), Fail> {
+    let (new, known) = told_apart::<Brand>(rt.alloc(), Blank::new(1))?;
+    assert_eq!(rt; new, 1024);
+    assert_eq!(rt; known, 1024);
+    Ok(())
+}
+
+/// How many of 2,000 records are made and ended in turn.
+fn ended_in_turn<L: Ledger>(
+    alloc: Global,
+    pending: &mut Pending,
+    steps: &mut Steps<L>,
+) -> Result<u32, AllocError>
+    requires { pending.old.next ≤ 1 }
+    ensures { pending.new.next ≤ 2001 }
+{
+    let mut ended = 0u32;
+    for code in 0..2000u32 {
+        let made = is_made(alloc, pending, code, steps)?;
+        let token = u64::from(code) + 1;
+        if made && pending.cancel(token, 10000, steps).is_ok() {
+            ended += 1;
+        }
+    }
+    Ok(ended)
+}
+
+/// How many records ended, and the place of the first wrong answer after them.
+fn tried_after_many<L: Ledger>(alloc: Global, blank: Blank) -> Result<(u32, usize), AllocError>
+    requires name { blank.name ≡ L.name }
+    requires parts { blank.parts ≡ L.parts }
+    requires some { 0 < blank.parts }
+{
+    let mut steps = Steps::<L>::new(blank);
+    let mut pending = Pending::new(alloc);
+    let ended = ended_in_turn(alloc, &mut pending, &mut steps)?;
+    let right = first_wrong(alloc, &mut pending, AFTER_MANY, &mut steps)?;
+    Ok((ended, right))
+}
+
+#[test]
+fn steps_are_answered_after_many_records_ended(rt: HostRuntime) -> Result<(), Fail> {
+    let (ended, right) = tried_after_many::<Brand>(rt.alloc(), Blank::new(1))?;
+    assert_eq!(rt; ended, 2000);
+    assert_eq!(rt; right, 5);
+    Ok(())
+}
