@@ -8,5 +8,6 @@ pub mod Packages
 pub mod Opening
 pub mod Kept
 pub mod Steps
+pub mod Numbers
 pub mod History
 pub mod Desks

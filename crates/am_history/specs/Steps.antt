@@ -1,5 +1,6 @@
 -- What one call does to the state, and what it is answered.
-use Rattle.std.specs.Prelude.{ℕ, Bool, true, false, List, length, max, min, drop, take, if◌then◌else◌}
+use Rattle.std.specs.Prelude.{ℕ, Bool, true, false, List, length, max, min, drop, take, is_none, if◌then◌else◌}
+use Rattle.am_types.specs.declared.broadcast.Answer.{Answer}
 use Rattle.am_types.specs.declared.history.Entry.{Entry}
 use Rattle.am_types.specs.declared.request.Request.{Request}
 use Rattle.am_types.specs.declared.request.Request.TheVariants as asks
@@ -132,14 +133,12 @@ asks_keeper state before caller request =
 
 -- the manager serves the request today
 abbrev pub is_served : Request → Bool
-is_served (asks.Query kind intent default_only) = true
-is_served asks.ListTasks = true
-is_served asks.Services = true
-is_served asks.Inbox = true
-is_served asks.Tick = true
-is_served (asks.History from) = true
-is_served asks.Status = true
-is_served _ = false
+is_served (asks.Install text key) = false
+is_served (asks.Uninstall name) = false
+is_served (asks.Grant name permission held) = false
+is_served (asks.Link name host approved) = false
+is_served (asks.ForceStop name) = false
+is_served _ = true
 
 -- the request is of the form that a body is read as: an installation has an access key, and a link a host in lower case
 abbrev pub is_formed : Request → Bool
@@ -155,9 +154,17 @@ is_steady asks.Services = true
 is_steady (asks.History from) = true
 is_steady _ = false
 
+-- the answer to a delivery sets no outcome
+abbrev pub sets_nothing : Answer → Bool
+sets_nothing answer = is_none answer.set
+
 -- with room for its entry the request takes no memory that can be refused
 abbrev pub is_calm : Request → Bool
 is_calm asks.Tick = true
+is_calm asks.Back = true
+is_calm (asks.FinishActivity instance) = true
+is_calm (asks.Finish delivery answer) = sets_nothing answer
+is_calm (asks.PendingCancel token) = true
 is_calm _ = false
 
 -- what an entry is answered after the entries `before`, and the state that it leaves: what is due comes first,

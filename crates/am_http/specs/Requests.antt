@@ -17,14 +17,12 @@ use Rattle.am_http.specs.Responses.{refusal}
 
 -- the manager serves what is asked at the endpoint
 abbrev pub is_open : Endpoint → Bool
-is_open at.Query = true
-is_open at.ListTasks = true
-is_open at.Services = true
-is_open at.Inbox = true
-is_open at.Tick = true
-is_open at.History = true
-is_open at.Status = true
-is_open _ = false
+is_open at.Install = false
+is_open at.Uninstall = false
+is_open at.Grant = false
+is_open at.Link = false
+is_open at.ForceStop = false
+is_open _ = true
 
 -- the request that was read of a body, or the refusal of its first fault
 abbrev pub request_or : Result Request WireFault → Result Request Refusal

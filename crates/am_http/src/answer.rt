@@ -42,15 +42,13 @@ pub enum Answer {
 fn is_open(endpoint: Endpoint) -> bool
     ensures { result ≡ is_open endpoint }
 {
-    matches!(
+    !matches!(
         endpoint,
-        Endpoint::Query
-            | Endpoint::ListTasks
-            | Endpoint::Services
-            | Endpoint::Inbox
-            | Endpoint::Tick
-            | Endpoint::History
-            | Endpoint::Status
+        Endpoint::Install
+            | Endpoint::Uninstall
+            | Endpoint::Grant
+            | Endpoint::Link
+            | Endpoint::ForceStop
     )
 }
 

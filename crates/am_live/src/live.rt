@@ -26,11 +26,11 @@ pub struct Live {
     root_key: Option<Text>,
     pub(crate) board: Board,
     pub(crate) queues: Queues,
-    pending: Pending,
+    pub(crate) pending: Pending,
     pub(crate) tasks: Tasks,
     pub(crate) services: Services,
     next_uid: u32,
-    next_registration: u64,
+    pub(crate) next_registration: u64,
     pub(crate) moment: u64,
 }
 

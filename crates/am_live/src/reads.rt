@@ -93,7 +93,7 @@ impl Live {
 }
 
 /// The names of the components that were found.
-fn components_of(alloc: Global, found: List<Hit>) -> Result<List<Component>, NoMemory>
+pub(crate) fn components_of(alloc: Global, found: List<Hit>) -> Result<List<Component>, NoMemory>
     ensures { IfOk result (λ names. names ≡ components_of found) }
 {
     let found = found.into_items().into_iter();

@@ -1,55 +1,16 @@
-//! What the requests are answered, and what they do to the live state.
-ghost use Rattle.std.specs.Prelude.{◌≡◌, ℕ, false, if◌then◌else◌, IfOk, OnErr, IsOk, IsTrue};
-ghost use Rattle.am_types.specs.declared.reply.Reply.TheVariants.{Entries, Plain, Refused};
-ghost use Rattle.am_types.specs.declared.request.Request.TheVariants as asks;
-ghost use Rattle.am_types.specs.declared.rule.Rule.TheVariants.{AdminOnly};
-ghost use Rattle.am_model.specs.Broadcasts.{Broadcasts};
-ghost use Rattle.am_model.specs.Gates.{is_privileged};
-ghost use Rattle.am_history.specs.Steps.{act, after_due, is_calm, is_changing, is_served, is_steady, page};
+//! What the requests do to the live state, and what they are answered.
+ghost use Rattle.std.specs.Prelude.{◌≡◌, ◌≤◌, List as Items, IfOk, OnErr, IsOk, IsTrue};
+ghost use Rattle.am_types.specs.declared.history.Entry.{Entry};
+ghost use Rattle.am_history.specs.Numbers.{HasNumbers};
+ghost use Rattle.am_history.specs.Steps.{act, after_due, at_moment, is_calm, is_served};
+ghost use Rattle.am_machine.specs.Subjects.{subject_of};
 
-use crate::history::page;
+use crate::reads::read_at;
+use crate::subject::{Subject, subject_of};
 use am_live::Live;
-use am_types::{Entry, NoMemory, Reply, Request, Rule, Steps};
+use am_types::{Entry, NoMemory, Reply, Request, Steps};
 use std::alloc::Global;
 use std::sync::ledger::Ledger;
-
-/// Whether the request may change the state.
-pub(crate) fn is_changing(request: &Request) -> bool
-    ensures { result ≡ is_changing request.now }
-{
-    match request {
-        Request::Query { .. } => false,
-        Request::ListTasks => false,
-        Request::Services => false,
-        Request::Inbox => false,
-        Request::History { .. } => false,
-        Request::Status => false,
-        _ => true,
-    }
-}
-
-/// What a request is answered that changes nothing.
-pub(crate) fn read<L: Ledger>(
-    alloc: Global,
-    live: &Live,
-    history: &[Entry],
-    caller: u32,
-    request: &Request,
-    steps: &mut Steps<L>,
-) -> Result<Reply, NoMemory>
-    requires served { IsTrue (is_served request.now) }
-    requires reads { is_changing request.now ≡ false }
-    ensures { IfOk result (λ reply. act live.now history.now caller request.now ≡ (reply, live.now)) }
-{
-    match request {
-        Request::Inbox => {
-            let items = live.inbox(caller)?;
-            Ok(Reply::Items(items))
-        }
-        Request::Status => Ok(status(live, history, caller)),
-        _ => steady(alloc, live, history, caller, request, steps),
-    }
-}
 
 /// What a call is answered at its moment, and what it does to the state. After `NoMemory`
 /// the state is as before.
@@ -63,104 +24,139 @@ pub(crate) fn act<L: Ledger>(
     steps: &mut Steps<L>,
 ) -> Result<Reply, NoMemory>
     requires served { IsTrue (is_served request.now) }
+    requires numbers { HasNumbers live.old }
     ensures done { IfOk result (λ reply.
         act (after_due live.old now) history.now caller request.now ≡ (reply, live.new)) }
     ensures same { OnErr result (live.new ≡ live.old) }
     ensures calm { IsTrue (is_calm request.now) → IsOk result }
 {
     let moment = live.moment_after(now);
-    match request {
-        Request::Inbox => {
-            let items = live.inbox_at(caller, moment, steps)?;
-            Ok(Reply::Items(items))
-        }
-        Request::Status => {
-            live.settle(moment, steps);
-            Ok(status(live, history, caller))
-        }
-        Request::Tick => {
-            live.settle(moment, steps);
-            Ok(tick(caller))
-        }
-        _ => {
-            let reply = steady(alloc, live, history, caller, request, steps)?;
-            live.settle(moment, steps);
-            Ok(reply)
-        }
+    match subject_of(request) {
+        Subject::Reads => read_at(alloc, live, history, caller, moment, request, steps),
+        Subject::Activities => activities(live, caller, moment, request, steps),
+        Subject::Services => services(live, caller, moment, request, steps),
+        Subject::Broadcasts => broadcasts(live, caller, moment, request, steps),
+        Subject::PendingIntents => pending_intents(live, caller, moment, request, steps),
+        Subject::Packages => unreachable!(),
     }
 }
 
-/// The answer to a tick, which lets time pass and does nothing more.
-fn tick(caller: u32) -> Reply
-    ensures { result ≡ (if is_privileged caller then Plain else Refused AdminOnly) }
-{
-    if Live::is_privileged(caller) {
-        Reply::Plain
-    } else {
-        Reply::Refused(Rule::AdminOnly)
-    }
-}
-
-/// The length of the history, the moment and the number of packages, for the system and the root.
-fn status(live: &Live, history: &[Entry], caller: u32) -> Reply
-    ensures { act live.now history.now caller asks.Status ≡ (result, live.now) }
-{
-    if Live::is_privileged(caller) {
-        Reply::Status {
-            history: history.len() as u64,
-            moment: live.moment(),
-            packages: live.package_count(),
-        }
-    } else {
-        Reply::Refused(Rule::AdminOnly)
-    }
-}
-
-/// What a request is answered that changes nothing, and whose answer depends neither on broadcasts nor on
-/// the moment.
-fn steady<L: Ledger>(
-    alloc: Global,
-    live: &Live,
-    history: &[Entry],
+/// Starts and ends activities. After `NoMemory` the state is as before.
+fn activities<L: Ledger>(
+    live: &mut Live,
     caller: u32,
+    moment: u64,
     request: &Request,
     steps: &mut Steps<L>,
 ) -> Result<Reply, NoMemory>
-    requires { IsTrue (is_steady request.now) }
-    ensures { IfOk result (λ reply. (broadcasts : Broadcasts) (moment : ℕ) →
-        act (record live.now { broadcasts = broadcasts; moment = moment }) history.now caller request.now
-        ≡ (reply, record live.now { broadcasts = broadcasts; moment = moment })) }
+    requires subject { subject_of request.now ≡ Subject.Activities }
+    requires moment { moment ≤ 4611686018427387904 }
+    requires numbers { HasNumbers live.old }
+    ensures done { IfOk result (λ reply. (before : Items Entry) →
+        act (at_moment live.old moment) before caller request.now ≡ (reply, live.new)) }
+    ensures same { OnErr result (live.new ≡ live.old) }
+    ensures calm { IsTrue (is_calm request.now) → IsOk result }
 {
     match request {
-        Request::Query {
-            kind,
-            intent,
-            default_only,
-        } => {
-            let found = live.query(*kind, intent, *default_only, steps)?;
-            Ok(Reply::Components(found))
+        Request::Start { intent, source } => live.start(caller, intent, *source, moment, steps),
+        Request::FinishActivity { instance } => {
+            Ok(live.finish_activity(caller, *instance, moment, steps))
         }
-        Request::ListTasks => {
-            let tasks = live.tasks(caller)?;
-            Ok(Reply::Tasks(tasks))
-        }
-        Request::Services => {
-            let services = live.services(caller)?;
-            Ok(Reply::Services(services))
-        }
-        Request::History { from } => entries(alloc, history, caller, *from),
+        Request::Back => Ok(live.back(caller, moment, steps)),
         _ => unreachable!(),
     }
 }
 
-/// A page of the history, for the system and the root.
-fn entries(alloc: Global, history: &[Entry], caller: u32, from: u64) -> Result<Reply, NoMemory>
-    ensures { IfOk result (λ reply. reply
-        ≡ (if is_privileged caller then Entries from (page history.now from) else Refused AdminOnly)) }
+/// Starts and stops services. After `NoMemory` the state is as before.
+fn services<L: Ledger>(
+    live: &mut Live,
+    caller: u32,
+    moment: u64,
+    request: &Request,
+    steps: &mut Steps<L>,
+) -> Result<Reply, NoMemory>
+    requires subject { subject_of request.now ≡ Subject.Services }
+    requires moment { moment ≤ 4611686018427387904 }
+    requires numbers { HasNumbers live.old }
+    ensures done { IfOk result (λ reply. (before : Items Entry) →
+        act (at_moment live.old moment) before caller request.now ≡ (reply, live.new)) }
+    ensures same { OnErr result (live.new ≡ live.old) }
+    ensures calm { IsTrue (is_calm request.now) → IsOk result }
 {
-    if !Live::is_privileged(caller) {
-        return Ok(Reply::Refused(Rule::AdminOnly));
+    match request {
+        Request::StartService { intent } => live.start_service(caller, intent, moment, steps),
+        Request::StopService { component } => live.stop_service(caller, component, moment, steps),
+        _ => unreachable!(),
     }
-    let entries = page(alloc, history, from)?;
-    Ok(Reply::Entries { from, entries })
+}
+
+/// Sends broadcasts, registers receivers and finishes deliveries. After `NoMemory` the state is as before.
+fn broadcasts<L: Ledger>(
+    live: &mut Live,
+    caller: u32,
+    moment: u64,
+    request: &Request,
+    steps: &mut Steps<L>,
+) -> Result<Reply, NoMemory>
+    requires subject { subject_of request.now ≡ Subject.Broadcasts }
+    requires moment { moment ≤ 4611686018427387904 }
+    requires numbers { HasNumbers live.old }
+    ensures done { IfOk result (λ reply. (before : Items Entry) →
+        act (at_moment live.old moment) before caller request.now ≡ (reply, live.new)) }
+    ensures same { OnErr result (live.new ≡ live.old) }
+    ensures calm { IsTrue (is_calm request.now) → IsOk result }
+{
+    match request {
+        Request::Send {
+            intent,
+            permission,
+            ordered,
+        } => {
+            let permission = permission.as_ref();
+            let ordered = ordered.as_ref();
+            live.send(caller, intent, permission, ordered, moment, steps)
+        }
+        Request::Register { filter, permission } => {
+            live.register(caller, filter, permission.as_ref(), moment, steps)
+        }
+        Request::Unregister { number } => Ok(live.unregister(caller, *number, moment, steps)),
+        Request::Finish { delivery, answer } => {
+            live.finish(caller, *delivery, answer, moment, steps)
+        }
+        _ => unreachable!(),
+    }
+}
+
+/// Makes, lends, cancels and gives pending intents. After `NoMemory` the state is as before.
+fn pending_intents<L: Ledger>(
+    live: &mut Live,
+    caller: u32,
+    moment: u64,
+    request: &Request,
+    steps: &mut Steps<L>,
+) -> Result<Reply, NoMemory>
+    requires subject { subject_of request.now ≡ Subject.PendingIntents }
+    requires moment { moment ≤ 4611686018427387904 }
+    requires numbers { HasNumbers live.old }
+    ensures done { IfOk result (λ reply. (before : Items Entry) →
+        act (at_moment live.old moment) before caller request.now ≡ (reply, live.new)) }
+    ensures same { OnErr result (live.new ≡ live.old) }
+    ensures calm { IsTrue (is_calm request.now) → IsOk result }
+{
+    match request {
+        Request::PendingGet {
+            kind,
+            code,
+            intent,
+            flags,
+        } => live.pending_get(caller, *kind, *code, intent, *flags, moment, steps),
+        Request::PendingSend { token, fill } => {
+            live.pending_send(caller, *token, fill.as_ref(), moment, steps)
+        }
+        Request::PendingCancel { token } => Ok(live.pending_cancel(caller, *token, moment, steps)),
+        Request::PendingGive { token, package } => {
+            live.pending_give(caller, *token, package, moment, steps)
+        }
+        _ => unreachable!(),
+    }
 }

@@ -6,8 +6,10 @@ mod desk;
 mod history;
 mod manager;
 mod opened;
+mod reads;
 mod sole;
 mod step;
+mod subject;
 
 pub use desk::Desk;
 pub use manager::{Manager, begin};

@@ -5,8 +5,10 @@ ghost use Rattle.am_history.specs.History.{IsLegal, replay, may_change, has_room
 ghost use Rattle.am_history.specs.State.{uid_of, has_uid};
 ghost use Rattle.am_history.specs.Steps.{Call, is_calm, is_served, step};
 
-use crate::acts::{act, is_changing, read};
+use crate::acts::act;
 use crate::manager::Manager;
+use crate::reads::read;
+use crate::subject::is_changing;
 use am_keeper::Keeper;
 use am_types::{Entry, NoMemory, Reply, Request, Rule, Shown, Steps, Text};
 use std::marker::Brand;

@@ -94,9 +94,11 @@ impl Queues {
         self.next_broadcast <= LAST_BROADCAST
     }
 
-    /// Whether some deadline is at most `now`. A step is a reading of a deadline. Takes no memory.
+    /// Whether some deadline is at most `now`; if none is, `expire` would change nothing. A step is a
+    /// reading of a deadline. Takes no memory.
     pub fn due<L: Ledger>(&self, now: u64, steps: &mut Steps<L>) -> bool
         ensures due { result ≡ due self.now now }
+        ensures calm { result ≡ false → expired self.now now ≡ self.now }
         ensures cost { steps.new ≤ steps.old + 3 }
     {
         self.is_head_due(true, now, steps)

@@ -414,3 +414,10 @@ own_counted sender total left is = let one : one_for sender sender ≡ 1 = grind
 pub both_parts : (kept : Kept) (normal : List Normal) (end : ℕ) → kept.normal ≡ normal → kept.end ≡ end → kept ≡ record { normal = normal; end = end }
 both_parts kept normal end same_normal same_end =
     ap (λ n. record { normal = n; end = kept.end }) same_normal ∙ ap (λ e. record { normal = normal; end = e }) same_end
+
+-- where none is, all deliveries pass
+pub early_or : (now end : ℕ) (es : List Entry) → AreInOrder end es → (found : Option ℕ)
+    → MatchOption found ((number : ℕ) → passes (is_late now) (posted_at number es) ≡ false) (λ number. passes (is_late now) (posted_at number es) ≡ true)
+    → is_some found ≡ false → AllPass (is_early now) (grouped es)
+early_or now end es order None none is = late_or now end es order None none
+early_or now end es order (Some n) late is = absurd cc

@@ -80,6 +80,7 @@ impl Normals {
     /// Whether some delivery is due. A step is a reading of a deadline. Takes no memory.
     pub fn is_due<L: Ledger>(&self, now: u64, steps: &mut Steps<L>) -> bool
         ensures due { result ≡ some_due self.now.normal now }
+        ensures early { result ≡ false → AllPass (is_early now) self.now.normal }
         ensures cost { steps.new ≤ steps.old + 1 }
     {
         self.deliveries.first_late(now, steps).is_some()

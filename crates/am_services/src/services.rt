@@ -1,12 +1,17 @@
 //! All services that run, in the order of their first start.
-ghost use Rattle.std.specs.Prelude.{◌≡◌, ◌||◌, ◌==◌, List as Items, [], IfOk};
+ghost use Rattle.std.specs.Prelude.{◌≡◌, ◌+◌, ◌<◌, ◌≤◌, ◌||◌, ◌==◌, not, filter, slice_set, List as Items, [], All, IfOk, OnOk, OnErr, is_some, option_copied, vec_len};
+ghost use Rattle.std.specs.List.{position, HoldsAt};
 ghost use Rattle.am_model.specs.Gates.{is_privileged};
 ghost use Rattle.am_history.specs.State.{Service};
-ghost use Rattle.am_history.specs.Services.{services_of, view_of};
+ghost use Rattle.am_history.specs.Services.{is_service, is_too_many, running, services_of, starts_with, view_of, with_start};
+ghost use Rattle.am_services.specs.Apart.{again, fresh};
 
 use am_types::{Component, Intent, List, NoMemory, ServiceView};
 use std::alloc::{AllocError, Global};
 use std::marker::Model;
+
+/// The most services that run.
+const MOST: usize = 256;
 
 /// A service that runs.
 #[derive(Drop)]
@@ -33,12 +38,16 @@ pub struct Services {
 }
 
 impl Model for Services {
-    ghost use Rattle.std.specs.Prelude.{List as Items};
+    ghost use Rattle.std.specs.Prelude.{List as Items, IsTrue};
     ghost use Rattle.am_history.specs.State.{Service};
+    ghost use Rattle.am_services.specs.Apart.{are_apart};
 
     ghost Value = { Items Service };
 
     ghost view = { λ s. s.running.items };
+
+    // So that a start changes one service at most.
+    ghost invariant = { λ s. IsTrue (are_apart s.running.items) };
 }
 
 impl Services {
@@ -59,6 +68,114 @@ impl Services {
     {
         views(self.alloc, &self.running, caller)
     }
+
+    /// Whether the component's service runs. Takes no memory.
+    pub fn runs(&self, component: &Component) -> bool
+        ensures { result ≡ is_some (running self.now component.now) }
+    {
+        find(&self.running, component).is_some()
+    }
+
+    /// Whether 256 services run, and the component's isn't one of them. Takes no memory.
+    pub fn is_full_for(&self, component: &Component) -> bool
+        ensures { result ≡ is_too_many self.now (running self.now component.now) }
+    {
+        !self.runs(component) && self.running.len() >= MOST
+    }
+
+    /// Starts the component's service with the intent: once more if it runs, else as a new one of the
+    /// owner, behind the others. Answers how often it was started since it began to run. After
+    /// `NoMemory` the services are as before.
+    pub fn start(
+        &mut self,
+        component: &Component,
+        owner: u32,
+        intent: &Intent,
+    ) -> Result<u64, NoMemory>
+        requires { All (λ (service : Service). service.starts ≤ 1125899906842624) self.old }
+        ensures starts { IfOk result (λ starts. starts ≡ starts_with (running self.old component.now)) }
+        ensures started { OnOk result (self.new
+            ≡ with_start self.old component.now owner intent.now (running self.old component.now)) }
+        ensures same { OnErr result (self.new ≡ self.old) }
+    {
+        match place_of(&self.running, component) {
+            Some(place) => {
+                let intent = intent.clone()?;
+                Ok(start_again(&mut self.running, place, intent))
+            }
+            None => {
+                let service = fresh(component, owner, intent)?;
+                self.running.push(service)?;
+                Ok(1)
+            }
+        }
+    }
+
+    /// Stops the component's service, if it runs. Takes no memory.
+    pub fn stop(&mut self, component: &Component)
+        ensures { self.new ≡ filter (λ service. not (is_service component.now service)) self.old }
+    {
+        self.running
+            .retain(|service| !is_service(component, service));
+    }
+}
+
+/// The service is the component's.
+fn is_service(component: &Component, service: &Running) -> bool
+    ensures { result ≡ is_service component.now service.now }
+{
+    component.package == service.component.package && component.class == service.component.class
+}
+
+/// The running service of the component, if it runs.
+fn find<'a>(services: &'a [Running], component: &Component) -> Option<&'a Running>
+    ensures { option_copied result ≡ running services.now component.now }
+{
+    services
+        .iter()
+        .find(|service| is_service(component, service))
+}
+
+/// The place of the component's service, if it runs.
+fn place_of(services: &[Running], component: &Component) -> Option<usize>
+    ensures { result ≡ position (is_service component.now) services.now }
+{
+    services
+        .iter()
+        .position(|service| is_service(component, service))
+}
+
+/// A service that is started for the first time.
+fn fresh(component: &Component, owner: u32, intent: &Intent) -> Result<Running, AllocError>
+    ensures { IfOk result (λ service. service ≡ fresh component.now owner intent.now) }
+{
+    Ok(Running {
+        component: component.clone()?,
+        owner,
+        intent: intent.clone()?,
+        starts: 1,
+    })
+}
+
+/// Starts the service at the place once more, with an intent. Answers how often it was started.
+fn start_again(services: &mut Vec<Running>, place: usize, intent: Intent) -> u64
+    requires within { place < vec_len services.old }
+    requires bound { HoldsAt (λ (service : Service). service.starts ≤ 1125899906842624) services.old.items place }
+    ensures { HoldsAt (λ (service : Service). (result ≡ service.starts + 1)
+        × (services.new.items ≡ slice_set services.old.items place (again intent service))) services.old.items place }
+{
+    start_once_more(&mut services[place], intent)
+}
+
+/// Starts the service once more, with an intent. Answers how often it was started.
+fn start_once_more(service: &mut Running, intent: Intent) -> u64
+    requires { service.old.starts ≤ 1125899906842624 }
+    ensures starts { result ≡ service.old.starts + 1 }
+    ensures changed { service.new ≡ again intent service.old }
+{
+    service.intent = intent;
+    service.starts += 1;
+    service.starts
 }
 
 /// These services, as the caller sees them.

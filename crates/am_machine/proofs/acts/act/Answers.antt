@@ -1,31 +1,28 @@
-use Rattle.std.proofs.Common.{◌≡◌, ◌∙◌, sym, ap}
-use Rattle.am_types.specs.declared.request.Request.{Request}
-use Rattle.am_types.specs.declared.reply.Reply.{Reply}
-use Rattle.am_types.specs.declared.reply.Reply.TheVariants as replies
-use Rattle.am_model.specs.Gates.{is_privileged}
-use Rattle.am_history.specs.State.{State}
-use Rattle.am_history.specs.Steps.{act, after_due, at_moment}
-use Rattle.am_history.proofs.Acts.{act_inbox, act_tick}
-use Rattle.am_machine.proofs.Stored.{one_state}
+use Rattle.am_machine.proofs.Acting.{done_after, done_now}
 use Rattle.am_machine.proofs.acts.act.Goals as goal
 
-pub returns-in_ok-items-in-Inbox-clause-done : goal.returns-in_ok-items-in-Inbox-clause-done
-returns-in_ok-items-in-Inbox-clause-done g c =
-    let after = after_due c.args.live.now c.args.now in
-    let left : c.inbox_at.new.self ≡ after =
-    c.in_ok-items-in-Inbox.ensures.state ∙ ap (at_moment c.args.live.now) c.moment_after-moment.ensures.moment in
-    ap (λ (request : Request). act after c.args.history.now c.args.caller request) c.in-Inbox.is
-    ∙ ap (λ (state : State). act state c.args.history.now c.args.caller _) (sym left)
-    ∙ act_inbox c.inbox_at.new.self c.args.history.now c.args.caller
-    ∙ ap (λ items. (replies.Items items, c.inbox_at.new.self)) (sym c.in_ok-items-in-Inbox.ensures.items)
+-- the moment at which the part was done is that of the call
+pub returns-in-Reads-clause-done : goal.returns-in-Reads-clause-done
+returns-in-Reads-clause-done g c =
+    done_now c.read_at.result c.args.live.now c.read_at.new.live c.args.history.now c.args.caller c.args.now c.moment_after-moment.result c.args.request.now
+    c.moment_after-moment.ensures.moment c.read_at.ensures.done
 
-pub returns-in-Tick-clause-done : goal.returns-in-Tick-clause-done
-returns-in-Tick-clause-done g c =
-    let after = after_due c.args.live.now c.args.now in
-    let left : c.settle-in-Tick.new.self ≡ after =
-    c.settle-in-Tick.ensures ∙ ap (at_moment c.args.live.now) c.moment_after-moment.ensures.moment in
-    ap (λ (request : Request). act after c.args.history.now c.args.caller request) c.in-Tick.is
-    ∙ ap (λ (state : State). act state c.args.history.now c.args.caller _) (sym left)
-    ∙ act_tick c.settle-in-Tick.new.self c.args.history.now c.args.caller
-    ∙ one_state (is_privileged c.args.caller) replies.Plain c.settle-in-Tick.new.self
-    ∙ ap (λ (reply : Reply). (reply, c.settle-in-Tick.new.self)) (sym c.tick.ensures)
+pub returns-in-Activities-clause-done : goal.returns-in-Activities-clause-done
+returns-in-Activities-clause-done g c =
+    done_after c.activities.result c.args.live.now c.activities.new.live c.args.history.now c.args.caller c.args.now c.moment_after-moment.result c.args.request.now
+    c.moment_after-moment.ensures.moment c.activities.ensures.done
+
+pub returns-in-Services-clause-done : goal.returns-in-Services-clause-done
+returns-in-Services-clause-done g c =
+    done_after c.services.result c.args.live.now c.services.new.live c.args.history.now c.args.caller c.args.now c.moment_after-moment.result c.args.request.now
+    c.moment_after-moment.ensures.moment c.services.ensures.done
+
+pub returns-in-Broadcasts-clause-done : goal.returns-in-Broadcasts-clause-done
+returns-in-Broadcasts-clause-done g c =
+    done_after c.broadcasts.result c.args.live.now c.broadcasts.new.live c.args.history.now c.args.caller c.args.now c.moment_after-moment.result c.args.request.now
+    c.moment_after-moment.ensures.moment c.broadcasts.ensures.done
+
+pub returns-in-PendingIntents-clause-done : goal.returns-in-PendingIntents-clause-done
+returns-in-PendingIntents-clause-done g c =
+    done_after c.pending_intents.result c.args.live.now c.pending_intents.new.live c.args.history.now c.args.caller c.args.now c.moment_after-moment.result c.args.request.now
+    c.moment_after-moment.ensures.moment c.pending_intents.ensures.done

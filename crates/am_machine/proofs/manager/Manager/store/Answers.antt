@@ -2,9 +2,11 @@ use Rattle.std.proofs.Common.{◌≡◌, ◌∙◌, ℕ, ◌+◌, List, [], ◌�
 use Rattle.am_keeper.specs.Rows.{no_rows}
 use Rattle.am_types.specs.declared.history.Entry.{Entry}
 use Rattle.am_history.specs.Steps.{act, after_due}
-use Rattle.am_history.specs.State.{has_uid}
+use Rattle.am_history.specs.State.{State, has_uid}
+use Rattle.am_history.specs.Numbers.{HasNumbers}
 use Rattle.am_history.specs.History.{replay, may_change, has_room}
 use Rattle.am_history.specs.Desks.{Origin, opening_of}
+use Rattle.am_laws.proofs.Numbers.{enough_numbers}
 use Rattle.am_machine.specs.Managed.{Holds}
 use Rattle.am_machine.proofs.Stored.{holds_more, from_inside}
 use Rattle.am_machine.proofs.manager.Manager.store.Goals as goal
@@ -32,3 +34,9 @@ invariant_of-self-in-Ok g c =
 -- so the history could have been made
 pub returns-in-Ok-clause-legal : goal.returns-in-Ok-clause-legal
 returns-in-Ok-clause-legal g c = (invariant_of-self-in-Ok g c).legal
+
+-- the live state is the one that the history leaves, so it has numbers for the call
+pub act-reply-requires-clause-numbers : goal.act-reply-requires-clause-numbers
+act-reply-requires-clause-numbers g c =
+    let origin : Origin = record { device = c.self.inside.opened.device; rows = no_rows; place = g.K.Keeper.place c.self.inside.keeper } in
+    subst HasNumbers c.self.invariant.replayed (enough_numbers origin c.self.inside.history.items c.self.invariant.few)

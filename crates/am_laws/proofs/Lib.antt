@@ -1,0 +1,14 @@
+pub mod Answered
+pub mod Tests
+pub mod Packages
+pub mod NextBroadcasts
+pub mod NextTokens
+pub mod Cases
+pub mod Requests
+pub mod Histories
+pub mod Openings
+pub mod NumberParts
+pub mod NumberSteps
+pub mod Numbers
+pub mod Moments
+pub mod Faults

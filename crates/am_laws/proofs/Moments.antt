@@ -1,0 +1,48 @@
+-- The last moment stays within its bound.
+use Rattle.std.proofs.Common.{ℕ, ◌≤◌, List, arith}
+use Rattle.am_types.specs.declared.history.Entry.{Entry}
+use Rattle.am_types.specs.declared.request.Request.{Request}
+use Rattle.am_history.specs.State.{State}
+use Rattle.am_history.specs.Steps.{moment_after, step}
+use Rattle.am_history.specs.History.{replay}
+use Rattle.am_history.specs.Desks.{Origin, opening_of}
+use Rattle.am_laws.proofs.Histories.{by_history}
+use Rattle.am_laws.proofs.Openings.{opening_leaves}
+use Rattle.am_laws.proofs.Requests.{Steps, step_leaves}
+
+-- the last moment of a state is at most 2^62
+abbrev HasMoment : State → Type 0
+HasMoment state = state.moment ≤ 4611686018427387904
+
+-- no step of a request changes it
+moment_stays : (state : State) (caller : ℕ) (request : Request) → HasMoment state → Steps HasMoment state caller request
+moment_stays state caller request here = record {
+  here = here;
+  started = λ uid intent source component found landed did is admits placed. here;
+  served = λ uid intent component found did is admits. here;
+  sent = λ sender intent permission ordered did unprotected. here;
+  ended = λ keeps. here;
+  unserved = λ keeps. here;
+  registered = λ filter permission. here;
+  taken_back = λ found. here;
+  finished = λ number answer holder asked is own. here;
+  got = λ left few. here;
+  changed = λ after left same one. one;
+  installed = λ text key manifest is name_unused key_unused room. here;
+  gone = λ uid. here;
+  stopped = λ uid. here;
+  granted = λ uid permission held live room. here;
+  linked = λ uid host approved live room. here;
+}
+
+-- an entry leaves it within its bound
+moment_more : (opening : State) (before : List Entry) (entry : Entry) → HasMoment (replay opening before) → HasMoment (step (replay opening before) before entry).1
+moment_more opening before entry here = step_leaves HasMoment (replay opening before) before entry due (λ kept. moment_stays _ entry.uid entry.request due)
+  where
+    due : moment_after (replay opening before) entry.now ≤ 4611686018427387904
+    due = omega arith
+
+-- so it is at most 2^62 after every history
+pub moments_fit : (origin : Origin) (history : List Entry) → (replay (opening_of origin) history).moment ≤ 4611686018427387904
+moments_fit origin history =
+    by_history (opening_of origin) (λ h state. HasMoment state) (opening_leaves HasMoment (λ state board uid same one. one) origin (omega arith)) (moment_more (opening_of origin)) history

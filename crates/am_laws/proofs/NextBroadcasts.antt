@@ -1,0 +1,85 @@
+-- The next number of a broadcast, whatever is done with broadcasts.
+use Rattle.std.proofs.Common.{◌≡◌, ℕ, ◌+◌, Bool, true, false, not, cond, List, [], ◌∷◌, ◌++◌, map, refl, ◌∙◌}
+use Rattle.std.specs.Prelude.{Option, Some, None, filter, ◌==◌}
+use Rattle.am_types.specs.declared.broadcast.Answer.{Answer}
+use Rattle.am_types.specs.declared.broadcast.Ordered.{Ordered}
+use Rattle.am_types.specs.declared.broadcast.Sending.{Sending}
+use Rattle.am_types.specs.declared.broadcast.Spot.{Spot}
+use Rattle.am_model.specs.Broadcasts as broadcasts
+use Rattle.am_model.specs.Broadcasts.{Broadcasts, InTurn, Delivery, Answered, queue_of, with_queue, settle, settle_both, late_head, is_head_due, expired_queue, expired, normals_keeping}
+use Rattle.am_model.specs.Sending as sending
+use Rattle.am_model.specs.Sending.{in_turn, with_sent, finished, answered_head, strike, unwanted}
+
+-- a queue is put in the place of another
+queue_keeps : (foreground : Bool) (queue : List InTurn) (all : Broadcasts) → (with_queue foreground queue all).next_broadcast ≡ all.next_broadcast
+queue_keeps true queue all = refl
+queue_keeps false queue all = refl
+
+-- a queue settles
+settle_keeps : (foreground : Bool) (now : ℕ) (all : Broadcasts) → (settle foreground now all).next_broadcast ≡ all.next_broadcast
+settle_keeps foreground now all = queue_keeps foreground _ all
+
+-- both queues settle
+both_keep : (now : ℕ) (all : Broadcasts) → (settle_both now all).next_broadcast ≡ all.next_broadcast
+both_keep now all = settle_keeps false now (settle true now all) ∙ settle_keeps true now all
+
+-- a deadline of a queue
+expired_queue_keeps : (foreground : Bool) (now : ℕ) (all : Broadcasts) → (expired_queue foreground now all).next_broadcast ≡ all.next_broadcast
+expired_queue_keeps foreground now all = by (is_head_due now (queue_of foreground all))
+  where
+    late : Broadcasts
+    late = with_queue foreground (late_head now (queue_of foreground all)) all
+
+    by : (due : Bool) → (cond due (settle foreground now late) all).next_broadcast ≡ all.next_broadcast
+    by true = settle_keeps foreground now late ∙ queue_keeps foreground (late_head now (queue_of foreground all)) all
+    by false = refl
+
+-- the passing of time
+pub expired_keeps : (all : Broadcasts) (now : ℕ) → (expired all now).next_broadcast ≡ all.next_broadcast
+expired_keeps all now = expired_queue_keeps false now (expired_queue true now all) ∙ expired_queue_keeps true now all
+
+-- receivers that are forgotten
+pub forget_keeps : (all : Broadcasts) (struck : Spot → Bool) (now : ℕ) → (sending.forget all struck now).next_broadcast ≡ all.next_broadcast
+forget_keeps all struck now = both_keep now left
+  where
+    left : Broadcasts
+    left = record all {
+      normal = normals_keeping (λ (delivery : Delivery). not (struck delivery.spot)) all.normal;
+      foreground = map (strike struck) all.foreground;
+      background = map (strike struck) all.background;
+    }
+
+-- an app that is forgotten
+pub forget_uid_keeps : (all : Broadcasts) (uid now : ℕ) → (sending.forget_uid all uid now).next_broadcast ≡ all.next_broadcast
+forget_uid_keeps all uid now = forget_keeps without (λ (spot : Spot). spot.uid == uid) now
+  where
+    without : Broadcasts
+    without = record all {
+      foreground = map (unwanted uid) all.foreground;
+      background = map (unwanted uid) all.background;
+      results = filter (λ (r : broadcasts.Result). not (r.sender == uid)) all.results;
+    }
+
+-- a delivery that is finished
+pub finished_keeps : (all : Broadcasts) (number : ℕ) (answer : Answer) (now : ℕ) → (finished all number answer now).next_broadcast ≡ all.next_broadcast
+finished_keeps all number answer now = both_keep now answered
+  where
+    answered : Broadcasts
+    answered = record all {
+      normal = normals_keeping (λ (delivery : Delivery). not (delivery.number == number)) all.normal;
+      foreground = answered_head number (Answered answer) all.foreground;
+      background = answered_head number (Answered answer) all.background;
+      results = filter (λ (r : broadcasts.Result). not (r.delivery == number)) all.results;
+    }
+
+-- one more broadcast
+pub sent_gives_one : (all : Broadcasts) (sent : Sending) (ordered : Option Ordered) → (with_sent all sent ordered).next_broadcast ≡ all.next_broadcast + 1
+sent_gives_one all sent None = refl
+sent_gives_one all sent (Some ordered) =
+    settle_keeps sent.foreground sent.now (with_queue sent.foreground queue numbered) ∙ queue_keeps sent.foreground queue numbered
+  where
+    numbered : Broadcasts
+    numbered = record all { next_broadcast = all.next_broadcast + 1 }
+
+    queue : List InTurn
+    queue = queue_of sent.foreground all ++ in_turn all.next_broadcast sent ordered ∷ []

@@ -1,0 +1,112 @@
+-- What holds of a device's own state, whatever is installed and given, holds of the state in which a manager begins.
+use Rattle.std.proofs.Common.{◌≡◌, ℕ, Bool, true, false, ◌&&◌, cond, List, [], ◌∷◌, ◌++◌, ◌==◌, refl, ◌∙◌}
+use Rattle.std.specs.Prelude.{Option, Some, None, Result, Ok, Err}
+use Rattle.std.specs.List.{fold, find}
+use Rattle.am_types.specs.declared.device.Device.{Device}
+use Rattle.am_types.specs.declared.device.Package.{Package}
+use Rattle.am_types.specs.declared.manifest.Manifest.{Manifest}
+use Rattle.am_types.specs.declared.manifest.ManifestFault.{ManifestFault}
+use Rattle.am_keeper.specs.declared.rows.PackageRow.{PackageRow}
+use Rattle.am_keeper.specs.declared.rows.GrantRow.{GrantRow}
+use Rattle.am_keeper.specs.declared.rows.LinkRow.{LinkRow}
+use Rattle.am_keeper.specs.declared.rows.Rows.{Rows}
+use Rattle.am_model.specs.Boards.{Board, is_package_uid, with_grant, with_link}
+use Rattle.am_model.specs.Texts.{is_same, lowered}
+use Rattle.am_manifest.specs.Manifests.{manifest_of}
+use Rattle.am_history.specs.State.{State, opening, uid_after, uids_of}
+use Rattle.am_history.specs.Packages.{no_uid, removed}
+use Rattle.am_history.specs.Opening.{place_package, kept_package, is_row_good, with_read, after_row, and_then_row, after_rows, after_grant, after_link, with_rights, has_too_many, unless_too_many, row_uids, completed, opened, opening_with}
+use Rattle.am_history.specs.Desks.{Origin, state_or, opening_of}
+
+-- no row of a grant or of a link changes packages or registered receivers
+pub record IsSameElse (board after : Board) : Type 0 where
+  pub packages : after.packages ≡ board.packages
+  pub registered : after.registered ≡ board.registered
+
+pub grant_rows_else : (board : Board) (rows : List GrantRow) → IsSameElse board (fold after_grant board rows)
+grant_rows_else board [] = record { packages = refl; registered = refl }
+grant_rows_else board (row ∷ rows) =
+    let rest = grant_rows_else (after_grant board row) rows in
+    let one = by (is_package_uid board.packages row.uid) in
+    record { packages = rest.packages ∙ one.packages; registered = rest.registered ∙ one.registered }
+  where
+    by : (b : Bool) → IsSameElse board (cond b (record board { grants = with_grant board.grants row.uid row.permission row.held }) board)
+    by true = record { packages = refl; registered = refl }
+    by false = record { packages = refl; registered = refl }
+
+pub link_rows_else : (board : Board) (rows : List LinkRow) → IsSameElse board (fold after_link board rows)
+link_rows_else board [] = record { packages = refl; registered = refl }
+link_rows_else board (row ∷ rows) =
+    let rest = link_rows_else (after_link board row) rows in
+    let one = by (is_package_uid board.packages row.uid && is_same (lowered row.host) row.host) in
+    record { packages = rest.packages ∙ one.packages; registered = rest.registered ∙ one.registered }
+  where
+    by : (b : Bool) → IsSameElse board (cond b (record board { links = with_link board.links row.uid row.host row.approved }) board)
+    by true = record { packages = refl; registered = refl }
+    by false = record { packages = refl; registered = refl }
+
+-- and so do both
+rights_else : (board : Board) (rows : Rows) → IsSameElse board (with_rights board rows)
+rights_else board rows =
+    let first = grant_rows_else board rows.grants in
+    let second = link_rows_else (fold after_grant board rows.grants) rows.links in
+    record { packages = second.packages ∙ first.packages; registered = second.registered ∙ first.registered }
+
+module _ (P : State → Type 0)
+    (stays : (state : State) (board : Board) (uid : ℕ) → board.registered ≡ state.board.registered → P state → P (record state { board = board; next_uid = uid })) where
+  -- a state that isn't refused
+  abbrev IfOpened : Result State (List ℕ) → Type 0
+  IfOpened (Ok state) = P state
+  IfOpened (Err name) = Unit {0}
+
+  -- a package row with its manifest
+  read_opened : (state : State) (row : PackageRow) (manifest : Result Manifest ManifestFault) → P state → IfOpened (with_read state row manifest)
+  read_opened state row (Err fault) here = tt
+  read_opened state row (Ok manifest) here = by (is_row_good state row manifest)
+    where
+      board : Board
+      board = record (state.board) { packages = place_package (kept_package row manifest) state.board.packages }
+
+      by : (good : Bool) → IfOpened (cond good (Ok (record state { board = board })) (Err row.name))
+      by true = stays state board state.next_uid refl here
+      by false = tt
+
+  -- a package row
+  row_opened : (state : State) (row : PackageRow) → P state → IfOpened (after_row state row)
+  row_opened state row here = by (row.uid == no_uid) row.gone
+    where
+      by : (none gone : Bool) → IfOpened (cond none (Err row.name) (cond gone (Ok (record state { board = removed state.board row.uid })) (with_read state row (manifest_of row.text))))
+      by true gone = tt
+      by false true = stays state (removed state.board row.uid) state.next_uid refl here
+      by false false = read_opened state row (manifest_of row.text) here
+
+  -- package rows, one after the other
+  rows_opened : (before : Result State (List ℕ)) (rows : List PackageRow) → IfOpened before → IfOpened (fold and_then_row before rows)
+  rows_opened before [] here = here
+  rows_opened before (row ∷ rows) here = rows_opened (and_then_row before row) rows (by before here)
+    where
+      by : (state : Result State (List ℕ)) → IfOpened state → IfOpened (and_then_row state row)
+      by (Err name) one = tt
+      by (Ok state) one = row_opened state row one
+
+  -- the packages were opened
+  all_opened : (device : Device) (rows : Rows) (state : Result State (List ℕ)) → IfOpened state → IfOpened (opened device rows state)
+  all_opened device rows (Err name) here = tt
+  all_opened device rows (Ok state) here = by (find (has_too_many (with_rights state.board rows)) (with_rights state.board rows).packages)
+    where
+      by : (found : Option Package) → IfOpened (unless_too_many (completed device rows state) found)
+      by None = stays state (with_rights state.board rows) (uid_after (uids_of device.packages ++ row_uids rows)) (rights_else state.board rows).registered here
+      by (Some owner) = tt
+
+  -- a device is opened with rows
+  opened_with : (device : Device) (rows : Rows) → P (opening device) → IfOpened (opening_with device rows)
+  unfolding opening_with
+  opened_with device rows here = all_opened device rows (after_rows (opening device) rows.packages) (rows_opened (Ok (opening device)) rows.packages here)
+
+  -- a manager begins
+  pub opening_leaves : (origin : Origin) → P (opening origin.device) → P (opening_of origin)
+  opening_leaves origin here = by (opening_with origin.device origin.rows) (opened_with origin.device origin.rows here)
+    where
+      by : (state : Result State (List ℕ)) → IfOpened state → P (state_or (opening origin.device) state)
+      by (Ok state) one = one
+      by (Err name) one = here

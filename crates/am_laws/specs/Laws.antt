@@ -1,0 +1,35 @@
+-- What holds in every state, and after every history.
+use Rattle.std.specs.Prelude.{◌≢◌, ℕ, ◌+◌, ◌≤◌, List, length}
+use Rattle.am_types.specs.declared.history.Entry.{Entry}
+use Rattle.am_types.specs.declared.request.Request.{Request}
+use Rattle.am_types.specs.declared.reply.Reply.TheVariants.{Refused}
+use Rattle.am_types.specs.declared.rule.Rule.TheVariants.{KeeperFault}
+use Rattle.am_history.specs.State.{State}
+use Rattle.am_history.specs.Steps.{act}
+use Rattle.am_history.specs.Desks.{Origin, opening_of}
+use Rattle.am_history.specs.History.{replay}
+use Rattle.am_history.specs.Numbers.{HasNumbersTo, HasNumbers}
+
+-- the state of a manager of that origin after a history
+abbrev pub state_after : Origin → List Entry → State
+state_after origin history = replay (opening_of origin) history
+
+-- every number that is given out next is at most one more than the number of entries
+abbrev pub NumbersFollow : Type 0
+NumbersFollow =
+    (origin : Origin) (history : List Entry) → HasNumbersTo (1 + length history) (state_after origin history)
+
+-- a history of at most 2^20 entries leaves numbers for a call
+abbrev pub NumbersSuffice : Type 0
+NumbersSuffice =
+    (origin : Origin) (history : List Entry) → length history ≤ 1048576 → HasNumbers (state_after origin history)
+
+-- the last moment is at most 2^62
+abbrev pub MomentsFit : Type 0
+MomentsFit = (origin : Origin) (history : List Entry) → (state_after origin history).moment ≤ 4611686018427387904
+
+-- no request is itself answered that its row couldn't be kept
+abbrev pub NoRequestFaults : Type 0
+NoRequestFaults =
+    (state : State) (before : List Entry) (caller : ℕ) (request : Request)
+    → (act state before caller request).0 ≢ Refused KeeperFault

@@ -1,0 +1,27 @@
+//! Laws of the definitions over every history. They have no code: each function does nothing, and its
+//! contract is the law.
+#![tactic(auto)]
+
+ghost use Rattle.am_laws.specs.Laws.{NumbersFollow, NumbersSuffice, MomentsFit, NoRequestFaults};
+
+/// After every history the numbers that are given out next are at most one more than the history's
+/// length, and so is the number of starts of each running service. Takes no memory.
+pub fn numbers_follow()
+    ensures { NumbersFollow }
+{}
+
+/// A history within its limit leaves numbers for a call. Takes no memory.
+pub fn numbers_suffice()
+    ensures { NumbersSuffice }
+{}
+
+/// The last moment is at most 2^62 milliseconds after every history. Takes no memory.
+pub fn moments_fit()
+    ensures { MomentsFit }
+{}
+
+/// No request is itself answered that its row couldn't be kept: that answer is the keeper's alone.
+/// Takes no memory.
+pub fn no_request_faults()
+    ensures { NoRequestFaults }
+{}

@@ -1,0 +1,24 @@
+//! Laws of who is reached, over every history. They have no code: each function does nothing, and its
+//! contract is the law.
+#![tactic(auto)]
+
+ghost use Rattle.am_laws_access.specs.Laws.{ReceiversAreAdmitted, InstancesAreAdmitted, ServicesAreAdmitted};
+
+/// After every history each receiver that has or had a broadcast was sent it by an entry of the
+/// history, and was admitted in the state in which that was done; of a pending intent that was sent
+/// the sender is its creator. Takes no memory.
+pub fn receivers_are_admitted()
+    ensures { ReceiversAreAdmitted }
+{}
+
+/// After every history each activity instance was made by an entry that started its component, and
+/// was given its intent by one, and the gate admitted both. Takes no memory.
+pub fn instances_are_admitted()
+    ensures { InstancesAreAdmitted }
+{}
+
+/// After every history each running service was started, first and last, by entries that the gate
+/// admitted. Takes no memory.
+pub fn services_are_admitted()
+    ensures { ServicesAreAdmitted }
+{}

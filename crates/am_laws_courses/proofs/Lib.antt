@@ -1,0 +1,4 @@
+pub mod Holders
+pub mod Courses
+pub mod CourseSteps
+pub mod Fold

@@ -1,0 +1,2 @@
+pub mod CastingLemmas
+pub mod PendingLemmas

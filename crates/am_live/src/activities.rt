@@ -1,0 +1,346 @@
+//! Starting and ending activities.
+ghost use Rattle.std.specs.Prelude.{◌≡◌, ◌≤◌, length, IfOk, OnErr};
+ghost use Rattle.am_model.specs.Gates.{verdict};
+ghost use Rattle.am_model.specs.Placement.{place};
+ghost use Rattle.am_model.specs.Receivers.{declared, or_rule, rule_of};
+ghost use Rattle.am_tasks.specs.Numbers.{HasNumbers as HasTaskNumbers};
+ghost use Rattle.am_history.specs.Activities.{after_place, back, caller_rule, end_rule, finish_activity, owned_rule, place_rule, source_rule, start, start_call, start_maybe, start_target};
+ghost use Rattle.am_history.specs.Answers.{for_admin};
+ghost use Rattle.am_history.specs.Numbers.{HasNumbers};
+ghost use Rattle.am_history.specs.State.{State};
+ghost use Rattle.am_history.specs.Steps.{at_moment};
+
+use crate::gate::gate;
+use crate::reads::components_of;
+use crate::{Live, callers};
+use am_resolve::Board;
+use am_tasks::Tasks;
+use am_types::{
+    Component, Decl, Intent, Kind, Limit, NoMemory, PlaceFault, Reply, Rule, StartCall, Steps,
+    Target, TaskFault,
+};
+use std::alloc::Global;
+use std::sync::ledger::Ledger;
+
+impl Live {
+    /// Starts an activity: the component that the intent names, or the one that it finds; if it finds
+    /// several of the greatest priority, none of them, and the reply names them. `source` is the instance
+    /// that starts it. The package of an activity that was placed isn't stopped any more. The call is at a
+    /// moment, in milliseconds, which is the last one then, and the deadlines that are due are handled.
+    /// A step is a full test of a filter, or a reading of a deadline. After `NoMemory` the state is as
+    /// before.
+    pub fn start<L: Ledger>(
+        &mut self,
+        caller: u32,
+        intent: &Intent,
+        source: Option<u64>,
+        moment: u64,
+        steps: &mut Steps<L>,
+    ) -> Result<Reply, NoMemory>
+        requires moment { moment ≤ 4611686018427387904 }
+        requires numbers { HasNumbers self.old }
+        ensures done { IfOk result (λ reply.
+            start (at_moment self.old moment) caller intent.now source ≡ (reply, self.new)) }
+        ensures same { OnErr result (self.new ≡ self.old) }
+    {
+        let reply = start(
+            self.alloc,
+            &mut self.board,
+            &mut self.tasks,
+            caller,
+            intent,
+            source,
+            steps,
+        )?;
+        self.settle(moment, steps);
+        Ok(reply)
+    }
+
+    /// Ends an activity instance, as its own uid, the system and the root may. The call is at a moment, in
+    /// milliseconds, which is the last one then, and the deadlines that are due are handled. A step is a
+    /// reading of a deadline. Takes no memory.
+    pub fn finish_activity<L: Ledger>(
+        &mut self,
+        caller: u32,
+        instance: u64,
+        moment: u64,
+        steps: &mut Steps<L>,
+    ) -> Reply
+        requires { moment ≤ 4611686018427387904 }
+        ensures { finish_activity (at_moment self.old moment) caller instance ≡ (result, self.new) }
+    {
+        let reply = finish_activity(&mut self.tasks, caller, instance);
+        self.settle(moment, steps);
+        reply
+    }
+
+    /// Goes back, as only the system and the root may: the instance that the user sees is ended, if there
+    /// is one. The call is at a moment, in milliseconds, which is the last one then, and the deadlines that
+    /// are due are handled. A step is a reading of a deadline. Takes no memory.
+    pub fn back<L: Ledger>(&mut self, caller: u32, moment: u64, steps: &mut Steps<L>) -> Reply
+        requires { moment ≤ 4611686018427387904 }
+        ensures { for_admin (at_moment self.old moment) caller (back (at_moment self.old moment))
+            ≡ (result, self.new) }
+    {
+        let reply = back(&mut self.tasks, caller);
+        self.settle(moment, steps);
+        reply
+    }
+}
+
+/// Starts the component that the intent names, or what it finds.
+#[tactic(auto, unfolding(am_history::specs::Activities::start))]
+fn start<L: Ledger>(
+    alloc: Global,
+    board: &mut Board,
+    tasks: &mut Tasks,
+    caller: u32,
+    intent: &Intent,
+    source: Option<u64>,
+    steps: &mut Steps<L>,
+) -> Result<Reply, NoMemory>
+    requires { HasTaskNumbers tasks.old }
+    ensures done { IfOk result (λ reply. (s : State) →
+        start (record s { board = board.old; tasks = tasks.old }) caller intent.now source
+        ≡ (reply, record s { board = board.new; tasks = tasks.new })) }
+    ensures count { length board.new.packages ≡ length board.old.packages }
+    ensures same_board { OnErr result (board.new ≡ board.old) }
+    ensures same_tasks { OnErr result (tasks.new ≡ tasks.old) }
+{
+    match &intent.component {
+        Some(component) => start_component(
+            board,
+            tasks,
+            caller,
+            intent,
+            source,
+            component,
+            Rule::NoComponent,
+        ),
+        None => {
+            let target = board.target(alloc, intent, steps)?;
+            start_target(alloc, board, tasks, caller, intent, source, target)
+        }
+    }
+}
+
+/// Starts the one target of an intent; of several none, if the caller may start one of them.
+fn start_target(
+    alloc: Global,
+    board: &mut Board,
+    tasks: &mut Tasks,
+    caller: u32,
+    intent: &Intent,
+    source: Option<u64>,
+    target: Target,
+) -> Result<Reply, NoMemory>
+    requires { HasTaskNumbers tasks.old }
+    ensures done { IfOk result (λ reply. (s : State) →
+        start_target (record s { board = board.old; tasks = tasks.old }) caller intent.now source target
+        ≡ (reply, record s { board = board.new; tasks = tasks.new })) }
+    ensures count { length board.new.packages ≡ length board.old.packages }
+    ensures same_board { OnErr result (board.new ≡ board.old) }
+    ensures same_tasks { OnErr result (tasks.new ≡ tasks.old) }
+{
+    match target {
+        Target::Nothing => Ok(Reply::Refused(Rule::NoActivity)),
+        Target::One(hit) => start_component(
+            board,
+            tasks,
+            caller,
+            intent,
+            source,
+            &hit.component,
+            Rule::NoActivity,
+        ),
+        Target::Choose(found) => match caller_rule(tasks, caller, intent, source) {
+            Some(rule) => {
+                drop(found);
+                Ok(Reply::Refused(rule))
+            }
+            None => {
+                let names = components_of(alloc, found)?;
+                Ok(Reply::Choose(names))
+            }
+        },
+    }
+}
+
+/// Starts the activity, or refuses by the rule `missing` if it isn't declared.
+fn start_component(
+    board: &mut Board,
+    tasks: &mut Tasks,
+    caller: u32,
+    intent: &Intent,
+    source: Option<u64>,
+    component: &Component,
+    missing: Rule,
+) -> Result<Reply, NoMemory>
+    requires { HasTaskNumbers tasks.old }
+    ensures done { IfOk result (λ reply. (s : State) →
+        start_maybe (record s { board = board.old; tasks = tasks.old }) caller intent.now source component.now missing
+        (declared board.old.packages Kind.Activity component.now)
+        ≡ (reply, record s { board = board.new; tasks = tasks.new })) }
+    ensures count { length board.new.packages ≡ length board.old.packages }
+    ensures same_board { OnErr result (board.new ≡ board.old) }
+    ensures same_tasks { OnErr result (tasks.new ≡ tasks.old) }
+{
+    let Some((uid, decl)) = board.declared(Kind::Activity, component) else {
+        return Ok(Reply::Refused(missing));
+    };
+    drop(missing);
+    match refusal(board, tasks, caller, source, uid, decl)? {
+        Some(rule) => Ok(Reply::Refused(rule)),
+        None => {
+            let call = start_call(caller, intent, source, component, uid, decl)?;
+            place(board, tasks, call)
+        }
+    }
+}
+
+/// The rule by which a start of a declared activity is refused before it is placed.
+fn refusal(
+    board: &Board,
+    tasks: &Tasks,
+    caller: u32,
+    source: Option<u64>,
+    uid: u32,
+    decl: &Decl,
+) -> Result<Option<Rule>, NoMemory>
+    ensures { IfOk result (λ rule. rule ≡ or_rule (source_rule tasks.now source)
+        (rule_of (verdict board.now.grants caller uid decl.now.exported decl.now.permission))) }
+{
+    match source_rule(tasks, source) {
+        Some(rule) => Ok(Some(rule)),
+        None => gate(board, caller, uid, decl),
+    }
+}
+
+/// The rule by which a start is refused whose source isn't there.
+fn source_rule(tasks: &Tasks, source: Option<u64>) -> Option<Rule>
+    ensures { result ≡ source_rule tasks.now source }
+{
+    match source {
+        Some(number) if tasks.owner(number).is_none() => Some(Rule::NoInstance),
+        _ => None,
+    }
+}
+
+/// The rule by which a start is refused whatever its target.
+fn caller_rule(tasks: &Tasks, caller: u32, intent: &Intent, source: Option<u64>) -> Option<Rule>
+    ensures { result ≡ caller_rule tasks.now caller intent.now source }
+{
+    match source {
+        None if intent.flags.new_task => None,
+        None => Some(Rule::NeedsNewTask),
+        Some(number) => owned_rule(caller, tasks.owner(number)),
+    }
+}
+
+/// The rule by which a start is refused whose source has that owner, or isn't there.
+fn owned_rule(caller: u32, owner: Option<u32>) -> Option<Rule>
+    ensures { result ≡ owned_rule caller owner }
+{
+    match owner {
+        None => Some(Rule::NoInstance),
+        Some(uid) if callers::is_privileged(caller) || caller == uid => None,
+        Some(_) => Some(Rule::NotYours),
+    }
+}
+
+/// The start of a declared activity that is to be placed.
+fn start_call(
+    caller: u32,
+    intent: &Intent,
+    source: Option<u64>,
+    component: &Component,
+    uid: u32,
+    decl: &Decl,
+) -> Result<StartCall, NoMemory>
+    ensures { IfOk result (λ call. call
+        ≡ start_call caller intent.now source component.now (uid, decl.now)) }
+{
+    let target = component.clone()?;
+    let affinity = decl.affinity.clone()?;
+    let kept = intent.clone()?;
+    Ok(StartCall {
+        target,
+        owner: uid,
+        caller,
+        mode: decl.mode,
+        affinity,
+        flags: intent.flags,
+        source,
+        intent: kept,
+    })
+}
+
+/// Places the start. The package of an activity that was placed isn't stopped any more.
+fn place(board: &mut Board, tasks: &mut Tasks, call: StartCall) -> Result<Reply, NoMemory>
+    requires { HasTaskNumbers tasks.old }
+    ensures done { IfOk result (λ reply. (s : State) →
+        after_place (record s { board = board.old; tasks = tasks.old }) call.owner (place tasks.old call)
+        ≡ (reply, record s { board = board.new; tasks = tasks.new })) }
+    ensures count { length board.new.packages ≡ length board.old.packages }
+    ensures same_board { OnErr result (board.new ≡ board.old) }
+    ensures same_tasks { OnErr result (tasks.new ≡ tasks.old) }
+{
+    let uid = call.owner;
+    match tasks.place(call) {
+        Ok(landed) => {
+            board.set_stopped(uid, false);
+            Ok(Reply::Placed(landed))
+        }
+        Err(PlaceFault::NoMemory) => Err(NoMemory),
+        Err(fault) => Ok(Reply::Refused(place_rule(fault))),
+    }
+}
+
+/// The rule by which a start isn't placed.
+fn place_rule(fault: PlaceFault) -> Rule
+    ensures { result ≡ place_rule fault }
+{
+    match fault {
+        PlaceFault::NoSource => Rule::NoInstance,
+        PlaceFault::NotYours => Rule::NotYours,
+        PlaceFault::NeedsNewTask => Rule::NeedsNewTask,
+        PlaceFault::TasksFull => Rule::OverLimit(Limit::Tasks),
+        PlaceFault::TaskFull | PlaceFault::NoMemory => Rule::OverLimit(Limit::Activities),
+    }
+}
+
+/// Ends an instance.
+#[tactic(auto, unfolding(am_history::specs::Activities::finish_activity))]
+fn finish_activity(tasks: &mut Tasks, caller: u32, instance: u64) -> Reply
+    ensures { (s : State) → finish_activity (record s { tasks = tasks.old }) caller instance
+        ≡ (result, record s { tasks = tasks.new }) }
+{
+    match tasks.finish(instance, caller) {
+        Ok(()) => Reply::Plain,
+        Err(fault) => Reply::Refused(end_rule(fault)),
+    }
+}
+
+/// The rule by which an instance isn't ended.
+fn end_rule(fault: TaskFault) -> Rule
+    ensures { result ≡ end_rule fault }
+{
+    match fault {
+        TaskFault::NoSource => Rule::NoInstance,
+        TaskFault::NotYours => Rule::NotYours,
+    }
+}
+
+/// Goes back, for the system and the root.
+#[tactic(auto, unfolding(am_history::specs::Activities::back))]
+fn back(tasks: &mut Tasks, caller: u32) -> Reply
+    ensures { (s : State) →
+        for_admin (record s { tasks = tasks.old }) caller (back (record s { tasks = tasks.old }))
+        ≡ (result, record s { tasks = tasks.new }) }
+{
+    if callers::is_privileged(caller) {
+        Reply::Finished(tasks.back())
+    } else {
+        Reply::Refused(Rule::AdminOnly)
+    }
+}

@@ -1,0 +1,217 @@
+//! Starting and stopping services.
+ghost use Rattle.std.specs.Prelude.{◌≡◌, ◌≤◌, false, length, All, IfOk, OnErr};
+ghost use Rattle.am_model.specs.Candidates.{hits};
+ghost use Rattle.am_model.specs.Receivers.{declared};
+ghost use Rattle.am_history.specs.Numbers.{HasNumbers};
+ghost use Rattle.am_history.specs.Services.{running, start_first, start_maybe, start_service, started, stop_service};
+ghost use Rattle.am_history.specs.State.{Service, State};
+ghost use Rattle.am_history.specs.Steps.{at_moment};
+
+use crate::Live;
+use crate::gate::gate;
+use am_resolve::Board;
+use am_services::Services;
+use am_types::{Component, Intent, Kind, Limit, NoMemory, Reply, Rule, Steps};
+use std::alloc::Global;
+use std::sync::ledger::Ledger;
+
+impl Live {
+    /// Starts a service: the component that the intent names, or the first that it finds in the package
+    /// that it names; an intent that names neither is refused. The package of a started service isn't
+    /// stopped any more. The call is at a moment, in milliseconds, which is the last one then, and the
+    /// deadlines that are due are handled. A step is a full test of a filter, or a reading of a deadline.
+    /// After `NoMemory` the state is as before.
+    pub fn start_service<L: Ledger>(
+        &mut self,
+        caller: u32,
+        intent: &Intent,
+        moment: u64,
+        steps: &mut Steps<L>,
+    ) -> Result<Reply, NoMemory>
+        requires moment { moment ≤ 4611686018427387904 }
+        requires numbers { HasNumbers self.old }
+        ensures done { IfOk result (λ reply.
+            start_service (at_moment self.old moment) caller intent.now ≡ (reply, self.new)) }
+        ensures same { OnErr result (self.new ≡ self.old) }
+    {
+        let reply = start_service(
+            self.alloc,
+            &mut self.board,
+            &mut self.services,
+            caller,
+            intent,
+            steps,
+        )?;
+        self.settle(moment, steps);
+        Ok(reply)
+    }
+
+    /// Stops a service that runs. The call is at a moment, in milliseconds, which is the last one then, and
+    /// the deadlines that are due are handled. A step is a reading of a deadline. After `NoMemory` the
+    /// state is as before.
+    pub fn stop_service<L: Ledger>(
+        &mut self,
+        caller: u32,
+        component: &Component,
+        moment: u64,
+        steps: &mut Steps<L>,
+    ) -> Result<Reply, NoMemory>
+        requires { moment ≤ 4611686018427387904 }
+        ensures done { IfOk result (λ reply.
+            stop_service (at_moment self.old moment) caller component.now ≡ (reply, self.new)) }
+        ensures same { OnErr result (self.new ≡ self.old) }
+    {
+        let reply = stop_service(&self.board, &mut self.services, caller, component)?;
+        self.settle(moment, steps);
+        Ok(reply)
+    }
+}
+
+/// Starts the component that the intent names, or the first that it finds in the package that it names.
+#[tactic(auto, unfolding(am_history::specs::Services::start_service))]
+fn start_service<L: Ledger>(
+    alloc: Global,
+    board: &mut Board,
+    services: &mut Services,
+    caller: u32,
+    intent: &Intent,
+    steps: &mut Steps<L>,
+) -> Result<Reply, NoMemory>
+    requires { All (λ (service : Service). service.starts ≤ 1125899906842624) services.old }
+    ensures done { IfOk result (λ reply. (s : State) →
+        start_service (record s { board = board.old; services = services.old }) caller intent.now
+        ≡ (reply, record s { board = board.new; services = services.new })) }
+    ensures count { length board.new.packages ≡ length board.old.packages }
+    ensures same_board { OnErr result (board.new ≡ board.old) }
+    ensures same_services { OnErr result (services.new ≡ services.old) }
+{
+    match (&intent.component, &intent.package) {
+        (Some(component), _) => start_component(
+            board,
+            services,
+            caller,
+            intent,
+            component,
+            Rule::NoComponent,
+        ),
+        (None, Some(_)) => start_first(alloc, board, services, caller, intent, steps),
+        (None, None) => Ok(Reply::Refused(Rule::ImplicitService)),
+    }
+}
+
+/// Starts the first service that the intent finds.
+fn start_first<L: Ledger>(
+    alloc: Global,
+    board: &mut Board,
+    services: &mut Services,
+    caller: u32,
+    intent: &Intent,
+    steps: &mut Steps<L>,
+) -> Result<Reply, NoMemory>
+    requires { All (λ (service : Service). service.starts ≤ 1125899906842624) services.old }
+    ensures done { IfOk result (λ reply. (s : State) →
+        start_first (record s { board = board.old; services = services.old }) caller intent.now
+        (hits board.old.packages Kind.Service intent.now false)
+        ≡ (reply, record s { board = board.new; services = services.new })) }
+    ensures count { length board.new.packages ≡ length board.old.packages }
+    ensures same_board { OnErr result (board.new ≡ board.old) }
+    ensures same_services { OnErr result (services.new ≡ services.old) }
+{
+    let found = board.query(alloc, Kind::Service, intent, false, steps)?;
+    match found.as_slice().first() {
+        None => Ok(Reply::Refused(Rule::NoService)),
+        Some(hit) => start_component(
+            board,
+            services,
+            caller,
+            intent,
+            &hit.component,
+            Rule::NoService,
+        ),
+    }
+}
+
+/// Starts the service, or refuses by the rule `missing` if it isn't declared.
+fn start_component(
+    board: &mut Board,
+    services: &mut Services,
+    caller: u32,
+    intent: &Intent,
+    component: &Component,
+    missing: Rule,
+) -> Result<Reply, NoMemory>
+    requires { All (λ (service : Service). service.starts ≤ 1125899906842624) services.old }
+    ensures done { IfOk result (λ reply. (s : State) →
+        start_maybe (record s { board = board.old; services = services.old }) caller intent.now component.now missing
+        (declared board.old.packages Kind.Service component.now)
+        ≡ (reply, record s { board = board.new; services = services.new })) }
+    ensures count { length board.new.packages ≡ length board.old.packages }
+    ensures same_board { OnErr result (board.new ≡ board.old) }
+    ensures same_services { OnErr result (services.new ≡ services.old) }
+{
+    let Some((uid, decl)) = board.declared(Kind::Service, component) else {
+        return Ok(Reply::Refused(missing));
+    };
+    drop(missing);
+    match gate(board, caller, uid, decl)? {
+        Some(rule) => Ok(Reply::Refused(rule)),
+        None => start_admitted(board, services, intent, component, uid),
+    }
+}
+
+/// Starts a service whose caller passed the gate. Its package isn't stopped any more.
+fn start_admitted(
+    board: &mut Board,
+    services: &mut Services,
+    intent: &Intent,
+    component: &Component,
+    uid: u32,
+) -> Result<Reply, NoMemory>
+    requires { All (λ (service : Service). service.starts ≤ 1125899906842624) services.old }
+    ensures done { IfOk result (λ reply. (s : State) →
+        started (record s { board = board.old; services = services.old }) intent.now component.now uid
+        (running services.old component.now)
+        ≡ (reply, record s { board = board.new; services = services.new })) }
+    ensures count { length board.new.packages ≡ length board.old.packages }
+    ensures same_board { OnErr result (board.new ≡ board.old) }
+    ensures same_services { OnErr result (services.new ≡ services.old) }
+{
+    if services.is_full_for(component) {
+        return Ok(Reply::Refused(Rule::OverLimit(Limit::Services)));
+    }
+    let name = component.clone()?;
+    let starts = services.start(component, uid, intent)?;
+    board.set_stopped(uid, false);
+    Ok(Reply::Started {
+        component: name,
+        starts,
+    })
+}
+
+/// Stops a service that runs.
+#[tactic(auto, unfolding(am_history::specs::Services::stop_service))]
+fn stop_service(
+    board: &Board,
+    services: &mut Services,
+    caller: u32,
+    component: &Component,
+) -> Result<Reply, NoMemory>
+    ensures done { IfOk result (λ reply. (s : State) →
+        stop_service (record s { board = board.now; services = services.old }) caller component.now
+        ≡ (reply, record s { board = board.now; services = services.new })) }
+    ensures same { OnErr result (services.new ≡ services.old) }
+{
+    let Some((uid, decl)) = board.declared(Kind::Service, component) else {
+        return Ok(Reply::Refused(Rule::NoComponent));
+    };
+    if !services.runs(component) {
+        return Ok(Reply::Refused(Rule::NoService));
+    }
+    match gate(board, caller, uid, decl)? {
+        Some(rule) => Ok(Reply::Refused(rule)),
+        None => {
+            services.stop(component);
+            Ok(Reply::Plain)
+        }
+    }
+}

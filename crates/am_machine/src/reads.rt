@@ -1,0 +1,153 @@
+//! What is read of the live state and of the history, also as time passes.
+ghost use Rattle.std.specs.Prelude.{◌≡◌, ◌≤◌, ℕ, false, if◌then◌else◌, IfOk, OnErr, IsOk, IsTrue};
+ghost use Rattle.am_types.specs.declared.reply.Reply.TheVariants.{Entries, Plain, Refused};
+ghost use Rattle.am_types.specs.declared.request.Request.TheVariants as asks;
+ghost use Rattle.am_types.specs.declared.rule.Rule.TheVariants.{AdminOnly};
+ghost use Rattle.am_model.specs.Broadcasts.{Broadcasts};
+ghost use Rattle.am_model.specs.Gates.{is_privileged};
+ghost use Rattle.am_history.specs.Steps.{act, at_moment, is_calm, is_changing, is_served, is_steady, page};
+ghost use Rattle.am_machine.specs.Subjects.{subject_of};
+
+use crate::history::page;
+use crate::subject::Subject;
+use am_live::Live;
+use am_types::{Entry, NoMemory, Reply, Request, Rule, Steps};
+use std::alloc::Global;
+use std::sync::ledger::Ledger;
+
+/// What a request is answered that changes nothing.
+pub(crate) fn read<L: Ledger>(
+    alloc: Global,
+    live: &Live,
+    history: &[Entry],
+    caller: u32,
+    request: &Request,
+    steps: &mut Steps<L>,
+) -> Result<Reply, NoMemory>
+    requires served { IsTrue (is_served request.now) }
+    requires reads { is_changing request.now ≡ false }
+    ensures { IfOk result (λ reply. act live.now history.now caller request.now ≡ (reply, live.now)) }
+{
+    match request {
+        Request::Inbox => {
+            let items = live.inbox(caller)?;
+            Ok(Reply::Items(items))
+        }
+        Request::Status => Ok(status(live, history, caller)),
+        _ => steady(alloc, live, history, caller, request, steps),
+    }
+}
+
+/// What a request is answered that changes nothing but by the time that passes: what is due at the moment is handled.
+/// After `NoMemory` the state is as before.
+pub(crate) fn read_at<L: Ledger>(
+    alloc: Global,
+    live: &mut Live,
+    history: &[Entry],
+    caller: u32,
+    moment: u64,
+    request: &Request,
+    steps: &mut Steps<L>,
+) -> Result<Reply, NoMemory>
+    requires subject { subject_of request.now ≡ Subject.Reads }
+    requires moment { moment ≤ 4611686018427387904 }
+    ensures done { IfOk result (λ reply.
+        act (at_moment live.old moment) history.now caller request.now ≡ (reply, live.new)) }
+    ensures same { OnErr result (live.new ≡ live.old) }
+    ensures calm { IsTrue (is_calm request.now) → IsOk result }
+{
+    match request {
+        Request::Inbox => {
+            let items = live.inbox_at(caller, moment, steps)?;
+            Ok(Reply::Items(items))
+        }
+        Request::Status => {
+            live.settle(moment, steps);
+            Ok(status(live, history, caller))
+        }
+        Request::Tick => {
+            live.settle(moment, steps);
+            Ok(tick(caller))
+        }
+        _ => {
+            let reply = steady(alloc, live, history, caller, request, steps)?;
+            live.settle(moment, steps);
+            Ok(reply)
+        }
+    }
+}
+
+/// The answer to a tick, which lets time pass and does nothing more.
+fn tick(caller: u32) -> Reply
+    ensures { result ≡ (if is_privileged caller then Plain else Refused AdminOnly) }
+{
+    if Live::is_privileged(caller) {
+        Reply::Plain
+    } else {
+        Reply::Refused(Rule::AdminOnly)
+    }
+}
+
+/// The length of the history, the moment and the number of packages, for the system and the root.
+fn status(live: &Live, history: &[Entry], caller: u32) -> Reply
+    ensures { act live.now history.now caller asks.Status ≡ (result, live.now) }
+{
+    if Live::is_privileged(caller) {
+        Reply::Status {
+            history: history.len() as u64,
+            moment: live.moment(),
+            packages: live.package_count(),
+        }
+    } else {
+        Reply::Refused(Rule::AdminOnly)
+    }
+}
+
+/// What a request is answered that changes nothing, and whose answer depends neither on broadcasts nor on
+/// the moment.
+fn steady<L: Ledger>(
+    alloc: Global,
+    live: &Live,
+    history: &[Entry],
+    caller: u32,
+    request: &Request,
+    steps: &mut Steps<L>,
+) -> Result<Reply, NoMemory>
+    requires { IsTrue (is_steady request.now) }
+    ensures { IfOk result (λ reply. (broadcasts : Broadcasts) (moment : ℕ) →
+        act (record live.now { broadcasts = broadcasts; moment = moment }) history.now caller request.now
+        ≡ (reply, record live.now { broadcasts = broadcasts; moment = moment })) }
+{
+    match request {
+        Request::Query {
+            kind,
+            intent,
+            default_only,
+        } => {
+            let found = live.query(*kind, intent, *default_only, steps)?;
+            Ok(Reply::Components(found))
+        }
+        Request::ListTasks => {
+            let tasks = live.tasks(caller)?;
+            Ok(Reply::Tasks(tasks))
+        }
+        Request::Services => {
+            let services = live.services(caller)?;
+            Ok(Reply::Services(services))
+        }
+        Request::History { from } => entries(alloc, history, caller, *from),
+        _ => unreachable!(),
+    }
+}
+
+/// A page of the history, for the system and the root.
+fn entries(alloc: Global, history: &[Entry], caller: u32, from: u64) -> Result<Reply, NoMemory>
+    ensures { IfOk result (λ reply. reply
+        ≡ (if is_privileged caller then Entries from (page history.now from) else Refused AdminOnly)) }
+{
+    if !Live::is_privileged(caller) {
+        return Ok(Reply::Refused(Rule::AdminOnly));
+    }
+    let entries = page(alloc, history, from)?;
+    Ok(Reply::Entries { from, entries })
+}

@@ -1,0 +1,110 @@
+//! Runs of the program over files, an input and sinks in memory.
+ghost use Rattle.std.specs.Prelude.{◌<◌};
+
+use am_outside::{FileBytes, MemoryFiles, MemorySink, MemorySource, StepClock};
+use am_shell::run;
+use am_types::{List, Text};
+use std::alloc::Global;
+use std::test::Fail;
+
+/// How the outside behaves: how many bytes a read and a write take at most, which call of which object fails, and
+/// the first moment that the clock tells, with how much later each further one is.
+#[derive(Clone, Copy)]
+pub struct Outside {
+    pub most: usize,
+    pub failing: &'static str,
+    pub call: u32,
+    pub at: u64,
+    pub step: u64,
+}
+
+/// Nothing fails, pieces are of seven bytes, and the moments are 0, 1, 2 and so on.
+pub const QUIET: Outside = Outside {
+    most: 7,
+    failing: "",
+    call: 1,
+    at: 0,
+    step: 1,
+};
+
+/// What a run leaves: its status, its output and its errors.
+#[derive(Drop)]
+pub struct Left {
+    pub status: u8,
+    pub output: MemorySink,
+    pub errors: MemorySink,
+}
+
+fn texts(alloc: Global, words: &str) -> Result<Vec<Text>, Fail> {
+    let mut all = Vec::new(alloc);
+    for word in words.split(' ') {
+        all.push(Text::of(alloc, word)?)?;
+    }
+    Ok(all)
+}
+
+/// The number of the failing call, if that object is to fail.
+fn failing(alloc: Global, object: &str, outside: &Outside) -> Result<List<u32>, Fail> {
+    let mut calls = Vec::new(alloc);
+    if object == outside.failing {
+        calls.push(outside.call)?;
+    }
+    Ok(List::new(calls))
+}
+
+/// The file `d`.
+fn shelf(alloc: Global, device: &str, outside: &Outside) -> Result<MemoryFiles, Fail> {
+    let name = Text::of(alloc, "d")?;
+    let bytes = List::new(device.as_bytes().to_vec(alloc)?);
+    let calls = failing(alloc, "files", outside)?;
+    let mut files = Vec::new(alloc);
+    files.push(FileBytes { name, bytes })?;
+    Ok(MemoryFiles::new(alloc, List::new(files), calls))
+}
+
+fn source(alloc: Global, input: &[u8], outside: &Outside) -> Result<MemorySource, Fail>
+    requires { 0 < outside.now.most }
+{
+    let calls = failing(alloc, "input", outside)?;
+    Ok(MemorySource::new(List::new(input.to_vec(alloc)?), outside.most, calls))
+}
+
+fn sink(alloc: Global, object: &str, room: usize, outside: &Outside) -> Result<MemorySink, Fail>
+    requires { 0 < outside.now.most }
+{
+    let calls = failing(alloc, object, outside)?;
+    Ok(MemorySink::new(alloc, room, outside.most, calls)?)
+}
+
+/// Runs the words over the device file `d` and the input.
+pub fn try_run(
+    alloc: Global,
+    words: &str,
+    device: &str,
+    input: &[u8],
+    outside: &Outside,
+) -> Result<Left, Fail>
+    requires { 0 < outside.now.most }
+{
+    let words = texts(alloc, words)?;
+    let mut files = shelf(alloc, device, outside)?;
+    let room = input.len().saturating_mul(8).saturating_add(65_536);
+    let mut output = sink(alloc, "output", room, outside)?;
+    let mut errors = sink(alloc, "errors", 4096, outside)?;
+    let mut input = source(alloc, input, outside)?;
+    let mut clock = StepClock::new(outside.at, outside.step);
+    let status = run(
+        alloc,
+        words.as_slice(),
+        &mut files,
+        &mut input,
+        &mut output,
+        &mut errors,
+        &mut clock,
+    );
+    Ok(Left {
+        status,
+        output,
+        errors,
+    })
+}

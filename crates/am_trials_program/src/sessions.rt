@@ -1,0 +1,95 @@
+//! Runs of the program, and how each ends.
+ghost use Rattle.std.specs.Prelude.{◌<◌};
+
+mod rows;
+
+use self::rows::ROWS;
+use crate::exchanges::EMPTY;
+use crate::runs::{Outside, QUIET, try_run};
+use crate::spelling::spelled_out;
+use am_trials_words::parts;
+use std::alloc::Global;
+use std::process::Abort;
+use std::test::Fail;
+
+/// The device file of that name.
+fn device_file(name: &str) -> &'static str {
+    match name {
+        "not_toml" => "x = ",
+        "keyless" => "package = []",
+        _ => EMPTY,
+    }
+}
+
+/// The first call of the object fails, if it is one.
+fn failing(object: &'static str) -> Outside
+    ensures { 0 < result.most }
+{
+    Outside {
+        failing: object,
+        ..QUIET
+    }
+}
+
+/// The object whose first call fails.
+fn object(name: &str) -> &'static str {
+    match name {
+        "files" => "files",
+        "input" => "input",
+        "output" => "output",
+        "errors" => "errors",
+        _ => "",
+    }
+}
+
+/// The status, and the errors.
+fn end(alloc: Global, end: &str) -> Result<(u8, Vec<u8>), Fail> {
+    let (status, line) = end.split_once(' ').ok_or("a line")?;
+    let status = status.parse::<u8>().ok().ok_or("a status")?;
+    let mut errors = text_of(alloc, line)?;
+    if !errors.is_empty() {
+        errors.push(b'\n')?;
+    }
+    Ok((status, errors))
+}
+
+/// The text that is spelled out; `-` is the empty one.
+fn text_of(alloc: Global, text: &str) -> Result<Vec<u8>, Fail> {
+    spelled_out(alloc, if text == "-" { "" } else { text })
+}
+
+/// Runs the row: what it ends with, its output and its errors are as the row has them.
+fn try_row(rt: &impl Abort, alloc: Global, row: &str) -> Result<(), Fail> {
+    let (run, input, rest) = parts(row);
+    let (device, run) = run.split_once(' ').ok_or("a device")?;
+    let (name, words) = run.split_once(' ').ok_or("words")?;
+    let (wanted, output) = rest.split_once(" | ").ok_or("an output")?;
+    let input = text_of(alloc, input)?;
+    let outside = failing(object(name));
+    let left = try_run(
+        alloc,
+        words,
+        device_file(device),
+        input.as_slice(),
+        &outside,
+    )?;
+    let (status, errors) = end(alloc, wanted)?;
+    let output = text_of(alloc, output)?;
+    assert_eq!(rt; left.status, status, "{row}");
+    assert_eq!(rt; left.output.taken(), output.as_slice(), "{row}");
+    assert_eq!(rt; left.errors.taken(), errors.as_slice(), "{row}");
+    Ok(())
+}
+
+#[test]
+fn ends_with_a_status(rt: HostRuntime) -> Result<(), Fail> {
+    let mut rows: u32 = 0;
+    for row in ROWS.lines() {
+        if !row.starts_with('#') {
+            try_row(&rt, rt.alloc(), row)?;
+            rows = rows.wrapping_add(1);
+        }
+    }
+    assert_eq!(rt; rows, 18);
+    Ok(())
+}

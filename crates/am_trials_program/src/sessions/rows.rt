@@ -1,0 +1,24 @@
+//! Runs: the device file `d`, the object of the outside whose first call fails, and the words; the input; the status and
+//! the line on the errors; and the output. `\r\n` stands for the end of a line, and `-` for nothing. A line that begins
+//! with `#` says what the next one shows.
+
+pub const ROWS: &str = r#"empty none session --device d | - | 0 - | -
+empty none session --device d | POST /v1/query HTTP/1.1\r\nAM-Key: k1\r\nContent-Length: 45\r\n\r\n{"intent":{"action":"a.X"},"kind":"activity"} | 0 - | HTTP/1.1 200 OK\r\nContent-Type: application/json\r\nContent-Length: 17\r\nAM-At: 0\r\nAM-Stored: 0\r\n\r\n{"components":[]}
+# The frame asks to close, so what follows isn't read as one.
+empty none session --device d | GET /v1/none HTTP/1.0\r\n\r\n\r\nno frame | 0 - | HTTP/1.1 404 Not Found\r\nContent-Type: application/json\r\nContent-Length: 20\r\n\r\n{"error":"no_route"}
+# No route, another method, a body that is no JSON: refused before the manager, and the connection goes on.
+empty none session --device d | GET /v1/none HTTP/1.1\r\n\r\nGET /v1/query HTTP/1.1\r\n\r\nPOST /v1/query HTTP/1.1\r\nContent-Length: 1\r\n\r\n{ | 0 - | HTTP/1.1 404 Not Found\r\nContent-Type: application/json\r\nContent-Length: 20\r\n\r\n{"error":"no_route"}HTTP/1.1 405 Method Not Allowed\r\nContent-Type: application/json\r\nContent-Length: 21\r\n\r\n{"error":"no_method"}HTTP/1.1 400 Bad Request\r\nContent-Type: application/json\r\nContent-Length: 41\r\n\r\n{"error":"bad_request","name":"not_json"}
+empty none session --device d | POST /v1/query | 1 am: session ended: cut | -
+empty none session --device d | POST\r\n\r\n | 1 am: session ended: refused | HTTP/1.1 400 Bad Request\r\nContent-Type: application/json\r\nContent-Length: 20\r\n\r\n{"error":"bad_head"}
+empty none session | POST /v1/query HTTP/1.1\r\nAM-Key: k1\r\nContent-Length: 45\r\n\r\n{"intent":{"action":"a.X"},"kind":"activity"} | 2 am: usage | -
+empty none session --device -d | POST /v1/query HTTP/1.1\r\nAM-Key: k1\r\nContent-Length: 45\r\n\r\n{"intent":{"action":"a.X"},"kind":"activity"} | 2 am: usage | -
+empty none session --device d more | POST /v1/query HTTP/1.1\r\nAM-Key: k1\r\nContent-Length: 45\r\n\r\n{"intent":{"action":"a.X"},"kind":"activity"} | 2 am: usage | -
+empty none serve --device d | POST /v1/query HTTP/1.1\r\nAM-Key: k1\r\nContent-Length: 45\r\n\r\n{"intent":{"action":"a.X"},"kind":"activity"} | 2 am: usage | -
+empty none session --device=d | POST /v1/query HTTP/1.1\r\nAM-Key: k1\r\nContent-Length: 45\r\n\r\n{"intent":{"action":"a.X"},"kind":"activity"} | 2 am: usage | -
+not_toml none session --device d | POST /v1/query HTTP/1.1\r\nAM-Key: k1\r\nContent-Length: 45\r\n\r\n{"intent":{"action":"a.X"},"kind":"activity"} | 3 am: device refused: not_toml | -
+keyless none session --device d | POST /v1/query HTTP/1.1\r\nAM-Key: k1\r\nContent-Length: 45\r\n\r\n{"intent":{"action":"a.X"},"kind":"activity"} | 3 am: device refused: missing system_key | -
+empty none session --device other | POST /v1/query HTTP/1.1\r\nAM-Key: k1\r\nContent-Length: 45\r\n\r\n{"intent":{"action":"a.X"},"kind":"activity"} | 4 am: file fault | -
+empty files session --device d | POST /v1/query HTTP/1.1\r\nAM-Key: k1\r\nContent-Length: 45\r\n\r\n{"intent":{"action":"a.X"},"kind":"activity"} | 4 am: file fault | -
+empty input session --device d | POST /v1/query HTTP/1.1\r\nAM-Key: k1\r\nContent-Length: 45\r\n\r\n{"intent":{"action":"a.X"},"kind":"activity"} | 5 am: read fault | -
+empty output session --device d | POST /v1/query HTTP/1.1\r\nAM-Key: k1\r\nContent-Length: 45\r\n\r\n{"intent":{"action":"a.X"},"kind":"activity"} | 6 am: write fault | -
+empty errors session | POST /v1/query HTTP/1.1\r\nAM-Key: k1\r\nContent-Length: 45\r\n\r\n{"intent":{"action":"a.X"},"kind":"activity"} | 6 - | -"#;
