@@ -1,7 +1,7 @@
 //! The activity manager of a simulated Android device, as a program.
 #![tactic(auto)]
 
-use am_shell::host::{ReaderSource, SystemClock, SystemFiles, WriterSink, read_words};
+use am_shell::host::{ReaderSource, SqlStore, SystemClock, SystemFiles, WriterSink, read_words};
 use am_shell::{run, tell_want};
 use std::process::ExitCode;
 
@@ -10,6 +10,7 @@ fn main(rt: HostRuntime) -> ExitCode {
     let mut input = ReaderSource::new(rt.stdin());
     let mut output = WriterSink::new(rt.stdout());
     let mut errors = WriterSink::new(rt.stderr());
+    let mut store = SqlStore::new(rt);
     let mut clock = SystemClock::new(rt);
     ExitCode::from(match read_words(&rt) {
         Err(_) => tell_want(&mut errors),
@@ -20,6 +21,7 @@ fn main(rt: HostRuntime) -> ExitCode {
             &mut input,
             &mut output,
             &mut errors,
+            &mut store,
             &mut clock,
         ),
     })

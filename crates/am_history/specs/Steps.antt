@@ -131,15 +131,6 @@ abbrev pub asks_keeper : State → List Entry → ℕ → Request → Bool
 asks_keeper state before caller request =
     if keeps_row request then (if is_refusal (act state before caller request).0 then false else true) else false
 
--- the manager serves the request today
-abbrev pub is_served : Request → Bool
-is_served (asks.Install text key) = false
-is_served (asks.Uninstall name) = false
-is_served (asks.Grant name permission held) = false
-is_served (asks.Link name host approved) = false
-is_served (asks.ForceStop name) = false
-is_served _ = true
-
 -- the request is of the form that a body is read as: an installation has an access key, and a link a host in lower case
 abbrev pub is_formed : Request → Bool
 is_formed (asks.Install text key) = is_access_key key

@@ -1,7 +1,6 @@
--- The requests that bodies make are those of their endpoints, and they are formed: an installation has an access key,
--- and a link a host in lower case.
+-- The requests that frames make are formed: an installation has an access key, and a link a host in lower case.
 use Rattle.std.proofs.Common.{◌≡◌, ℕ, ◌==◌, ◌&&◌, Bool, true, false, List, [], ◌∷◌, refl, sym, ap, ◌∙◌, subst, IsTrue, arith}
-use Rattle.std.specs.Prelude.{IfOk, Result, Ok, Err, Option, Some, None, codes, nat_lt, length, map, if◌then◌else◌}
+use Rattle.std.specs.Prelude.{IfOk, Result, Ok, Err, Option, Some, None, codes, nat_lt, length, if◌then◌else◌}
 use Rattle.serde_json.specs.Data.{Data}
 use Rattle.serde_json.specs.Find.{as_str}
 use Rattle.std.specs.Char.{to_ascii_lowercase}
@@ -30,43 +29,20 @@ use Rattle.am_wire.specs.Pendings.{pending_get_in, get_of, pending_send_in, pend
 use Rattle.am_wire.specs.Packages.{package_in, grant_fields, link_fields, key_of, key_in, install_in, uninstall_in, grant_in, link_in, force_stop_in}
 use Rattle.am_wire.specs.Words.{kind_of, pending_kind_of, pending_flags_of}
 use Rattle.am_wire.specs.Requests.{request_of as request_at, request_in, posted}
+use Rattle.am_wire_routes.specs.declared.routes.RouteFault.{RouteFault}
+use Rattle.am_wire_routes.specs.declared.routes.RouteFault.TheVariants as faults
+use Rattle.am_wire_routes.specs.Table.{endpoint_of}
+use Rattle.am_http.specs.Head.{Frame}
+use Rattle.am_http.specs.Requests.{request_of, request_or, asked_at}
 
--- the endpoint at which a request is asked
-abbrev pub endpoint_for : Request → Endpoint
-endpoint_for (asks.Query kind intent default_only) = at.Query
-endpoint_for (asks.Start intent source) = at.Start
-endpoint_for (asks.FinishActivity instance) = at.FinishActivity
-endpoint_for asks.Back = at.Back
-endpoint_for asks.ListTasks = at.ListTasks
-endpoint_for (asks.StartService intent) = at.StartService
-endpoint_for (asks.StopService component) = at.StopService
-endpoint_for asks.Services = at.Services
-endpoint_for (asks.Send intent permission ordered) = at.Send
-endpoint_for (asks.Register filter permission) = at.Register
-endpoint_for (asks.Unregister number) = at.Unregister
-endpoint_for asks.Inbox = at.Inbox
-endpoint_for (asks.Finish delivery answer) = at.Finish
-endpoint_for (asks.PendingGet kind code intent flags) = at.PendingGet
-endpoint_for (asks.PendingSend token fill) = at.PendingSend
-endpoint_for (asks.PendingCancel token) = at.PendingCancel
-endpoint_for (asks.PendingGive token name) = at.PendingGive
-endpoint_for (asks.Install text key) = at.Install
-endpoint_for (asks.Uninstall name) = at.Uninstall
-endpoint_for (asks.Grant name permission held) = at.Grant
-endpoint_for (asks.Link name host approved) = at.Link
-endpoint_for (asks.ForceStop name) = at.ForceStop
-endpoint_for asks.Tick = at.Tick
-endpoint_for (asks.History from) = at.History
-endpoint_for asks.Status = at.Status
+abbrev IsFormed : Request → Type 0
+IsFormed request = IsTrue (is_formed request)
 
--- the request is formed, and is asked at the endpoint
-abbrev pub Fits : Endpoint → Request → Type 0
-Fits endpoint request = IsTrue (is_formed request) × (endpoint_for request ≡ endpoint)
-
--- what holds of each value that a second step reads holds of what both read
-pub bound : {A B : Type 0} (P : B → Type 0) (read : Result A WireFault) (next : A → Result B WireFault) → ((x : A) → IfOk (next x) P) → IfOk (read >>= next) P
-bound P (Ok x) next h = h x
-bound P (Err fault) next h = tt
+-- a request that is made of a value that is read is formed, if what each value makes is
+bound : {A : Type 0} (read : Result A WireFault) (next : A → Result Request WireFault) → ((x : A) → IfOk (next x) IsFormed)
+    → IfOk (read >>= next) IsFormed
+bound (Ok x) next h = h x
+bound (Err fault) next h = tt
 
 -- a text is the same as itself
 same_text : (text : List ℕ) → is_same text text ≡ true
@@ -106,108 +82,114 @@ key_is_access_key (Some text) = by (length text == 0) (is_visible text) (nat_lt 
 
 -- a key that is read, and then an installation with it
 install_with_key : (text : List ℕ) (read : Result (List ℕ) WireFault) → IfOk read (λ key. IsTrue (is_access_key key))
-    → IfOk (read >>= (λ key. Ok (asks.Install text key))) (Fits at.Install)
+    → IfOk (read >>= (λ key. Ok (asks.Install text key))) IsFormed
 install_with_key text (Err fault) is = tt
-install_with_key text (Ok key) is = (is, refl)
+install_with_key text (Ok key) is = is
 
 -- an installation whose key is read of a field
 install_is_formed : (text : List ℕ) (read : Result Data WireFault)
-    → IfOk ((read >>= (λ found. key_of (as_str found))) >>= (λ key. Ok (asks.Install text key))) (Fits at.Install)
+    → IfOk ((read >>= (λ found. key_of (as_str found))) >>= (λ key. Ok (asks.Install text key))) IsFormed
 install_is_formed text (Err fault) = tt
 install_is_formed text (Ok found) = install_with_key text (key_of (as_str found)) (key_is_access_key (as_str found))
 
--- the request that a JSON value makes at an endpoint fits it
-value_fits : (endpoint : Endpoint) (value : Data) → IfOk (request_in endpoint value) (Fits endpoint)
+-- the request that a JSON value makes at an endpoint is formed
+value_is_formed : (endpoint : Endpoint) (value : Data) → IfOk (request_in endpoint value) IsFormed
 unfolding request_in query_in start_in finish_activity_in plain_in start_service_in stop_service_in send_in send_of register_in unregister_in finish_in finish_of pending_get_in get_of pending_send_in pending_cancel_in pending_give_in install_in key_in uninstall_in grant_in link_in force_stop_in history_in
-value_fits at.Query value =
-    bound (Fits at.Query) (fields_of query_fields value) _ (λ x0. bound (Fits at.Query) (kind_of value) _ (λ x1. bound (Fits at.Query) (required_intent (codes "intent") value) _ (λ x2. bound (Fits at.Query) (default_only_of value) _ (λ x3. (refl, refl)))))
-value_fits at.Start value =
-    bound (Fits at.Start) (fields_of (codes "intent" ∷ codes "source" ∷ []) value) _ (λ x0. bound (Fits at.Start) (required_intent (codes "intent") value) _ (λ x1. bound (Fits at.Start) (optional_natural (codes "source") value) _ (λ x2. (refl, refl))))
-value_fits at.FinishActivity value =
-    bound (Fits at.FinishActivity) (number_in (codes "instance") value) _ (λ x0. (refl, refl))
-value_fits at.Back value =
-    bound (Fits at.Back) (fields_of [] value) _ (λ x0. (refl, refl))
-value_fits at.ListTasks value = (refl, refl)
-value_fits at.StartService value =
-    bound (Fits at.StartService) (fields_of (codes "intent" ∷ []) value) _ (λ x0. bound (Fits at.StartService) (required_intent (codes "intent") value) _ (λ x1. (refl, refl)))
-value_fits at.StopService value =
-    bound (Fits at.StopService) (fields_of (codes "component" ∷ []) value) _ (λ x0. bound (Fits at.StopService) (required_component (codes "component") value) _ (λ x1. (refl, refl)))
-value_fits at.Services value = (refl, refl)
-value_fits at.Send value =
-    bound (Fits at.Send) (fields_of (send_fields (is_ordered value)) value) _ (λ x0. bound (Fits at.Send) (required_intent (codes "intent") value) _ (λ x1. bound (Fits at.Send) (optional_text Any 1024 (codes "permission") value) _ (λ x2. bound (Fits at.Send) (optional_truth (codes "ordered") value) _ (λ x3. bound (Fits at.Send) (ordered_if x3 value) _ (λ x4. (refl, refl))))))
-value_fits at.Register value =
-    bound (Fits at.Register) (fields_of register_fields value) _ (λ x0. bound (Fits at.Register) (required_filter (codes "filter") value) _ (λ x1. bound (Fits at.Register) (optional_text Any 1024 (codes "permission") value) _ (λ x2. (refl, refl))))
-value_fits at.Unregister value =
-    bound (Fits at.Unregister) (number_in (codes "number") value) _ (λ x0. (refl, refl))
-value_fits at.Inbox value = (refl, refl)
-value_fits at.Finish value =
-    bound (Fits at.Finish) (fields_of (finish_fields (sets_outcome value)) value) _ (λ x0. bound (Fits at.Finish) (required_natural (codes "delivery") value) _ (λ x1. bound (Fits at.Finish) (optional_truth (codes "abort") value) _ (λ x2. bound (Fits at.Finish) (outcome_if (sets_outcome value) value) _ (λ x3. (refl, refl)))))
-value_fits at.PendingGet value =
-    bound (Fits at.PendingGet) (fields_of (codes "kind" ∷ codes "code" ∷ codes "intent" ∷ codes "flags" ∷ []) value) _ (λ x0. bound (Fits at.PendingGet) (pending_kind_of value) _ (λ x1. bound (Fits at.PendingGet) (required_whole (codes "code") value) _ (λ x2. bound (Fits at.PendingGet) (required_intent (codes "intent") value) _ (λ x3. bound (Fits at.PendingGet) (pending_flags_of value) _ (λ x4. (refl, refl))))))
-value_fits at.PendingSend value =
-    bound (Fits at.PendingSend) (fields_of (codes "token" ∷ codes "fill" ∷ []) value) _ (λ x0. bound (Fits at.PendingSend) (required_natural (codes "token") value) _ (λ x1. bound (Fits at.PendingSend) (optional_intent (codes "fill") value) _ (λ x2. (refl, refl))))
-value_fits at.PendingCancel value =
-    bound (Fits at.PendingCancel) (number_in (codes "token") value) _ (λ x0. (refl, refl))
-value_fits at.PendingGive value =
-    bound (Fits at.PendingGive) (fields_of (codes "token" ∷ codes "package" ∷ []) value) _ (λ x0. bound (Fits at.PendingGive) (required_natural (codes "token") value) _ (λ x1. bound (Fits at.PendingGive) (required_text Any 1024 (codes "package") value) _ (λ x2. (refl, refl))))
-value_fits at.Install value =
-    bound (Fits at.Install) (fields_of (codes "manifest" ∷ codes "key" ∷ []) value) _ (λ x0.
-    bound (Fits at.Install) (required_text Any 65536 (codes "manifest") value) _ (λ text. install_is_formed text (required (codes "key") value)))
-value_fits at.Uninstall value =
-    bound (Fits at.Uninstall) (package_in value) _ (λ x0. (refl, refl))
-value_fits at.Grant value =
-    bound (Fits at.Grant) (fields_of grant_fields value) _ (λ x0. bound (Fits at.Grant) (required_text Any 1024 (codes "package") value) _ (λ x1. bound (Fits at.Grant) (required_text Any 1024 (codes "permission") value) _ (λ x2. bound (Fits at.Grant) (required_truth (codes "held") value) _ (λ x3. (refl, refl)))))
-value_fits at.Link value =
-    bound (Fits at.Link) (fields_of link_fields value) _ (λ x0. bound (Fits at.Link) (required_text Any 1024 (codes "package") value) _ (λ x1. bound (Fits at.Link) (required_text Any 1024 (codes "host") value) _ (λ x2. bound (Fits at.Link) (required_truth (codes "approved") value) _ (λ x3. (host_is_lowered x2, refl)))))
-value_fits at.ForceStop value =
-    bound (Fits at.ForceStop) (package_in value) _ (λ x0. (refl, refl))
-value_fits at.Tick value =
-    bound (Fits at.Tick) (fields_of [] value) _ (λ x0. (refl, refl))
-value_fits at.History value =
-    bound (Fits at.History) (number_in (codes "from") value) _ (λ x0. (refl, refl))
-value_fits at.Status value = (refl, refl)
+value_is_formed at.Query value =
+    bound (fields_of query_fields value) _ (λ x0. bound (kind_of value) _ (λ x1. bound (required_intent (codes "intent") value) _ (λ x2. bound (default_only_of value) _ (λ x3. refl))))
+value_is_formed at.Start value =
+    bound (fields_of (codes "intent" ∷ codes "source" ∷ []) value) _ (λ x0. bound (required_intent (codes "intent") value) _ (λ x1. bound (optional_natural (codes "source") value) _ (λ x2. refl)))
+value_is_formed at.FinishActivity value =
+    bound (number_in (codes "instance") value) _ (λ x0. refl)
+value_is_formed at.Back value =
+    bound (fields_of [] value) _ (λ x0. refl)
+value_is_formed at.ListTasks value = refl
+value_is_formed at.StartService value =
+    bound (fields_of (codes "intent" ∷ []) value) _ (λ x0. bound (required_intent (codes "intent") value) _ (λ x1. refl))
+value_is_formed at.StopService value =
+    bound (fields_of (codes "component" ∷ []) value) _ (λ x0. bound (required_component (codes "component") value) _ (λ x1. refl))
+value_is_formed at.Services value = refl
+value_is_formed at.Send value =
+    bound (fields_of (send_fields (is_ordered value)) value) _ (λ x0. bound (required_intent (codes "intent") value) _ (λ x1. bound (optional_text Any 1024 (codes "permission") value) _ (λ x2. bound (optional_truth (codes "ordered") value) _ (λ x3. bound (ordered_if x3 value) _ (λ x4. refl)))))
+value_is_formed at.Register value =
+    bound (fields_of register_fields value) _ (λ x0. bound (required_filter (codes "filter") value) _ (λ x1. bound (optional_text Any 1024 (codes "permission") value) _ (λ x2. refl)))
+value_is_formed at.Unregister value =
+    bound (number_in (codes "number") value) _ (λ x0. refl)
+value_is_formed at.Inbox value = refl
+value_is_formed at.Finish value =
+    bound (fields_of (finish_fields (sets_outcome value)) value) _ (λ x0. bound (required_natural (codes "delivery") value) _ (λ x1. bound (optional_truth (codes "abort") value) _ (λ x2. bound (outcome_if (sets_outcome value) value) _ (λ x3. refl))))
+value_is_formed at.PendingGet value =
+    bound (fields_of (codes "kind" ∷ codes "code" ∷ codes "intent" ∷ codes "flags" ∷ []) value) _ (λ x0. bound (pending_kind_of value) _ (λ x1. bound (required_whole (codes "code") value) _ (λ x2. bound (required_intent (codes "intent") value) _ (λ x3. bound (pending_flags_of value) _ (λ x4. refl)))))
+value_is_formed at.PendingSend value =
+    bound (fields_of (codes "token" ∷ codes "fill" ∷ []) value) _ (λ x0. bound (required_natural (codes "token") value) _ (λ x1. bound (optional_intent (codes "fill") value) _ (λ x2. refl)))
+value_is_formed at.PendingCancel value =
+    bound (number_in (codes "token") value) _ (λ x0. refl)
+value_is_formed at.PendingGive value =
+    bound (fields_of (codes "token" ∷ codes "package" ∷ []) value) _ (λ x0. bound (required_natural (codes "token") value) _ (λ x1. bound (required_text Any 1024 (codes "package") value) _ (λ x2. refl)))
+value_is_formed at.Install value =
+    bound (fields_of (codes "manifest" ∷ codes "key" ∷ []) value) _ (λ x0.
+    bound (required_text Any 65536 (codes "manifest") value) _ (λ text. install_is_formed text (required (codes "key") value)))
+value_is_formed at.Uninstall value =
+    bound (package_in value) _ (λ x0. refl)
+value_is_formed at.Grant value =
+    bound (fields_of grant_fields value) _ (λ x0. bound (required_text Any 1024 (codes "package") value) _ (λ x1. bound (required_text Any 1024 (codes "permission") value) _ (λ x2. bound (required_truth (codes "held") value) _ (λ x3. refl))))
+value_is_formed at.Link value =
+    bound (fields_of link_fields value) _ (λ x0. bound (required_text Any 1024 (codes "package") value) _ (λ x1. bound (required_text Any 1024 (codes "host") value) _ (λ x2. bound (required_truth (codes "approved") value) _ (λ x3. host_is_lowered x2))))
+value_is_formed at.ForceStop value =
+    bound (package_in value) _ (λ x0. refl)
+value_is_formed at.Tick value =
+    bound (fields_of [] value) _ (λ x0. refl)
+value_is_formed at.History value =
+    bound (number_in (codes "from") value) _ (λ x0. refl)
+value_is_formed at.Status value = refl
 
--- so does what a body makes whose value is read
-posted_fits : (endpoint : Endpoint) (body : List ℕ) → IfOk (posted endpoint body) (Fits endpoint)
+-- so is the one that a body makes whose value is read
+posted_is_formed : (endpoint : Endpoint) (body : List ℕ) → IfOk (posted endpoint body) IsFormed
 unfolding posted
-posted_fits endpoint body = bound (Fits endpoint) (value_of body) _ (λ value. value_fits endpoint value)
-
--- the request that a body makes at an endpoint fits it
-pub a_read_request_fits : (endpoint : Endpoint) (body : List ℕ) → IfOk (request_at endpoint body) (Fits endpoint)
-unfolding request_at
-a_read_request_fits at.ListTasks body = (refl, refl)
-a_read_request_fits at.Services body = (refl, refl)
-a_read_request_fits at.Inbox body = (refl, refl)
-a_read_request_fits at.Status body = (refl, refl)
-a_read_request_fits at.Query body = posted_fits at.Query body
-a_read_request_fits at.Start body = posted_fits at.Start body
-a_read_request_fits at.FinishActivity body = posted_fits at.FinishActivity body
-a_read_request_fits at.Back body = posted_fits at.Back body
-a_read_request_fits at.StartService body = posted_fits at.StartService body
-a_read_request_fits at.StopService body = posted_fits at.StopService body
-a_read_request_fits at.Send body = posted_fits at.Send body
-a_read_request_fits at.Register body = posted_fits at.Register body
-a_read_request_fits at.Unregister body = posted_fits at.Unregister body
-a_read_request_fits at.Finish body = posted_fits at.Finish body
-a_read_request_fits at.PendingGet body = posted_fits at.PendingGet body
-a_read_request_fits at.PendingSend body = posted_fits at.PendingSend body
-a_read_request_fits at.PendingCancel body = posted_fits at.PendingCancel body
-a_read_request_fits at.PendingGive body = posted_fits at.PendingGive body
-a_read_request_fits at.Install body = posted_fits at.Install body
-a_read_request_fits at.Uninstall body = posted_fits at.Uninstall body
-a_read_request_fits at.Grant body = posted_fits at.Grant body
-a_read_request_fits at.Link body = posted_fits at.Link body
-a_read_request_fits at.ForceStop body = posted_fits at.ForceStop body
-a_read_request_fits at.Tick body = posted_fits at.Tick body
-a_read_request_fits at.History body = posted_fits at.History body
-
--- what holds of all that fits an endpoint holds of what is read there
-pub read_fits : (P : Request → Type 0) (endpoint : Endpoint) (read : Result Request WireFault) → IfOk read (Fits endpoint)
-    → ((request : Request) → Fits endpoint request → P request) → IfOk read P
-read_fits P endpoint (Ok request) fits holds = holds request fits
-read_fits P endpoint (Err fault) fits holds = tt
+posted_is_formed endpoint body = bound (value_of body) _ (λ value. value_is_formed endpoint value)
 
 -- the request that a body makes at an endpoint is formed
-pub a_read_request_is_formed : (endpoint : Endpoint) (body : List ℕ) → IfOk (request_at endpoint body) (λ request. IsTrue (is_formed request))
-a_read_request_is_formed endpoint body =
-    read_fits (λ request. IsTrue (is_formed request)) endpoint (request_at endpoint body) (a_read_request_fits endpoint body) (λ request fits. fits.0)
+body_is_formed : (endpoint : Endpoint) (body : List ℕ) → IfOk (request_at endpoint body) IsFormed
+unfolding request_at
+body_is_formed at.ListTasks body = refl
+body_is_formed at.Services body = refl
+body_is_formed at.Inbox body = refl
+body_is_formed at.Status body = refl
+body_is_formed at.Query body = posted_is_formed at.Query body
+body_is_formed at.Start body = posted_is_formed at.Start body
+body_is_formed at.FinishActivity body = posted_is_formed at.FinishActivity body
+body_is_formed at.Back body = posted_is_formed at.Back body
+body_is_formed at.StartService body = posted_is_formed at.StartService body
+body_is_formed at.StopService body = posted_is_formed at.StopService body
+body_is_formed at.Send body = posted_is_formed at.Send body
+body_is_formed at.Register body = posted_is_formed at.Register body
+body_is_formed at.Unregister body = posted_is_formed at.Unregister body
+body_is_formed at.Finish body = posted_is_formed at.Finish body
+body_is_formed at.PendingGet body = posted_is_formed at.PendingGet body
+body_is_formed at.PendingSend body = posted_is_formed at.PendingSend body
+body_is_formed at.PendingCancel body = posted_is_formed at.PendingCancel body
+body_is_formed at.PendingGive body = posted_is_formed at.PendingGive body
+body_is_formed at.Install body = posted_is_formed at.Install body
+body_is_formed at.Uninstall body = posted_is_formed at.Uninstall body
+body_is_formed at.Grant body = posted_is_formed at.Grant body
+body_is_formed at.Link body = posted_is_formed at.Link body
+body_is_formed at.ForceStop body = posted_is_formed at.ForceStop body
+body_is_formed at.Tick body = posted_is_formed at.Tick body
+body_is_formed at.History body = posted_is_formed at.History body
+
+-- so is what was read, where it was read
+formed_or : (read : Result Request WireFault) (request : Request) → IfOk read IsFormed → request_or read ≡ Ok request → IsFormed request
+formed_or (Err fault) request formed is = absurd (cc)
+formed_or (Ok read) request formed is =
+    let same : read ≡ request = cc in
+    subst IsFormed same formed
+
+-- what is asked where a route was looked up is formed
+formed_at : (route : Result Endpoint RouteFault) (body : List ℕ) (request : Request) → asked_at route body ≡ Ok request → IsFormed request
+formed_at (Ok endpoint) body request is = formed_or (request_at endpoint body) request (body_is_formed endpoint body) is
+formed_at (Err faults.NoRoute) body request is = absurd (cc)
+formed_at (Err (faults.NoMethod endpoint)) body request is = absurd (cc)
+
+-- the request that a frame makes is formed
+pub a_read_request_is_formed : (frame : Frame) (request : Request) → request_of frame ≡ Ok request → IsTrue (is_formed request)
+a_read_request_is_formed frame request is = formed_at (endpoint_of frame.method frame.target) frame.body request is

@@ -7,7 +7,6 @@ pub mod NextLemmas
 pub mod Phrases
 pub mod SendLemmas
 pub mod FormedLemmas
-pub mod ServedLemmas
 pub mod SessionLemmas
 pub mod TurnLemmas
 pub mod WaitLemmas

@@ -15,7 +15,7 @@ use Rattle.am_http.specs.Framing.{IsFraming}
 use Rattle.am_http.specs.Frames.{Splits, Leaves, Drops}
 use Rattle.am_http.specs.Exchanges.{Exchange, AreAnswered, frames_of, bytes_of, moments_of}
 use Rattle.am_http.specs.Links.{Link, Midway, Server, Moments, Gives, rest_of, GoesOn, IsSameLink}
-use Rattle.am_http.specs.Sessions.{most_frames, most_bytes, GivesAtMost, StayOpen, MayGoOn, defect_text, Session, Going, Serves, Replies, IsUnasked, Stops}
+use Rattle.am_http.specs.Sessions.{most_frames, most_bytes, GivesAtMost, StayOpen, MayGoOn, defect_text, Session, Going, Serves, Replies, Stops}
 use Rattle.am_http.specs.Sending.{WritesPart}
 use Rattle.am_http.proofs.SendLemmas.{appends_trans, appends_none, appends_self}
 use Rattle.am_http.proofs.ExchangeLemmas.{stands, one_more, none_yet, all_more}

@@ -13,14 +13,13 @@ use Rattle.am_http.specs.declared.frame.Found.TheVariants as Spans
 use Rattle.am_http.specs.declared.answer.Answer.{Answer}
 use Rattle.am_http.specs.declared.answer.Answer.TheVariants.{Refused, Shown as Reply, Want}
 use Rattle.am_http.specs.Answering.{AnswersAt, AnswersFrame, Says}
-use Rattle.am_http.specs.Exchanges.{Exchange, Answered, refused_at_once, replied, wanted, wanted_late}
+use Rattle.am_http.specs.Exchanges.{Exchange, refused_at_once, replied, wanted, wanted_late}
 use Rattle.am_http.specs.FrameSpans.{outcome_at, frame_at}
 use Rattle.am_http.specs.Frames.{Drops}
 use Rattle.am_http.specs.Framing.{IsFraming}
 use Rattle.am_http.specs.Head.{Frame, empty, whole, refused, cut}
 use Rattle.am_http.specs.Sending.{WritesPart, Sends}
-use Rattle.am_http.specs.Links.{Link, Midway, Server, rest_of, Gives}
-use Rattle.am_http.specs.Requests.{request_of}
+use Rattle.am_http.specs.Links.{Midway, Server, rest_of}
 use Rattle.am_http.specs.Sessions.{Serves, Replies, FailsAtAnswer, HasDefect}
 use Rattle.am_http.specs.Windows.{Finds}
 use Rattle.am_http.proofs.FramingLemmas.{empty_only, whole_stays, whole_fits}

@@ -1,9 +1,8 @@
 -- What a frame asks of the manager, or why it doesn't reach it.
-use Rattle.std.specs.Prelude.{ℕ, Bool, true, false, List, length, Some, None, Result, Ok, Err, codes, if◌then◌else◌}
+use Rattle.std.specs.Prelude.{ℕ, List, length, Some, None, Result, Ok, Err, codes}
 use Rattle.am_types.specs.declared.request.Request.{Request}
 use Rattle.am_history.specs.Steps.{Call}
 use Rattle.am_wire_routes.specs.declared.endpoint.Endpoint.{Endpoint}
-use Rattle.am_wire_routes.specs.declared.endpoint.Endpoint.TheVariants as at
 use Rattle.am_wire_routes.specs.declared.routes.RouteFault.{RouteFault}
 use Rattle.am_wire_routes.specs.declared.routes.RouteFault.TheVariants as faults
 use Rattle.am_wire_routes.specs.Table.{endpoint_of}
@@ -15,24 +14,15 @@ use Rattle.am_http.specs.declared.answer.Refusal.TheVariants.{NoRoute, NoMethod,
 use Rattle.am_http.specs.Head.{Frame}
 use Rattle.am_http.specs.Responses.{refusal}
 
--- the manager serves what is asked at the endpoint
-abbrev pub is_open : Endpoint → Bool
-is_open at.Install = false
-is_open at.Uninstall = false
-is_open at.Grant = false
-is_open at.Link = false
-is_open at.ForceStop = false
-is_open _ = true
-
 -- the request that was read of a body, or the refusal of its first fault
 abbrev pub request_or : Result Request WireFault → Result Request Refusal
 request_or (Ok request) = Ok request
 request_or (Err fault) = Err (BadRequest fault)
 
--- the request that a body makes where a route was looked up; a route that isn't served is none
+-- the request that a body makes at the route that was looked up, or the refusal where there is none
 abbrev pub asked_at : Result Endpoint RouteFault → List ℕ → Result Request Refusal
-asked_at (Ok endpoint) body = if is_open endpoint then request_or (request_at endpoint body) else Err NoRoute
-asked_at (Err (faults.NoMethod endpoint)) body = if is_open endpoint then Err NoMethod else Err NoRoute
+asked_at (Ok endpoint) body = request_or (request_at endpoint body)
+asked_at (Err (faults.NoMethod endpoint)) body = Err NoMethod
 asked_at (Err faults.NoRoute) body = Err NoRoute
 
 -- the request that the frame makes, or why it makes none

@@ -2,12 +2,12 @@
 ghost use Rattle.std.specs.Prelude.{◌≡◌, ◌≤◌, length, IfOk, IsUtf8};
 ghost use Rattle.am_wire.specs.Requests.{request_of as request_at};
 ghost use Rattle.am_http.specs.FrameSpans.{frame_held};
-ghost use Rattle.am_http.specs.Requests.{is_open, request_of, request_or};
+ghost use Rattle.am_http.specs.Requests.{request_of, request_or};
 ghost use Rattle.am_http.specs.Answering.{AnswersAt, AnswersFrame};
 ghost use Rattle.am_http.specs.Links.{GoesOn};
 
 use crate::frame::WholeFrame;
-use am_machine::Desk;
+use am_desk::Desk;
 use am_outside::Clock;
 use am_types::{NoMemory, Request, Shown, Text};
 use am_wire::read_request;
@@ -38,20 +38,6 @@ pub enum Answer {
     Want,
 }
 
-// Whether the manager serves what is asked at the endpoint.
-fn is_open(endpoint: Endpoint) -> bool
-    ensures { result ≡ is_open endpoint }
-{
-    !matches!(
-        endpoint,
-        Endpoint::Install
-            | Endpoint::Uninstall
-            | Endpoint::Grant
-            | Endpoint::Link
-            | Endpoint::ForceStop
-    )
-}
-
 // The request that the body makes at the endpoint, or why it makes none.
 fn request_at(
     alloc: Global,
@@ -76,9 +62,9 @@ fn request_of(
     ensures { IfOk result (λ read. read ≡ request_of (frame_held frame.now)) }
 {
     match routes.route(frame.method, frame.target) {
-        Ok(endpoint) if is_open(endpoint) => request_at(alloc, endpoint, frame.body),
-        Err(RouteFault::NoMethod(endpoint)) if is_open(endpoint) => Ok(Err(Refusal::NoMethod)),
-        Ok(_) | Err(_) => Ok(Err(Refusal::NoRoute)),
+        Ok(endpoint) => request_at(alloc, endpoint, frame.body),
+        Err(RouteFault::NoMethod(_)) => Ok(Err(Refusal::NoMethod)),
+        Err(RouteFault::NoRoute) => Ok(Err(Refusal::NoRoute)),
     }
 }
 

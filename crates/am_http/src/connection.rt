@@ -11,7 +11,7 @@ use crate::frame::Found;
 use crate::reader::next_frame;
 use crate::send::{write_answer, write_defect};
 use crate::window::Window;
-use am_machine::Desk;
+use am_desk::Desk;
 use am_outside::{Clock, Sink, Source};
 use am_wire_routes::Routes;
 use std::alloc::Global;

@@ -1,12 +1,13 @@
 -- What holds of what is installed at every moment.
 use Rattle.std.specs.Prelude.{◌≤◌, List, length, All}
+use Rattle.std.specs.List.{IsDistinct}
 use Rattle.std.specs.List.Sorted.{IsStrictlyIncreasing, IsStrictlySortedBy}
 use Rattle.am_types.specs.declared.device.Device.{Device}
 use Rattle.am_types.specs.declared.device.Grant.{Grant}
 use Rattle.am_types.specs.declared.device.Link.{Link}
 use Rattle.am_types.specs.declared.device.Package.{Package}
 use Rattle.am_model.specs.Boards.{Board, board_of}
-use Rattle.am_model.specs.Sound.{AreDistinct, AreSoundPackages, IsSound, classes_of, names_of, right_cmp, rights_approved, rights_granted, uids_of}
+use Rattle.am_model.specs.Sound.{AreDistinct, IsSound, classes_of, names_of, right_cmp, rights_approved, rights_granted, uids_of}
 use Rattle.am_installed.specs.Places.{AreByNumber}
 
 -- a package has at most 256 components, of distinct classes
@@ -36,17 +37,18 @@ pub record IsInOrder (board : Board) : Type 0 where
   pub registered : AreByNumber board.registered
 
 -- packages of a sound device are installed
-pub sound_are_installed : (packages : List Package) → AreSoundPackages packages → AreInstalled packages
-sound_are_installed packages sound = record {
-  rising = sound.rising;
-  names = sound.names;
-  each = λ k d h. record { few = (sound.each k d h).few; classes = (sound.each k d h).classes };
+pub sound_are_installed : (device : Device) → IsSound device → AreInstalled device.packages
+unfolding IsDistinct
+sound_are_installed device sound = record {
+  rising = sound.packages.rising;
+  names = sound.names.1;
+  each = λ k d h. record { few = (sound.packages.each k d h).few; classes = (sound.packages.each k d h).classes };
 }
 
 -- what a sound device has stands in order
 pub sound_in_order : (device : Device) → IsSound device → IsInOrder (board_of device)
 sound_in_order device sound = record {
-  packages = sound_are_installed device.packages sound.packages;
+  packages = sound_are_installed device sound;
   grants = sound.grants.order;
   links = sound.links.order;
   registered = tt;

@@ -1,4 +1,4 @@
--- Each activity instance and each running service was started by entries that the gate admitted.
+-- Each activity instance and each start of a running service was made by an entry that the gate admitted.
 use Rattle.std.proofs.Common.{◌≡◌, ℕ, Bool, true, false, List, [], ◌∷◌, ◌++◌, refl, ◌∙◌}
 use Rattle.std.specs.Prelude.{All, Some}
 use Rattle.std.proofs.lemmas.List.Elements.{All-nil, All-same, All-weaker}
@@ -20,7 +20,8 @@ use Rattle.am_history.specs.Packages.{installed}
 use Rattle.am_history.specs.Steps.{after_due, step}
 use Rattle.am_history.specs.History.{replay}
 use Rattle.am_history.specs.Desks.{Origin, opening_of}
-use Rattle.am_laws.specs.Access.{Starts, Serves, deed_of, Once, IsStarted, IsServed, IsStartedByEntries, IsServedByEntries, OfInstances}
+use Rattle.am_laws.specs.Access.{Starts, Serves, deed_of, Once, IsStarted, IsServed, IsStartedByEntries, OfInstances}
+use Rattle.am_laws_access.specs.Starts.{IsStartedEachTime}
 use Rattle.am_laws.proofs.Histories.{by_history, once_before, once_now}
 use Rattle.am_laws_access.proofs.KnownComponents.{KnownInstance, KnownService, AreKnown, Known, known_among, known_kept, known_served, known_forgotten, known_start, known_placed}
 use Rattle.am_laws.proofs.Openings.{opening_leaves}
@@ -36,10 +37,11 @@ module _ (opening : State) (h : List Entry) (entry : Entry) where
     given = once_before opening h (IsStarted i.component i.owner i.intent) entry one.given;
   }
 
-  served_longer : (s : Service) → IsServedByEntries opening h s → IsServedByEntries opening (h ++ entry ∷ []) s
+  served_longer : (s : Service) → IsStartedEachTime opening h s → IsStartedEachTime opening (h ++ entry ∷ []) s
   served_longer s one = record {
-    made = once_before opening h (λ state deed. (intent : Intent) × IsServed s.component s.owner intent state deed) entry one.made;
-    given = once_before opening h (IsServed s.component s.owner s.intent) entry one.given;
+    earlier = one.earlier;
+    starts = (once_before opening h (IsServed s.component s.owner s.intent) entry one.starts.0, one.starts.1);
+    count = one.count;
   }
 
   known_longer : (packages : List Package) (all : Tasks) (services : List Service) → AreKnown opening h packages all services → AreKnown opening (h ++ entry ∷ []) packages all services
@@ -51,6 +53,11 @@ module _ (opening : State) (h : List Entry) (entry : Entry) where
         (λ s one. record { served = served_longer s one.served; owned = one.owned }) services known.services;
   }
 
+-- the entry that started a service came behind others, after which the services were known
+abbrev HasServed : State → List Entry → State → Component → ℕ → Intent → Type 0
+HasServed opening h state component owner intent =
+    (start : Once opening h (IsServed component owner intent)) × All (λ (s : Service). IsStartedEachTime opening start.before s) state.services
+
 -- what a request does is done by an entry
 abbrev HasDone : State → List Entry → State → ℕ → Request → Type 0
 HasDone opening h state caller request =
@@ -59,7 +66,7 @@ HasDone opening h state caller request =
     → Once opening h (IsStarted component found.0 intent))
     × ((uid : ℕ) (intent : Intent) (component : Component) (found : ℕ × Decl) → deed_of state caller request ≡ Some (Serves uid intent)
     → declared state.board.packages kinds.Service component ≡ Some found → verdict state.board.grants uid found.0 found.1.exported found.1.permission ≡ Admit
-    → Once opening h (IsServed component found.0 intent))
+    → HasServed opening h state component found.0 intent)
 
 module _ (opening : State) (h : List Entry) (state : State) (known : Known opening h state) where
   -- who was installed still is when a package is stopped or not any more
@@ -78,7 +85,8 @@ module _ (opening : State) (h : List Entry) (state : State) (known : Known openi
     served = λ uid intent component found did is admits.
         known_among opening h state.board.packages (with_stopped state.board.packages found.0 false) state.tasks _ (awake found.0 false)
         (known_start opening h state.board.packages state.tasks state.services component found.0 intent
-        (declared_named state.board.packages kinds.Service component found is) (done.1 uid intent component found did is admits) known);
+        (declared_named state.board.packages kinds.Service component found is) (done.1 uid intent component found did is admits).0
+        (done.1 uid intent component found did is admits).1 known);
     sent = λ sender intent permission ordered did unprotected. known;
     ended = λ keeps. known_kept opening h state.board.packages state.tasks state.services keeps known;
     unserved = λ keeps. known_served opening h state.board.packages state.tasks state.services keeps known;
@@ -119,13 +127,15 @@ module _ (opening : State) where
         λ uid intent component found is declared admits.
             once_now opening before (IsStarted component found.0 intent) entry (Starts uid intent) kept is
             (record { caller = uid; is = refl; decl = found.1; declared = declared; admitted = admits }),
-        λ uid intent component found is declared admits.
-            once_now opening before (IsServed component found.0 intent) entry (Serves uid intent) kept is
-            (record { caller = uid; is = refl; decl = found.1; declared = declared; admitted = admits }),
+        λ uid intent component found is declared admits. (
+          once_now opening before (IsServed component found.0 intent) entry (Serves uid intent) kept is
+              (record { caller = uid; is = refl; decl = found.1; declared = declared; admitted = admits }),
+          All-weaker (KnownService opening before due.board.packages) (IsStartedEachTime opening before) (λ s one. one.served) due.services here.services,
+        ),
       )
 
 -- after every history all instances and services are known
-all_known : (origin : Origin) (history : List Entry) → Known (opening_of origin) history (replay (opening_of origin) history)
+pub all_known : (origin : Origin) (history : List Entry) → Known (opening_of origin) history (replay (opening_of origin) history)
 all_known origin history =
     by_history (opening_of origin) (Known (opening_of origin)) begins (known_more (opening_of origin)) history
   where
@@ -157,9 +167,9 @@ instances_are_admitted origin history =
     tasks_follow (KnownInstance (opening_of origin) history state.board.packages known.of state.tasks.next_instance) (IsStartedByEntries (opening_of origin) history)
     state.tasks.tasks (λ i one. one.started) known.instances
 
--- and so was each running service
-pub services_are_admitted : (origin : Origin) (history : List Entry) → All (IsServedByEntries (opening_of origin) history) (replay (opening_of origin) history).services
+-- and so was each running service, as often as it was started
+pub services_are_admitted : (origin : Origin) (history : List Entry) → All (IsStartedEachTime (opening_of origin) history) (replay (opening_of origin) history).services
 services_are_admitted origin history =
     let state = replay (opening_of origin) history in
-    All-weaker (KnownService (opening_of origin) history state.board.packages) (IsServedByEntries (opening_of origin) history) (λ s one. one.served)
+    All-weaker (KnownService (opening_of origin) history state.board.packages) (IsStartedEachTime (opening_of origin) history) (λ s one. one.served)
     state.services (all_known origin history).services

@@ -1,5 +1,5 @@
 -- Instances and services of which it is known by which entries they were started, and in which packages.
-use Rattle.std.proofs.Common.{◌≡◌, ℕ, ◌+◌, ◌<◌, ◌≤◌, Bool, true, false, not, cond, eqb, List, refl, sym, ap, ◌∙◌, subst, arith}
+use Rattle.std.proofs.Common.{◌≡◌, ℕ, ◌+◌, ◌<◌, ◌≤◌, Bool, true, false, not, cond, eqb, List, [], ◌∷◌, length, refl, sym, ap, ◌∙◌, subst, arith}
 use Rattle.std.specs.Prelude.{All, Option, Some, None, Ok, filter, ◌==◌}
 use Rattle.std.proofs.lemmas.Bool.{eqb-true}
 use Rattle.std.proofs.lemmas.List.Elements.{All-push, All-map, All-weaker}
@@ -15,7 +15,8 @@ use Rattle.am_model.specs.Placement.{carried_out, fresh, place}
 use Rattle.am_model.proofs.PlacementLaws.{plan_for, place_carries_out}
 use Rattle.am_history.specs.State.{State, Service}
 use Rattle.am_history.specs.Services.{is_service, running, restarted, with_start}
-use Rattle.am_laws.specs.Access.{Deed, Once, IsStarted, IsServed, IsStartedByEntries, IsServedByEntries, OfInstances}
+use Rattle.am_laws.specs.Access.{Deed, Once, IsStarted, IsServed, IsStartedByEntries, OfInstances}
+use Rattle.am_laws_access.specs.Starts.{AreStarts, IsStartedEachTime}
 use Rattle.am_laws_access.proofs.Owners.{uid_named}
 use Rattle.am_laws.proofs.Tests.{unless_true}
 use Rattle.am_laws_access.proofs.Placed.{Makes, next_keeps, next_makes, same_component, kept_pass, tasks_kept, tasks_follow, placed_of}
@@ -30,7 +31,7 @@ module _ (opening : State) (h : List Entry) where
 
   -- a service of the package of its component's name
   pub record KnownService (packages : List Package) (s : Service) : Type 0 where
-    pub served : IsServedByEntries opening h s
+    pub served : IsStartedEachTime opening h s
     pub owned : uid_named packages s.component.«package» ≡ Some s.owner
 
   -- all instances and services are known
@@ -92,43 +93,46 @@ module _ (opening : State) (h : List Entry) where
   same_uid : (packages : List Package) (name : List ℕ) (first second : ℕ) → uid_named packages name ≡ Some first → uid_named packages name ≡ Some second → first ≡ second
   same_uid packages name first second one other = let e : Some first ≡ Some second = sym one ∙ other in cc
 
-  -- a service is started
+  -- a service is started by an entry behind others, after which the services were known
   pub known_start : (packages : List Package) (all : Tasks) (services : List Service) (component : Component) (owner : ℕ) (intent : Intent)
-      → uid_named packages component.«package» ≡ Some owner → Once opening h (IsServed component owner intent)
+      → uid_named packages component.«package» ≡ Some owner → (start : Once opening h (IsServed component owner intent))
+      → All (λ (s : Service). IsStartedEachTime opening start.before s) services
       → AreKnown packages all services → AreKnown packages all (with_start services component owner intent (running services component))
-  known_start packages all services component owner intent is once known =
+  known_start packages all services component owner intent is start before known =
       record { of = known.of; instances = known.instances; services = by (running services component) }
     where
-      again : (s : Service) → KnownService packages s → (b : Bool) → is_service component s ≡ b
+      -- started once more
+      more : (s : Service) → component ≡ s.component → owner ≡ s.owner → IsStartedEachTime opening start.before s
+          → IsStartedEachTime opening h (record s { intent = intent; starts = s.starts + 1 })
+      more s same owned one =
+          let was : AreStarts opening h component owner (intent ∷ s.intent ∷ one.earlier) = (
+            start,
+            subst (λ (u : ℕ). AreStarts opening start.before component u (s.intent ∷ one.earlier)) (sym owned)
+                (subst (λ (c : Component). AreStarts opening start.before c s.owner (s.intent ∷ one.earlier)) (sym same) one.starts),
+          ) in
+          record {
+            earlier = s.intent ∷ one.earlier;
+            starts = subst (λ (u : ℕ). AreStarts opening h s.component u (intent ∷ s.intent ∷ one.earlier)) owned
+                (subst (λ (c : Component). AreStarts opening h c owner (intent ∷ s.intent ∷ one.earlier)) same was);
+            count = let counted : s.starts ≡ length (s.intent ∷ one.earlier) = one.count in omega arith;
+          }
+
+      again : (s : Service) → KnownService packages s × IsStartedEachTime opening start.before s → (b : Bool) → is_service component s ≡ b
           → KnownService packages (cond b (record s { intent = intent; starts = s.starts + 1 }) s)
       again s one true test =
           let same : component ≡ s.component = same_component component s.component test in
           let named : uid_named packages s.component.«package» ≡ Some owner = subst (λ (c : Component). uid_named packages c.«package» ≡ Some owner) same is in
-          let owned : owner ≡ s.owner = same_uid packages s.component.«package» owner s.owner named one.owned in
-          let given : Once opening h (IsServed s.component s.owner intent) =
-          subst (λ (u : ℕ). Once opening h (IsServed s.component u intent)) owned (subst (λ (c : Component). Once opening h (IsServed c owner intent)) same once) in
-          record { served = record { made = one.served.made; given = given }; owned = one.owned }
-      again s one false test = one
+          record { served = more s same (same_uid packages s.component.«package» owner s.owner named one.0.owned) one.1; owned = one.0.owned }
+      again s one false test = one.0
 
       by : (found : Option Service) → All (KnownService packages) (with_start services component owner intent found)
       by (Some service) =
           All-map (KnownService packages) (restarted component intent) services
-          (All-weaker (KnownService packages) (λ (s : Service). KnownService packages (restarted component intent s)) (λ s one. again s one (is_service component s) refl) services known.services)
+          (All-weaker (λ (s : Service). KnownService packages s × IsStartedEachTime opening start.before s) (λ (s : Service). KnownService packages (restarted component intent s))
+          (λ s one. again s one (is_service component s) refl) services (λ k d below. (known.services k d below, before k d below)))
       by None =
           All-push (KnownService packages) services (record { component = component; owner = owner; intent = intent; starts = 1 }) known.services
-          (record { served = record { made = first; given = once }; owned = is })
-        where
-          first : Once opening h (λ (state : State) (deed : Deed). (i : Intent) × IsServed component owner i state deed)
-          first = record {
-            before = once.before;
-            at = once.at;
-            after = once.after;
-            splits = once.splits;
-            kept = once.kept;
-            deed = once.deed;
-            did = once.did;
-            holds = (intent, once.holds);
-          }
+          (record { served = record { earlier = []; starts = (start, tt); count = refl }; owned = is })
 
   -- an activity is started
   pub known_placed : (packages : List Package) (all : Tasks) (services : List Service) (call : StartCall) (landed : Landed × Tasks)

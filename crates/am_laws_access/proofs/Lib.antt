@@ -5,3 +5,4 @@ pub mod Receivers
 pub mod BroadcastSteps
 pub mod AccessOfComponents
 pub mod AccessOfReceivers
+pub mod Intents

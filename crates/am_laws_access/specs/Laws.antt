@@ -1,9 +1,12 @@
 -- Who is reached was admitted.
-use Rattle.std.specs.Prelude.{List, All}
+use Rattle.std.specs.Prelude.{List, [], ◌∷◌, ◌++◌, ◌⊎◌, All}
 use Rattle.am_types.specs.declared.history.Entry.{Entry}
 use Rattle.am_history.specs.Desks.{Origin, opening_of}
-use Rattle.am_laws.specs.Access.{AreSentByEntries, IsStartedByEntries, IsServedByEntries, OfInstances}
+use Rattle.am_history.specs.Steps.{after_due}
+use Rattle.am_laws.specs.Access.{AreSentByEntries, IsStartedByEntries, OfInstances}
 use Rattle.am_laws.specs.Laws.{state_after}
+use Rattle.am_laws_access.specs.Starts.{IsStartedEachTime}
+use Rattle.am_laws_access.specs.Intents.{IsAmong, IsGivenBy}
 
 -- each receiver that has or had a broadcast was sent it by an entry, and was admitted then
 abbrev pub ReceiversAreAdmitted : Type 0
@@ -17,8 +20,18 @@ InstancesAreAdmitted =
     (origin : Origin) (history : List Entry)
     → OfInstances (IsStartedByEntries (opening_of origin) history) (state_after origin history).tasks.tasks
 
--- each running service was started, first and last, by starts that the gate admitted
+-- each activity instance that there is after an entry, with its intent, was there before, or was given that intent by
+-- the entry, by a start that the gate admitted
+abbrev pub IntentsAreAdmitted : Type 0
+IntentsAreAdmitted =
+    (origin : Origin) (history : List Entry) (entry : Entry)
+    → OfInstances
+    (λ i. IsAmong (state_after origin history).tasks.tasks i
+    ⊎ IsGivenBy (after_due (state_after origin history) entry.now) entry i)
+    (state_after origin (history ++ entry ∷ [])).tasks.tasks
+
+-- each running service was started as often as it says, each time by an entry that the gate admitted
 abbrev pub ServicesAreAdmitted : Type 0
 ServicesAreAdmitted =
     (origin : Origin) (history : List Entry)
-    → All (IsServedByEntries (opening_of origin) history) (state_after origin history).services
+    → All (IsStartedEachTime (opening_of origin) history) (state_after origin history).services

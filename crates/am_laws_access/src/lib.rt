@@ -2,7 +2,7 @@
 //! contract is the law.
 #![tactic(auto)]
 
-ghost use Rattle.am_laws_access.specs.Laws.{ReceiversAreAdmitted, InstancesAreAdmitted, ServicesAreAdmitted};
+ghost use Rattle.am_laws_access.specs.Laws.{ReceiversAreAdmitted, InstancesAreAdmitted, IntentsAreAdmitted, ServicesAreAdmitted};
 
 /// After every history each receiver that has or had a broadcast was sent it by an entry of the
 /// history, and was admitted in the state in which that was done; of a pending intent that was sent
@@ -17,8 +17,15 @@ pub fn instances_are_admitted()
     ensures { InstancesAreAdmitted }
 {}
 
-/// After every history each running service was started, first and last, by entries that the gate
-/// admitted. Takes no memory.
+/// After every history each entry gives an activity instance an intent, a first or a new one, only by
+/// starting its component, and the gate admits that. Takes no memory.
+pub fn intents_are_admitted()
+    ensures { IntentsAreAdmitted }
+{}
+
+/// After every history each running service was started by as many entries, one after the other, as
+/// its starts are counted; the gate admitted each of them, and the last gave its intent. Takes no
+/// memory.
 pub fn services_are_admitted()
     ensures { ServicesAreAdmitted }
 {}

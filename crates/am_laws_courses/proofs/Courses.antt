@@ -1,18 +1,17 @@
--- What holds of each ordered broadcast and of each result holds of them whatever is done with broadcasts.
-use Rattle.std.proofs.Common.{◌≡◌, ℕ, ◌+◌, Bool, true, false, not, cond, List, [], ◌∷◌, ◌++◌, length, map, refl}
+-- What holds of each ordered broadcast and of each result holds when queues settle, and what follows a change of each holds
+-- when time passes, when a delivery is finished, when receivers are forgotten and when a broadcast is sent.
+use Rattle.std.proofs.Common.{◌≡◌, ℕ, ◌+◌, Bool, true, false, not, cond, List, [], ◌∷◌, ◌++◌, length, map, refl, sym, ap, subst}
 use Rattle.std.specs.Prelude.{All, Option, Some, None, filter, ◌==◌}
 use Rattle.std.proofs.lemmas.List.Elements.{All-nil, All-cons, All-head, All-tail, All-push, All-append, All-map, All-filter, All-weaker}
 use Rattle.am_types.specs.declared.broadcast.Spot.{Spot}
+use Rattle.am_types.specs.declared.broadcast.Answer.{Answer}
 use Rattle.am_types.specs.declared.broadcast.Ordered.{Ordered}
 use Rattle.am_types.specs.declared.broadcast.Sending.{Sending}
-use Rattle.am_model.specs.Broadcasts.{Broadcasts, InTurn, Delivery, Current, Result, Late, Gone, no_broadcasts, span, outcome_of, result_of, dispatched, with_results, Settled, settled, queue_of, with_queue, settle, settle_both, is_over, turn, is_late, late_head, is_head_due, expired_queue, normals_keeping, expired}
+use Rattle.am_model.specs.Broadcasts.{Broadcasts, InTurn, Delivery, Current, Result, Late, Answered, span, outcome_of, result_of, dispatched, with_results, Settled, settled, queue_of, with_queue, settle, settle_both, is_over, turn, is_late, late_head, is_head_due, expired_queue, normals_keeping, expired}
 use Rattle.am_model.specs.Sending as sending
-use Rattle.am_model.specs.Sending.{in_turn, with_sent, answered_head, finished, strike_rest, strike_from, strike, unwanted}
+use Rattle.am_model.specs.Sending.{in_turn, with_sent, is_current, answered_head, finished, strike, unwanted}
 use Rattle.am_laws_courses.specs.Fold.{OfCourses}
-
--- no broadcast
-pub no_courses : (C : InTurn → Type 0) (R : Result → Type 0) → OfCourses C R no_broadcasts
-no_courses C R = record { foreground = All-nil C; background = All-nil C; results = All-nil R }
+use Rattle.am_laws_courses.proofs.Order.{OnlyHead, AreInOrder, turning, late_turns, answer_turns, unwanted_of}
 
 -- what follows
 pub courses_follow : (C D : InTurn → Type 0) (R S : Result → Type 0) (all : Broadcasts) → ((b : InTurn) → C b → D b) → ((r : Result) → R r → S r)
@@ -23,14 +22,13 @@ courses_follow C D R S all turns results of = record {
   results = All-weaker R S results all.results of.results;
 }
 
-module _ (C : InTurn → Type 0) (R : Result → Type 0)
-    (gives : (b : InTurn) (current : Option Current) → C b → C (record b { current = current }))
-    (late : (b : InTurn) → C b → C (turn Late b))
-    (gone : (b : InTurn) → C b → C (turn Gone b))
-    (strikes : (struck : Spot → Bool) (b : InTurn) → C b → C (strike_rest struck b))
-    (unwants : (b : InTurn) → C b → C (record b { wanted = false }))
-    (ends : (b : InTurn) (delivery : ℕ) → C b → is_over b ≡ true → b.wanted ≡ true
-    → R (record { delivery = delivery; broadcast = b.number; sender = b.sender; outcome = outcome_of b })) where
+-- what holds of a broadcast without a delivery holds when it is given one, and of one that ends follows what holds of its result
+pub record Settling (C : InTurn → Type 0) (R : Result → Type 0) : Type 0 where
+  pub gives : (b : InTurn) (current : Current) → b.current ≡ None → C b → C (record b { current = Some current })
+  pub ends : (b : InTurn) (delivery : ℕ) → C b → is_over b ≡ true → b.wanted ≡ true
+      → R (record { delivery = delivery; broadcast = b.number; sender = b.sender; outcome = outcome_of b })
+
+module _ (C : InTurn → Type 0) (R : Result → Type 0) (settling : Settling C R) where
   -- a queue that settled
   record SettlesIn (after : Settled) : Type 0 where
     pub queue : All C after.queue
@@ -49,106 +47,40 @@ module _ (C : InTurn → Type 0) (R : Result → Type 0)
 
       ended : is_over head ≡ true → (wanted : Bool) → head.wanted ≡ wanted
           → All R (cond wanted (record { delivery = next; broadcast = head.number; sender = head.sender; outcome = outcome_of head } ∷ []) [])
-      ended over true wanted = All-cons R (record { delivery = next; broadcast = head.number; sender = head.sender; outcome = outcome_of head }) [] (ends head next first over wanted) (All-nil R)
+      ended over true wanted =
+          All-cons R (record { delivery = next; broadcast = head.number; sender = head.sender; outcome = outcome_of head }) [] (settling.ends head next first over wanted) (All-nil R)
       ended over false wanted = All-nil R
 
-      given : (current : Option Current) → SettlesIn (dispatched next deadline head others current)
-      given (Some current) = record { queue = all; results = All-nil R }
-      given None = record {
-        queue = All-cons C (record head { current = Some (record { number = next; deadline = deadline }) }) others (gives head (Some (record { number = next; deadline = deadline })) first) (All-tail C head others all);
+      given : (current : Option Current) → head.current ≡ current → SettlesIn (dispatched next deadline head others current)
+      given (Some current) has = record { queue = all; results = All-nil R }
+      given None has = record {
+        queue = All-cons C (record head { current = Some (record { number = next; deadline = deadline }) }) others
+            (settling.gives head (record { number = next; deadline = deadline }) has first) (All-tail C head others all);
         results = All-nil R;
       }
 
       by : (over : Bool) → is_over head ≡ over → SettlesIn (settled (next + length left) deadline others)
           → SettlesIn (cond over (with_results left (settled (next + length left) deadline others)) (dispatched next deadline head others head.current))
       by true over rest = record { queue = rest.queue; results = All-append R left (settled (next + length left) deadline others).results (ended over head.wanted refl) rest.results }
-      by false over rest = given head.current
+      by false over rest = given head.current refl
+
+  -- one of the two queues settles, whatever holds of the other
+  pub settle_foreground : (now : ℕ) (all : Broadcasts) → All C all.foreground → All R all.results → All C (settle true now all).foreground × All R (settle true now all).results
+  settle_foreground now all front results =
+      let after = settled_in_course all.next_delivery (now + span true) all.foreground front in (after.queue, All-append R all.results _ results after.results)
+
+  pub settle_background : (now : ℕ) (all : Broadcasts) → All C all.background → All R all.results → All C (settle false now all).background × All R (settle false now all).results
+  settle_background now all back results =
+      let after = settled_in_course all.next_delivery (now + span false) all.background back in (after.queue, All-append R all.results _ results after.results)
 
   settle_courses : (foreground : Bool) (now : ℕ) (all : Broadcasts) → OfCourses C R all → OfCourses C R (settle foreground now all)
   settle_courses true now all of =
-      let after = settled_in_course all.next_delivery (now + span true) all.foreground of.foreground in
-      record { foreground = after.queue; background = of.background; results = All-append R all.results _ of.results after.results }
+      let after = settle_foreground now all of.foreground of.results in record { foreground = after.0; background = of.background; results = after.1 }
   settle_courses false now all of =
-      let after = settled_in_course all.next_delivery (now + span false) all.background of.background in
-      record { foreground = of.foreground; background = after.queue; results = All-append R all.results _ of.results after.results }
+      let after = settle_background now all of.background of.results in record { foreground = of.foreground; background = after.0; results = after.1 }
 
   pub both_courses : (now : ℕ) (all : Broadcasts) → OfCourses C R all → OfCourses C R (settle_both now all)
   both_courses now all of = settle_courses false now (settle true now all) (settle_courses true now all of)
-
-  -- the passing of time
-  late_courses : (now : ℕ) (queue : List InTurn) → All C queue → All C (late_head now queue)
-  late_courses now [] all = all
-  late_courses now (head ∷ others) all = by (is_late now head.current)
-    where
-      by : (b : Bool) → All C (cond b (turn Late head ∷ others) (head ∷ others))
-      by true = All-cons C (turn Late head) others (late head (All-head C head others all)) (All-tail C head others all)
-      by false = all
-
-  expired_queue_courses : (foreground : Bool) (now : ℕ) (all : Broadcasts) → OfCourses C R all → OfCourses C R (expired_queue foreground now all)
-  expired_queue_courses foreground now all of = by (is_head_due now (queue_of foreground all)) (passed foreground)
-    where
-      passed : (b : Bool) → OfCourses C R (with_queue b (late_head now (queue_of b all)) all)
-      passed true = record { foreground = late_courses now all.foreground of.foreground; background = of.background; results = of.results }
-      passed false = record { foreground = of.foreground; background = late_courses now all.background of.background; results = of.results }
-
-      by : (due : Bool) → OfCourses C R (with_queue foreground (late_head now (queue_of foreground all)) all)
-          → OfCourses C R (cond due (settle foreground now (with_queue foreground (late_head now (queue_of foreground all)) all)) all)
-      by true after = settle_courses foreground now (with_queue foreground (late_head now (queue_of foreground all)) all) after
-      by false after = of
-
-  pub expired_courses : (all : Broadcasts) (now : ℕ) → OfCourses C R all → OfCourses C R (expired all now)
-  expired_courses all now of =
-      let after = expired_queue_courses false now (expired_queue true now all) (expired_queue_courses true now all of) in
-      record { foreground = after.foreground; background = after.background; results = after.results }
-
-  -- receivers that are struck
-  strike_course : (struck : Spot → Bool) (b : InTurn) (rest : List Spot) (current : Option Current) → C b → C (strike_from struck b rest current)
-  strike_course struck b rest None one = strikes struck b one
-  strike_course struck b [] (Some current) one = one
-  strike_course struck b (spot ∷ rest) (Some current) one = by (struck spot)
-    where
-      by : (test : Bool) → C (cond test (strike_rest struck (turn Gone b)) (strike_rest struck b))
-      by true = strikes struck (turn Gone b) (gone b one)
-      by false = strikes struck b one
-
-  strike_courses : (struck : Spot → Bool) (queue : List InTurn) → All C queue → All C (map (strike struck) queue)
-  strike_courses struck queue all =
-      All-map C (strike struck) queue (All-weaker C (λ (b : InTurn). C (strike struck b)) (λ b one. strike_course struck b b.rest b.current one) queue all)
-
-  pub forget_courses : (all : Broadcasts) (struck : Spot → Bool) (now : ℕ) → OfCourses C R all → OfCourses C R (sending.forget all struck now)
-  forget_courses all struck now of =
-      both_courses now left (record { foreground = strike_courses struck all.foreground of.foreground; background = strike_courses struck all.background of.background; results = of.results })
-    where
-      left : Broadcasts
-      left = record all {
-        normal = normals_keeping (λ (d : Delivery). not (struck d.spot)) all.normal;
-        foreground = map (strike struck) all.foreground;
-        background = map (strike struck) all.background;
-      }
-
-  -- a sender that wants no result any more
-  unwanted_courses : (uid : ℕ) (queue : List InTurn) → All C queue → All C (map (unwanted uid) queue)
-  unwanted_courses uid queue all =
-      All-map C (unwanted uid) queue (All-weaker C (λ (b : InTurn). C (unwanted uid b)) (λ b one. by b one (b.sender == uid)) queue all)
-    where
-      by : (b : InTurn) → C b → (same : Bool) → C (cond same (record b { wanted = false }) b)
-      by b one true = unwants b one
-      by b one false = one
-
-  pub forget_uid_courses : (all : Broadcasts) (uid now : ℕ) → OfCourses C R all → OfCourses C R (sending.forget_uid all uid now)
-  forget_uid_courses all uid now of =
-      forget_courses without (λ (spot : Spot). spot.uid == uid) now (record {
-        foreground = unwanted_courses uid all.foreground of.foreground;
-        background = unwanted_courses uid all.background of.background;
-        results = All-filter (λ (r : Result). not (r.sender == uid)) R all.results of.results;
-      })
-    where
-      without : Broadcasts
-      without = record all {
-        foreground = map (unwanted uid) all.foreground;
-        background = map (unwanted uid) all.background;
-        results = filter (λ (r : Result). not (r.sender == uid)) all.results;
-      }
 
   -- one more broadcast
   pub sent_courses : (all : Broadcasts) (sent : Sending) (ordered : Option Ordered) → ((o : Ordered) → ordered ≡ Some o → C (in_turn all.next_broadcast sent o))
@@ -166,3 +98,103 @@ module _ (C : InTurn → Type 0) (R : Result → Type 0)
       by : (b : Bool) → OfCourses C R (with_queue b (queue_of b all ++ one ∷ []) numbered)
       by true = record { foreground = All-push C all.foreground one of.foreground (begun ordered refl); background = of.background; results = of.results }
       by false = record { foreground = of.foreground; background = All-push C all.background one of.background (begun ordered refl); results = of.results }
+
+-- a change of each broadcast of a queue
+changed : (C D : InTurn → Type 0) (f : InTurn → InTurn) (queue left : List InTurn) → left ≡ map f queue → ((b : InTurn) → C b → D (f b)) → All C queue → All D left
+changed C D f queue left is change all = subst (All D) (sym is) (All-map D f queue (All-weaker C (λ (b : InTurn). D (f b)) change queue all))
+
+module _ (C D : InTurn → Type 0) (R : Result → Type 0) (settling : Settling D R) where
+  -- the passing of time: each whose delivery is due passes its receiver over
+  late_queue : (foreground : Bool) (now : ℕ) (all : Broadcasts) → OnlyHead (queue_of foreground all)
+      → ((b : InTurn) → C b → D (turning (is_late now) Late b)) → All C (queue_of foreground all) → All R all.results
+      → All D (queue_of foreground (expired_queue foreground now all)) × All R (expired_queue foreground now all).results
+  late_queue foreground now all only late queue results =
+      by (is_head_due now (queue_of foreground all)) refl
+      (passed foreground (changed C D (turning (is_late now) Late) (queue_of foreground all) (late_head now (queue_of foreground all)) (late_turns now (queue_of foreground all) only) late queue))
+    where
+      left : Broadcasts
+      left = with_queue foreground (late_head now (queue_of foreground all)) all
+
+      -- a queue whose head isn't due is as it was
+      stays : (q : List InTurn) → is_head_due now q ≡ false → late_head now q ≡ q
+      stays [] is = refl
+      stays (head ∷ others) is = ap (λ (test : Bool). cond test (turn Late head ∷ others) (head ∷ others)) is
+
+      passed : (b : Bool) → All D (late_head now (queue_of b all))
+          → All D (late_head now (queue_of b all))
+          × (All D (queue_of b (settle b now (with_queue b (late_head now (queue_of b all)) all))) × All R (settle b now (with_queue b (late_head now (queue_of b all)) all)).results)
+      passed true after = (after, settle_foreground D R settling now (with_queue true (late_head now all.foreground) all) after results)
+      passed false after = (after, settle_background D R settling now (with_queue false (late_head now all.background) all) after results)
+
+      by : (due : Bool) → is_head_due now (queue_of foreground all) ≡ due
+          → All D (late_head now (queue_of foreground all)) × (All D (queue_of foreground (settle foreground now left)) × All R (settle foreground now left).results)
+          → All D (queue_of foreground (cond due (settle foreground now left) all)) × All R (cond due (settle foreground now left) all).results
+      by true is after = after.1
+      by false is after = (subst (All D) (stays (queue_of foreground all) is) after.0, results)
+
+  -- the other queue is as it was
+  background_stays : (now : ℕ) (all : Broadcasts) → (expired_queue true now all).background ≡ all.background
+  background_stays now all = by (is_head_due now all.foreground)
+    where
+      by : (due : Bool) → (cond due (settle true now (with_queue true (late_head now all.foreground) all)) all).background ≡ all.background
+      by true = refl
+      by false = refl
+
+  foreground_stays : (now : ℕ) (all : Broadcasts) → (expired_queue false now all).foreground ≡ all.foreground
+  foreground_stays now all = by (is_head_due now all.background)
+    where
+      by : (due : Bool) → (cond due (settle false now (with_queue false (late_head now all.background) all)) all).foreground ≡ all.foreground
+      by true = refl
+      by false = refl
+
+  pub expired_courses : (all : Broadcasts) (now : ℕ) → AreInOrder all → ((b : InTurn) → C b → D (turning (is_late now) Late b)) → OfCourses C R all → OfCourses D R (expired all now)
+  expired_courses all now order late of =
+      let front = late_queue true now all order.foreground late of.foreground of.results in
+      let passed = expired_queue true now all in
+      let back = late_queue false now passed (subst OnlyHead (sym (background_stays now all)) order.background) late
+      (subst (All C) (sym (background_stays now all)) of.background) front.1 in
+      record { foreground = subst (All D) (sym (foreground_stays now passed)) front.0; background = back.0; results = back.1 }
+
+  -- a delivery that is finished
+  pub finished_courses : (all : Broadcasts) (number : ℕ) (answer : Answer) (now : ℕ) → AreInOrder all
+      → ((b : InTurn) → C b → D (turning (is_current number) (Answered answer) b)) → OfCourses C R all → OfCourses D R (finished all number answer now)
+  finished_courses all number answer now order answers of = both_courses D R settling now left (record {
+    foreground = changed C D (turning (is_current number) (Answered answer)) all.foreground left.foreground (answer_turns number (Answered answer) all.foreground order.foreground)
+        answers of.foreground;
+    background = changed C D (turning (is_current number) (Answered answer)) all.background left.background (answer_turns number (Answered answer) all.background order.background)
+        answers of.background;
+    results = All-filter (λ (r : Result). not (r.delivery == number)) R all.results of.results;
+  })
+    where
+      left : Broadcasts
+      left = record all {
+        normal = normals_keeping (λ (d : Delivery). not (d.number == number)) all.normal;
+        foreground = answered_head number (Answered answer) all.foreground;
+        background = answered_head number (Answered answer) all.background;
+        results = filter (λ (r : Result). not (r.delivery == number)) all.results;
+      }
+
+  -- receivers that are forgotten
+  pub forget_courses : (all : Broadcasts) (struck : Spot → Bool) (now : ℕ) → ((b : InTurn) → C b → D (strike struck b)) → OfCourses C R all
+      → OfCourses D R (sending.forget all struck now)
+  forget_courses all struck now strikes of = both_courses D R settling now left (record {
+    foreground = changed C D (strike struck) all.foreground left.foreground refl strikes of.foreground;
+    background = changed C D (strike struck) all.background left.background refl strikes of.background;
+    results = of.results;
+  })
+    where
+      left : Broadcasts
+      left = record all {
+        normal = normals_keeping (λ (d : Delivery). not (struck d.spot)) all.normal;
+        foreground = map (strike struck) all.foreground;
+        background = map (strike struck) all.background;
+      }
+
+  -- an app that is forgotten
+  pub forget_uid_courses : (all : Broadcasts) (uid now : ℕ) → ((b : InTurn) → C b → C (unwanted uid b)) → ((b : InTurn) → C b → D (strike (λ (spot : Spot). spot.uid == uid) b))
+      → OfCourses C R all → OfCourses D R (sending.forget_uid all uid now)
+  forget_uid_courses all uid now unwants strikes of = forget_courses (unwanted_of all uid) (λ (spot : Spot). spot.uid == uid) now strikes (record {
+    foreground = changed C C (unwanted uid) all.foreground (map (unwanted uid) all.foreground) refl unwants of.foreground;
+    background = changed C C (unwanted uid) all.background (map (unwanted uid) all.background) refl unwants of.background;
+    results = All-filter (λ (r : Result). not (r.sender == uid)) R all.results of.results;
+  })

@@ -1,4 +1,13 @@
 pub mod Holders
+pub mod HolderSteps
+pub mod Held
+pub mod Apart
+pub mod Order
+pub mod Found
+pub mod Numbers
 pub mod Courses
 pub mod CourseSteps
+pub mod Outcomes
+pub mod Acts
 pub mod Fold
+pub mod Turns

@@ -1,18 +1,21 @@
 -- How an ordered broadcast runs: who had it, what was answered and in which order, and what comes of it.
-use Rattle.std.specs.Prelude.{◌≡◌, ℕ, true, false, not, ◌&&◌, List, [], ◌∷◌, ◌++◌, map, Some, All, Option}
+use Rattle.std.specs.Prelude.{◌≡◌, ℕ, Bool, true, false, not, ◌&&◌, List, [], ◌∷◌, ◌++◌, Some, All, Option}
 use Rattle.std.specs.List.{AllZip}
+use Rattle.am_types.specs.declared.intent.Intent.{Intent}
 use Rattle.am_types.specs.declared.broadcast.Spot.{Spot}
 use Rattle.am_types.specs.declared.broadcast.Answer.{Answer}
 use Rattle.am_types.specs.declared.broadcast.Ordered.{Ordered}
+use Rattle.am_types.specs.declared.broadcast.Outcome.{Outcome}
 use Rattle.am_types.specs.declared.history.Entry.{Entry}
 use Rattle.am_types.specs.declared.request.Request.TheVariants as asks
 use Rattle.am_model.specs.Gates.{is_privileged}
-use Rattle.am_model.specs.Receivers.{receivers, admitted}
+use Rattle.am_model.specs.Receivers.{receivers}
 use Rattle.am_model.specs.Broadcasts.{Broadcasts, InTurn, Past, Result, Doing, Answered, Late, Gone, fold_outcome, doings, is_over}
-use Rattle.am_model.proofs.Parts.{IsPart}
+use Rattle.am_model.specs.Sending.{in_turn}
 use Rattle.am_history.specs.State.{State}
-use Rattle.am_history.specs.BroadcastCalls.{is_protected}
+use Rattle.am_history.specs.BroadcastCalls.{is_protected, sending_of}
 use Rattle.am_laws.specs.Access.{Deed, Sends, Once}
+use Rattle.am_laws_courses.specs.Course.{course_of, course_after, finishing}
 
 -- what a receiver answered, in front of what others did
 abbrev pub with_answer : Spot → Doing → List (Spot × Answer) → List (Spot × Answer)
@@ -32,29 +35,34 @@ pub record IsAnswerBy (given : Spot × Answer) (at : Entry) : Type 0 where
   pub delivery : ℕ
   pub request : at.request ≡ asks.Finish delivery given.1
 
--- the receivers of an ordered broadcast: those that are past, and behind them those that are left
-abbrev pub spots_of : InTurn → List Spot
-spots_of b = map (λ (p : Past). p.spot) b.past ++ b.rest
-
--- the broadcast is sent with that number to be received in order; its receivers are admitted ones in their order, of
--- whom some may have been struck
-pub record IsSentInOrder (b : InTurn) (state : State) (deed : Deed) : Type 0 where
+-- the broadcast, as it begins, is sent to be received in order by all that are admitted
+pub record IsSentInOrder (begun : InTurn) (state : State) (deed : Deed) : Type 0 where
   pub permission : Option (List ℕ)
   pub ordered : Ordered
-  pub is : deed ≡ Sends b.sender b.intent permission (Some ordered)
-  pub number : b.number ≡ state.broadcasts.next_broadcast
-  pub initial : b.initial ≡ ordered.initial
-  pub no_abort : b.no_abort ≡ b.intent.flags.no_abort
-  pub wanted : b.wanted ≡ true → ordered.wanted ≡ true
-  pub unprotected : is_protected state.board.protected b.intent.action && not (is_privileged b.sender) ≡ false
-  pub receivers : IsPart (spots_of b) (admitted (receivers state.board b.intent b.sender permission))
+  pub is : deed ≡ Sends begun.sender begun.intent permission (Some ordered)
+  pub unprotected : is_protected state.board.protected begun.intent.action && not (is_privileged begun.sender) ≡ false
+  pub begins : begun
+      ≡ in_turn state.broadcasts.next_broadcast
+      (sending_of state begun.sender begun.intent (Some ordered)
+      (receivers state.board begun.intent begun.sender permission))
+      ordered
 
--- the broadcast was sent by an entry, and what its receivers answered are later entries of theirs, in the same order
+-- what stays of an ordered broadcast: its number, its sender, its intent, whether no abort counts, and its first
+-- outcome
+abbrev pub lasting : InTurn → ℕ × ℕ × Intent × Bool × Outcome
+lasting b = (b.number, b.sender, b.intent, b.no_abort, b.initial)
+
+-- the broadcast was sent by an entry; its receivers that are past, with what they did, and those that are left are
+-- what the later entries made of those to which it was sent; and what was answered are the entries of the history that
+-- finished its deliveries, all of them and in their order, each by the receiver's uid
 pub record IsInCourse (opening : State) (history : List Entry) (b : InTurn) : Type 0 where
-  pub sent : Once opening history (IsSentInOrder b)
-  pub entries : List Entry
-  pub later : IsPart entries sent.after
-  pub answers : AllZip IsAnswerBy (answers_of b.past) entries
+  pub begun : InTurn
+  pub sent : Once opening history (IsSentInOrder begun)
+  pub stays : lasting b ≡ lasting begun
+  pub wanted : b.wanted ≡ true → begun.wanted ≡ true
+  pub course : course_of b
+      ≡ course_after opening begun.number (sent.before ++ sent.at ∷ []) sent.after (course_of begun)
+  pub answers : AllZip IsAnswerBy (answers_of b.past) (finishing opening begun.number [] history)
 
 -- the result is that of a broadcast that ended: what its answers, one after the other, made of its first outcome
 pub record IsOutcome (opening : State) (history : List Entry) (r : Result) : Type 0 where

@@ -1,2 +1,4 @@
+pub mod Course
 pub mod Fold
+pub mod Turns
 pub mod Laws

@@ -1,2 +1,3 @@
 pub mod CastingLemmas
 pub mod PendingLemmas
+pub mod PackageLemmas

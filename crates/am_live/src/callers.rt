@@ -1,7 +1,10 @@
 //! Which caller a key stands for.
-ghost use Rattle.std.specs.Prelude.{◌≡◌, Some, if◌then◌else◌};
+ghost use Rattle.std.specs.Prelude.{◌≡◌, ◌||◌, Some, if◌then◌else◌};
+ghost use Rattle.std.specs.List.{list_any};
+ghost use Rattle.am_types.specs.declared.device.Package.{Package};
 ghost use Rattle.am_model.specs.Gates.{is_privileged};
 ghost use Rattle.am_model.specs.Texts.{is_same};
+ghost use Rattle.am_history.specs.Packages.{is_root_key};
 ghost use Rattle.am_history.specs.State.{system_uid, uid_of_package, root_or};
 
 use am_types::{List, Package, Text};
@@ -50,6 +53,39 @@ fn uid_of_package(packages: &List<Package>, key: &Text) -> Option<u32>
         }
     }
     None
+}
+
+/// The system, the root or a package has the key. Takes no memory.
+pub(crate) fn is_key_used(
+    system_key: &Text,
+    root_key: &Option<Text>,
+    packages: &List<Package>,
+    key: &Text,
+) -> bool
+    ensures { result ≡ ((is_same system_key.now key.now || is_root_key root_key.now key.now)
+        || list_any (λ (p : Package). is_same p.key key.now) packages.now) }
+{
+    *system_key == *key || is_root_key(root_key, key) || is_package_key(packages, key)
+}
+
+/// A package has the key.
+fn is_package_key(packages: &List<Package>, key: &Text) -> bool
+    ensures { result ≡ list_any (λ (p : Package). is_same p.key key.now) packages.now }
+{
+    packages
+        .as_slice()
+        .iter()
+        .any(|installed| installed.key == *key)
+}
+
+/// The root has the key.
+fn is_root_key(root_key: &Option<Text>, key: &Text) -> bool
+    ensures { result ≡ is_root_key root_key.now key.now }
+{
+    match root_key {
+        None => false,
+        Some(root_key) => *root_key == *key,
+    }
 }
 
 /// The uid is the system's or the root's.

@@ -4,11 +4,15 @@
 mod activities;
 mod callers;
 mod casting;
+mod change;
 mod gate;
 mod lending;
 mod live;
+mod packages;
+mod plans;
 mod reads;
 mod sending;
 mod services;
 
+pub use change::{Change, Plan};
 pub use live::Live;

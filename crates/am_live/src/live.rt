@@ -1,7 +1,7 @@
 //! The live state, and time.
-ghost use Rattle.std.specs.Prelude.{◌≡◌, ◌≤◌, All, IfOk};
-ghost use Rattle.am_model.specs.Sound.{IsSound, IsSoundPackage};
-ghost use Rattle.am_history.specs.State.{opening, uid_after, uids_of, uid_of};
+ghost use Rattle.std.specs.Prelude.{◌≡◌, ◌≤◌, IfOk};
+ghost use Rattle.am_model.specs.Sound.{IsSound};
+ghost use Rattle.am_history.specs.State.{opening, uid_of};
 ghost use Rattle.am_history.specs.Steps.{at_moment, due, moment_after};
 
 use crate::callers;
@@ -10,7 +10,7 @@ use am_queue::Queues;
 use am_resolve::Board;
 use am_services::Services;
 use am_tasks::Tasks;
-use am_types::{Device, NoMemory, Package, Steps, Text};
+use am_types::{Device, NoMemory, Steps, Text};
 use std::alloc::Global;
 use std::marker::Model;
 use std::sync::ledger::Ledger;
@@ -22,14 +22,14 @@ const LAST_MOMENT: u64 = 4_611_686_018_427_387_904;
 #[derive(Drop)]
 pub struct Live {
     pub(crate) alloc: Global,
-    system_key: Text,
-    root_key: Option<Text>,
+    pub(crate) system_key: Text,
+    pub(crate) root_key: Option<Text>,
     pub(crate) board: Board,
     pub(crate) queues: Queues,
     pub(crate) pending: Pending,
     pub(crate) tasks: Tasks,
     pub(crate) services: Services,
-    next_uid: u32,
+    pub(crate) next_uid: u32,
     pub(crate) next_registration: u64,
     pub(crate) moment: u64,
 }
@@ -57,25 +57,13 @@ impl Model for Live {
     ghost invariant = { λ l. (l.moment ≤ 4611686018427387904) × (length l.board.packages ≤ 256) };
 }
 
-/// The next uid of a device with these packages: one more than the greatest of 9999 and their uids.
-fn uid_after(packages: &[Package]) -> u32
-    requires { All IsSoundPackage packages.now }
-    ensures { result ≡ uid_after (uids_of packages.now) }
-{
-    let mut greatest: u32 = 9_999;
-    for package in packages {
-        greatest = greatest.max(package.uid);
-    }
-    greatest + 1
-}
-
 impl Live {
-    /// The state of a sound device before the first call. It keeps the allocator for its later calls.
-    pub fn from_device(alloc: Global, device: Device) -> Result<Live, NoMemory>
+    /// The state of a sound device before the first call, where the next package is given that uid. It
+    /// keeps the allocator for its later calls.
+    pub fn from_device(alloc: Global, device: Device, next_uid: u32) -> Result<Live, NoMemory>
         requires { IsSound device }
-        ensures { IfOk result (λ live. live ≡ opening device) }
+        ensures { IfOk result (λ live. live ≡ record (opening device) { next_uid = next_uid }) }
     {
-        let next_uid = uid_after(device.packages.as_slice());
         let system_key = device.system_key.clone()?;
         let root_key = device.root_key.clone()?;
         let board = Board::from_device(alloc, device)?;

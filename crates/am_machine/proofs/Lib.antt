@@ -1,2 +1,5 @@
 pub mod Stored
+pub mod Kept
+pub mod FoundRows
+pub mod Shown
 pub mod Acting

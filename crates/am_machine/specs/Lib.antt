@@ -1,2 +1,3 @@
 pub mod Managed
+pub mod Keeping
 pub mod Subjects

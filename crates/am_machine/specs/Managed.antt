@@ -1,9 +1,13 @@
 -- What a manager and the desk over it are, as contracts see them.
-use Rattle.std.specs.Prelude.{◌≡◌, ◌≤◌, ℕ, List, length}
+use Rattle.std.specs.Prelude.{◌≡◌, ◌≤◌, ℕ, Bool, not, List, length, count_by, Some}
 use Rattle.am_types.specs.declared.history.Entry.{Entry}
+use Rattle.am_keeper.specs.declared.keeper.Keeper.{Ghosts}
+use Rattle.am_keeper.specs.declared.rows.Rows.{Rows}
+use Rattle.am_model.specs.Sound.{IsSound}
 use Rattle.am_history.specs.State.{State}
 use Rattle.am_history.specs.History.{replay, weight_of, IsLegal}
 use Rattle.am_history.specs.Desks.{Origin, opening_of}
+use Rattle.am_found.specs.Found.{rows_after}
 
 -- a manager: where it comes from, the calls that it stored since, how many more it has room for at once, and its keeper
 pub record Managed (K : Type 0) : Type 0 where
@@ -17,11 +21,23 @@ pub record Served (K : Type 0) : Type 0 where
   pub managed : Managed K
   pub handed : List Entry
 
--- what a manager holds is the state that its history leaves, a history that could have been made, and what its
--- entries weigh together
+-- the entry's row wasn't kept
+abbrev pub is_unkept : Entry → Bool
+is_unkept entry = not entry.kept
+
+-- what a manager of a sound device holds is the state that its history leaves, a history that could have been made, and
+-- what its entries weigh together
 pub record Holds (origin : Origin) (live : State) (history : List Entry) (weight : ℕ) : Type 0 where
+  pub sound : IsSound origin.device
   pub replayed : replay (opening_of origin) history ≡ live
   pub legal : IsLegal (opening_of origin) history
   pub weighed : weight ≡ weight_of history
   pub most : weight ≤ 536870912
   pub few : length history ≤ 1048576
+
+-- each entry whose row wasn't kept stands for a fault that the keeper counted, and a keeper that is honest and tells its
+-- rows tells those that the history has kept
+pub record HoldsKept {K : Type 0} (g : Ghosts K) (origin : Origin) (history : List Entry) (keeper : K) : Type 0 where
+  pub unkept : count_by is_unkept history ≤ g.faults keeper
+  pub found : g.is_honest keeper → (told : Rows) → g.rows keeper ≡ Some told
+      → told ≡ rows_after (opening_of origin) origin.rows history

@@ -1,8 +1,8 @@
 //! What the requests do to the live state, and what they are answered.
-ghost use Rattle.std.specs.Prelude.{◌≡◌, ◌≤◌, List as Items, IfOk, OnErr, IsOk, IsTrue};
+ghost use Rattle.std.specs.Prelude.{◌≡◌, ◌≤◌, false, List as Items, IfOk, OnErr, IsOk, IsTrue};
 ghost use Rattle.am_types.specs.declared.history.Entry.{Entry};
 ghost use Rattle.am_history.specs.Numbers.{HasNumbers};
-ghost use Rattle.am_history.specs.Steps.{act, after_due, at_moment, is_calm, is_served};
+ghost use Rattle.am_history.specs.Steps.{act, after_due, at_moment, is_calm, keeps_row};
 ghost use Rattle.am_machine.specs.Subjects.{subject_of};
 
 use crate::reads::read_at;
@@ -23,7 +23,7 @@ pub(crate) fn act<L: Ledger>(
     request: &Request,
     steps: &mut Steps<L>,
 ) -> Result<Reply, NoMemory>
-    requires served { IsTrue (is_served request.now) }
+    requires rowless { keeps_row request.now ≡ false }
     requires numbers { HasNumbers live.old }
     ensures done { IfOk result (λ reply.
         act (after_due live.old now) history.now caller request.now ≡ (reply, live.new)) }
@@ -37,7 +37,7 @@ pub(crate) fn act<L: Ledger>(
         Subject::Services => services(live, caller, moment, request, steps),
         Subject::Broadcasts => broadcasts(live, caller, moment, request, steps),
         Subject::PendingIntents => pending_intents(live, caller, moment, request, steps),
-        Subject::Packages => unreachable!(),
+        Subject::Packages => packages(live, caller, moment, request, steps),
     }
 }
 
@@ -157,6 +157,28 @@ fn pending_intents<L: Ledger>(
         Request::PendingGive { token, package } => {
             live.pending_give(caller, *token, package, moment, steps)
         }
+        _ => unreachable!(),
+    }
+}
+
+/// Stops packages. Takes no memory.
+fn packages<L: Ledger>(
+    live: &mut Live,
+    caller: u32,
+    moment: u64,
+    request: &Request,
+    steps: &mut Steps<L>,
+) -> Result<Reply, NoMemory>
+    requires subject { subject_of request.now ≡ Subject.Packages }
+    requires rowless { keeps_row request.now ≡ false }
+    requires moment { moment ≤ 4611686018427387904 }
+    ensures done { IfOk result (λ reply. (before : Items Entry) →
+        act (at_moment live.old moment) before caller request.now ≡ (reply, live.new)) }
+    ensures same { OnErr result (live.new ≡ live.old) }
+    ensures calm { IsTrue (is_calm request.now) → IsOk result }
+{
+    match request {
+        Request::ForceStop { package } => Ok(live.force_stop(caller, package, moment, steps)),
         _ => unreachable!(),
     }
 }

@@ -1,9 +1,9 @@
-//! The activity manager of one device for one thread, and the desks on which it is called.
+//! The activity manager of one device for one thread, and a desk on which it is called.
 #![tactic(auto)]
 
 mod acts;
-mod desk;
 mod history;
+mod keeping;
 mod manager;
 mod opened;
 mod reads;
@@ -11,6 +11,5 @@ mod sole;
 mod step;
 mod subject;
 
-pub use desk::Desk;
 pub use manager::{Manager, begin};
 pub use sole::SoleDesk;

@@ -1,13 +1,19 @@
 //! The manager: the live state of a device, and the history of the calls that made it.
-ghost use Rattle.std.specs.Prelude.{◌≡◌, ◌≤◌, [], length, IfOk, OnOk};
-ghost use Rattle.am_keeper.specs.Rows.{no_rows};
+ghost use Rattle.std.specs.Prelude.{◌≡◌, ◌≤◌, [], length, count_by, IfOk, IfErr, OnOk, Some, Ok};
+ghost use Rattle.am_keeper.specs.declared.rows.Rows.{Rows as Told};
+ghost use Rattle.am_keeper.specs.Rows.{IsInOrder};
 ghost use Rattle.am_model.specs.Sound.{IsSound};
 ghost use Rattle.am_history.specs.Desks.{opening_of};
 ghost use Rattle.am_history.specs.History.{IsLegal};
+ghost use Rattle.am_history.specs.Opening.{opening_with};
+ghost use Rattle.am_found.specs.Found.{rows_after};
+ghost use Rattle.am_opening.specs.Openings.{Refuses};
+ghost use Rattle.am_machine.specs.Managed.{is_unkept};
 
 use crate::opened::Opened;
-use am_keeper::Keeper;
+use am_keeper::{Attached, Keeper, Rows};
 use am_live::Live;
+use am_opening::{OpenFault, open};
 use am_types::{Device, Entry, NoMemory};
 use std::alloc::Global;
 use std::marker::Model;
@@ -22,48 +28,85 @@ pub struct Manager<K: Keeper> {
     pub(crate) history: Vec<Entry>,
     // What the entries weigh together, in bytes.
     pub(crate) weight: u64,
-    keeper: K,
+    pub(crate) keeper: K,
 }
 
 impl<K: Keeper> Model for Manager<K> {
     ghost use Rattle.std.specs.Prelude.{vec_capacity, vec_len, ◌-◌};
-    ghost use Rattle.am_keeper.specs.Rows.{no_rows};
-    ghost use Rattle.am_machine.specs.Managed.{Managed, Holds};
+    ghost use Rattle.am_machine.specs.Managed.{Managed, Holds, HoldsKept};
 
     ghost Value = { Managed K };
 
     ghost view = { λ m. record {
-      origin = record { device = m.opened.device; rows = no_rows; place = K.place m.keeper };
+      origin = record { device = m.opened.device; rows = m.opened.rows; place = K.place m.keeper };
       history = m.history.items;
       spare = vec_capacity m.history - vec_len m.history;
       keeper = m.keeper;
     } };
 
-    // The live state is the one that the history leaves.
-    ghost invariant = { λ m. Holds (record { device = m.opened.device; rows = no_rows; place = K.place m.keeper })
-        m.live m.history.items m.weight };
+    // The live state is the one that the history leaves, and the keeper counted what it couldn't keep.
+    ghost invariant = { λ m.
+        Holds (record { device = m.opened.device; rows = m.opened.rows; place = K.place m.keeper })
+        m.live m.history.items m.weight
+        × HoldsKept K.Keeper (record { device = m.opened.device; rows = m.opened.rows; place = K.place m.keeper })
+        m.history.items m.keeper };
 }
 
-/// A manager of a sound device, with no history. It keeps the allocator for its later calls.
-pub fn begin<K: Keeper>(alloc: Global, device: Device, keeper: K) -> Result<Manager<K>, NoMemory>
-    requires { IsSound device }
-    ensures { IfOk result (λ manager. manager ≡ record {
-      origin = record { device = device; rows = no_rows; place = K.place keeper };
+/// A manager of a sound device over a keeper and the rows that were there when it came, with no history. It
+/// keeps the allocator for its later calls. Refused by `Rows` with the name of the first row with which the
+/// device can't be opened.
+pub fn begin<K: Keeper>(
+    alloc: Global,
+    device: Device,
+    attached: Attached<K>,
+) -> Result<Manager<K>, OpenFault>
+    requires sound { IsSound device }
+    requires order { IsInOrder attached.rows }
+    requires told { K.is_honest attached.keeper → (told : Told) → K.rows attached.keeper ≡ Some told
+        → attached.rows ≡ told }
+    ensures begun { IfOk result (λ manager. manager ≡ record {
+      origin = record { device = device; rows = attached.rows; place = K.place attached.keeper };
       history = [];
       spare = 0;
-      keeper = keeper;
+      keeper = attached.keeper;
     }) }
+    ensures opens { IfOk result (λ manager. opening_with device attached.rows ≡ Ok (opening_of manager.origin)) }
+    ensures refused { IfErr result (λ fault. Refuses fault (opening_with device attached.rows)) }
 {
-    let opened = Opened::with(&device);
-    let live = Live::from_device(alloc, device)?;
-    Ok(Manager {
-        alloc,
-        opened,
-        live,
-        history: Vec::new(alloc),
-        weight: 0,
-        keeper,
-    })
+    let Attached { keeper, rows } = attached;
+    let opened = Opened::with(&device, &rows);
+    let live = open_live(alloc, device, &rows);
+    drop(rows);
+    match live {
+        Ok(live) => Ok(Manager {
+            alloc,
+            opened,
+            live,
+            history: Vec::new(alloc),
+            weight: 0,
+            keeper,
+        }),
+        Err(fault) => {
+            drop(keeper);
+            Err(fault)
+        }
+    }
+}
+
+/// The live state in which a device is opened with those rows.
+fn open_live(alloc: Global, device: Device, rows: &Rows) -> Result<Live, OpenFault>
+    requires sound { IsSound device }
+    requires order { IsInOrder rows.now }
+    ensures opens { IfOk result (λ live. opening_with device rows.now ≡ Ok live) }
+    ensures refused { IfErr result (λ fault. Refuses fault (opening_with device rows.now)) }
+{
+    match open(alloc, device, rows) {
+        Ok(opened) => {
+            let live = Live::from_device(alloc, opened.device, opened.next_uid)?;
+            Ok(live)
+        }
+        Err(fault) => Err(fault),
+    }
 }
 
 impl<K: Keeper> Manager<K> {
@@ -86,10 +129,24 @@ impl<K: Keeper> Manager<K> {
         self.history.len() as u64
     }
 
+    /// Its keeper. Takes no memory.
+    pub fn keeper(&self) -> &K
+        ensures same { result.now ≡ self.now.keeper }
+        ensures place { K.place result.now ≡ self.now.origin.place }
+        ensures unkept { count_by is_unkept self.now.history ≤ K.faults result.now }
+        ensures found { K.is_honest result.now → (told : Told) → K.rows result.now ≡ Some told
+            → told ≡ rows_after (opening_of self.now.origin) self.now.origin.rows self.now.history }
+    {
+        &self.keeper
+    }
+
     /// Hands its keeper out. Takes no memory.
     pub fn into_keeper(self) -> K
         ensures same { result ≡ self.keeper }
         ensures place { K.place result ≡ self.origin.place }
+        ensures unkept { count_by is_unkept self.history ≤ K.faults result }
+        ensures found { K.is_honest result → (told : Told) → K.rows result ≡ Some told
+            → told ≡ rows_after (opening_of self.origin) self.origin.rows self.history }
     {
         self.keeper
     }

@@ -1,15 +1,18 @@
-//! The device that a manager was opened with, for contracts alone.
+//! The device and the rows that a manager was opened with, for contracts alone.
 ghost use Rattle.std.specs.Prelude.{◌≡◌};
 ghost use Rattle.std.specs.Borrow.{ftrue};
 ghost use Rattle.am_types.specs.declared.device.Device.{Device};
+ghost use Rattle.am_keeper.specs.declared.rows.Rows.{Rows as Kept};
 
+use am_keeper::Rows;
 use am_types::Device;
 use std::marker::Model;
 
-/// Names the device that a manager was opened with. Contracts alone read it: it takes no bytes.
+/// Names the device and the rows that a manager was opened with. Contracts alone read it: it takes no bytes.
 #[derive(Drop)]
 pub struct Opened {
     pub ghost device: { Device },
+    pub ghost rows: { Kept },
 }
 
 impl Model for Opened {
@@ -22,9 +25,9 @@ unsafe impl Send for Opened {}
 unsafe impl Sync for Opened {}
 
 impl Opened {
-    /// Names that device. Takes no memory.
-    pub fn with(_device: &Device) -> Opened
-        ensures { result.device ≡ _device.now }
+    /// Names that device and these rows. Takes no memory.
+    pub fn with(_device: &Device, _rows: &Rows) -> Opened
+        ensures { (result.device ≡ _device.now) × (result.rows ≡ _rows.now) }
     {
         Opened {}
     }

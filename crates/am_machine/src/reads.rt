@@ -5,7 +5,7 @@ ghost use Rattle.am_types.specs.declared.request.Request.TheVariants as asks;
 ghost use Rattle.am_types.specs.declared.rule.Rule.TheVariants.{AdminOnly};
 ghost use Rattle.am_model.specs.Broadcasts.{Broadcasts};
 ghost use Rattle.am_model.specs.Gates.{is_privileged};
-ghost use Rattle.am_history.specs.Steps.{act, at_moment, is_calm, is_changing, is_served, is_steady, page};
+ghost use Rattle.am_history.specs.Steps.{act, at_moment, is_calm, is_changing, is_steady, page};
 ghost use Rattle.am_machine.specs.Subjects.{subject_of};
 
 use crate::history::page;
@@ -24,7 +24,6 @@ pub(crate) fn read<L: Ledger>(
     request: &Request,
     steps: &mut Steps<L>,
 ) -> Result<Reply, NoMemory>
-    requires served { IsTrue (is_served request.now) }
     requires reads { is_changing request.now ≡ false }
     ensures { IfOk result (λ reply. act live.now history.now caller request.now ≡ (reply, live.now)) }
 {

@@ -3,7 +3,8 @@ ghost use Rattle.std.specs.Prelude.{◌≡◌};
 ghost use Rattle.am_history.specs.Desks.{opening_of};
 ghost use Rattle.am_history.specs.History.{IsLegal};
 
-use crate::{Desk, Manager};
+use crate::Manager;
+use am_desk::Desk;
 use am_keeper::Keeper;
 use am_types::{NoMemory, Request, Shown, Text};
 use std::marker::Model;

@@ -1,16 +1,25 @@
 //! One call of the manager.
-ghost use Rattle.std.specs.Prelude.{◌≡◌, ◌≤◌, ◌<◌, ◌+◌, ◌++◌, [], ◌∷◌, Some, false, true, if◌then◌else◌, length, IfOk, OnOk, OnErr, IsOk, IsTrue};
+ghost use Rattle.std.specs.Prelude.{◌≡◌, ◌≤◌, ◌<◌, ◌+◌, ◌++◌, ◌||◌, [], ◌∷◌, Bool, Some, false, true, if◌then◌else◌, length, IfOk, OnOk, OnErr, IsOk, IsTrue};
+ghost use Rattle.am_types.specs.declared.reply.Reply.TheVariants.{Refused};
+ghost use Rattle.am_types.specs.declared.rule.Rule.TheVariants.{KeeperFault};
+ghost use Rattle.am_outside.specs.Counts.{HasRisen};
 ghost use Rattle.am_history.specs.Desks.{opening_of, ShowsAt};
 ghost use Rattle.am_history.specs.History.{IsLegal, replay, may_change, has_room, entry_of};
 ghost use Rattle.am_history.specs.State.{uid_of, has_uid};
-ghost use Rattle.am_history.specs.Steps.{Call, is_calm, is_served, step};
+ghost use Rattle.am_history.specs.Numbers.{HasNumbers};
+ghost use Rattle.am_history.specs.Steps.{Call, after_due, asks_keeper, is_calm, is_formed, keeps_row, step};
+ghost use Rattle.am_laws_state.specs.Sound.{IsSoundState};
+ghost use Rattle.am_machine.specs.Keeping.{AddsUnkept, GoesOn, told_after, with_kept};
 
 use crate::acts::act;
+use crate::keeping::{Answered, keep};
 use crate::manager::Manager;
 use crate::reads::read;
-use crate::subject::is_changing;
+use crate::subject::{is_changing, keeps_row};
 use am_keeper::Keeper;
+use am_live::Live;
 use am_types::{Entry, NoMemory, Reply, Request, Rule, Shown, Steps, Text};
+use std::alloc::Global;
 use std::marker::Brand;
 use std::sync::ledger::{Blank, Ledger};
 
@@ -22,9 +31,12 @@ const MOST_WEIGHT: u64 = 536_870_912;
 
 impl<K: Keeper> Manager<K> {
     /// One call: `desk` is the number of the desk that it is made on, `key` the caller's, `now` the moment
-    /// in milliseconds, and `weight` the length of the request's body in bytes. The request is one that
-    /// the manager serves. A call that may change the state is stored, and so is a read at a moment at
-    /// which some deadline is due. After `NoMemory` the state, the history and the keeper are as before.
+    /// in milliseconds, and `weight` the length of the request's body in bytes. The request has the form
+    /// that a body is read as. A call that may change the state is stored, and so is a read at a moment at
+    /// which some deadline is due. The keeper is asked for the row of an installation, a removal, a grant
+    /// or a link that nothing else refuses, and the row is put if the call is accepted. If the keeper
+    /// fails, the call is stored, answered by `KeeperFault`, and changes nothing but the moment. After
+    /// `NoMemory` the state, the history and the rows are as before.
     pub fn step(
         &mut self,
         desk: u32,
@@ -33,7 +45,7 @@ impl<K: Keeper> Manager<K> {
         weight: u32,
         request: Request,
     ) -> Result<Shown, NoMemory>
-        requires served { IsTrue (is_served request) }
+        requires formed { IsTrue (is_formed request) }
         ensures shown { IfOk result
             (λ shown. ShowsAt (opening_of self.old.origin) self.old.history self.new.history
             (record { desk = desk; key = key.now; now = now; weight = weight; request = request })
@@ -41,7 +53,16 @@ impl<K: Keeper> Manager<K> {
         ensures origin { self.new.origin ≡ self.old.origin }
         ensures legal { IsLegal (opening_of self.new.origin) self.new.history }
         ensures refused { OnErr result (self.new.history ≡ self.old.history) }
-        ensures quiet { self.new.keeper ≡ self.old.keeper }
+        ensures keeper { GoesOn K.Keeper self.old.keeper self.new.keeper }
+        ensures quiet { keeps_row request ≡ false → self.new.keeper ≡ self.old.keeper }
+        ensures put { IfOk result (λ shown. K.is_honest self.new.keeper → K.rows self.new.keeper
+            ≡ told_after (replay (opening_of self.old.origin) self.old.history) request shown.reply
+            (K.rows self.old.keeper)) }
+        ensures refused_rows { OnErr result (K.is_honest self.new.keeper →
+            K.rows self.new.keeper ≡ K.rows self.old.keeper) }
+        ensures fault { IfOk result (λ shown. shown.reply ≡ Refused KeeperFault →
+            HasRisen (K.faults self.old.keeper) (K.faults self.new.keeper)
+            × AddsUnkept self.old.history self.new.history) }
         ensures spare { IfOk result (λ shown. self.old.spare ≤ self.new.spare + (if shown.stored then 1 else 0)) }
         ensures room { OnErr result (self.old.spare ≤ self.new.spare) }
         ensures calm { IsTrue (is_calm request) → 1 ≤ self.old.spare → IsOk result }
@@ -70,7 +91,6 @@ impl<K: Keeper> Manager<K> {
         requires name { blank.name ≡ L.name }
         requires parts { blank.parts ≡ L.parts }
         requires some { 0 < blank.parts }
-        requires served { IsTrue (is_served entry.request) }
         requires caller { IsTrue (has_uid (replay (opening_of self.old.origin) self.old.history) entry.uid) }
         requires kept { entry.kept ≡ true }
         ensures shown { IfOk result (λ shown. (call : Call) → entry ≡ entry_of call entry.uid true
@@ -79,7 +99,16 @@ impl<K: Keeper> Manager<K> {
         ensures origin { self.new.origin ≡ self.old.origin }
         ensures legal { IsLegal (opening_of self.new.origin) self.new.history }
         ensures refused { OnErr result (self.new.history ≡ self.old.history) }
-        ensures quiet { self.new.keeper ≡ self.old.keeper }
+        ensures keeper { GoesOn K.Keeper self.old.keeper self.new.keeper }
+        ensures quiet { keeps_row entry.request ≡ false → self.new.keeper ≡ self.old.keeper }
+        ensures put { IfOk result (λ shown. K.is_honest self.new.keeper → K.rows self.new.keeper
+            ≡ told_after (replay (opening_of self.old.origin) self.old.history) entry.request shown.reply
+            (K.rows self.old.keeper)) }
+        ensures refused_rows { OnErr result (K.is_honest self.new.keeper →
+            K.rows self.new.keeper ≡ K.rows self.old.keeper) }
+        ensures fault { IfOk result (λ shown. shown.reply ≡ Refused KeeperFault →
+            HasRisen (K.faults self.old.keeper) (K.faults self.new.keeper)
+            × AddsUnkept self.old.history self.new.history) }
         ensures spare { IfOk result (λ shown. self.old.spare ≤ self.new.spare + (if shown.stored then 1 else 0)) }
         ensures room { OnErr result (self.old.spare ≤ self.new.spare) }
         ensures calm { IsTrue (is_calm entry.request) → 1 ≤ self.old.spare → IsOk result }
@@ -124,23 +153,33 @@ impl<K: Keeper> Manager<K> {
     }
 
     // A call that is stored. Nothing between the last change and the push can fail.
-    fn store<L: Ledger>(&mut self, entry: Entry, steps: &mut Steps<L>) -> Result<Shown, NoMemory>
-        requires served { IsTrue (is_served entry.request) }
+    fn store<L: Ledger>(
+        &mut self,
+        mut entry: Entry,
+        steps: &mut Steps<L>,
+    ) -> Result<Shown, NoMemory>
         requires caller { IsTrue (has_uid (replay (opening_of self.old.origin) self.old.history) entry.uid) }
-        requires changes { IsTrue (may_change (replay (opening_of self.old.origin) self.old.history) entry.now entry.request) }
+        requires changes { IsTrue
+            (may_change (replay (opening_of self.old.origin) self.old.history) entry.now entry.request) }
         requires room { IsTrue (has_room self.old.history entry.weight) }
         requires kept { entry.kept ≡ true }
-        ensures reply { IfOk result (λ shown. shown ≡ record {
-          at = length self.old.history;
-          stored = true;
-          reply = (step (replay (opening_of self.old.origin) self.old.history) self.old.history entry).0;
-        }) }
-        ensures stored { OnOk result (self.new.history ≡ self.old.history ++ entry ∷ []) }
+        ensures shown { IfOk result (λ shown. (call : Call) → entry ≡ entry_of call entry.uid true
+            → uid_of (replay (opening_of self.old.origin) self.old.history) call.key ≡ Some entry.uid
+            → ShowsAt (opening_of self.old.origin) self.old.history self.new.history call shown) }
         ensures origin { self.new.origin ≡ self.old.origin }
         ensures legal { IsLegal (opening_of self.new.origin) self.new.history }
         ensures refused { OnErr result (self.new.history ≡ self.old.history) }
-        ensures quiet { self.new.keeper ≡ self.old.keeper }
-        ensures spare { OnOk result (self.old.spare ≤ self.new.spare + 1) }
+        ensures keeper { GoesOn K.Keeper self.old.keeper self.new.keeper }
+        ensures quiet { keeps_row entry.request ≡ false → self.new.keeper ≡ self.old.keeper }
+        ensures put { IfOk result (λ shown. K.is_honest self.new.keeper → K.rows self.new.keeper
+            ≡ told_after (replay (opening_of self.old.origin) self.old.history) entry.request shown.reply
+            (K.rows self.old.keeper)) }
+        ensures refused_rows { OnErr result (K.is_honest self.new.keeper →
+            K.rows self.new.keeper ≡ K.rows self.old.keeper) }
+        ensures fault { IfOk result (λ shown. shown.reply ≡ Refused KeeperFault →
+            HasRisen (K.faults self.old.keeper) (K.faults self.new.keeper)
+            × AddsUnkept self.old.history self.new.history) }
+        ensures spare { IfOk result (λ shown. self.old.spare ≤ self.new.spare + (if shown.stored then 1 else 0)) }
         ensures room { OnErr result (self.old.spare ≤ self.new.spare) }
         ensures calm { IsTrue (is_calm entry.request) → 1 ≤ self.old.spare → IsOk result }
     {
@@ -148,24 +187,24 @@ impl<K: Keeper> Manager<K> {
             drop(entry);
             return Err(NoMemory::from(error));
         }
-        let reply = act(
+        let answered = answer(
             self.alloc,
             &mut self.live,
+            &mut self.keeper,
             &self.history,
-            entry.uid,
-            entry.now,
-            &entry.request,
+            &entry,
             steps,
         );
-        match reply {
-            Ok(reply) => {
+        match answered {
+            Ok(answered) => {
                 let at = self.history.len() as u64;
                 self.weight += u64::from(entry.weight);
+                entry.kept = answered.kept;
                 self.history.push_reserved(entry);
                 Ok(Shown {
                     at,
                     stored: true,
-                    reply,
+                    reply: answered.reply,
                 })
             }
             Err(error) => {
@@ -174,4 +213,44 @@ impl<K: Keeper> Manager<K> {
             }
         }
     }
+}
+
+// What a stored call is answered, and what it does to the state and the keeper.
+fn answer<K: Keeper, L: Ledger>(
+    alloc: Global,
+    live: &mut Live,
+    keeper: &mut K,
+    history: &[Entry],
+    call: &Entry,
+    steps: &mut Steps<L>,
+) -> Result<Answered, NoMemory>
+    requires numbers { HasNumbers live.old }
+    requires sound { IsSoundState live.old }
+    ensures done { IfOk result (λ answered.
+        step live.old history.now (with_kept call.entry.now answered.kept) ≡ (answered.reply, live.new)) }
+    ensures asked { IfOk result (λ answered. IsTrue (answered.kept
+        || asks_keeper (after_due live.old call.entry.now.now) history.now call.entry.now.uid call.entry.now.request)) }
+    ensures same { OnErr result (live.new ≡ live.old) }
+    ensures keeper { GoesOn K.Keeper keeper.old keeper.new }
+    ensures quiet { keeps_row call.entry.now.request ≡ false → keeper.new ≡ keeper.old }
+    ensures put { IfOk result (λ answered. K.is_honest keeper.new →
+        K.rows keeper.new ≡ told_after live.old call.entry.now.request answered.reply (K.rows keeper.old)) }
+    ensures refused { OnErr result (K.is_honest keeper.new → K.rows keeper.new ≡ K.rows keeper.old) }
+    ensures fault { IfOk result (λ answered. answered.kept ≡ false →
+        HasRisen (K.faults keeper.old) (K.faults keeper.new)) }
+    ensures calm { IsTrue (is_calm call.entry.now.request) → IsOk result }
+{
+    if keeps_row(&call.request) {
+        return keep(live, keeper, call, steps);
+    }
+    let reply = act(
+        alloc,
+        live,
+        history,
+        call.uid,
+        call.now,
+        &call.request,
+        steps,
+    )?;
+    Ok(Answered { reply, kept: true })
 }

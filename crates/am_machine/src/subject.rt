@@ -1,6 +1,6 @@
 //! What requests are about.
 ghost use Rattle.std.specs.Prelude.{◌≡◌};
-ghost use Rattle.am_history.specs.Steps.{is_changing};
+ghost use Rattle.am_history.specs.Steps.{is_changing, keeps_row};
 ghost use Rattle.am_machine.specs.Subjects.{subject_of};
 
 use am_types::Request;
@@ -55,5 +55,18 @@ pub(crate) fn is_changing(request: &Request) -> bool
         Request::History { .. } => false,
         Request::Status => false,
         _ => true,
+    }
+}
+
+/// Whether the request has a row kept.
+pub(crate) fn keeps_row(request: &Request) -> bool
+    ensures { result ≡ keeps_row request.now }
+{
+    match request {
+        Request::Install { .. } => true,
+        Request::Uninstall { .. } => true,
+        Request::Grant { .. } => true,
+        Request::Link { .. } => true,
+        _ => false,
     }
 }

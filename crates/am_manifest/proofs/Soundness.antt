@@ -192,8 +192,6 @@ sound_apart owners value packages h =
           few = few;
           each = sound_each 10000 ps entries.counted (omega arith) (omega (arith, few)) entries.formed;
           rising = IsStrictlyIncreasing-from_sorted (uids_of ps) (rise 10000 ps entries.counted).1;
-          names = apart.names;
-          keys = apart.keys;
         } in
         subst (AreSoundApart owners) (same ps packages g) (record { counted = entries.counted; sound = sound; root = root; apart = apart })
 

@@ -83,13 +83,11 @@ names_of packages = map (λ (p : Package). p.name) packages
 abbrev pub keys_of : List Package → List (List ℕ)
 keys_of packages = map (λ (p : Package). p.key) packages
 
--- at most 256 packages, of distinct names and keys, in rising order of their uids
+-- at most 256 packages, in rising order of their uids
 pub record AreSoundPackages (packages : List Package) : Type 0 where
   pub few : length packages ≤ 256
   pub each : All IsSoundPackage packages
   pub rising : IsStrictlyIncreasing (uids_of packages)
-  pub names : AreDistinct (names_of packages)
-  pub keys : AreDistinct (keys_of packages)
 
 -- the order of rights, which are a uid and a text each: by uid, then by the bytes of the text
 abbrev pub right_cmp : ℕ × List ℕ → ℕ × List ℕ → Ordering
@@ -114,8 +112,8 @@ abbrev pub owner_keys : List ℕ → Option (List ℕ) → List (List ℕ)
 owner_keys system_key None = system_key ∷ []
 owner_keys system_key (Some root_key) = system_key ∷ root_key ∷ []
 
--- the device is sound: its packages and rights are, no package bears the system's name, and no two callers
--- have the same key
+-- the device is sound: its packages and rights are, no two packages have the same name and none has the system's, and
+-- no two callers have the same key
 pub record IsSound (device : Device) : Type 0 where
   pub packages : AreSoundPackages device.packages
   pub names : AreDistinct (codes "android" ∷ names_of device.packages)

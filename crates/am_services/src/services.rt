@@ -118,6 +118,13 @@ impl Services {
         self.running
             .retain(|service| !is_service(component, service));
     }
+
+    /// Stops the services of a uid. Takes no memory.
+    pub fn forget_uid(&mut self, uid: u32)
+        ensures { self.new ≡ filter (λ (service : Service). not (service.owner == uid)) self.old }
+    {
+        self.running.retain(|service| service.owner != uid);
+    }
 }
 
 /// The service is the component's.

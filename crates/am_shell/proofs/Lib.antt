@@ -1,2 +1,5 @@
+pub mod ClockLemmas
+pub mod FormedLemmas
 pub mod RunLemmas
 pub mod ServeLemmas
+pub mod StoreLemmas

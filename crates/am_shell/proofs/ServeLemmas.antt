@@ -1,19 +1,24 @@
--- What a session is, on the only desk of a manager that begins with a device.
-use Rattle.std.proofs.Common.{◌≡◌, ℕ, List, [], Option, None, refl, sym, ap, ◌∙◌, subst}
+-- What a session is, on the only desk of a manager, and what it leaves.
+use Rattle.std.proofs.Common.{◌≡◌, ℕ, List, [], Option, Some, IsTrue, refl, sym, ap, ◌∙◌, subst}
+use Rattle.std.specs.Prelude.{All}
 use Rattle.am_types.specs.declared.device.Device.{Device}
 use Rattle.am_types.specs.declared.history.Entry.{Entry}
-use Rattle.am_keeper.specs.Rows.{no_rows}
+use Rattle.am_keeper.specs.declared.rows.Rows.{Rows}
 use Rattle.am_model.specs.Sound.{IsSound}
-use Rattle.am_history.specs.State.{State, opening}
-use Rattle.am_history.specs.History.{IsLegal}
-use Rattle.am_history.specs.Desks.{DeskView}
-use Rattle.am_history.proofs.OpeningLaws.{opening_without_rows}
-use Rattle.am_http.specs.declared.end.Served.{Served}
-use Rattle.am_http.specs.Links.{Link, IsSameLink}
-use Rattle.am_http.specs.Sessions.{Session, HasFault}
+use Rattle.am_history.specs.History.{replay}
+use Rattle.am_history.specs.Desks.{DeskView, Origin, opening_of}
+use Rattle.am_found.specs.Found.{OpensAs}
+use Rattle.am_found.specs.Laws.{KeptIsFound}
+use Rattle.am_http.specs.declared.end.End.{End}
 use Rattle.am_machine.specs.Managed as machine
-use Rattle.am_shell.specs.Outcomes.{sole_desk, link_of, Serves}
-use Rattle.am_shell.specs.Outside.{Streams}
+use Rattle.am_words.specs.declared.command.StepWords.{StepWords}
+use Rattle.am_shell.specs.declared.asked.Asked.{Asked}
+use Rattle.am_shell.specs.Clocks.{ServesOn}
+use Rattle.am_shell.specs.Kept.{IsOrigin, IsUnchanged, Leaves}
+use Rattle.am_shell.specs.Outcomes.{sole_desk, link_of, Serves, Works}
+use Rattle.am_shell.specs.Outside.{StoreView, Streams, Workplace}
+use Rattle.am_shell.proofs.FormedLemmas.{IsFormed, all_formed}
+use Rattle.am_shell.proofs.StoreLemmas.{leaves_asked}
 
 -- the only desk of a manager
 abbrev pub desk_of : {K : Type 0} → machine.Served K → DeskView
@@ -24,33 +29,82 @@ desk_of made = record {
   seen = made.managed.history;
 }
 
--- one that is made of a manager that begins with the device
-pub first_desk : {K : Type 0} (device : Device) (place : Option (List ℕ)) (keeper : K) (made : machine.Served K) (manager : machine.Managed K)
-    → place ≡ None → made ≡ record { managed = manager; handed = manager.history }
-    → manager ≡ record { origin = record { device = device; rows = no_rows; place = place }; history = []; spare = 0; keeper = keeper }
-    → desk_of made ≡ sole_desk device []
-first_desk {K} device place keeper made manager none is begins =
+-- one that is made of a manager that just began
+first_desk : {K : Type 0} (made : machine.Served K) (manager : machine.Managed K)
+    → made ≡ record { managed = manager; handed = manager.history } → manager.history ≡ [] → desk_of made ≡ sole_desk manager.origin []
+first_desk {K} made manager is fresh =
     ap desk_of is
-    ∙ ap (λ (m : machine.Managed K). desk_of (record { managed = m; handed = m.history })) begins
-    ∙ ap (λ (p : Option (List ℕ)). record (sole_desk device []) { origin = record { device = device; rows = no_rows; place = p } }) none
+    ∙ ap (λ (seen : List Entry). record { origin = manager.origin; number = 0; sharing = record { id = []; desks = 1; handed = seen }; seen = seen }) fresh
 
--- a connection on that desk is the session of the device
-pub serves : (device : Device) → IsSound device → (before after : Streams) (first desk : DeskView) (served : Served) → first ≡ sole_desk device []
-    → Session (link_of first before) (link_of desk after) served → HasFault served.end (link_of first before) (link_of desk after)
-    → IsSameLink (link_of first before) (link_of desk after) → Serves device before after served.end
-serves device sound before after first desk served is session fault same =
-    let held : Session (link_of (sole_desk device []) before) (link_of desk after) served =
-    subst (λ (d : DeskView). Session (link_of d before) (link_of desk after) served) is session in
-    let kept : IsSameLink (link_of (sole_desk device []) before) (link_of desk after) =
-    subst (λ (d : DeskView). IsSameLink (link_of d before) (link_of desk after)) is same in
+-- a connection over that desk is the session of the manager
+abbrev serves : (origin : Origin) (asked : Option StepWords) (before after : Streams) (first desk : DeskView) (end : End)
+    → first ≡ sole_desk origin [] → ServesOn asked end (link_of first before) (link_of desk after) → Serves origin asked before after end
+serves origin asked before after first desk end is went =
+    let on : ServesOn asked end (link_of (sole_desk origin []) before) (link_of desk after) =
+    subst (λ (d : DeskView). ServesOn asked end (link_of d before) (link_of desk after)) is went in
     record {
       desk = desk;
-      served = served;
-      session = held;
-      ends = refl;
-      same = kept;
-      legal = subst (λ (s : State). IsLegal s desk.seen) (opening_without_rows device None sound) (kept.desk.legal tt);
-      calls = held.answers.alone refl;
-      own = held.answers.own ∙ sym (held.answers.alone refl);
-      fault = subst (λ (d : DeskView). HasFault served.end (link_of d before) (link_of desk after)) is fault;
+      served = on.served;
+      ends = on.ends;
+      told = on.told;
+      session = on.session;
+      same = on.same;
+      legal = on.same.desk.legal tt;
+      calls = on.session.answers.alone refl;
+      own = on.session.answers.own ∙ sym (on.session.answers.alone refl);
+      fault = on.fault;
+      clock = on.clock;
     }
+
+-- the session's calls are formed
+formed : (origin : Origin) (asked : Option StepWords) (before after : Streams) (end : End) (s : Serves origin asked before after end)
+    → All IsFormed s.desk.seen
+formed origin asked before after end s =
+    subst (λ (entries : List Entry). All IsFormed entries) (sym s.calls)
+    (all_formed (opening_of origin) 0 s.desk.seen s.session.exchanges s.session.answers.answers)
+
+-- with the rows that the session has kept the device opens as the session left it
+found : (origin : Origin) (device : Device) (place : Option (List ℕ)) (history : List Entry) (old new : StoreView) → KeptIsFound → IsSound device
+    → IsOrigin origin device place old → Leaves origin place history old new → All IsFormed history → IsTrue old.tells
+    → (at : List ℕ) → place ≡ Some at → OpensAs device (new.rows at) (replay (opening_of origin) history)
+found origin device place history old new law sound begins left forms tells at is =
+    subst (λ (rows : Rows). OpensAs device rows (replay (opening_of origin) history)) (sym (left.kept tells at is))
+    (law device origin.rows (opening_of origin) history sound begins.in_order begins.opens forms)
+
+-- the work of a session
+pub works : {K : Type 0} (asked : Asked) (device : Device) (before after : Workplace) (now : StoreView) (end : End)
+    (place : Option (List ℕ)) (manager out : machine.Managed K) (made last : machine.Served K) → KeptIsFound → IsSound device → place ≡ asked.store
+    → IsOrigin manager.origin device place before.store → manager.history ≡ [] → IsUnchanged before.store now
+    → made ≡ record { managed = manager; handed = manager.history }
+    → ServesOn asked.clock end (link_of (desk_of made) before.streams) (link_of (desk_of last) after.streams)
+    → out ≡ last.managed → Leaves out.origin out.origin.place out.history now after.store → Works asked device before after end
+works {K} asked device before after now end place manager out made last law sound asks begun fresh same is went handed left =
+    let begins : IsOrigin manager.origin device asked.store before.store =
+    subst (λ (p : Option (List ℕ)). IsOrigin manager.origin device p before.store) asks begun in
+    let session : Serves manager.origin asked.clock before.streams after.streams end =
+    serves manager.origin asked.clock before.streams after.streams (desk_of made) (desk_of last) end (first_desk made manager is fresh) went in
+    let one : last.managed.origin ≡ manager.origin = session.same.desk.desk.origin in
+    let kept : Leaves manager.origin asked.store last.managed.history before.store after.store =
+    leaves_asked manager.origin asked.store last.managed.history before.store now after.store same begins.at_place
+    (subst (λ (o : Origin). Leaves o o.place last.managed.history now after.store) one
+    (subst (λ (m : machine.Managed K). Leaves m.origin m.origin.place m.history now after.store) handed left)) in
+    record {
+      origin = manager.origin;
+      begins = begins;
+      session = session;
+      store = kept;
+      found = found manager.origin device asked.store last.managed.history before.store after.store law sound begins kept
+          (formed manager.origin asked.clock before.streams after.streams end session);
+    }
+
+-- the store has attached the place of the keeper that comes back
+pub attached_back : {K : Type 0} (old now : StoreView) (place : Option (List ℕ)) (Attached : List ℕ → Type 0) (manager out : machine.Managed K)
+    (made last : machine.Served K) → (IsTrue old.tells → (at : List ℕ) → place ≡ Some at → Attached at) → IsUnchanged old now
+    → (IsTrue old.tells → manager.origin.place ≡ place) → made ≡ record { managed = manager; handed = manager.history }
+    → last.managed.origin ≡ made.managed.origin → out ≡ last.managed
+    → IsTrue now.tells → (at : List ℕ) → out.origin.place ≡ Some at → Attached at
+attached_back {K} old now place Attached manager out made last attached same at_place is one handed tells at stands =
+    let told : IsTrue old.tells = sym same.tells ∙ tells in
+    let back : out.origin.place ≡ manager.origin.place =
+    ap (λ (m : machine.Managed K). m.origin.place) handed ∙ (ap (λ (o : Origin). o.place) one ∙ ap (λ (s : machine.Served K). s.managed.origin.place) is) in
+    attached told at (sym (at_place told) ∙ (sym back ∙ stands))

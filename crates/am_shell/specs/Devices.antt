@@ -6,7 +6,7 @@ use Rattle.am_outside.specs.declared.files.FileBytes.{FileBytes}
 use Rattle.am_types.specs.declared.manifest.ManifestFault.{ManifestFault}
 use Rattle.am_manifest.specs.Devices.{device_of}
 use Rattle.am_shell.specs.declared.outcome.Outcome.{Outcome}
-use Rattle.am_shell.specs.declared.outcome.Outcome.TheVariants.{Usage, DeviceRefused, FileFault, NoMemory, Ended}
+use Rattle.am_shell.specs.declared.outcome.Outcome.TheVariants.{Usage, DeviceRefused, FileFault, StoreFault, RowsRefused, NoMemory, Ended}
 use Rattle.am_shell.specs.Lines.{refusal_line}
 use Rattle.am_shell.specs.Outside.{Holds, IsMissing, Shelf}
 
@@ -32,6 +32,8 @@ abbrev pub FailsToOpen : Outcome → List ℕ → Shelf → Shelf → Type 0
 FailsToOpen Usage name before after = ⊥
 FailsToOpen (DeviceRefused line) name before after = IsRefused before.files name line
 FailsToOpen FileFault name before after = IsUnread name before after
+FailsToOpen StoreFault name before after = ⊥
+FailsToOpen (RowsRefused line) name before after = ⊥
 FailsToOpen NoMemory name before after = ⊤
 FailsToOpen (Ended end) name before after = ⊥
 
@@ -45,6 +47,8 @@ abbrev pub IsRefusal : Outcome → ManifestFault → Type 0
 IsRefusal Usage fault = ⊥
 IsRefusal (DeviceRefused line) fault = line ≡ refusal_line fault
 IsRefusal FileFault fault = ⊥
+IsRefusal StoreFault fault = ⊥
+IsRefusal (RowsRefused line) fault = ⊥
 IsRefusal NoMemory fault = ⊤
 IsRefusal (Ended end) fault = ⊥
 
@@ -53,6 +57,8 @@ abbrev pub FailsToParse : Outcome → Result Device ManifestFault → Type 0
 FailsToParse Usage read = ⊥
 FailsToParse (DeviceRefused line) read = (fault : ManifestFault) × (read ≡ Err fault) × (line ≡ refusal_line fault)
 FailsToParse FileFault read = ⊥
+FailsToParse StoreFault read = ⊥
+FailsToParse (RowsRefused line) read = ⊥
 FailsToParse NoMemory read = ⊤
 FailsToParse (Ended end) read = ⊥
 

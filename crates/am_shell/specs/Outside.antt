@@ -1,7 +1,8 @@
 -- What the outside tells at a moment.
-use Rattle.std.specs.Prelude.{◌≡◌, ℕ, List, Option, Some, None, ⊤}
+use Rattle.std.specs.Prelude.{◌≡◌, ℕ, Bool, List, Option, Some, None, ⊤}
 use Rattle.am_outside.specs.Files.{bytes_of}
 use Rattle.am_outside.specs.declared.files.FileBytes.{FileBytes}
+use Rattle.am_keeper.specs.declared.rows.Rows.{Rows}
 use Rattle.am_http.specs.Links.{SourceView, SinkView, Moments}
 
 -- of a reader of files the files, where it tells them, and its count of faults
@@ -15,10 +16,23 @@ pub record Streams : Type 0 where
   pub output : SinkView
   pub clock : Moments
 
--- the outside of a run's work: the files, and what its session is served over
+-- a store of kept rows: whether it tells its rows, those at each place, and its counts of failed attaches and of the
+-- faults of its keepers
+pub record StoreView : Type 0 where
+  pub tells : Bool
+  pub rows : List ℕ → Rows
+  pub failed : ℕ
+  pub faults : ℕ
+
+-- what a session works on: the store of the kept rows, and what it is served over
+pub record Workplace : Type 0 where
+  pub store : StoreView
+  pub streams : Streams
+
+-- the outside of a run's work: the files, and what its session works on
 pub record Outside : Type 0 where
   pub files : Shelf
-  pub streams : Streams
+  pub work : Workplace
 
 -- the outside of a whole run: that of its work, and the errors
 pub record Surroundings : Type 0 where

@@ -12,9 +12,11 @@ use Rattle.am_http.specs.Links.{SinkView}
 use Rattle.am_http.specs.Sending.{WritesPart}
 use Rattle.am_shell.specs.declared.outcome.Outcome.{Outcome}
 use Rattle.am_shell.specs.Lines.{line_of, status_of}
-use Rattle.am_shell.specs.Outcomes.{Happens, Works, Serves, Unread, Refuses}
+use Rattle.am_shell.specs.Outcomes.{Happens, Worked, Works, Unread, Refuses, Unattached, Unopened}
+use Rattle.am_shell.specs.Kept.{RefusesRows}
+use Rattle.am_shell.specs.declared.asked.Asked.{Asked}
+use Rattle.am_shell.specs.Asked.{session_of}
 use Rattle.am_shell.specs.Outside.{Surroundings}
-use Rattle.am_shell.specs.Words.{device_file}
 
 -- the outcome's line was written whole and the status is its own, or the errors failed and took a part of it
 abbrev pub Tells : Outcome → SinkView → SinkView → ℕ → Type 0
@@ -28,33 +30,42 @@ pub record Went (words : List (List ℕ)) (before after : Surroundings) (status 
   pub happened : Happens outcome words before.outside after.outside
   pub told : Tells outcome before.errors after.errors status
 
--- the words name a device file that describes a device, and its session ended so
+-- the words say a session, which ended so
 abbrev pub Ends : List (List ℕ) → Surroundings → Surroundings → End → Type 0
-Ends words before after end = Works words before.outside after.outside end
+Ends words before after end = Worked words before.outside after.outside end
 
 -- the cause of each status; running out of memory, status 8, has none
 pub record HasCause (words : List (List ℕ)) (before after : Surroundings) (status : ℕ) : Type 0 where
   pub worked : status ≡ 0 → Ends words before after Input ⊎ Ends words before after Close
   pub stopped : status ≡ 1 →
       Ends words before after Refused ⊎ Ends words before after Cut ⊎ Ends words before after Limit
-  pub misused : status ≡ 2 → device_file words ≡ None
+  pub misused : status ≡ 2 → session_of words ≡ None
   pub refused : status ≡ 3 →
       (line : List ℕ) × Refuses words before.outside line × Appends before.errors.taken after.errors.taken line
   pub unread : status ≡ 4 → Unread words before.outside after.outside
-  pub read_fault : status ≡ 5 → HasRisen before.outside.streams.input.faults after.outside.streams.input.faults
+  pub read_fault : status ≡ 5 →
+      HasRisen before.outside.work.streams.input.faults after.outside.work.streams.input.faults
   pub write_fault : status ≡ 6 →
-      HasRisen before.outside.streams.output.faults after.outside.streams.output.faults
+      HasRisen before.outside.work.streams.output.faults after.outside.work.streams.output.faults
       ⊎ HasRisen before.errors.faults after.errors.faults
+  pub unattached : status ≡ 7 → Unattached words before.outside after.outside
+  pub unopened : status ≡ 10 →
+      (line : List ℕ) × Unopened words before.outside line × Appends before.errors.taken after.errors.taken line
 
--- the words name a told file that describes a device: its session was served, unless the files or the errors
--- failed or memory ran out
+-- a row that was kept for the session that is asked for, of that device, is refused
+abbrev pub IsRowRefused : Asked → Device → Surroundings → Type 0
+IsRowRefused asked device before = (line : List ℕ) × RefusesRows device asked.store before.outside.work.store line
+
+-- the words say a session, and its file is told and describes a device: the session was served, unless the files, the
+-- store or the errors failed, a row that was kept is refused, or memory ran out
 abbrev pub Completes : List (List ℕ) → Surroundings → Surroundings → ℕ → Type 0
 Completes words before after status =
-    (name : List ℕ) (files : List FileBytes) (bytes : List ℕ) (device : Device) →
-    device_file words ≡ Some name → before.outside.files.files ≡ Some files → bytes_of name files ≡ Some bytes →
+    (asked : Asked) (files : List FileBytes) (bytes : List ℕ) (device : Device) →
+    session_of words ≡ Some asked → before.outside.files.files ≡ Some files → bytes_of asked.device files ≡ Some bytes →
     device_of bytes ≡ Ok device →
-    ((end : End) × Serves device before.outside.streams after.outside.streams end)
+    ((end : End) × Works asked device before.outside.work after.outside.work end)
     ⊎ HasRisen before.outside.files.faults after.outside.files.faults
+    ⊎ HasRisen before.outside.work.store.failed after.outside.work.store.failed ⊎ IsRowRefused asked device before
     ⊎ HasRisen before.errors.faults after.errors.faults ⊎ (status ≡ 8)
 
 -- a whole run: how it went, the cause of its status, and when it is the work

@@ -1,11 +1,12 @@
-//! The program behind its `main`: words, the device file, one session, and the line on the errors.
+//! The program behind its `main`: words, the device file, the kept rows, one session, and the line on the errors.
 #![tactic(auto)]
 
+mod asked;
 mod device;
 pub mod host;
+mod kept;
 mod outcome;
 mod program;
 mod session;
-mod words;
 
 pub use program::{run, tell_want};

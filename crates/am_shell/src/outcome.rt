@@ -1,24 +1,70 @@
 //! How a run went, and the line and the status that tell it.
 ghost use Rattle.std.specs.Prelude.{◌≡◌};
+ghost use Rattle.am_shell.specs.Fails.{outcome_of};
 ghost use Rattle.am_shell.specs.Lines.{end_line, end_status, line_of, status_of};
 
 use am_http::End;
+use am_keeper::KeepFail;
 use am_outside::FileFail;
-use am_types::Text;
+use am_types::{NoMemory, Text};
+use am_words::WordsFault;
 
 /// How a run went.
 #[derive(Drop)]
 pub enum Outcome {
-    /// The words aren't those of a session.
+    /// The words ask for no session.
     Usage,
     /// The device file has a fault, which this line names.
     DeviceRefused(Text),
     /// The device file couldn't be read.
     FileFault,
+    /// The store of the kept rows failed.
+    StoreFault,
+    /// A kept row is refused, and this line names its package.
+    RowsRefused(Text),
     /// Memory ran out before the first frame was read.
     NoMemory,
     /// The session was served, and ended so.
     Ended(End),
+}
+
+impl From<WordsFault> for Outcome {
+    ghost use Rattle.std.specs.Prelude.{◌≡◌};
+    ghost use Rattle.am_shell.specs.Fails.{outcome_of_words};
+
+    ghost from_gives = { λ fault outcome. outcome ≡ outcome_of_words fault };
+
+    fn from(fault: WordsFault) -> Outcome {
+        match fault {
+            WordsFault::Usage => Outcome::Usage,
+            WordsFault::NoMemory => Outcome::NoMemory,
+        }
+    }
+}
+
+impl From<NoMemory> for Outcome {
+    ghost use Rattle.std.specs.Prelude.{◌≡◌};
+    ghost use Rattle.am_shell.specs.declared.outcome.Outcome.TheVariants as ends;
+
+    ghost from_gives = { λ _ outcome. outcome ≡ ends.NoMemory };
+
+    fn from(_want: NoMemory) -> Outcome {
+        Outcome::NoMemory
+    }
+}
+
+impl From<KeepFail> for Outcome {
+    ghost use Rattle.std.specs.Prelude.{◌≡◌};
+    ghost use Rattle.am_shell.specs.Fails.{outcome_of_store};
+
+    ghost from_gives = { λ fail outcome. outcome ≡ outcome_of_store fail };
+
+    fn from(fail: KeepFail) -> Outcome {
+        match fail {
+            KeepFail::Failed => Outcome::StoreFault,
+            KeepFail::NoMemory => Outcome::NoMemory,
+        }
+    }
 }
 
 impl From<FileFail> for Outcome {
@@ -36,6 +82,16 @@ impl From<FileFail> for Outcome {
 }
 
 impl Outcome {
+    /// How the work went that ended so, or that didn't begin.
+    pub fn of(work: Result<End, Outcome>) -> Outcome
+        ensures { result ≡ outcome_of work }
+    {
+        match work {
+            Ok(end) => Outcome::Ended(end),
+            Err(outcome) => outcome,
+        }
+    }
+
     /// The line that tells it, with its newline; empty where the session ended well.
     pub fn line(&self) -> &str
         ensures { result.now ≡ line_of self.now }
@@ -44,6 +100,8 @@ impl Outcome {
             Outcome::Usage => "am: usage\n",
             Outcome::DeviceRefused(line) => line.as_str(),
             Outcome::FileFault => "am: file fault\n",
+            Outcome::StoreFault => "am: store fault\n",
+            Outcome::RowsRefused(line) => line.as_str(),
             Outcome::NoMemory => "am: out of memory\n",
             Outcome::Ended(end) => end_line(*end),
         }
@@ -57,6 +115,8 @@ impl Outcome {
             Outcome::Usage => 2,
             Outcome::DeviceRefused(_) => 3,
             Outcome::FileFault => 4,
+            Outcome::StoreFault => 7,
+            Outcome::RowsRefused(_) => 10,
             Outcome::NoMemory => 8,
             Outcome::Ended(end) => end_status(*end),
         }

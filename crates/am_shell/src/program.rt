@@ -1,40 +1,54 @@
 //! The top call.
 ghost use Rattle.std.specs.Prelude.{◌≡◌, ◌≤◌};
 ghost use Rattle.am_http.specs.Links.{source_of, sink_of};
+ghost use Rattle.am_shell.specs.Fails.{outcome_of};
 ghost use Rattle.am_shell.specs.Outcomes.{Happens};
 ghost use Rattle.am_shell.specs.Runs.{Runs, Tells};
 
+use crate::asked::read_session;
 use crate::device::open_device;
 use crate::outcome::Outcome;
 use crate::session::serve_session;
-use crate::words::device_file;
-use am_http::write_all;
+use am_http::{End, write_all};
+use am_keeper::Store;
 use am_outside::{Clock, Failed, Files, Sink, Source};
-use am_types::{NoMemory, Text};
+use am_types::Text;
 use std::alloc::Global;
 
-/// Runs the program: the words, the device file, then one session from the input to the output.
-/// Its status is 0 where the session ended well, 1 where it ended at a refused or a cut frame or at
-/// the limit, 2 for other words, 3 for a refused device file, 4, 5 and 6 for a fault of the files,
-/// of the input and of the output or the errors, and 8 for want of memory before the first frame.
-/// Each but 0 has its line on the errors.
-pub fn run<F: Files, S: Source, W: Sink, E: Sink, C: Clock>(
+/// Runs the program: the words, the device file, the rows that the store keeps at the place of the words, then one
+/// session from the input to the output, whose keeper is handed back to the store at the end. The session's moments are
+/// those of the clock that the words ask for, if they do, else those of the clock that is handed in.
+///
+/// Its status is 0 where the session ended well, 1 where it ended at a refused or a cut frame or at the limit, 2 for
+/// words that ask for no session, 3 for a refused device file, 4, 5 and 6 for a fault of the files, of the input and of
+/// the output or the errors, 7 for a fault of the store, 8 for want of memory before the first frame, and 10 for a kept
+/// row that is refused. Each but 0 has its line on the errors.
+pub fn run<F: Files, S: Source, W: Sink, E: Sink, T: Store, C: Clock>(
     alloc: Global,
     words: &[Text],
     files: &mut F,
     input: &mut S,
     output: &mut W,
     errors: &mut E,
+    store: &mut T,
     clock: &mut C,
 ) -> u8
     ensures { Runs words.now
         (record {
           outside = record {
             files = record { files = F.files files.old; faults = F.faults files.old };
-            streams = record {
-              input = source_of S.Source input.old;
-              output = sink_of W.Sink output.old;
-              clock = C.moments clock.old;
+            work = record {
+              store = record {
+                tells = T.tells store.old;
+                rows = T.rows_at store.old;
+                failed = T.failed_attaches store.old;
+                faults = T.keeper_faults store.old;
+              };
+              streams = record {
+                input = source_of S.Source input.old;
+                output = sink_of W.Sink output.old;
+                clock = C.moments clock.old;
+              };
             };
           };
           errors = sink_of E.Sink errors.old;
@@ -42,57 +56,76 @@ pub fn run<F: Files, S: Source, W: Sink, E: Sink, C: Clock>(
         (record {
           outside = record {
             files = record { files = F.files files.new; faults = F.faults files.new };
-            streams = record {
-              input = source_of S.Source input.new;
-              output = sink_of W.Sink output.new;
-              clock = C.moments clock.new;
+            work = record {
+              store = record {
+                tells = T.tells store.new;
+                rows = T.rows_at store.new;
+                failed = T.failed_attaches store.new;
+                faults = T.keeper_faults store.new;
+              };
+              streams = record {
+                input = source_of S.Source input.new;
+                output = sink_of W.Sink output.new;
+                clock = C.moments clock.new;
+              };
             };
           };
           errors = sink_of E.Sink errors.new;
         })
         result }
 {
-    let outcome = work(alloc, words, files, input, output, clock);
+    let outcome = Outcome::of(work(alloc, words, files, input, output, store, clock));
     tell(&outcome, errors)
 }
 
 // All but the line on the errors.
-fn work<F: Files, S: Source, W: Sink, C: Clock>(
+fn work<F: Files, S: Source, W: Sink, T: Store, C: Clock>(
     alloc: Global,
     words: &[Text],
     files: &mut F,
     input: &mut S,
     output: &mut W,
+    store: &mut T,
     clock: &mut C,
-) -> Outcome
-    ensures { Happens result words.now
+) -> Result<End, Outcome>
+    ensures { Happens (outcome_of result) words.now
         (record {
           files = record { files = F.files files.old; faults = F.faults files.old };
-          streams = record {
-            input = source_of S.Source input.old;
-            output = sink_of W.Sink output.old;
-            clock = C.moments clock.old;
+          work = record {
+            store = record {
+              tells = T.tells store.old;
+              rows = T.rows_at store.old;
+              failed = T.failed_attaches store.old;
+              faults = T.keeper_faults store.old;
+            };
+            streams = record {
+              input = source_of S.Source input.old;
+              output = sink_of W.Sink output.old;
+              clock = C.moments clock.old;
+            };
           };
         })
         (record {
           files = record { files = F.files files.new; faults = F.faults files.new };
-          streams = record {
-            input = source_of S.Source input.new;
-            output = sink_of W.Sink output.new;
-            clock = C.moments clock.new;
+          work = record {
+            store = record {
+              tells = T.tells store.new;
+              rows = T.rows_at store.new;
+              failed = T.failed_attaches store.new;
+              faults = T.keeper_faults store.new;
+            };
+            streams = record {
+              input = source_of S.Source input.new;
+              output = sink_of W.Sink output.new;
+              clock = C.moments clock.new;
+            };
           };
         }) }
 {
-    let Some(name) = device_file(words) else {
-        return Outcome::Usage;
-    };
-    match open_device(alloc, files, name) {
-        Err(outcome) => outcome,
-        Ok(device) => match serve_session(alloc, device, input, output, clock) {
-            Ok(end) => Outcome::Ended(end),
-            Err(NoMemory) => Outcome::NoMemory,
-        },
-    }
+    let asked = read_session(alloc, words)?;
+    let device = open_device(alloc, files, &asked.device)?;
+    let end = serve_session(alloc, device, asked, input, output, store, clock)?;
+    Ok(end)
 }
 
 // Writes the outcome's line on the errors, and answers the status.

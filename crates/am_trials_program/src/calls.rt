@@ -4,6 +4,8 @@ ghost use Rattle.std.specs.Prelude.{◌<◌, IfOk};
 mod activities;
 mod broadcasts;
 mod devices;
+mod finding;
+mod packages;
 mod pending_intents;
 mod reads;
 mod services;
@@ -106,6 +108,12 @@ fn answers_reads(rt: HostRuntime) -> Result<(), Fail> {
 }
 
 #[test]
+fn finds_and_reaches(rt: HostRuntime) -> Result<(), Fail> {
+    assert_eq!(rt; try_sessions(&rt, rt.alloc(), finding::SESSIONS)?, 45);
+    Ok(())
+}
+
+#[test]
 fn starts_and_ends_activities(rt: HostRuntime) -> Result<(), Fail> {
     assert_eq!(rt; try_sessions(&rt, rt.alloc(), activities::SESSIONS)?, 46);
     Ok(())
@@ -129,5 +137,11 @@ fn lends_pending_intents(rt: HostRuntime) -> Result<(), Fail> {
         try_sessions(&rt, rt.alloc(), pending_intents::SESSIONS)?,
         34
     );
+    Ok(())
+}
+
+#[test]
+fn installs_grants_and_stops(rt: HostRuntime) -> Result<(), Fail> {
+    assert_eq!(rt; try_sessions(&rt, rt.alloc(), packages::SESSIONS)?, 59);
     Ok(())
 }

@@ -21,3 +21,5 @@ mod runs;
 mod sessions;
 #[cfg(test)]
 mod spelling;
+#[cfg(test)]
+mod stores;

@@ -1,6 +1,7 @@
-//! Runs of the program over files, an input and sinks in memory.
+//! Runs of the program over files, an input, sinks and a store in memory.
 ghost use Rattle.std.specs.Prelude.{◌<◌};
 
+use am_keeper::{MemoryStore, PackageRow, Row, RowsBuilder, StoredRows};
 use am_outside::{FileBytes, MemoryFiles, MemorySink, MemorySource, StepClock};
 use am_shell::run;
 use am_types::{List, Text};
@@ -76,13 +77,53 @@ fn sink(alloc: Global, object: &str, room: usize, outside: &Outside) -> Result<M
     Ok(MemorySink::new(alloc, room, outside.most, calls)?)
 }
 
-/// Runs the words over the device file `d` and the input.
+/// The row of a package without components.
+fn package_row(alloc: Global) -> Result<Row, Fail> {
+    Ok(Row::Package(PackageRow {
+        uid: 10_000,
+        name: Text::of(alloc, "com.a")?,
+        key: Text::of(alloc, "ka")?,
+        text: Text::of(alloc, "package = 'com.a'")?,
+        gone: false,
+    }))
+}
+
+/// A store with a package at the place `p`.
+pub fn store(alloc: Global, outside: &Outside) -> Result<MemoryStore, Fail> {
+    let mut rows = RowsBuilder::new(alloc);
+    rows.put(package_row(alloc)?)?;
+    let path = Text::of(alloc, "p")?;
+    let calls = failing(alloc, "store", outside)?;
+    let mut places = Vec::new(alloc);
+    places.push(StoredRows {
+        path,
+        rows: rows.finish(),
+    })?;
+    Ok(MemoryStore::new(alloc, List::new(places), calls))
+}
+
+/// Runs the words over the device file `d`, the input, and a store with a package at the place `p`.
 pub fn try_run(
     alloc: Global,
     words: &str,
     device: &str,
     input: &[u8],
     outside: &Outside,
+) -> Result<Left, Fail>
+    requires { 0 < outside.now.most }
+{
+    let mut store = store(alloc, outside)?;
+    run_over(alloc, words, device, input, outside, &mut store)
+}
+
+/// Runs the words over the device file `d`, the input and the store.
+pub fn run_over(
+    alloc: Global,
+    words: &str,
+    device: &str,
+    input: &[u8],
+    outside: &Outside,
+    store: &mut MemoryStore,
 ) -> Result<Left, Fail>
     requires { 0 < outside.now.most }
 {
@@ -100,6 +141,7 @@ pub fn try_run(
         &mut input,
         &mut output,
         &mut errors,
+        store,
         &mut clock,
     );
     Ok(Left {

@@ -17,6 +17,8 @@ fn device_file(name: &str) -> &'static str {
     match name {
         "not_toml" => "x = ",
         "keyless" => "package = []",
+        "bare" => "system_key = 'sys'",
+        "taken" => "system_key = 'ka'",
         _ => EMPTY,
     }
 }
@@ -38,6 +40,7 @@ fn object(name: &str) -> &'static str {
         "input" => "input",
         "output" => "output",
         "errors" => "errors",
+        "store" => "store",
         _ => "",
     }
 }
@@ -90,6 +93,6 @@ fn ends_with_a_status(rt: HostRuntime) -> Result<(), Fail> {
             rows = rows.wrapping_add(1);
         }
     }
-    assert_eq!(rt; rows, 18);
+    assert_eq!(rt; rows, 30);
     Ok(())
 }

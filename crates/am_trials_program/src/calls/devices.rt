@@ -120,6 +120,55 @@ package = [
     { key = 'k2', manifest = { package = 'com.two' } },
 ]";
 
+/// A filter with an action, and one without.
+const NO_ACTION: &str = "
+system_key = 'sys'
+package = [
+    { key = 'k1', manifest = { package = 'com.one', activity = [{ name = '.Main', exported = true, intent-filter = [{ action = ['x.A'] }] }] } },
+    { key = 'k2', manifest = { package = 'com.two', activity = [{ name = '.Main', exported = true, intent-filter = [{ category = ['x.C'] }] }] } },
+]";
+
+/// A filter that lists the default category.
+const ONE_CATEGORY: &str = "
+system_key = 'sys'
+package = [
+    { key = 'k1', manifest = { package = 'com.one', activity = [{ name = '.Main', exported = true, intent-filter = [{ action = ['x.A'], category = ['android.intent.category.DEFAULT'] }] }] } },
+]";
+
+/// A filter that lists the default category and another one.
+const TWO_CATEGORIES: &str = "
+system_key = 'sys'
+package = [
+    { key = 'k1', manifest = { package = 'com.one', activity = [{ name = '.Main', exported = true, intent-filter = [{ action = ['x.A'], category = ['android.intent.category.DEFAULT', 'android.intent.category.BROWSABLE'] }] }] } },
+]";
+
+/// A filter that doesn't list the default category.
+const NO_DEFAULT: &str = "
+system_key = 'sys'
+package = [
+    { key = 'k1', manifest = { package = 'com.one', activity = [{ name = '.Main', exported = true, intent-filter = [{ action = ['x.A'], category = ['android.intent.category.BROWSABLE'] }] }] } },
+]";
+
+/// Two that take web links, one of them the browser.
+const BROWSER: &str = "
+system_key = 'sys'
+browser = 'com.two'
+package = [
+    { key = 'k1', manifest = { package = 'com.one', activity = [{ name = '.Main', exported = true, intent-filter = [{ action = ['android.intent.action.VIEW'], category = ['android.intent.category.DEFAULT'], data = [{ scheme = 'https' }] }] }] } },
+    { key = 'k2', manifest = { package = 'com.two', activity = [{ name = '.Main', exported = true, intent-filter = [{ action = ['android.intent.action.VIEW'], category = ['android.intent.category.DEFAULT'], data = [{ scheme = 'https' }] }] }] } },
+]";
+
+/// Four packages, each with a receiver; one asks for a permission, and one isn't exported.
+const FOUR: &str = "
+system_key = 'sys'
+exempt = ['x.E']
+package = [
+    { key = 'k1', manifest = { package = 'one', receiver = [{ name = 'one.A', exported = true, intent-filter = [{ action = ['x.A', 'x.E'] }] }] } },
+    { key = 'k2', manifest = { package = 'two', receiver = [{ name = 'two.Asks', exported = true, permission = 'p.M', intent-filter = [{ action = ['x.A', 'x.E'], priority = 5 }] }] } },
+    { key = 'k3', manifest = { package = 'three', receiver = [{ name = 'three.A', exported = true, intent-filter = [{ action = ['x.A', 'x.E'] }] }] } },
+    { key = 'k4', manifest = { package = 'four', receiver = [{ name = 'four.Own', exported = false, intent-filter = [{ action = ['x.A', 'x.E'] }] }] } },
+]";
+
 /// The device of that name, in small letters.
 pub fn device_file(name: &str) -> Option<&'static str> {
     match name {
@@ -136,6 +185,12 @@ pub fn device_file(name: &str) -> Option<&'static str> {
         "one" => Some(ONE),
         "registers" => Some(REGISTERS),
         "lent" => Some(LENT),
+        "no_action" => Some(NO_ACTION),
+        "one_category" => Some(ONE_CATEGORY),
+        "two_categories" => Some(TWO_CATEGORIES),
+        "no_default" => Some(NO_DEFAULT),
+        "browser" => Some(BROWSER),
+        "four" => Some(FOUR),
         _ => None,
     }
 }

@@ -21,7 +21,7 @@ a frame cut off behind a whole one | GET / HTTP/1.1\r\n\r\nPOST -> 404 {"error":
 each refusal of a frame, and then a query | GET / HTTP/1.1\r\n\r\nPOST /v1/query HTTP/1.1\r\nContent-Length: 2\r\n\r\n{}GET /v1/query HTTP/1.1\r\nAM-Key: k1\r\n\r\nPOST /v1/query HTTP/1.1\r\nAM-Key: k9\r\nContent-Length: 31\r\n\r\n{"kind":"activity","intent":{}}POST /v1/query?a HTTP/1.1\r\nAM-Key: k1\r\nContent-Length: 31\r\n\r\n{"kind":"activity","intent":{}} -> 404 {"error":"no_route"}, 400 {"error":"bad_request","name":"missing kind"}, 405 {"error":"no_method"}, 401 {"error":"unknown_key"}, 200 {"components":[]}, ended
 a body that is a frame | POST / HTTP/1.1\r\nContent-Length: 18\r\n\r\nGET / HTTP/1.1\r\n\r\n -> 404 {"error":"no_route"}, ended
 an old query | POST /v1/query HTTP/1.0\r\nAM-Key: k1\r\nContent-Length: 31\r\n\r\n{"kind":"activity","intent":{}}GET / HTTP/1.1\r\n\r\n -> 200 {"components":[]}, ended
-a route that is not served | POST /v1/install HTTP/1.1\r\nContent-Length: 0\r\n\r\nPUT /v1/install HTTP/1.1\r\n\r\n -> 404 {"error":"no_route"}, 404 {"error":"no_route"}, ended
+an empty body, and another method | POST /v1/install HTTP/1.1\r\nContent-Length: 0\r\n\r\nPUT /v1/install HTTP/1.1\r\n\r\n -> 400 {"error":"bad_request","name":"not_json"}, 405 {"error":"no_method"}, ended
 a closing frame with another method | PUT /v1/query HTTP/1.1\r\nConnection: close\r\n\r\n -> 405 {"error":"no_method"}, ended
 a closing frame without a route | GET / HTTP/1.1\r\nConnection: close\r\n\r\nGET / HTTP/1.1\r\n\r\n -> 404 {"error":"no_route"}, ended
 a closing frame with an unread body | POST /v1/query HTTP/1.1\r\nConnection: close\r\nContent-Length: 2\r\n\r\n{}\x00 -> 400 {"error":"bad_request","name":"missing kind"}, ended

@@ -11,7 +11,10 @@ stacked 63 start | POST /v1/start | k1 | {"intent":{"component":"com.one/.B"},"s
 crowd 64 get | POST /v1/pending/give | k0 | {"package":"com.p#","token":1} -> holders
 serving 255 serve | POST /v1/start_service | k0 | {"intent":{"component":"com.p0/.S#"}} -> services
 listening 0 - | POST /v1/send | k0 | {"intent":{"action":"x.O"}} -> receivers
-crowd 0 full | POST /v1/pending/send | k0 | {"fill":{"extras":{"b":1}},"token":1} -> extras"#;
+crowd 0 full | POST /v1/pending/send | k0 | {"fill":{"extras":{"b":1}},"token":1} -> extras
+one 256 - | POST /v1/grant | sys | {"held":true,"package":"com.s","permission":"p.#"} -> grants
+one 256 - | POST /v1/link | sys | {"approved":true,"host":"h#","package":"com.s"} -> links
+one 254 - | POST /v1/install | sys | {"key":"key#","manifest":"package = \"com.p#\""} -> packages"#;
 
 /// What is asked before the calls of that name: the method and the path, the key, and the body.
 pub fn first_call(name: &str) -> Option<&'static str> {

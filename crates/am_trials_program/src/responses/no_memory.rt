@@ -1,7 +1,7 @@
 //! A desk that has no memory for any call.
 use crate::exchanges::EMPTY;
+use am_desk::Desk;
 use am_http::{Buffers, serve_connection};
-use am_machine::Desk;
 use am_manifest::read_device;
 use am_outside::{MemorySink, MemorySource, StepClock};
 use am_types::{Device, List, NoMemory, Request, Shown, Text};

@@ -14,7 +14,22 @@ empty none session | POST /v1/query HTTP/1.1\r\nAM-Key: k1\r\nContent-Length: 45
 empty none session --device -d | POST /v1/query HTTP/1.1\r\nAM-Key: k1\r\nContent-Length: 45\r\n\r\n{"intent":{"action":"a.X"},"kind":"activity"} | 2 am: usage | -
 empty none session --device d more | POST /v1/query HTTP/1.1\r\nAM-Key: k1\r\nContent-Length: 45\r\n\r\n{"intent":{"action":"a.X"},"kind":"activity"} | 2 am: usage | -
 empty none serve --device d | POST /v1/query HTTP/1.1\r\nAM-Key: k1\r\nContent-Length: 45\r\n\r\n{"intent":{"action":"a.X"},"kind":"activity"} | 2 am: usage | -
-empty none session --device=d | POST /v1/query HTTP/1.1\r\nAM-Key: k1\r\nContent-Length: 45\r\n\r\n{"intent":{"action":"a.X"},"kind":"activity"} | 2 am: usage | -
+empty none session --device d --device d | - | 2 am: usage | -
+empty none session --device=d --device x | - | 2 am: usage | -
+empty none session --device d --at 5 | - | 2 am: usage | -
+empty none session --device d --step=1 | - | 2 am: usage | -
+empty none session --device d --store= | - | 2 am: usage | -
+empty none session --device=d | - | 0 - | -
+# The session has its own clock.
+bare none session --step 1 --device=d --at=5 | POST /v1/tick HTTP/1.1\r\nAM-Key: sys\r\nContent-Length: 2\r\n\r\n{}POST /v1/history HTTP/1.1\r\nAM-Key: sys\r\nContent-Length: 10\r\n\r\n{"from":0} | 0 - | HTTP/1.1 200 OK\r\nContent-Type: application/json\r\nContent-Length: 2\r\nAM-At: 0\r\nAM-Stored: 1\r\n\r\n{}HTTP/1.1 200 OK\r\nContent-Type: application/json\r\nContent-Length: 114\r\nAM-At: 1\r\nAM-Stored: 0\r\n\r\n{"entries":[{"at":0,"desk":0,"kept":true,"now":5,"request":{},"route":"/v1/tick","uid":1000,"weight":2}],"from":0}
+# The rows at the place, at another place, and without a place.
+bare none session --device d --store p | GET /v1/status HTTP/1.1\r\nAM-Key: sys\r\n\r\n | 0 - | HTTP/1.1 200 OK\r\nContent-Type: application/json\r\nContent-Length: 37\r\nAM-At: 0\r\nAM-Stored: 0\r\n\r\n{"history":0,"moment":0,"packages":1}
+bare none session --device d --store=q | GET /v1/status HTTP/1.1\r\nAM-Key: sys\r\n\r\n | 0 - | HTTP/1.1 200 OK\r\nContent-Type: application/json\r\nContent-Length: 37\r\nAM-At: 0\r\nAM-Stored: 0\r\n\r\n{"history":0,"moment":0,"packages":0}
+bare none session --device d | GET /v1/status HTTP/1.1\r\nAM-Key: sys\r\n\r\n | 0 - | HTTP/1.1 200 OK\r\nContent-Type: application/json\r\nContent-Length: 37\r\nAM-At: 0\r\nAM-Stored: 0\r\n\r\n{"history":0,"moment":0,"packages":0}
+bare store session --device d --store p | GET /v1/status HTTP/1.1\r\nAM-Key: sys\r\n\r\n | 7 am: store fault | -
+bare store session --device d | GET /v1/status HTTP/1.1\r\nAM-Key: sys\r\n\r\n | 7 am: store fault | -
+# The row's key is the system's.
+taken none session --device d --store p | GET /v1/status HTTP/1.1\r\nAM-Key: sys\r\n\r\n | 10 am: kept rows refused: com.a | -
 not_toml none session --device d | POST /v1/query HTTP/1.1\r\nAM-Key: k1\r\nContent-Length: 45\r\n\r\n{"intent":{"action":"a.X"},"kind":"activity"} | 3 am: device refused: not_toml | -
 keyless none session --device d | POST /v1/query HTTP/1.1\r\nAM-Key: k1\r\nContent-Length: 45\r\n\r\n{"intent":{"action":"a.X"},"kind":"activity"} | 3 am: device refused: missing system_key | -
 empty none session --device other | POST /v1/query HTTP/1.1\r\nAM-Key: k1\r\nContent-Length: 45\r\n\r\n{"intent":{"action":"a.X"},"kind":"activity"} | 4 am: file fault | -

@@ -1,6 +1,6 @@
 use Rattle.std.proofs.Common.{ℕ, ◌+◌, ◌*◌, List, [], Option, refl, ◌∙◌, subst, arith}
 use Rattle.am_http.specs.Frames.{Leaves}
-use Rattle.am_http.specs.Links.{Link, Midway, source_of, sink_of}
+use Rattle.am_http.specs.Links.{Link, source_of, sink_of}
 use Rattle.am_http.specs.Sessions.{most_bytes}
 use Rattle.am_http.proofs.NextLemmas.{gives_none, gives_more}
 use Rattle.am_http.proofs.SessionLemmas.{going_none, leaves_self, going_more, session_close, session_stop, same_link_trans, same_link_refl}

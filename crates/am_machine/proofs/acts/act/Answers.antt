@@ -26,3 +26,8 @@ pub returns-in-PendingIntents-clause-done : goal.returns-in-PendingIntents-claus
 returns-in-PendingIntents-clause-done g c =
     done_after c.pending_intents.result c.args.live.now c.pending_intents.new.live c.args.history.now c.args.caller c.args.now c.moment_after-moment.result c.args.request.now
     c.moment_after-moment.ensures.moment c.pending_intents.ensures.done
+
+pub returns-in-Packages-clause-done : goal.returns-in-Packages-clause-done
+returns-in-Packages-clause-done g c =
+    done_after c.packages.result c.args.live.now c.packages.new.live c.args.history.now c.args.caller c.args.now c.moment_after-moment.result c.args.request.now
+    c.moment_after-moment.ensures.moment c.packages.ensures.done

@@ -1,4 +1,4 @@
-use Rattle.std.proofs.Common.{◌≡◌, ◌∙◌, List, ap}
+use Rattle.std.proofs.Common.{◌∙◌, List, ap}
 use Rattle.am_types.specs.declared.history.Entry.{Entry}
 use Rattle.am_types.specs.declared.request.Request.{Request}
 use Rattle.am_history.specs.Steps.{act, at_moment}

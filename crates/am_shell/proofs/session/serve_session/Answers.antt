@@ -1,11 +1,14 @@
-use Rattle.std.proofs.Common.{ap}
-use Rattle.am_keeper.specs.Memory.{InMemory}
-use Rattle.am_shell.proofs.ServeLemmas.{first_desk, serves}
+use Rattle.am_shell.proofs.ServeLemmas.{attached_back, works}
 use Rattle.am_shell.proofs.session.serve_session.Goals as goal
 
-pub returns-clause-served : goal.returns-clause-served
-returns-clause-served g c =
-    let went = c.serve_connection-served.ensures in
-    serves _ c.requires.sound _ _ _ _ c.serve_connection-served.result
-    (first_desk _ _ _ _ _ (ap (λ (k : InMemory). k.place) c.nothing_kept.ensures) c.new-desk.ensures.made c.in_ok-begin.ensures)
-    went.session went.fault went.same
+pub hand_back-requires : goal.hand_back-requires
+hand_back-requires g c =
+    let begun = c.in_ok-manager.ensures in
+    attached_back _ _ _ (g.T.Store.has_attached c.open_manager.new.store) c.in_ok-manager.manager c.into_manager.result c.new-desk.result c.serve_on-end.new.desk
+    begun.attached begun.unchanged begun.origin.at_place c.new-desk.ensures.made c.serve_on-end.ensures.same.desk.desk.origin c.into_manager.ensures
+
+pub returns : goal.returns
+returns g c =
+    let begun = c.in_ok-manager.ensures in
+    works _ _ _ _ _ _ _ c.in_ok-manager.manager c.into_manager.result c.new-desk.result c.serve_on-end.new.desk c.kept_is_found.ensures c.requires.sound c.as_ref.ensures.value
+    begun.origin begun.fresh begun.unchanged c.new-desk.ensures.made c.serve_on-end.ensures c.into_manager.ensures c.hand_back.ensures

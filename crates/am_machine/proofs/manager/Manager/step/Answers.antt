@@ -12,6 +12,6 @@ pub counted-requires-clause-caller : goal.counted-requires-clause-caller
 counted-requires-clause-caller g c =
     let state : State = replay (opening_of c.args.self.now.origin) c.args.self.now.history in
     let held : state ≡ c.self.inside.live =
-    from_inside (λ (o : Origin) (h : List Entry). replay (opening_of o) h ≡ c.self.inside.live) _ _ c.self.view_is c.self.invariant.replayed in
+    from_inside (λ (o : Origin) (h : List Entry). replay (opening_of o) h ≡ c.self.inside.live) _ _ c.self.view_is c.self.invariant.0.replayed in
     uid_has_caller state c.args.key.now c.in-Some.uid
     (ap (λ (s : State). uid_of s c.args.key.now) held ∙ sym c.uid_of.ensures ∙ c.in-Some.is)

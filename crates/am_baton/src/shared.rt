@@ -1,0 +1,96 @@
+//! A desk that shares its manager with others.
+ghost use Rattle.std.specs.Prelude.{◌≡◌, true, []};
+ghost use Rattle.crossbeam_queue.specs.Passes.{view, IsPassOf};
+ghost use Rattle.am_baton.specs.Shared.{AddsOne, Put, Taken, holding};
+
+use crate::baton::{Baton, Stand};
+use crate::rule::{Puts, Takes};
+use crate::view::Ticket;
+use am_desk::Desk;
+use am_keeper::Keeper;
+use am_types::{NoMemory, Request, Shown, Text};
+use crossbeam_queue::Pass;
+use std::marker::Model;
+use std::sync::{Arc, Wait};
+use std::thread;
+
+/// One of the desks that share a manager. Its calls may wait for those of the others.
+#[derive(Drop)]
+pub struct SharedDesk<R: Wait, K: Keeper> {
+    pub(crate) rt: R,
+    pub(crate) number: u32,
+    pub(crate) stand: Arc<Stand<K>>,
+    pub(crate) pass: Pass<Baton<K>, Ticket>,
+}
+
+impl<R: Wait, K: Keeper> Model for SharedDesk<R, K> {
+    ghost use Rattle.std.specs.Prelude.{◌≡◌, []};
+    ghost use Rattle.crossbeam_queue.specs.Passes.{view as known, IsPassOf};
+    ghost use Rattle.am_history.specs.Desks.{DeskView};
+    ghost use Rattle.am_baton.specs.Shared.{desk_of, idle};
+
+    ghost Value = { DeskView };
+
+    ghost view = { λ d. desk_of d.pass.table_id (known d.pass).mark };
+
+    // The pass is of the queue in which the manager lies, and stands for this desk alone.
+    ghost invariant = { λ d. IsPassOf d.stand.value.queue d.pass
+        × (known d.pass ≡ idle (known d.pass).makes (known d.pass).mark [])
+        × (d.number ≡ (known d.pass).mark.number) };
+}
+
+// Waits until the manager is there, and takes it.
+fn take<R: Wait, K: Keeper>(rt: &R, stand: &Stand<K>, pass: &mut Pass<Baton<K>, Ticket>) -> Baton<K>
+    requires pass { IsPassOf stand.now.queue pass.old }
+    requires live { (view pass.old).live ≡ true }
+    ensures pass { IsPassOf stand.now.queue pass.new × (pass.new.table_id ≡ pass.old.table_id) }
+    ensures taken { Taken (view pass.old) result (view pass.new) }
+{
+    for _ in rt.forever() {
+        if let Some(baton) = stand.queue.try_pop_as::<Takes>(pass) {
+            return baton;
+        }
+        thread::yield_now();
+    }
+    unreachable!()
+}
+
+// Puts the manager back.
+fn give<R: Wait, K: Keeper>(
+    rt: &R,
+    stand: &Stand<K>,
+    pass: &mut Pass<Baton<K>, Ticket>,
+    baton: Baton<K>,
+)
+    requires pass { IsPassOf stand.now.queue pass.old }
+    requires holds { view pass.old ≡ holding (view pass.old).makes (view pass.old).mark [] }
+    requires origin { baton.manager.origin ≡ (view pass.old).mark.start.origin }
+    requires desks { baton.desks ≡ (view pass.old).mark.start.desks }
+    requires adds { AddsOne (view pass.old).mark.number (view pass.old).mark.seen baton.manager.history }
+    ensures pass { IsPassOf stand.now.queue pass.new × (pass.new.table_id ≡ pass.old.table_id) }
+    ensures put { Put (view pass.old) baton (view pass.new) }
+{
+    match stand.queue.push_as::<Puts, R>(rt, pass, baton) {
+        Ok(()) => (),
+        Err(_) => unreachable!(),
+    }
+}
+
+impl<R: Wait, K: Keeper> Desk for SharedDesk<R, K> {
+    ghost view = { λ d. d };
+
+    fn call(
+        &mut self,
+        key: &Text,
+        now: u64,
+        weight: u32,
+        request: Request,
+    ) -> Result<Shown, NoMemory> {
+        let stand: &Stand<K> = &self.stand;
+        let _turn = stand.gate.lock(&self.rt);
+        let mut baton = take(&self.rt, stand, &mut self.pass);
+        let shown = baton.manager.step(self.number, key, now, weight, request);
+        give(&self.rt, stand, &mut self.pass, baton);
+        shown
+    }
+}

@@ -1,0 +1,34 @@
+//! What a desk is, on which the calls of a connection are made.
+#![tactic(auto)]
+
+ghost use Rattle.std.specs.Prelude.{◌≡◌, IfOk, OnErr, IsTrue};
+ghost use Rattle.am_history.specs.Desks.{DeskView, IsSameDesk, SeesOthers, Shows, start_of};
+ghost use Rattle.am_history.specs.History.{IsLegal};
+ghost use Rattle.am_history.specs.Steps.{is_formed};
+
+use am_types::{NoMemory, Request, Shown, Text};
+
+/// Where a connection's calls are made. The manager behind it may be shared with other desks.
+pub trait Desk {
+    /// Where its manager comes from, its number, which desks share the manager, and the entries of
+    /// the history that it has seen.
+    ghost view: { Self → DeskView };
+
+    /// Makes one call at the moment `now`, in milliseconds, of a request of the form that a body is
+    /// read as. `weight` is the length of the request's body, in bytes. After `NoMemory` the call
+    /// itself changed nothing, but the desk may have seen more calls of others.
+    fn call(
+        &mut self,
+        key: &Text,
+        now: u64,
+        weight: u32,
+        request: Request,
+    ) -> Result<Shown, NoMemory>
+        requires formed { IsTrue (is_formed request) }
+        ensures shown { IfOk result (λ shown. Shows (view self.old) (view self.new)
+            (record { desk = (view self.old).number; key = key.now; now = now; weight = weight; request = request })
+            shown) }
+        ensures refused { OnErr result (SeesOthers (view self.old) (view self.new).seen) }
+        ensures legal { IsLegal (start_of (view self.new)) (view self.new).seen }
+        ensures same { IsSameDesk (view self.old) (view self.new) };
+}

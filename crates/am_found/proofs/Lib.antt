@@ -1,0 +1,14 @@
+pub mod Placed
+pub mod Rights
+pub mod RightRows
+pub mod PackageRows
+pub mod PackagePuts
+pub mod NextUids
+pub mod Boards
+pub mod OtherRequests
+pub mod Openings
+pub mod Alike
+pub mod KeptSteps
+pub mod KeptRequests
+pub mod Found
+pub mod FoundExamples

@@ -1,0 +1,21 @@
+-- What one entry gave to activity instances.
+use Rattle.std.specs.Prelude.{◌≡◌, true, List, Some}
+use Rattle.std.specs.List.{Contains}
+use Rattle.am_types.specs.declared.history.Entry.{Entry}
+use Rattle.am_model.specs.Tasks.{Instance, Task}
+use Rattle.am_history.specs.State.{State}
+use Rattle.am_laws.specs.Access.{Deed, deed_of, IsStarted}
+
+-- the instance, with its intent, is in one of these tasks
+pub record IsAmong (tasks : List Task) (i : Instance) : Type 0 where
+  pub task : Task
+  pub one : Contains tasks task
+  pub instance : Contains task.instances i
+
+-- the entry started the instance's component, in the package that owns it, by the intent that the instance has, and the
+-- gate admitted that in this state
+pub record IsGivenBy (state : State) (entry : Entry) (i : Instance) : Type 0 where
+  pub kept : entry.kept ≡ true
+  pub deed : Deed
+  pub did : deed_of state entry.uid entry.request ≡ Some deed
+  pub started : IsStarted i.component i.owner i.intent state deed

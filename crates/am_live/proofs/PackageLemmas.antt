@@ -1,0 +1,429 @@
+-- What calls on packages come to, by what was found; and that what was prepared can be made and taken back.
+use Rattle.std.proofs.Common.{◌≡◌, ℕ, ◌<◌, ◌≤◌, ◌==◌, ◌+◌, Bool, true, false, not, ◌&&◌, ◌||◌, cond, List, [], ◌∷◌, ◌++◌, length, Option, Some, None, Result, Ok, Err, refl, subst, sym, ap, ◌∙◌, arith}
+use Rattle.std.specs.Prelude.{filter, nat_le}
+use Rattle.std.specs.List.{count_by, list_any, IsDistinct}
+use Rattle.std.specs.Option.{option_map}
+use Rattle.std.specs.Cmp.{nat_eq_equiv, unsigned_Decides}
+use Rattle.std.specs.Cmp.Lexicographic.{nat_list_eq_equiv}
+use Rattle.std.proofs.lemmas.Bool.{leb-false}
+use Rattle.std.proofs.lemmas.List.Elements.{recursion_from_All}
+use Rattle.am_types.specs.declared.device.Grant.{Grant}
+use Rattle.am_types.specs.declared.device.Link.{Link}
+use Rattle.am_types.specs.declared.device.Package.{Package}
+use Rattle.am_types.specs.declared.history.Entry.{Entry}
+use Rattle.am_types.specs.declared.manifest.Manifest.{Manifest}
+use Rattle.am_types.specs.declared.manifest.ManifestFault.{ManifestFault}
+use Rattle.am_types.specs.declared.reply.Reply.{Reply}
+use Rattle.am_types.specs.declared.reply.Reply.TheVariants as replies
+use Rattle.am_types.specs.declared.request.Request.{Request}
+use Rattle.am_types.specs.declared.request.Request.TheVariants as asks
+use Rattle.am_types.specs.declared.rule.Limit.TheVariants as limits
+use Rattle.am_types.specs.declared.rule.Rule.TheVariants as rules
+use Rattle.am_keeper.specs.declared.rows.Row.{Row}
+use Rattle.am_keeper.specs.declared.rows.Row.TheVariants as rows
+use Rattle.am_manifest.specs.Manifests.{manifest_of}
+use Rattle.am_model.specs.Boards.{Board, grants_without, links_without, registered_without, with_stopped, is_grant, is_granted, is_link, is_linked, is_package_uid, package_named, place_grant, place_link, stands_before, with_grant, with_link, without_package}
+use Rattle.am_model.specs.Broadcasts.{Broadcasts}
+use Rattle.am_model.specs.Gates.{is_privileged}
+use Rattle.am_model.specs.Pendings.{Pendings, forget_uid as forget_pendings}
+use Rattle.am_model.specs.Sending.{forget_uid as forget_broadcasts}
+use Rattle.am_model.specs.Tasks.{Tasks, forget_uid as forget_tasks}
+use Rattle.am_model.specs.Texts.{is_same}
+use Rattle.am_installed.specs.Installed.{AreInstalled}
+use Rattle.am_history.proofs.Acts.{act_grant, act_install, act_link, act_uninstall}
+use Rattle.am_history.specs.Answers.{done, for_admin, for_found, for_package, refused}
+use Rattle.am_history.specs.Kept.{gone_row, installed_row}
+use Rattle.am_history.specs.Packages.{force_stop, forget, grant, grant_to, install, install_read, installed, is_full, is_key_used, is_name_used, link, link_to, no_uid, uninstall, without}
+use Rattle.am_history.specs.State.{Service, State, with_packages}
+use Rattle.am_history.specs.Steps.{act, at_moment, keeps_row}
+use Rattle.am_laws.proofs.Tests.{both, neither, unless_true}
+use Rattle.am_laws_state.proofs.Inserted.{inserted, length_left}
+use Rattle.am_laws_state.proofs.SoundPackages.{last_is_new}
+use Rattle.am_laws_state.proofs.SoundSteps.{sound_after}
+use Rattle.am_laws_state.specs.Sound.{IsSoundState}
+use Rattle.am_live.specs.Changes.{changed, prepared, with_grants, with_links, with_package, Fits, IsAccepted, IsInstallable, IsPlanOf}
+use Rattle.am_live.specs.declared.change.Change.{Change}
+use Rattle.am_live.specs.declared.change.Change.TheVariants as changes
+use Rattle.am_live.specs.declared.change.Plan.TheVariants as plans
+
+-- what follows for the system and the root, and what for others
+pub admin_goes : (state : State) (caller : ℕ) (next : Reply × State) → is_privileged caller ≡ true → for_admin state caller next ≡ next
+admin_goes state caller next admin = ap (λ (b : Bool). cond b next (refused state rules.AdminOnly)) admin
+
+pub others_stop : (state : State) (caller : ℕ) (next : Reply × State) → is_privileged caller ≡ false → for_admin state caller next ≡ refused state rules.AdminOnly
+others_stop state caller next other = ap (λ (b : Bool). cond b next (refused state rules.AdminOnly)) other
+
+-- what follows for the package of a name, by what was found
+pub found_goes : (state : State) (name : List ℕ) (next : Package → Reply × State) (found : Option Package) → package_named state.board.packages name ≡ found
+    → for_package state name next ≡ for_found state found next
+found_goes state name next found is = ap (λ (o : Option Package). for_found state o next) is
+
+-- a call that has a row kept is refused to others than the system and the root
+pub not_admin : (state : State) (caller : ℕ) (request : Request) → is_privileged caller ≡ false → keeps_row request ≡ true
+    → IsPlanOf (plans.Refused rules.AdminOnly) state caller request
+unfolding install uninstall grant link
+not_admin state caller (asks.Install text key) other keeps = λ (moment : ℕ) (before : List Entry).
+    act_install (at_moment state moment) before caller text key ∙ others_stop (at_moment state moment) caller _ other
+not_admin state caller (asks.Uninstall name) other keeps = λ (moment : ℕ) (before : List Entry).
+    act_uninstall (at_moment state moment) before caller name ∙ others_stop (at_moment state moment) caller _ other
+not_admin state caller (asks.Grant name permission held) other keeps = λ (moment : ℕ) (before : List Entry).
+    act_grant (at_moment state moment) before caller name permission held ∙ others_stop (at_moment state moment) caller _ other
+not_admin state caller (asks.Link name host approved) other keeps = λ (moment : ℕ) (before : List Entry).
+    act_link (at_moment state moment) before caller name host approved ∙ others_stop (at_moment state moment) caller _ other
+not_admin state caller _ other keeps = absurd cc
+
+-- the packages of a sound state are installed as they have to be
+are_installed : (state : State) → IsSoundState state → AreInstalled state.board.packages
+unfolding IsDistinct
+are_installed state sound = record {
+  rising = sound.packages.rising;
+  names = sound.packages.names.1;
+  each = λ k d h. record { few = (sound.packages.each k d h).few; classes = (sound.packages.each k d h).classes };
+}
+
+-- what is planned for the system and the root
+module _ (state : State) (caller : ℕ) (admin : is_privileged caller ≡ true) where
+  -- an installation by what was read
+  install_goes : (text key : List ℕ) (read : Result Manifest ManifestFault) (moment : ℕ) (before : List Entry) → manifest_of text ≡ read
+      → act (at_moment state moment) before caller (asks.Install text key) ≡ install_read (at_moment state moment) key read
+  unfolding install
+  install_goes text key read moment before is =
+      act_install (at_moment state moment) before caller text key
+      ∙ admin_goes (at_moment state moment) caller (install_read (at_moment state moment) key (manifest_of text)) admin
+      ∙ ap (install_read (at_moment state moment) key) is
+
+  pub bad_manifest : (text key : List ℕ) (fault : ManifestFault) → manifest_of text ≡ Err fault
+      → IsPlanOf (plans.Refused (rules.BadManifest fault)) state caller (asks.Install text key)
+  bad_manifest text key fault is = λ (moment : ℕ) (before : List Entry). install_goes text key (Err fault) moment before is
+
+  -- an installation of a package, by whether its name or key is in use, and whether no package can be added
+  abbrev tested : State → List ℕ → Manifest → Bool → Bool → Reply × State
+  tested s key manifest used full =
+      cond used (refused s rules.Installed)
+      (cond full (refused s (rules.OverLimit limits.Packages))
+      (replies.Installed s.next_uid, record (with_package s (installed s manifest key)) { next_uid = s.next_uid + 1 }))
+
+  module _ (text key : List ℕ) (manifest : Manifest) (is : manifest_of text ≡ Ok manifest) where
+    abbrev is_used : Bool
+    is_used = is_name_used state.board.packages manifest.«package» || is_key_used state key
+
+    pub in_use : is_used ≡ true → IsPlanOf (plans.Refused rules.Installed) state caller (asks.Install text key)
+    in_use used = λ (moment : ℕ) (before : List Entry).
+        install_goes text key (Ok manifest) moment before is
+        ∙ ap (λ (b : Bool). tested (at_moment state moment) key manifest b (is_full state)) used
+
+    pub too_many : is_used ≡ false → is_full state ≡ true → IsPlanOf (plans.Refused (rules.OverLimit limits.Packages)) state caller (asks.Install text key)
+    too_many unused full = λ (moment : ℕ) (before : List Entry).
+        install_goes text key (Ok manifest) moment before is
+        ∙ ap (λ (b : Bool). tested (at_moment state moment) key manifest b (is_full state)) unused
+        ∙ ap (λ (b : Bool). tested (at_moment state moment) key manifest false b) full
+
+    -- the package can be installed
+    fits : IsSoundState state → state.next_uid ≤ no_uid → is_used ≡ false → is_full state ≡ false → IsInstallable (installed state manifest key) state
+    fits sound low unused room =
+        let free = neither (is_name_used state.board.packages manifest.«package») (is_key_used state key) unused in
+        let left = neither (nat_le 256 (length state.board.packages)) (state.next_uid == no_uid) room in
+        record {
+          room = leb-false 256 (length state.board.packages) left.0;
+          uid = refl;
+          follows = not_last left.1;
+          new = last_is_new state.next_uid state.board.packages (recursion_from_All (λ (p : Package). p.uid < state.next_uid) state.board.packages sound.packages.below);
+          installed = are_installed (record (with_package state (installed state manifest key)) { next_uid = state.next_uid + 1 }) ((sound_after state sound caller (asks.Install text key)).installed text key manifest is free.0 free.1 room);
+        }
+      where
+        not_last : (state.next_uid == no_uid) ≡ false → state.next_uid < no_uid
+        not_last other =
+            let differs : state.next_uid ≡ no_uid → ⊥ = λ e. absurd (apart ((unsigned_Decides state.next_uid no_uid).1 e) other) in
+            omega arith
+          where
+            apart : (state.next_uid == no_uid) ≡ true → (state.next_uid == no_uid) ≡ false → ⊥
+            apart one other = cc
+
+    pub installs : (new : Package) (row : Row) → IsSoundState state → state.next_uid ≤ no_uid → is_used ≡ false → is_full state ≡ false
+        → new ≡ installed state manifest key → Some row ≡ installed_row state.next_uid text key (Ok manifest)
+        → IsPlanOf (plans.Accepted (changes.Install new) row) state caller (asks.Install text key)
+    installs new row sound low unused room made kept = record {
+      done = λ (moment : ℕ) (before : List Entry).
+          install_goes text key (Ok manifest) moment before is
+          ∙ ap (λ (b : Bool). tested (at_moment state moment) key manifest b (is_full state)) unused
+          ∙ ap (λ (b : Bool). tested (at_moment state moment) key manifest false b) room
+          ∙ ap (λ (p : Package). changed (changes.Install p) (at_moment state moment)) (sym made);
+      kept = ap (installed_row state.next_uid text key) is ∙ sym kept;
+      fits = subst (λ (p : Package). IsInstallable p state) (sym made) (fits sound low unused room);
+    }
+
+  -- a removal
+  module _ (name : List ℕ) where
+    uninstall_goes : (found : Option Package) (moment : ℕ) (before : List Entry) → package_named state.board.packages name ≡ found
+        → act (at_moment state moment) before caller (asks.Uninstall name)
+        ≡ for_found (at_moment state moment) found (λ (owner : Package). done (without (at_moment state moment) owner.uid))
+    unfolding uninstall
+    uninstall_goes found moment before is =
+        act_uninstall (at_moment state moment) before caller name
+        ∙ admin_goes (at_moment state moment) caller _ admin
+        ∙ found_goes (at_moment state moment) name _ found is
+
+    pub none_uninstalled : package_named state.board.packages name ≡ None → IsPlanOf (plans.Refused rules.NoPackage) state caller (asks.Uninstall name)
+    none_uninstalled is = λ (moment : ℕ) (before : List Entry). uninstall_goes None moment before is
+
+    pub uninstalls : (owner : Package) (row : Row) → package_named state.board.packages name ≡ Some owner → row ≡ gone_row owner
+        → IsPlanOf (plans.Accepted (changes.Uninstall owner.uid) row) state caller (asks.Uninstall name)
+    uninstalls owner row is kept = record {
+      done = λ (moment : ℕ) (before : List Entry). uninstall_goes (Some owner) moment before is;
+      kept = ap (option_map gone_row) is ∙ ap Some (sym kept);
+      fits = tt;
+    }
+
+  -- a permission that is given or taken
+  module _ (name permission : List ℕ) (held : Bool) where
+    grant_goes : (found : Option Package) (moment : ℕ) (before : List Entry) → package_named state.board.packages name ≡ found
+        → act (at_moment state moment) before caller (asks.Grant name permission held)
+        ≡ for_found (at_moment state moment) found (λ (owner : Package). grant_to (at_moment state moment) owner.uid permission held)
+    unfolding grant
+    grant_goes found moment before is =
+        act_grant (at_moment state moment) before caller name permission held
+        ∙ admin_goes (at_moment state moment) caller _ admin
+        ∙ found_goes (at_moment state moment) name _ found is
+
+    pub none_granted : package_named state.board.packages name ≡ None → IsPlanOf (plans.Refused rules.NoPackage) state caller (asks.Grant name permission held)
+    none_granted is = λ (moment : ℕ) (before : List Entry). grant_goes None moment before is
+
+    module _ (owner : Package) (is_new full : Bool) (is : package_named state.board.packages name ≡ Some owner)
+        (new_is : is_new ≡ (held && not (is_granted state.board.grants owner.uid permission)))
+        (full_is : full ≡ (is_new && nat_le 256 (count_by (λ (g : Grant). g.uid == owner.uid) state.board.grants))) where
+      abbrev granted : State → Bool → Reply × State
+      granted s many =
+          cond many (refused s (rules.OverLimit limits.Grants)) (done (with_grants s (with_grant s.board.grants owner.uid permission held)))
+
+      grant_tested : (many : Bool) (moment : ℕ) (before : List Entry) → full ≡ many
+          → act (at_moment state moment) before caller (asks.Grant name permission held) ≡ granted (at_moment state moment) many
+      grant_tested many moment before tests =
+          grant_goes (Some owner) moment before is
+          ∙ ap (λ (b : Bool). granted (at_moment state moment) (b && nat_le 256 (count_by (λ (g : Grant). g.uid == owner.uid) state.board.grants))) (sym new_is)
+          ∙ ap (granted (at_moment state moment)) (sym full_is ∙ tests)
+
+      pub too_many_granted : full ≡ true → IsPlanOf (plans.Refused (rules.OverLimit limits.Grants)) state caller (asks.Grant name permission held)
+      too_many_granted tests = λ (moment : ℕ) (before : List Entry). grant_tested true moment before tests
+
+      pub grants : (row : Row) (copy : List ℕ) → full ≡ false → copy ≡ permission
+          → row ≡ rows.Grant (record { uid = owner.uid; permission = permission; held = held })
+          → IsPlanOf (plans.Accepted (changes.Grant owner.uid copy held is_new) row) state caller (asks.Grant name permission held)
+      grants row copy tests copied kept = subst (λ (p : List ℕ). IsAccepted (changes.Grant owner.uid p held is_new) row state caller (asks.Grant name permission held)) (sym copied) (record {
+        done = λ (moment : ℕ) (before : List Entry). grant_tested false moment before tests;
+        kept = ap (option_map (λ (o : Package). rows.Grant (record { uid = o.uid; permission = permission; held = held }))) is ∙ ap Some (sym kept);
+        fits = new_is;
+      })
+
+  -- a host whose links are approved, or aren't any more
+  module _ (name host : List ℕ) (approved : Bool) where
+    link_goes : (found : Option Package) (moment : ℕ) (before : List Entry) → package_named state.board.packages name ≡ found
+        → act (at_moment state moment) before caller (asks.Link name host approved)
+        ≡ for_found (at_moment state moment) found (λ (owner : Package). link_to (at_moment state moment) owner.uid host approved)
+    unfolding link
+    link_goes found moment before is =
+        act_link (at_moment state moment) before caller name host approved
+        ∙ admin_goes (at_moment state moment) caller _ admin
+        ∙ found_goes (at_moment state moment) name _ found is
+
+    pub none_linked : package_named state.board.packages name ≡ None → IsPlanOf (plans.Refused rules.NoPackage) state caller (asks.Link name host approved)
+    none_linked is = λ (moment : ℕ) (before : List Entry). link_goes None moment before is
+
+    module _ (owner : Package) (is_new full : Bool) (is : package_named state.board.packages name ≡ Some owner)
+        (new_is : is_new ≡ (approved && not (is_linked state.board.links owner.uid host)))
+        (full_is : full ≡ (is_new && nat_le 256 (count_by (λ (l : Link). l.uid == owner.uid) state.board.links))) where
+      abbrev linked : State → Bool → Reply × State
+      linked s many =
+          cond many (refused s (rules.OverLimit limits.Links)) (done (with_links s (with_link s.board.links owner.uid host approved)))
+
+      link_tested : (many : Bool) (moment : ℕ) (before : List Entry) → full ≡ many
+          → act (at_moment state moment) before caller (asks.Link name host approved) ≡ linked (at_moment state moment) many
+      link_tested many moment before tests =
+          link_goes (Some owner) moment before is
+          ∙ ap (λ (b : Bool). linked (at_moment state moment) (b && nat_le 256 (count_by (λ (l : Link). l.uid == owner.uid) state.board.links))) (sym new_is)
+          ∙ ap (linked (at_moment state moment)) (sym full_is ∙ tests)
+
+      pub too_many_linked : full ≡ true → IsPlanOf (plans.Refused (rules.OverLimit limits.Links)) state caller (asks.Link name host approved)
+      too_many_linked tests = λ (moment : ℕ) (before : List Entry). link_tested true moment before tests
+
+      pub links : (row : Row) (copy : List ℕ) → full ≡ false → copy ≡ host
+          → row ≡ rows.Link (record { uid = owner.uid; host = host; approved = approved })
+          → IsPlanOf (plans.Accepted (changes.Link owner.uid copy approved is_new) row) state caller (asks.Link name host approved)
+      links row copy tests copied kept = subst (λ (h : List ℕ). IsAccepted (changes.Link owner.uid h approved is_new) row state caller (asks.Link name host approved)) (sym copied) (record {
+        done = λ (moment : ℕ) (before : List Entry). link_tested false moment before tests;
+        kept = ap (option_map (λ (o : Package). rows.Link (record { uid = o.uid; host = host; approved = approved }))) is ∙ ap Some (sym kept);
+        fits = new_is;
+      })
+
+-- what is taken back was the only one of its kind
+module _ {X : Type 0} (test : X → Bool) where
+  -- where none passes a test, all stay
+  all_stay : (xs : List X) → list_any test xs ≡ false → filter (λ (x : X). not (test x)) xs ≡ xs
+  all_stay [] none = refl
+  all_stay (x ∷ xs) none =
+      let both = neither (test x) (list_any test xs) none in
+      ap (λ (b : Bool). cond (not b) (x ∷ filter (λ (y : X). not (test y)) xs) (filter (λ (y : X). not (test y)) xs)) both.0
+      ∙ ap (λ (l : List X). x ∷ l) (all_stay xs both.1)
+
+  -- one that was put behind goes
+  last_goes : (x : X) (xs : List X) → test x ≡ true → list_any test xs ≡ false → filter (λ (y : X). not (test y)) (xs ++ x ∷ []) ≡ xs
+  last_goes x [] one none = ap (λ (b : Bool). cond (not b) (x ∷ []) []) one
+  last_goes x (y ∷ ys) one none =
+      let both = neither (test y) (list_any test ys) none in
+      let left : List X = filter (λ (z : X). not (test z)) (ys ++ x ∷ []) in
+      ap (λ (b : Bool). cond (not b) (y ∷ left) left) both.0 ∙ ap (λ (l : List X). y ∷ l) (last_goes x ys one both.1)
+
+  -- one that came into its place goes
+  placed_goes : (before : X → X → Bool) (x : X) (xs : List X) → test x ≡ true → list_any test xs ≡ false
+      → filter (λ (y : X). not (test y)) (inserted before x xs) ≡ xs
+  placed_goes before x [] one none = ap (λ (b : Bool). cond (not b) (x ∷ []) []) one
+  placed_goes before x (y ∷ ys) one none = by (before x y) (neither (test y) (list_any test ys) none) (placed_goes before x ys one)
+    where
+      by : (b : Bool) → (test y ≡ false) × (list_any test ys ≡ false) → (list_any test ys ≡ false → filter (λ (z : X). not (test z)) (inserted before x ys) ≡ ys)
+          → filter (λ (z : X). not (test z)) (cond b (x ∷ y ∷ ys) (y ∷ inserted before x ys)) ≡ y ∷ ys
+      by true both rest =
+          ap (λ (b : Bool). cond (not b) (x ∷ filter (λ (z : X). not (test z)) (y ∷ ys)) (filter (λ (z : X). not (test z)) (y ∷ ys))) one
+          ∙ all_stay (y ∷ ys) none
+      by false both rest =
+          ap (λ (b : Bool). cond (not b) (y ∷ filter (λ (z : X). not (test z)) (inserted before x ys)) (filter (λ (z : X). not (test z)) (inserted before x ys))) both.0
+          ∙ ap (λ (l : List X). y ∷ l) (rest both.1)
+
+-- a grant and a link in their places
+grant_inserted : (g : Grant) (gs : List Grant) → inserted (λ (first second : Grant). stands_before first.uid first.permission second.uid second.permission) g gs ≡ place_grant g gs
+grant_inserted g [] = refl
+grant_inserted g (first ∷ others) =
+    ap (λ (l : List Grant). cond (stands_before g.uid g.permission first.uid first.permission) (g ∷ first ∷ others) (first ∷ l)) (grant_inserted g others)
+
+link_inserted : (l : Link) (ls : List Link) → inserted (λ (first second : Link). stands_before first.uid first.host second.uid second.host) l ls ≡ place_link l ls
+link_inserted l [] = refl
+link_inserted l (first ∷ others) =
+    ap (λ (rest : List Link). cond (stands_before l.uid l.host first.uid first.host) (l ∷ first ∷ others) (first ∷ rest)) (link_inserted l others)
+
+-- a uid and a text are those of themselves
+itself : (uid : ℕ) (text : List ℕ) → (uid == uid) && is_same text text ≡ true
+itself uid text = ap (λ (b : Bool). b && is_same text text) (nat_eq_equiv.refl uid) ∙ nat_list_eq_equiv.refl text
+
+-- a package that was put behind the others is taken back
+pub package_back : (packages : List Package) (new : Package) → is_package_uid packages new.uid ≡ false → without_package (packages ++ new ∷ []) new.uid ≡ packages
+package_back packages new none = last_goes (λ (p : Package). p.uid == new.uid) new packages (nat_eq_equiv.refl new.uid) none
+
+-- a grant that wasn't there is taken back
+pub grant_back : (grants : List Grant) (uid : ℕ) (permission : List ℕ) → is_granted grants uid permission ≡ false
+    → with_grant (with_grant grants uid permission true) uid permission false ≡ grants
+grant_back grants uid permission none =
+    let g : Grant = record { uid = uid; permission = permission } in
+    ap (λ (b : Bool). with_grant (cond b grants (place_grant g grants)) uid permission false) none
+    ∙ ap (λ (gs : List Grant). with_grant gs uid permission false) (sym (grant_inserted g grants))
+    ∙ placed_goes (is_grant uid permission) (λ (first second : Grant). stands_before first.uid first.permission second.uid second.permission) g grants (itself uid permission) none
+
+-- a link that wasn't there is taken back
+pub link_back : (links : List Link) (uid : ℕ) (host : List ℕ) → is_linked links uid host ≡ false
+    → with_link (with_link links uid host true) uid host false ≡ links
+link_back links uid host none =
+    let l : Link = record { uid = uid; host = host } in
+    ap (λ (b : Bool). with_link (cond b links (place_link l links)) uid host false) none
+    ∙ ap (λ (ls : List Link). with_link ls uid host false) (sym (link_inserted l links))
+    ∙ placed_goes (is_link uid host) (λ (first second : Link). stands_before first.uid first.host second.uid second.host) l links (itself uid host) none
+
+-- what is left of the parts is what is left of the state
+pub forgotten : (old before : State) (uid : ℕ) (board : Board) (queues : Broadcasts) (pending : Pendings) (tasks : Tasks) (services : List Service)
+    → before ≡ old → board ≡ record (before.board) { registered = registered_without before.board.registered uid }
+    → queues ≡ forget_broadcasts before.broadcasts uid before.moment → pending ≡ forget_pendings before.pendings uid
+    → tasks ≡ forget_tasks before.tasks uid → services ≡ filter (λ (service : Service). not (service.owner == uid)) before.services
+    → record before { board = board; broadcasts = queues; pendings = pending; tasks = tasks; services = services } ≡ forget old uid
+forgotten old before uid board queues pending tasks services same board_is queues_are pending_is tasks_are services_are =
+    (λ i. record before { board = board_is i; broadcasts = queues_are i; pendings = pending_is i; tasks = tasks_are i; services = services_are i })
+    ∙ ap (λ (s : State). forget s uid) same
+
+-- what is looked up in the parts is what the state has
+pub named_in : (old before : State) (name : List ℕ) (looked found : Option Package) → before ≡ old → looked ≡ package_named before.board.packages name → looked ≡ found
+    → package_named old.board.packages name ≡ found
+named_in old before name looked found same seen is = ap (λ (s : State). package_named s.board.packages name) (sym same) ∙ sym seen ∙ is
+
+pub grants_in : (old before : State) (uid : ℕ) (permission : List ℕ) (held is_new : Bool) (seen : List Grant) → before ≡ old → seen ≡ before.board.grants
+    → is_new ≡ (held && not (is_granted seen uid permission)) → is_new ≡ (held && not (is_granted old.board.grants uid permission))
+grants_in old before uid permission held is_new seen same seen_is is =
+    is ∙ ap (λ (gs : List Grant). held && not (is_granted gs uid permission)) (seen_is ∙ ap (λ (s : State). s.board.grants) same)
+
+pub grants_full_in : (old before : State) (uid : ℕ) (is_new full : Bool) (seen : List Grant) → before ≡ old → seen ≡ before.board.grants
+    → full ≡ (is_new && nat_le 256 (count_by (λ (g : Grant). g.uid == uid) seen)) → full ≡ (is_new && nat_le 256 (count_by (λ (g : Grant). g.uid == uid) old.board.grants))
+grants_full_in old before uid is_new full seen same seen_is is =
+    is ∙ ap (λ (gs : List Grant). is_new && nat_le 256 (count_by (λ (g : Grant). g.uid == uid) gs)) (seen_is ∙ ap (λ (s : State). s.board.grants) same)
+
+pub links_in : (old before : State) (uid : ℕ) (host : List ℕ) (approved is_new : Bool) (seen : List Link) → before ≡ old → seen ≡ before.board.links
+    → is_new ≡ (approved && not (is_linked seen uid host)) → is_new ≡ (approved && not (is_linked old.board.links uid host))
+links_in old before uid host approved is_new seen same seen_is is =
+    is ∙ ap (λ (ls : List Link). approved && not (is_linked ls uid host)) (seen_is ∙ ap (λ (s : State). s.board.links) same)
+
+pub links_full_in : (old before : State) (uid : ℕ) (is_new full : Bool) (seen : List Link) → before ≡ old → seen ≡ before.board.links
+    → full ≡ (is_new && nat_le 256 (count_by (λ (l : Link). l.uid == uid) seen)) → full ≡ (is_new && nat_le 256 (count_by (λ (l : Link). l.uid == uid) old.board.links))
+links_full_in old before uid is_new full seen same seen_is is =
+    is ∙ ap (λ (ls : List Link). is_new && nat_le 256 (count_by (λ (l : Link). l.uid == uid) ls)) (seen_is ∙ ap (λ (s : State). s.board.links) same)
+
+-- there are no more packages without one
+pub few_left : (old new : Board) (uid : ℕ) → new ≡ record old { packages = without_package old.packages uid } → length old.packages ≤ 256 → length new.packages ≤ 256
+few_left old new uid is few =
+    let left = length_left (λ (p : Package). not (p.uid == uid)) old.packages in
+    let fewer : length (without_package old.packages uid) ≤ 256 = omega arith in
+    subst (λ (b : Board). length b.packages ≤ 256) (sym is) fewer
+
+pub few_kept : (old new newer : Board) (uid : ℕ) → new ≡ record old { packages = without_package old.packages uid }
+    → newer ≡ record new { grants = grants_without new.grants uid; links = links_without new.links uid } → length old.packages ≤ 256 → length newer.packages ≤ 256
+few_kept old new newer uid is kept few = subst (λ (b : Board). length b.packages ≤ 256) (sym kept) (few_left old new uid is few)
+
+-- a package that is to be stopped, by what was found
+module _ (state now : State) (caller : ℕ) (name : List ℕ) (same : now ≡ state) where
+  abbrev stopped : State → Package → Reply × State
+  stopped s owner = let left = forget s owner.uid in done (with_packages left (with_stopped left.board.packages owner.uid true))
+
+  stop_goes : (found : Option Package) → is_privileged caller ≡ true → package_named now.board.packages name ≡ found
+      → force_stop state caller name ≡ for_found now found (stopped now)
+  unfolding force_stop
+  stop_goes found admin is =
+      ap (λ (s : State). for_admin s caller (for_package s name (stopped s))) (sym same)
+      ∙ admin_goes now caller _ admin
+      ∙ found_goes now name (stopped now) found is
+
+  pub stop_refused : is_privileged caller ≡ false → force_stop state caller name ≡ (replies.Refused rules.AdminOnly, now)
+  unfolding force_stop
+  stop_refused other =
+      ap (λ (s : State). for_admin s caller (for_package s name (stopped s))) (sym same) ∙ others_stop now caller _ other
+
+  pub none_stopped : is_privileged caller ≡ true → package_named now.board.packages name ≡ None → force_stop state caller name ≡ (replies.Refused rules.NoPackage, now)
+  none_stopped admin is = stop_goes None admin is
+
+  pub stops : (owner : Package) (left : State) → is_privileged caller ≡ true → package_named now.board.packages name ≡ Some owner
+      → left ≡ with_packages (forget now owner.uid) (with_stopped (forget now owner.uid).board.packages owner.uid true)
+      → force_stop state caller name ≡ (replies.Plain, left)
+  stops owner left admin is left_is = stop_goes (Some owner) admin is ∙ ap done (sym left_is)
+
+-- what was prepared is undone
+module _ (change : Change) (old before : State) (board : Board) (same : before ≡ old) where
+  pub install_undone : (p : Package) → change ≡ changes.Install p → board ≡ record (before.board) { packages = without_package before.board.packages p.uid }
+      → (s : State) → Fits change s → old ≡ prepared change s → record before { board = board } ≡ s
+  install_undone p is board_is s fits made =
+      let fitted : IsInstallable p s = subst (λ (c : Change). Fits c s) is fits in
+      (λ i. record before { board = board_is i })
+      ∙ ap (λ (t : State). with_packages t (without_package t.board.packages p.uid)) (same ∙ made ∙ ap (λ (c : Change). prepared c s) is)
+      ∙ ap (with_packages s) (package_back s.board.packages p fitted.new)
+
+  pub grant_undone : (uid : ℕ) (permission : List ℕ) (held is_new : Bool) → change ≡ changes.Grant uid permission held is_new → is_new ≡ true
+      → board ≡ record (before.board) { grants = with_grant before.board.grants uid permission false }
+      → (s : State) → Fits change s → old ≡ prepared change s → record before { board = board } ≡ s
+  grant_undone uid permission held is_new is new board_is s fits made =
+      let fitted : is_new ≡ (held && not (is_granted s.board.grants uid permission)) = subst (λ (c : Change). Fits c s) is fits in
+      let absent : is_granted s.board.grants uid permission ≡ false = unless_true _ (both held _ (sym fitted ∙ new)).1 in
+      (λ i. record before { board = board_is i })
+      ∙ ap (λ (t : State). with_grants t (with_grant t.board.grants uid permission false))
+      (same ∙ made ∙ ap (λ (c : Change). prepared c s) is ∙ ap (λ (b : Bool). cond b (with_grants s (with_grant s.board.grants uid permission true)) s) new)
+      ∙ ap (with_grants s) (grant_back s.board.grants uid permission absent)
+
+  pub link_undone : (uid : ℕ) (host : List ℕ) (approved is_new : Bool) → change ≡ changes.Link uid host approved is_new → is_new ≡ true
+      → board ≡ record (before.board) { links = with_link before.board.links uid host false }
+      → (s : State) → Fits change s → old ≡ prepared change s → record before { board = board } ≡ s
+  link_undone uid host approved is_new is new board_is s fits made =
+      let fitted : is_new ≡ (approved && not (is_linked s.board.links uid host)) = subst (λ (c : Change). Fits c s) is fits in
+      let absent : is_linked s.board.links uid host ≡ false = unless_true _ (both approved _ (sym fitted ∙ new)).1 in
+      (λ i. record before { board = board_is i })
+      ∙ ap (λ (t : State). with_links t (with_link t.board.links uid host false))
+      (same ∙ made ∙ ap (λ (c : Change). prepared c s) is ∙ ap (λ (b : Bool). cond b (with_links s (with_link s.board.links uid host true)) s) new)
+      ∙ ap (with_links s) (link_back s.board.links uid host absent)

@@ -1,0 +1,141 @@
+-- What the keeper tells after a call.
+use Rattle.std.proofs.Common.{◌≡◌, ℕ, Bool, true, false, true≢false, arith, ◌||◌, List, Option, Some, None, Result, Ok, Err, refl, sym, ap, ◌∙◌, subst, IsTrue}
+use Rattle.std.specs.Prelude.{if◌then◌else◌, IfOk}
+use Rattle.std.specs.Option.{option_map}
+use Rattle.am_types.specs.declared.failure.NoMemory.{NoMemory}
+use Rattle.am_types.specs.declared.history.Entry.{Entry}
+use Rattle.am_types.specs.declared.request.Request.{Request}
+use Rattle.am_types.specs.declared.request.Request.TheVariants as asks
+use Rattle.am_types.specs.declared.reply.Reply.{Reply}
+use Rattle.am_types.specs.declared.reply.Reply.TheVariants.{Refused}
+use Rattle.am_types.specs.declared.rule.Rule.{Rule}
+use Rattle.am_types.specs.declared.rule.Rule.TheVariants.{KeeperFault}
+use Rattle.am_keeper.specs.declared.keeper.Keeper.{Ghosts}
+use Rattle.am_keeper.specs.declared.rows.Row.{Row}
+use Rattle.am_keeper.specs.declared.rows.Rows.{Rows}
+use Rattle.am_keeper.specs.Rows.{with_row}
+use Rattle.am_history.specs.State.{State}
+use Rattle.am_history.specs.Steps.{act, after_due, asks_keeper, at_moment, class_of, has_row, is_changing, is_refusal, keeps_row, may_change_by, moment_after, step, Class}
+use Rattle.am_history.specs.Steps.Class.{Reads, Changes, Keeps}
+use Rattle.am_history.specs.Kept.{row_of}
+use Rattle.am_live.specs.declared.change.Change.{Change}
+use Rattle.am_live.specs.declared.change.Change.TheVariants as changes
+use Rattle.am_live.specs.Changes.{changed, IsAccepted, IsRefusedBy}
+use Rattle.am_machine.specs.declared.keeping.Answered.{Answered}
+use Rattle.am_machine.specs.Keeping.{GoesOn, told_after, with_any, with_kept}
+
+-- a keeper that isn't asked goes on
+pub goes_on : {K : Type 0} (g : Ghosts K) (keeper : K) → GoesOn g keeper keeper
+goes_on g keeper = record { tells = refl; place = refl; was_honest = λ h. h; for_good = (λ h. h, λ h. h); never_falls = omega arith }
+
+-- a request that keeps no row has none
+pub has_no_row : (state : State) (request : Request) → keeps_row request ≡ false → row_of state request ≡ None
+has_no_row state (asks.Install text key) rowless = absurd (true≢false rowless)
+has_no_row state (asks.Uninstall name) rowless = absurd (true≢false rowless)
+has_no_row state (asks.Grant name permission held) rowless = absurd (true≢false rowless)
+has_no_row state (asks.Link name host approved) rowless = absurd (true≢false rowless)
+has_no_row state _ rowless = refl
+
+-- a request that changes nothing keeps no row
+pub reads_keep_nothing : (request : Request) → is_changing request ≡ false → keeps_row request ≡ false
+reads_keep_nothing request = by (class_of request)
+  where
+    by : (class : Class) → may_change_by class ≡ false → has_row class ≡ false
+    by Reads reads = refl
+    by Changes reads = refl
+    by Keeps reads = absurd (true≢false reads)
+
+-- without a row all is told as before
+same_rows : (told : Option Rows) → told ≡ option_map (with_any None) told
+same_rows None = refl
+same_rows (Some rows) = refl
+
+pub told_as_before : (state : State) (request : Request) (reply : Reply) (told : Option Rows) → row_of state request ≡ None
+    → told ≡ told_after state request reply told
+told_as_before state request reply told none = by (is_refusal reply)
+  where
+    by : (b : Bool) → told ≡ (if b then told else option_map (with_any (row_of state request)) told)
+    by true = refl
+    by false = same_rows told ∙ ap (λ (row : Option Row). option_map (with_any row) told) (sym none)
+
+-- a change isn't answered by a refusal
+pub changed_is_accepted : (change : Change) (state : State) → is_refusal (changed change state).0 ≡ false
+changed_is_accepted (changes.Install owner) state = refl
+changed_is_accepted (changes.Uninstall uid) state = refl
+changed_is_accepted (changes.Grant uid permission held is_new) state = refl
+changed_is_accepted (changes.Link uid host approved is_new) state = refl
+
+-- a call that is refused at its moment
+pub refused_step : (rule : Rule) (state new : State) (before : List Entry) (entry : Entry) (moment : ℕ)
+    → IsRefusedBy rule state entry.uid entry.request → moment ≡ moment_after state entry.now → new ≡ at_moment state moment
+    → step state before (with_kept entry true) ≡ (Refused rule, new)
+refused_step rule state new before entry moment refuses is settled =
+    subst (λ (m : ℕ). act (at_moment state m) before entry.uid entry.request ≡ (Refused rule, at_moment state m)) is (refuses moment before)
+    ∙ ap (λ (m : ℕ). (Refused rule, at_moment state m)) (sym is)
+    ∙ ap (λ (s : State). (Refused rule, s)) (sym settled)
+
+-- a call whose change was made, or whose row wasn't kept
+abbrev pub Made : Change → State → State → ℕ → Reply → Bool → Type 0
+Made change state new moment reply kept =
+    (if kept then changed change (at_moment state moment) else (Refused KeeperFault, at_moment state moment)) ≡ (reply, new)
+
+pub made_step : (change : Change) (row : Row) (state new : State) (before : List Entry) (entry : Entry) (moment : ℕ) (reply : Reply) (kept : Bool)
+    → IsAccepted change row state entry.uid entry.request → moment ≡ moment_after state entry.now → Made change state new moment reply kept
+    → step state before (with_kept entry kept) ≡ (reply, new)
+made_step change row state new before entry moment reply kept accepted is made =
+    by kept (subst (λ (m : ℕ). Made change state new m reply kept) is made)
+  where
+    by : (b : Bool) → Made change state new (moment_after state entry.now) reply b → step state before (with_kept entry b) ≡ (reply, new)
+    by true was = accepted.done (moment_after state entry.now) before ∙ was
+    by false was = was
+
+-- the keeper was asked for it
+pub made_asks : (change : Change) (row : Row) (state : State) (before : List Entry) (entry : Entry) (kept : Bool)
+    → IsAccepted change row state entry.uid entry.request → keeps_row entry.request ≡ true
+    → IsTrue (kept || asks_keeper (after_due state entry.now) before entry.uid entry.request)
+made_asks change row state before entry true accepted keeps = refl
+made_asks change row state before entry false accepted keeps =
+    ap (λ (b : Bool). if b then (if is_refusal answered then false else true) else false) keeps
+    ∙ ap (λ (b : Bool). if b then false else true) (ap (λ (answer : Reply × State). is_refusal answer.0) (accepted.done (moment_after state entry.now) before)
+    ∙ changed_is_accepted change (after_due state entry.now))
+  where
+    answered : Reply
+    answered = (act (after_due state entry.now) before entry.uid entry.request).0
+
+-- and tells its row if it kept it
+pub made_told : (change : Change) (row : Row) (state new : State) (entry : Entry) (moment : ℕ) (reply : Reply) (kept : Bool) (old now : Option Rows)
+    → IsAccepted change row state entry.uid entry.request → Made change state new moment reply kept
+    → now ≡ (if kept then option_map (λ told. with_row told row) old else old)
+    → now ≡ told_after state entry.request reply old
+made_told change row state new entry moment reply true old now accepted made tells =
+    tells ∙ ap (λ (r : Option Row). option_map (with_any r) old) (sym accepted.kept)
+    ∙ ap (λ (b : Bool). if b then old else option_map (with_any (row_of state entry.request)) old)
+    (sym (ap (λ (answer : Reply × State). is_refusal answer.0) (sym made) ∙ changed_is_accepted change (at_moment state moment)))
+made_told change row state new entry moment reply false old now accepted made tells =
+    tells ∙ ap (λ (answer : Reply × State). if is_refusal answer.0 then old else option_map (with_any (row_of state entry.request)) old) made
+
+-- the same of what was answered
+pub made_done : (change : Change) (row : Row) (state new : State) (entry : Entry) (moment : ℕ) (made : Result Answered NoMemory)
+    → IsAccepted change row state entry.uid entry.request → moment ≡ moment_after state entry.now
+    → IfOk made (λ (answered : Answered). Made change state new moment answered.reply answered.kept)
+    → IfOk made (λ (answered : Answered). (before : List Entry) → step state before (with_kept entry answered.kept) ≡ (answered.reply, new))
+made_done change row state new entry moment (Ok answered) accepted is made =
+    λ (before : List Entry). made_step change row state new before entry moment answered.reply answered.kept accepted is made
+made_done change row state new entry moment (Err error) accepted is made = tt
+
+pub made_asked : (change : Change) (row : Row) (state : State) (entry : Entry) (made : Result Answered NoMemory)
+    → IsAccepted change row state entry.uid entry.request → keeps_row entry.request ≡ true
+    → IfOk made (λ (answered : Answered). (before : List Entry) → IsTrue (answered.kept || asks_keeper (after_due state entry.now) before entry.uid entry.request))
+made_asked change row state entry (Ok answered) accepted keeps =
+    λ (before : List Entry). made_asks change row state before entry answered.kept accepted keeps
+made_asked change row state entry (Err error) accepted keeps = tt
+
+pub made_put : {K : Type 0} (g : Ghosts K) (change : Change) (row : Row) (state new : State) (entry : Entry) (moment : ℕ) (made : Result Answered NoMemory) (old now : K)
+    → IsAccepted change row state entry.uid entry.request
+    → IfOk made (λ (answered : Answered). Made change state new moment answered.reply answered.kept)
+    → IfOk made (λ (answered : Answered). g.is_honest now →
+    g.rows now ≡ (if answered.kept then option_map (λ told. with_row told row) (g.rows old) else g.rows old))
+    → IfOk made (λ (answered : Answered). g.is_honest now → g.rows now ≡ told_after state entry.request answered.reply (g.rows old))
+made_put g change row state new entry moment (Ok answered) old now accepted made tells =
+    λ (honest : g.is_honest now). made_told change row state new entry moment answered.reply answered.kept (g.rows old) (g.rows now) accepted made (tells honest)
+made_put g change row state new entry moment (Err error) old now accepted made tells = tt

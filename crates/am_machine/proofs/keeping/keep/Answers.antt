@@ -1,0 +1,33 @@
+use Rattle.std.proofs.Common.{List, subst}
+use Rattle.am_types.specs.declared.history.Entry.{Entry}
+use Rattle.am_live.specs.declared.change.Plan.{Plan}
+use Rattle.am_live.specs.Changes.{IsPlanOf, IsAccepted, IsRefusedBy}
+use Rattle.am_machine.proofs.Kept.{refused_step, made_done, made_asked, made_put}
+use Rattle.am_machine.proofs.keeping.keep.Goals as goal
+
+pub returns-in-Refused-clause-done : goal.returns-in-Refused-clause-done
+returns-in-Refused-clause-done g c =
+    let refuses : IsRefusedBy c.in-Refused.rule c.args.live.now c.args.call.now.uid c.args.call.now.request =
+    subst (λ (p : Plan). IsPlanOf p c.args.live.now c.args.call.now.uid c.args.call.now.request) c.in-Refused.is c.in_ok-planned.ensures in
+    λ (before : List Entry). refused_step c.in-Refused.rule c.args.live.now c.settle.new.self before c.args.call.now c.moment_after-moment.result
+    refuses c.moment_after-moment.ensures.moment c.settle.ensures
+
+pub returns-in-Accepted-clause-done : goal.returns-in-Accepted-clause-done
+returns-in-Accepted-clause-done g c =
+    let accepted : IsAccepted c.in-Accepted.change c.in-Accepted.row c.args.live.now c.args.call.now.uid c.args.call.now.request =
+    subst (λ (p : Plan). IsPlanOf p c.args.live.now c.args.call.now.uid c.args.call.now.request) c.in-Accepted.is c.in_ok-planned.ensures in
+    made_done c.in-Accepted.change c.in-Accepted.row c.args.live.now c.make.new.live c.args.call.now c.moment_after-moment.result c.make.result
+    accepted c.moment_after-moment.ensures.moment c.make.ensures.done
+
+pub returns-in-Accepted-clause-asked : goal.returns-in-Accepted-clause-asked
+returns-in-Accepted-clause-asked g c =
+    let accepted : IsAccepted c.in-Accepted.change c.in-Accepted.row c.args.live.now c.args.call.now.uid c.args.call.now.request =
+    subst (λ (p : Plan). IsPlanOf p c.args.live.now c.args.call.now.uid c.args.call.now.request) c.in-Accepted.is c.in_ok-planned.ensures in
+    made_asked c.in-Accepted.change c.in-Accepted.row c.args.live.now c.args.call.now c.make.result accepted c.requires.keeps
+
+pub returns-in-Accepted-clause-put : goal.returns-in-Accepted-clause-put
+returns-in-Accepted-clause-put g c =
+    let accepted : IsAccepted c.in-Accepted.change c.in-Accepted.row c.args.live.now c.args.call.now.uid c.args.call.now.request =
+    subst (λ (p : Plan). IsPlanOf p c.args.live.now c.args.call.now.uid c.args.call.now.request) c.in-Accepted.is c.in_ok-planned.ensures in
+    made_put g.K.Keeper c.in-Accepted.change c.in-Accepted.row c.args.live.now c.make.new.live c.args.call.now c.moment_after-moment.result c.make.result
+    c.args.keeper.now c.make.new.keeper accepted c.make.ensures.done c.make.ensures.put

@@ -1,0 +1,42 @@
+-- What a call does to a manager's keeper.
+use Rattle.std.specs.Prelude.{◌≡◌, ◌≤◌, ◌↔◌, Bool, false, List, [], ◌∷◌, ◌++◌, Option, Some, None, if◌then◌else◌}
+use Rattle.std.specs.Option.{option_map}
+use Rattle.am_types.specs.declared.history.Entry.{Entry}
+use Rattle.am_types.specs.declared.request.Request.{Request}
+use Rattle.am_types.specs.declared.reply.Reply.{Reply}
+use Rattle.am_keeper.specs.declared.keeper.Keeper.{Ghosts}
+use Rattle.am_keeper.specs.declared.rows.Row.{Row}
+use Rattle.am_keeper.specs.declared.rows.Rows.{Rows}
+use Rattle.am_keeper.specs.Rows.{with_row}
+use Rattle.am_keeper.specs.Keeping.{TellsAsBefore}
+use Rattle.am_history.specs.State.{State}
+use Rattle.am_history.specs.Steps.{is_refusal}
+use Rattle.am_history.specs.Kept.{row_of}
+
+-- the keeper goes on: it tells its rows if it did, at the same place; it was honest if it is, and for good if it was;
+-- and its faults don't become fewer
+pub record GoesOn {K : Type 0} (g : Ghosts K) (old new : K) : Type 0 where
+  pub tells : TellsAsBefore (g.rows old) (g.rows new)
+  pub place : g.place new ≡ g.place old
+  pub was_honest : g.is_honest new → g.is_honest old
+  pub for_good : g.stays_honest new ↔ g.stays_honest old
+  pub never_falls : g.faults old ≤ g.faults new
+
+-- the rows with the row put, if there is one
+abbrev pub with_any : Option Row → Rows → Rows
+with_any None rows = rows
+with_any (Some row) rows = with_row rows row
+
+-- what a keeper tells after a call that is made in a state and gets that reply: its row is put, if it has one and isn't
+-- refused
+abbrev pub told_after : State → Request → Reply → Option Rows → Option Rows
+told_after state request reply told =
+    if is_refusal reply then told else option_map (with_any (row_of state request)) told
+
+-- the entry, kept or not
+abbrev pub with_kept : Entry → Bool → Entry
+with_kept entry kept = record entry { kept = kept }
+
+-- one more call was stored, and its row wasn't kept
+abbrev pub AddsUnkept : List Entry → List Entry → Type 0
+AddsUnkept before after = (entry : Entry) × (entry.kept ≡ false) × (after ≡ before ++ entry ∷ [])

@@ -1,0 +1,10 @@
+pub mod Placing
+pub mod Refused
+pub mod Finding
+pub mod Greatest
+pub mod Completing
+pub mod Soundness
+pub mod Merged
+pub mod Moving
+pub mod Follows
+pub mod Ordered

@@ -1,0 +1,11 @@
+use Rattle.std.proofs.Common.{not, eqb, ap, rules, ◌∙◌}
+use Rattle.std.specs.Prelude.{filter}
+use Rattle.std.proofs.lemmas.Fn.{filter_same}
+use Rattle.am_types.specs.declared.device.Package.{Package}
+use Rattle.am_opening.proofs.packages.drop_package.Goals as goal
+
+pub returns : goal.returns
+returns c =
+    c.new.ensures
+    ∙ filter_same _ (λ (x : Package). not (eqb x.uid c.args.uid)) _ (λ x b f k. search rules) _ _ c.retain.ensures.filtered
+    ∙ ap (filter (λ (x : Package). not (eqb x.uid c.args.uid))) c.take-items.ensures.items

@@ -1,0 +1,83 @@
+-- Rights that are merged with rows, where both stand in order.
+use Rattle.std.specs.Prelude.{ℕ, Bool, true, false, not, ◌&&◌, ◌==◌, List, [], ◌∷◌, ◌++◌, filter, if◌then◌else◌}
+use Rattle.std.specs.List.{list_any}
+use Rattle.am_types.specs.declared.device.Package.{Package}
+use Rattle.am_keeper.specs.declared.rows.GrantRow.{GrantRow}
+use Rattle.am_keeper.specs.declared.rows.LinkRow.{LinkRow}
+use Rattle.am_model.specs.Boards.{is_package_uid, stands_before}
+use Rattle.am_model.specs.Texts.{is_same, lowered}
+
+-- a uid, and a permission or a host
+abbrev pub Right : Type 0
+Right = ℕ × List ℕ
+
+-- a right stands before another one
+abbrev pub is_before : Right → Right → Bool
+is_before right other = stands_before right.0 right.1 other.0 other.1
+
+-- the other right is the same
+abbrev pub is_right : Right → Right → Bool
+is_right right other = (other.0 == right.0) && is_same other.1 right.1
+
+-- the right in its place
+abbrev pub place_right : Right → List Right → List Right
+place_right right [] = right ∷ []
+place_right right (first ∷ others) =
+    if is_before right first then right ∷ first ∷ others else first ∷ place_right right others
+
+-- the rights with that one held or not held
+abbrev pub with_right : List Right → Right → Bool → List Right
+with_right rights right true = if list_any (is_right right) rights then rights else place_right right rights
+with_right rights right false = filter (λ other. not (is_right right other)) rights
+
+-- those at the front that stand before a right
+abbrev pub front : Right → List Right → List Right
+front right [] = []
+front right (first ∷ others) = if is_before first right then first ∷ front right others else []
+
+-- the rights without those
+abbrev pub behind_front : Right → List Right → List Right
+behind_front right [] = []
+behind_front right (first ∷ others) = if is_before first right then behind_front right others else first ∷ others
+
+-- the rights without the first one, if it is this right
+abbrev pub unless_first : Right → List Right → List Right
+unless_first right [] = []
+unless_first right (first ∷ others) = if is_right right first then others else first ∷ others
+
+-- the right, if it is held
+abbrev pub if_held : Right → Bool → List Right
+if_held right held = if held then right ∷ [] else []
+
+-- the first right, if there is one, stands before this one
+abbrev pub is_first_before : Right → List Right → Bool
+is_first_before right [] = false
+is_first_before right (first ∷ others) = is_before first right
+
+-- the first right, if there is one, is this one
+abbrev pub is_first : Right → List Right → Bool
+is_first right [] = false
+is_first right (first ∷ others) = is_right right first
+
+-- rights that are done and rights that are left, after one more was held or not held
+abbrev pub merge_one : Right → Bool → List Right × List Right → List Right × List Right
+merge_one right held rights =
+    ((rights.0 ++ front right rights.1) ++ if_held right held, unless_first right (behind_front right rights.1))
+
+-- and if its package is there
+abbrev pub merge_if : Bool → Right → Bool → List Right × List Right → List Right × List Right
+merge_if live right held rights = if live then merge_one right held rights else rights
+
+-- the rights after a grant row
+abbrev pub after_grant_right : List Package → List Right → GrantRow → List Right
+after_grant_right packages rights row =
+    if is_package_uid packages row.uid then with_right rights (row.uid, row.permission) row.held else rights
+
+-- a link row counts: its package is there, and its host is in lower case
+abbrev pub is_live_link : List Package → LinkRow → Bool
+is_live_link packages row = is_package_uid packages row.uid && is_same (lowered row.host) row.host
+
+-- the rights after a link row
+abbrev pub after_link_right : List Package → List Right → LinkRow → List Right
+after_link_right packages rights row =
+    if is_live_link packages row then with_right rights (row.uid, row.host) row.approved else rights

@@ -1,0 +1,150 @@
+//! The rights that were kept, and the next uid.
+ghost use Rattle.std.specs.Prelude.{◌≡◌, ◌+◌, ◌<◌, ◌==◌, All, IfOk, IsTrue, count_by, option_copied};
+ghost use Rattle.std.specs.List.{find};
+ghost use Rattle.am_types.specs.declared.device.Grant.{Grant};
+ghost use Rattle.am_types.specs.declared.device.Link.{Link};
+ghost use Rattle.am_keeper.specs.declared.rows.PackageRow.{PackageRow};
+ghost use Rattle.am_keeper.specs.Rows.{IsInOrder, by_host, by_permission, rises};
+ghost use Rattle.am_model.specs.Boards.{board_of};
+ghost use Rattle.am_installed.specs.Installed.{AreGrantsInOrder, AreLinksInOrder};
+ghost use Rattle.am_history.specs.Opening.{has_too_many, unless_too_many};
+ghost use Rattle.am_history.specs.Packages.{no_uid};
+ghost use Rattle.am_opening.specs.Openings.{Opens, completed_from, grants_after, links_after, opened_from, state_of};
+
+use crate::lists::take;
+use crate::merging::{grants_after, links_after};
+use crate::opened::{OpenFault, Opened};
+use crate::packages::refused;
+use crate::uids;
+use am_keeper::{GrantRow, LinkRow, Rows};
+use am_types::{Device, Grant, Link, List, NoMemory, Package};
+use std::alloc::Global;
+
+/// What is opened with the grants that were kept.
+fn with_grants(alloc: Global, opened: Opened, rows: &[GrantRow]) -> Result<Opened, NoMemory>
+    requires sorted { AreGrantsInOrder opened.device.grants }
+    requires order { IsTrue (rises by_permission rows.now) }
+    ensures { IfOk result (λ more. more ≡ record opened {
+      device = record (opened.device) {
+        grants = grants_after opened.device.packages opened.device.grants rows.now;
+      };
+    }) }
+{
+    let mut opened = opened;
+    let grants = take(&mut opened.device.grants, alloc);
+    let packages = opened.device.packages.as_slice();
+    let grants = grants_after(alloc, packages, grants, rows)?;
+    opened.device.grants = List::new(grants);
+    Ok(opened)
+}
+
+/// What is opened with the links that were kept.
+fn with_links(alloc: Global, opened: Opened, rows: &[LinkRow]) -> Result<Opened, NoMemory>
+    requires sorted { AreLinksInOrder opened.device.links }
+    requires order { IsTrue (rises by_host rows.now) }
+    ensures { IfOk result (λ more. more ≡ record opened {
+      device = record (opened.device) {
+        links = links_after opened.device.packages opened.device.links rows.now;
+      };
+    }) }
+{
+    let mut opened = opened;
+    let links = take(&mut opened.device.links, alloc);
+    let packages = opened.device.packages.as_slice();
+    let links = links_after(alloc, packages, links, rows)?;
+    opened.device.links = List::new(links);
+    Ok(opened)
+}
+
+/// What is opened with the rights that were kept and the next uid, where the greatest uid of the
+/// device's packages is this.
+fn completed(alloc: Global, opened: Opened, greatest: u32, rows: &Rows) -> Result<Opened, NoMemory>
+    requires greatest { greatest < no_uid }
+    requires grants { AreGrantsInOrder opened.device.grants }
+    requires links { AreLinksInOrder opened.device.links }
+    requires order { IsInOrder rows.now }
+    requires given { All (λ (row : PackageRow). row.uid < no_uid) rows.now.packages }
+    ensures { IfOk result (λ more. state_of more ≡ completed_from greatest rows.now (state_of opened)) }
+{
+    let granted = with_grants(alloc, opened, rows.grants.as_slice())?;
+    let mut approved = with_links(alloc, granted, rows.links.as_slice())?;
+    approved.next_uid = uids::of_rows(greatest, rows) + 1;
+    Ok(approved)
+}
+
+/// How many grants are of the uid.
+fn count_grants(grants: &[Grant], uid: u32) -> usize
+    ensures { result ≡ count_by (λ (g : Grant). g.uid == uid) grants.now }
+{
+    let mut count = 0;
+    for grant in grants {
+        if grant.uid == uid {
+            count += 1;
+        }
+    }
+    count
+}
+
+/// How many links are of the uid.
+fn count_links(links: &[Link], uid: u32) -> usize
+    ensures { result ≡ count_by (λ (l : Link). l.uid == uid) links.now }
+{
+    let mut count = 0;
+    for link in links {
+        if link.uid == uid {
+            count += 1;
+        }
+    }
+    count
+}
+
+/// The package has more than 256 grants, or more than 256 links.
+fn has_too_many(device: &Device, package: &Package) -> bool
+    ensures { result ≡ has_too_many (board_of device.now) «package».now }
+{
+    let uid = package.uid;
+    count_grants(device.grants.as_slice(), uid) > 256
+        || count_links(device.links.as_slice(), uid) > 256
+}
+
+/// The first package that has too many grants or links.
+fn first_over(device: &Device) -> Option<&Package>
+    ensures { option_copied result ≡ find (has_too_many (board_of device.now)) device.now.packages }
+{
+    for package in device.packages.as_slice() {
+        if has_too_many(device, package) {
+            return Some(package);
+        }
+    }
+    None
+}
+
+/// What is opened, unless some package has too many grants or links.
+fn unless_too_many(opened: Opened) -> Result<Opened, OpenFault>
+    ensures { Opens result (unless_too_many (state_of opened)
+        (find (has_too_many (board_of opened.device)) opened.device.packages)) }
+{
+    if let Some(package) = first_over(&opened.device) {
+        return Err(refused(&package.name));
+    }
+    Ok(opened)
+}
+
+/// What is opened, complete, unless some package has too many grants or links; the greatest uid of
+/// the device's packages is this.
+pub(crate) fn opened_from(
+    alloc: Global,
+    opened: Opened,
+    greatest: u32,
+    rows: &Rows,
+) -> Result<Opened, OpenFault>
+    requires greatest { greatest < no_uid }
+    requires grants { AreGrantsInOrder opened.device.grants }
+    requires links { AreLinksInOrder opened.device.links }
+    requires order { IsInOrder rows.now }
+    requires given { All (λ (row : PackageRow). row.uid < no_uid) rows.now.packages }
+    ensures { Opens result (opened_from greatest rows.now (state_of opened)) }
+{
+    let opened = completed(alloc, opened, greatest, rows)?;
+    unless_too_many(opened)
+}

@@ -1,0 +1,14 @@
+//! The device that a device and the rows that were kept of it open as.
+#![tactic(auto)]
+
+mod completed;
+mod lists;
+mod merging;
+mod opened;
+mod opening;
+mod packages;
+mod rights;
+mod uids;
+
+pub use opened::{OpenFault, Opened};
+pub use opening::open;

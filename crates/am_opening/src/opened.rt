@@ -1,0 +1,53 @@
+//! What opening a device gives.
+ghost use Rattle.std.specs.Prelude.{◌≡◌};
+
+use am_types::{Device, NoMemory, Text};
+use std::alloc::{AllocError, AllocFailed};
+
+/// A device as it opened, and the uid that the next package is given.
+#[derive(Drop)]
+pub struct Opened {
+    pub device: Device,
+    /// One more than the greatest uid that was ever given, also to packages that are gone.
+    pub next_uid: u32,
+}
+
+/// Why a device isn't opened with its rows.
+#[derive(Drop)]
+pub enum OpenFault {
+    /// The row of the package of this name is refused, or its package has more than 256 grants or
+    /// more than 256 links.
+    Rows(Text),
+    /// Memory ran out.
+    NoMemory,
+}
+
+impl From<AllocError> for OpenFault {
+    ghost use Rattle.am_opening.specs.declared.opened.OpenFault.TheVariants.{NoMemory};
+
+    ghost from_gives = { λ _ e. e ≡ NoMemory };
+
+    fn from(_error: AllocError) -> OpenFault {
+        OpenFault::NoMemory
+    }
+}
+
+impl From<NoMemory> for OpenFault {
+    ghost use Rattle.am_opening.specs.declared.opened.OpenFault.TheVariants.{NoMemory};
+
+    ghost from_gives = { λ _ e. e ≡ NoMemory };
+
+    fn from(_error: NoMemory) -> OpenFault {
+        OpenFault::NoMemory
+    }
+}
+
+impl<T: Drop> From<AllocFailed<T>> for OpenFault {
+    ghost use Rattle.am_opening.specs.declared.opened.OpenFault.TheVariants.{NoMemory};
+
+    ghost from_gives = { λ _ e. e ≡ NoMemory };
+
+    fn from(_error: AllocFailed<T>) -> OpenFault {
+        OpenFault::NoMemory
+    }
+}

@@ -1,0 +1,89 @@
+//! The greatest uid that was ever given.
+ghost use Rattle.std.specs.Prelude.{◌≡◌, ◌<◌, ◌∷◌, [], All, map, max};
+ghost use Rattle.std.specs.List.{fold};
+ghost use Rattle.am_keeper.specs.declared.rows.GrantRow.{GrantRow};
+ghost use Rattle.am_keeper.specs.declared.rows.LinkRow.{LinkRow};
+ghost use Rattle.am_keeper.specs.declared.rows.PackageRow.{PackageRow};
+ghost use Rattle.am_model.specs.Sound.{IsSoundPackage};
+ghost use Rattle.am_history.specs.Opening.{row_uids};
+ghost use Rattle.am_history.specs.Packages.{no_uid};
+ghost use Rattle.am_history.specs.State.{uids_of};
+ghost use Rattle.am_opening.specs.Openings.{given_uids};
+
+use crate::packages::NO_UID;
+use am_keeper::{GrantRow, LinkRow, PackageRow, Rows};
+use am_types::Package;
+
+/// The greatest of 9999 and the uids of packages.
+pub(crate) fn greatest_of(packages: &[Package]) -> u32
+    requires { All IsSoundPackage packages.now }
+    ensures greatest { result ≡ fold max 9999 (uids_of packages.now) }
+    ensures below { result < no_uid }
+{
+    let mut greatest: u32 = 9_999;
+    for package in packages {
+        greatest = greatest.max(package.uid);
+    }
+    greatest
+}
+
+/// The greatest of a uid and those of package rows.
+fn of_packages(least: u32, rows: &[PackageRow]) -> u32
+    requires least { least < no_uid }
+    requires given { All (λ (row : PackageRow). row.uid < no_uid) rows.now }
+    ensures greatest { result ≡ fold max least (map (λ (row : PackageRow). row.uid) rows.now) }
+    ensures below { result < no_uid }
+{
+    let mut greatest = least;
+    for row in rows {
+        greatest = greatest.max(row.uid);
+    }
+    greatest
+}
+
+/// The greater of two uids, where the greatest of all counts for nothing.
+fn greater(uid: u32, other: u32) -> u32
+    requires { uid < no_uid }
+    ensures greater { result ≡ fold max uid (given_uids (other ∷ [])) }
+    ensures below { result < no_uid }
+{
+    if other == NO_UID { uid } else { uid.max(other) }
+}
+
+/// The greatest of a uid and those of grant rows, among which the greatest of all counts for nothing.
+fn of_grants(least: u32, rows: &[GrantRow]) -> u32
+    requires { least < no_uid }
+    ensures greatest { result ≡ fold max least (given_uids (map (λ (row : GrantRow). row.uid) rows.now)) }
+    ensures below { result < no_uid }
+{
+    let mut greatest = least;
+    for row in rows {
+        greatest = greater(greatest, row.uid);
+    }
+    greatest
+}
+
+/// The greatest of a uid and those of link rows, among which the greatest of all counts for nothing.
+fn of_links(least: u32, rows: &[LinkRow]) -> u32
+    requires { least < no_uid }
+    ensures greatest { result ≡ fold max least (given_uids (map (λ (row : LinkRow). row.uid) rows.now)) }
+    ensures below { result < no_uid }
+{
+    let mut greatest = least;
+    for row in rows {
+        greatest = greater(greatest, row.uid);
+    }
+    greatest
+}
+
+/// The greatest of a uid and those of rows.
+pub(crate) fn of_rows(least: u32, rows: &Rows) -> u32
+    requires least { least < no_uid }
+    requires given { All (λ (row : PackageRow). row.uid < no_uid) rows.now.packages }
+    ensures greatest { result ≡ fold max least (row_uids rows.now) }
+    ensures below { result < no_uid }
+{
+    let greatest = of_packages(least, rows.packages.as_slice());
+    let greatest = of_grants(greatest, rows.grants.as_slice());
+    of_links(greatest, rows.links.as_slice())
+}

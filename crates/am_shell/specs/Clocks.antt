@@ -1,0 +1,36 @@
+-- The clock of a session.
+use Rattle.std.specs.Prelude.{◌≡◌, Option, Some, None}
+use Rattle.am_outside.specs.Clock.{moment_at}
+use Rattle.am_http.specs.declared.end.End.{End}
+use Rattle.am_http.specs.declared.end.Served.{Served}
+use Rattle.am_http.specs.Links.{Link, IsSameLink, Moments}
+use Rattle.am_http.specs.Sessions.{Session, HasFault}
+use Rattle.am_words.specs.declared.command.StepWords.{StepWords}
+
+-- the moments of a session: those of its own clock, if the words ask for one, else those of the clock that is handed in
+abbrev pub moments_for : Option StepWords → Moments → Moments
+moments_for None handed = handed
+moments_for (Some asked) handed = λ calls. Some (moment_at asked.at asked.step calls)
+
+-- what the clock that is handed in tells after a session whose clock tells `told`: one of its own leaves it unasked
+abbrev pub left_of : Option StepWords → Moments → Moments → Moments
+left_of None handed told = told
+left_of (Some asked) handed told = handed
+
+-- the link with a clock that tells this
+abbrev pub with_clock : Link → Moments → Link
+with_clock link told = record link { server = record (link.server) { clock = told } }
+
+-- the link with the clock of the session
+abbrev pub timed : Option StepWords → Link → Link
+timed asked link = with_clock link (moments_for asked link.server.clock)
+
+-- a connection over the clock of a session, which tells `told` at the end
+pub record ServesOn (asked : Option StepWords) (end : End) (old new : Link) : Type 0 where
+  pub served : Served
+  pub ends : served.end ≡ end
+  pub told : Moments
+  pub session : Session (timed asked old) (with_clock new told) served
+  pub fault : HasFault end (timed asked old) (with_clock new told)
+  pub same : IsSameLink (timed asked old) (with_clock new told)
+  pub clock : new.server.clock ≡ left_of asked old.server.clock told

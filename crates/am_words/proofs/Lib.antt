@@ -1,0 +1,4 @@
+pub mod OptionLemmas
+pub mod ParsedLemmas
+pub mod NumberLemmas
+pub mod Examples

@@ -1,0 +1,23 @@
+-- What a function that reads words answers.
+use Rattle.std.specs.Prelude.{◌≡◌, Option, Some, None, Result, Ok, Err}
+use Rattle.clap.specs.Words.{first_value, found_of}
+use Rattle.clap.specs.declared.parser.matches.ArgMatches.{ArgMatches}
+use Rattle.am_words.specs.Options.{Text, Options, value_of}
+use Rattle.am_words.specs.declared.command.WordsFault.{WordsFault}
+use Rattle.am_words.specs.declared.command.WordsFault.TheVariants as fault
+
+-- nothing is read, unless memory ran out
+abbrev pub Fails : {X : Type 0} → WordsFault → Option X → Type 0
+Fails fault.NoMemory read = Unit {0}
+Fails fault.Usage read = read ≡ None
+
+-- a function answers with what is read, unless memory ran out
+abbrev pub Reads : {X : Type 0} → Result X WordsFault → Option X → Type 0
+Reads (Ok x) read = read ≡ Some x
+Reads (Err met) read = Fails met read
+
+-- these matches have the values of the options that are read, unless memory ran out
+abbrev pub Matches : Result ArgMatches WordsFault → Option Options → Type 0
+Matches (Ok matches) read = (options : Options) × (read ≡ Some options)
+    × ((name : Text) → first_value (found_of matches) name ≡ value_of options name)
+Matches (Err met) read = Fails met read

@@ -1,0 +1,5 @@
+pub mod Options
+pub mod Values
+pub mod Parsed
+pub mod Grammar
+pub mod Answers

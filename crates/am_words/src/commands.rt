@@ -1,0 +1,139 @@
+//! The commands.
+ghost use Rattle.std.specs.Prelude.{◌≡◌, map};
+ghost use Rattle.clap.specs.Words.{first_value, found_of};
+ghost use Rattle.am_words.specs.Grammar.{command_of, drill_names, drill_of, named, read_command, serve_names, serve_of, session_names, session_of, visible_names, visible_of};
+ghost use Rattle.am_words.specs.Answers.{Reads};
+
+use crate::options::{borrowed, read_options};
+use crate::values::{clock_of, number_in, optional_number_in, optional_path_of, path_of};
+use crate::{Command, WordsFault};
+use am_types::Text;
+use clap::ArgMatches;
+use std::alloc::Global;
+
+static SESSION: [&str; 4] = ["device", "store", "at", "step"];
+
+static SERVE: [&str; 5] = ["device", "port", "workers", "store", "connections"];
+
+static DRILL: [&str; 3] = ["from", "packages", "requests"];
+
+static VISIBLE: [&str; 2] = ["device", "as"];
+
+/// The session that its options make.
+#[tactic(auto, unfolding(crate::specs::Grammar::session_of))]
+fn session_of(alloc: Global, matches: &ArgMatches<'_>) -> Result<Command, WordsFault>
+    ensures { Reads result (session_of (first_value (found_of matches.now))) }
+{
+    let device = path_of(alloc, matches.get_str("device"))?;
+    let store = optional_path_of(alloc, matches.get_str("store"))?;
+    let clock = clock_of(matches.get_str("at"), matches.get_str("step"))?;
+    Ok(Command::Session {
+        device,
+        store,
+        clock,
+    })
+}
+
+/// The service that its options make.
+#[tactic(auto, unfolding(crate::specs::Grammar::serve_of))]
+fn serve_of(alloc: Global, matches: &ArgMatches<'_>) -> Result<Command, WordsFault>
+    ensures { Reads result (serve_of (first_value (found_of matches.now))) }
+{
+    let device = path_of(alloc, matches.get_str("device"))?;
+    let port = number_in(1, 65535, matches.get_str("port"))?;
+    let workers = number_in(1, 64, matches.get_str("workers"))?;
+    let store = optional_path_of(alloc, matches.get_str("store"))?;
+    let connections = optional_number_in(1, 1000000, matches.get_str("connections"))?;
+    Ok(Command::Serve {
+        device,
+        port: port as u16,
+        workers: workers as u32,
+        store,
+        connections: connections.map(|number| number as u32),
+    })
+}
+
+/// The drill that its options make.
+#[tactic(auto, unfolding(crate::specs::Grammar::drill_of))]
+fn drill_of(matches: &ArgMatches<'_>) -> Result<Command, WordsFault>
+    ensures { Reads result (drill_of (first_value (found_of matches.now))) }
+{
+    let from = number_in(0, 18446744073709551615, matches.get_str("from"))?;
+    let packages = number_in(1, 256, matches.get_str("packages"))?;
+    let requests = number_in(0, 65535, matches.get_str("requests"))?;
+    Ok(Command::Drill {
+        from,
+        packages: packages as u32,
+        requests: requests as u32,
+    })
+}
+
+/// The question that its options make.
+#[tactic(auto, unfolding(crate::specs::Grammar::visible_of))]
+fn visible_of(alloc: Global, matches: &ArgMatches<'_>) -> Result<Command, WordsFault>
+    ensures { Reads result (visible_of (first_value (found_of matches.now))) }
+{
+    let device = path_of(alloc, matches.get_str("device"))?;
+    let Some(package) = matches.get_str("as") else {
+        return Err(WordsFault::Usage);
+    };
+    let package = Text::of(alloc, package)?;
+    Ok(Command::Visible { device, package })
+}
+
+/// The session that the words say.
+fn session(alloc: Global, words: &[Text]) -> Result<Command, WordsFault>
+    ensures { Reads result (command_of session_names session_of words.now) }
+{
+    let words = borrowed(alloc, words)?;
+    let matches = read_options(alloc, SESSION.as_slice(), words.as_slice())?;
+    session_of(alloc, &matches)
+}
+
+/// The service that the words say.
+fn serve(alloc: Global, words: &[Text]) -> Result<Command, WordsFault>
+    ensures { Reads result (command_of serve_names serve_of words.now) }
+{
+    let words = borrowed(alloc, words)?;
+    let matches = read_options(alloc, SERVE.as_slice(), words.as_slice())?;
+    serve_of(alloc, &matches)
+}
+
+/// The drill that the words say.
+fn drill(alloc: Global, words: &[Text]) -> Result<Command, WordsFault>
+    ensures { Reads result (command_of drill_names drill_of words.now) }
+{
+    let words = borrowed(alloc, words)?;
+    let matches = read_options(alloc, DRILL.as_slice(), words.as_slice())?;
+    drill_of(&matches)
+}
+
+/// The question that the words say.
+fn visible(alloc: Global, words: &[Text]) -> Result<Command, WordsFault>
+    ensures { Reads result (command_of visible_names visible_of words.now) }
+{
+    let words = borrowed(alloc, words)?;
+    let matches = read_options(alloc, VISIBLE.as_slice(), words.as_slice())?;
+    visible_of(alloc, &matches)
+}
+
+/// The command that the words behind the program's name say.
+///
+/// # Errors
+///
+/// `Usage` if the grammar has no such words, `NoMemory` if memory runs out.
+#[tactic(auto, unfolding(crate::specs::Grammar::read_command, crate::specs::Grammar::named))]
+pub fn read_command(alloc: Global, words: &[Text]) -> Result<Command, WordsFault>
+    ensures { Reads result (read_command words.now) }
+{
+    let [name, options @ ..] = words else {
+        return Err(WordsFault::Usage);
+    };
+    match name.as_str() {
+        "session" => session(alloc, options),
+        "serve" => serve(alloc, options),
+        "drill" => drill(alloc, options),
+        "visible" => visible(alloc, options),
+        _ => Err(WordsFault::Usage),
+    }
+}

@@ -1,0 +1,10 @@
+//! From the words behind the program's name to a command.
+#![tactic(auto)]
+
+mod command;
+mod commands;
+mod options;
+mod values;
+
+pub use command::{Command, StepWords, WordsFault};
+pub use commands::read_command;
