@@ -1,8 +1,9 @@
 //! The activity manager of a simulated Android device, as a program.
 #![tactic(auto)]
 
-use am_shell::host::{ReaderSource, SqlStore, SystemClock, SystemFiles, WriterSink, read_words};
+use am_host::{ReaderSource, SystemClock, SystemFiles, WriterSink, read_words};
 use am_shell::{run, tell_want};
+use am_store_sql::SqlStore;
 use std::process::ExitCode;
 
 fn main(rt: HostRuntime) -> ExitCode {

@@ -4,6 +4,7 @@
 mod acts;
 mod history;
 mod keeping;
+mod laws;
 mod manager;
 mod opened;
 mod reads;

@@ -36,7 +36,7 @@ impl<K: Keeper> Manager<K> {
     /// which some deadline is due. The keeper is asked for the row of an installation, a removal, a grant
     /// or a link that nothing else refuses, and the row is put if the call is accepted. If the keeper
     /// fails, the call is stored, answered by `KeeperFault`, and changes nothing but the moment. After
-    /// `NoMemory` the state, the history and the rows are as before.
+    /// `NoMemory` the state and the history are as before, and so are the rows of an honest keeper.
     pub fn step(
         &mut self,
         desk: u32,

@@ -1,4 +1,4 @@
--- What follows from a whole run: the cause of its status, and that good words and a good device file give the work.
+-- What follows from how a session went: the cause of its status, and that a good device file gives the work.
 use Rattle.std.proofs.Common.{◌≡◌, ℕ, ◌⊎◌, inl, inr, List, Option, Some, None, Result, Ok, Err, refl, sym, ap, ◌∙◌, subst, arith}
 use Rattle.std.specs.Io.KnownBytes.{Appends}
 use Rattle.am_outside.specs.Counts.{HasRisen}
@@ -10,17 +10,15 @@ use Rattle.am_manifest.specs.Devices.{device_of}
 use Rattle.am_http.specs.declared.end.End.{End}
 use Rattle.am_http.specs.declared.end.End.TheVariants.{Input, Close, Refused, Cut, Limit, ReadFault, WriteFault}
 use Rattle.am_http.specs.Links.{SinkView}
-use Rattle.am_shell.specs.declared.outcome.Outcome.{Outcome}
-use Rattle.am_shell.specs.declared.outcome.Outcome.TheVariants.{Usage, DeviceRefused, FileFault, StoreFault, RowsRefused, NoMemory, Ended}
-use Rattle.am_shell.specs.Devices.{Describes, IsUnread}
-use Rattle.am_shell.specs.Fails.{outcome_of}
+use Rattle.am_shell.specs.declared.setback.Setback.{Setback}
+use Rattle.am_shell.specs.declared.setback.Setback.TheVariants.{DeviceRefused, FileFault, StoreFault, RowsRefused, NoMemory}
+use Rattle.am_shell.specs.Devices.{Describes, IsRefused, IsUnread}
 use Rattle.am_shell.specs.Kept.{RefusesRows}
-use Rattle.am_shell.specs.Lines.{line_of, status_of, end_status}
-use Rattle.am_shell.specs.declared.asked.Asked.{Asked}
-use Rattle.am_shell.specs.Asked.{session_of}
-use Rattle.am_shell.specs.Outcomes.{Happens, Worked, Works, Unread, Refuses, Unattached, Unopened, Begins}
+use Rattle.am_shell.specs.Lines.{Tells, end_status, session_line, session_status, want_line}
+use Rattle.am_shell.specs.declared.session.Asked.{Asked}
+use Rattle.am_shell.specs.Sessions.{Happens, Worked, Works, Unattached, Unopened}
 use Rattle.am_shell.specs.Outside.{Outside, Surroundings, IsMissing}
-use Rattle.am_shell.specs.Runs.{Tells, HasCause, Completes, Runs}
+use Rattle.am_shell.specs.Runs.{HasCause, Completes, RunsSession}
 
 some_is : {A : Type 0} {x y : A} → Some x ≡ Some y → x ≡ y
 some_is e = cc
@@ -28,37 +26,35 @@ some_is e = cc
 same_device : (read : Result Device ManifestFault) (x y : Device) → read ≡ Ok x → read ≡ Ok y → x ≡ y
 same_device read x y e f = cc
 
-worked : (o : Outcome) (words : List (List ℕ)) (before after : Outside) → status_of o ≡ 0 → Happens o words before after
-    → Worked words before after Input ⊎ Worked words before after Close
-worked Usage words before after s h = absurd (omega arith)
-worked (DeviceRefused text) words before after s h = absurd (omega arith)
-worked FileFault words before after s h = absurd (omega arith)
-worked StoreFault words before after s h = absurd (omega arith)
-worked (RowsRefused text) words before after s h = absurd (omega arith)
-worked NoMemory words before after s h = absurd (omega arith)
-worked (Ended Input) words before after s h = inl h
-worked (Ended Close) words before after s h = inr h
-worked (Ended Refused) words before after s h = absurd (omega arith)
-worked (Ended Cut) words before after s h = absurd (omega arith)
-worked (Ended Limit) words before after s h = absurd (omega arith)
-worked (Ended ReadFault) words before after s h = absurd (omega arith)
-worked (Ended WriteFault) words before after s h = absurd (omega arith)
+worked : (o : Result End Setback) (asked : Asked) (before after : Outside) → session_status o ≡ 0 → Happens o asked before after
+    → Worked asked before after Input ⊎ Worked asked before after Close
+worked (Err (DeviceRefused text)) asked before after s h = absurd (omega arith)
+worked (Err FileFault) asked before after s h = absurd (omega arith)
+worked (Err StoreFault) asked before after s h = absurd (omega arith)
+worked (Err (RowsRefused text)) asked before after s h = absurd (omega arith)
+worked (Err NoMemory) asked before after s h = absurd (omega arith)
+worked (Ok Input) asked before after s h = inl h
+worked (Ok Close) asked before after s h = inr h
+worked (Ok Refused) asked before after s h = absurd (omega arith)
+worked (Ok Cut) asked before after s h = absurd (omega arith)
+worked (Ok Limit) asked before after s h = absurd (omega arith)
+worked (Ok ReadFault) asked before after s h = absurd (omega arith)
+worked (Ok WriteFault) asked before after s h = absurd (omega arith)
 
-stopped : (o : Outcome) (words : List (List ℕ)) (before after : Outside) → status_of o ≡ 1 → Happens o words before after
-    → Worked words before after Refused ⊎ Worked words before after Cut ⊎ Worked words before after Limit
-stopped Usage words before after s h = absurd (omega arith)
-stopped (DeviceRefused text) words before after s h = absurd (omega arith)
-stopped FileFault words before after s h = absurd (omega arith)
-stopped StoreFault words before after s h = absurd (omega arith)
-stopped (RowsRefused text) words before after s h = absurd (omega arith)
-stopped NoMemory words before after s h = absurd (omega arith)
-stopped (Ended Input) words before after s h = absurd (omega arith)
-stopped (Ended Close) words before after s h = absurd (omega arith)
-stopped (Ended Refused) words before after s h = inl h
-stopped (Ended Cut) words before after s h = inr (inl h)
-stopped (Ended Limit) words before after s h = inr (inr h)
-stopped (Ended ReadFault) words before after s h = absurd (omega arith)
-stopped (Ended WriteFault) words before after s h = absurd (omega arith)
+stopped : (o : Result End Setback) (asked : Asked) (before after : Outside) → session_status o ≡ 1 → Happens o asked before after
+    → Worked asked before after Refused ⊎ Worked asked before after Cut ⊎ Worked asked before after Limit
+stopped (Err (DeviceRefused text)) asked before after s h = absurd (omega arith)
+stopped (Err FileFault) asked before after s h = absurd (omega arith)
+stopped (Err StoreFault) asked before after s h = absurd (omega arith)
+stopped (Err (RowsRefused text)) asked before after s h = absurd (omega arith)
+stopped (Err NoMemory) asked before after s h = absurd (omega arith)
+stopped (Ok Input) asked before after s h = absurd (omega arith)
+stopped (Ok Close) asked before after s h = absurd (omega arith)
+stopped (Ok Refused) asked before after s h = inl h
+stopped (Ok Cut) asked before after s h = inr (inl h)
+stopped (Ok Limit) asked before after s h = inr (inr h)
+stopped (Ok ReadFault) asked before after s h = absurd (omega arith)
+stopped (Ok WriteFault) asked before after s h = absurd (omega arith)
 
 -- the statuses of ends
 no_end_has : (end : End) (status : ℕ) → (status ≡ 2) ⊎ (status ≡ 3) ⊎ (status ≡ 4) ⊎ (status ≡ 7) ⊎ (status ≡ 10) → end_status end ≡ status → ⊥
@@ -70,111 +66,103 @@ no_end_has Limit status one e = grind arith
 no_end_has ReadFault status one e = grind arith
 no_end_has WriteFault status one e = grind arith
 
-misused : (o : Outcome) (words : List (List ℕ)) (before after : Outside) → status_of o ≡ 2 → Happens o words before after
-    → session_of words ≡ None
-misused Usage words before after s h = h.0
-misused (DeviceRefused text) words before after s h = absurd (omega arith)
-misused FileFault words before after s h = absurd (omega arith)
-misused StoreFault words before after s h = absurd (omega arith)
-misused (RowsRefused text) words before after s h = absurd (omega arith)
-misused NoMemory words before after s h = absurd (omega arith)
-misused (Ended end) words before after s h = absurd (no_end_has end 2 (inl refl) s)
+used : (o : Result End Setback) (asked : Asked) (before after : Outside) → session_status o ≡ 2 → Happens o asked before after → ⊥
+used (Err (DeviceRefused text)) asked before after s h = absurd (omega arith)
+used (Err FileFault) asked before after s h = absurd (omega arith)
+used (Err StoreFault) asked before after s h = absurd (omega arith)
+used (Err (RowsRefused text)) asked before after s h = absurd (omega arith)
+used (Err NoMemory) asked before after s h = absurd (omega arith)
+used (Ok end) asked before after s h = no_end_has end 2 (inl refl) s
 
-refused : (o : Outcome) (words : List (List ℕ)) (before after : Outside) → status_of o ≡ 3 → Happens o words before after
-    → Refuses words before (line_of o)
-refused Usage words before after s h = absurd (omega arith)
-refused (DeviceRefused text) words before after s h = h.0
-refused FileFault words before after s h = absurd (omega arith)
-refused StoreFault words before after s h = absurd (omega arith)
-refused (RowsRefused text) words before after s h = absurd (omega arith)
-refused NoMemory words before after s h = absurd (omega arith)
-refused (Ended end) words before after s h = absurd (no_end_has end 3 (inr (inl refl)) s)
+refused : (o : Result End Setback) (asked : Asked) (before after : Outside) → session_status o ≡ 3 → Happens o asked before after
+    → IsRefused device_of before.files.files asked.device (session_line o)
+refused (Err (DeviceRefused text)) asked before after s h = h.0
+refused (Err FileFault) asked before after s h = absurd (omega arith)
+refused (Err StoreFault) asked before after s h = absurd (omega arith)
+refused (Err (RowsRefused text)) asked before after s h = absurd (omega arith)
+refused (Err NoMemory) asked before after s h = absurd (omega arith)
+refused (Ok end) asked before after s h = absurd (no_end_has end 3 (inr (inl refl)) s)
 
-unread : (o : Outcome) (words : List (List ℕ)) (before after : Outside) → status_of o ≡ 4 → Happens o words before after
-    → Unread words before after
-unread Usage words before after s h = absurd (omega arith)
-unread (DeviceRefused text) words before after s h = absurd (omega arith)
-unread FileFault words before after s h = h.0
-unread StoreFault words before after s h = absurd (omega arith)
-unread (RowsRefused text) words before after s h = absurd (omega arith)
-unread NoMemory words before after s h = absurd (omega arith)
-unread (Ended end) words before after s h = absurd (no_end_has end 4 (inr (inr (inl refl))) s)
+unread : (o : Result End Setback) (asked : Asked) (before after : Outside) → session_status o ≡ 4 → Happens o asked before after
+    → IsUnread asked.device before.files after.files
+unread (Err (DeviceRefused text)) asked before after s h = absurd (omega arith)
+unread (Err FileFault) asked before after s h = h.0
+unread (Err StoreFault) asked before after s h = absurd (omega arith)
+unread (Err (RowsRefused text)) asked before after s h = absurd (omega arith)
+unread (Err NoMemory) asked before after s h = absurd (omega arith)
+unread (Ok end) asked before after s h = absurd (no_end_has end 4 (inr (inr (inl refl))) s)
 
-read_fault : (o : Outcome) (words : List (List ℕ)) (before after : Outside) → status_of o ≡ 5 → Happens o words before after
+read_fault : (o : Result End Setback) (asked : Asked) (before after : Outside) → session_status o ≡ 5 → Happens o asked before after
     → HasRisen before.work.streams.input.faults after.work.streams.input.faults
-read_fault Usage words before after s h = absurd (omega arith)
-read_fault (DeviceRefused text) words before after s h = absurd (omega arith)
-read_fault FileFault words before after s h = absurd (omega arith)
-read_fault StoreFault words before after s h = absurd (omega arith)
-read_fault (RowsRefused text) words before after s h = absurd (omega arith)
-read_fault NoMemory words before after s h = absurd (omega arith)
-read_fault (Ended Input) words before after s h = absurd (omega arith)
-read_fault (Ended Close) words before after s h = absurd (omega arith)
-read_fault (Ended Refused) words before after s h = absurd (omega arith)
-read_fault (Ended Cut) words before after s h = absurd (omega arith)
-read_fault (Ended Limit) words before after s h = absurd (omega arith)
-read_fault (Ended ReadFault) words before after s h = h.works.session.fault
-read_fault (Ended WriteFault) words before after s h = absurd (omega arith)
+read_fault (Err (DeviceRefused text)) asked before after s h = absurd (omega arith)
+read_fault (Err FileFault) asked before after s h = absurd (omega arith)
+read_fault (Err StoreFault) asked before after s h = absurd (omega arith)
+read_fault (Err (RowsRefused text)) asked before after s h = absurd (omega arith)
+read_fault (Err NoMemory) asked before after s h = absurd (omega arith)
+read_fault (Ok Input) asked before after s h = absurd (omega arith)
+read_fault (Ok Close) asked before after s h = absurd (omega arith)
+read_fault (Ok Refused) asked before after s h = absurd (omega arith)
+read_fault (Ok Cut) asked before after s h = absurd (omega arith)
+read_fault (Ok Limit) asked before after s h = absurd (omega arith)
+read_fault (Ok ReadFault) asked before after s h = h.works.session.fault
+read_fault (Ok WriteFault) asked before after s h = absurd (omega arith)
 
-write_fault : (o : Outcome) (words : List (List ℕ)) (before after : Outside) → status_of o ≡ 6 → Happens o words before after
+write_fault : (o : Result End Setback) (asked : Asked) (before after : Outside) → session_status o ≡ 6 → Happens o asked before after
     → HasRisen before.work.streams.output.faults after.work.streams.output.faults
-write_fault Usage words before after s h = absurd (omega arith)
-write_fault (DeviceRefused text) words before after s h = absurd (omega arith)
-write_fault FileFault words before after s h = absurd (omega arith)
-write_fault StoreFault words before after s h = absurd (omega arith)
-write_fault (RowsRefused text) words before after s h = absurd (omega arith)
-write_fault NoMemory words before after s h = absurd (omega arith)
-write_fault (Ended Input) words before after s h = absurd (omega arith)
-write_fault (Ended Close) words before after s h = absurd (omega arith)
-write_fault (Ended Refused) words before after s h = absurd (omega arith)
-write_fault (Ended Cut) words before after s h = absurd (omega arith)
-write_fault (Ended Limit) words before after s h = absurd (omega arith)
-write_fault (Ended ReadFault) words before after s h = absurd (omega arith)
-write_fault (Ended WriteFault) words before after s h = h.works.session.fault
+write_fault (Err (DeviceRefused text)) asked before after s h = absurd (omega arith)
+write_fault (Err FileFault) asked before after s h = absurd (omega arith)
+write_fault (Err StoreFault) asked before after s h = absurd (omega arith)
+write_fault (Err (RowsRefused text)) asked before after s h = absurd (omega arith)
+write_fault (Err NoMemory) asked before after s h = absurd (omega arith)
+write_fault (Ok Input) asked before after s h = absurd (omega arith)
+write_fault (Ok Close) asked before after s h = absurd (omega arith)
+write_fault (Ok Refused) asked before after s h = absurd (omega arith)
+write_fault (Ok Cut) asked before after s h = absurd (omega arith)
+write_fault (Ok Limit) asked before after s h = absurd (omega arith)
+write_fault (Ok ReadFault) asked before after s h = absurd (omega arith)
+write_fault (Ok WriteFault) asked before after s h = h.works.session.fault
 
-unattached : (o : Outcome) (words : List (List ℕ)) (before after : Outside) → status_of o ≡ 7 → Happens o words before after
-    → Unattached words before after
-unattached Usage words before after s h = absurd (omega arith)
-unattached (DeviceRefused text) words before after s h = absurd (omega arith)
-unattached FileFault words before after s h = absurd (omega arith)
-unattached StoreFault words before after s h = h.0
-unattached (RowsRefused text) words before after s h = absurd (omega arith)
-unattached NoMemory words before after s h = absurd (omega arith)
-unattached (Ended end) words before after s h = absurd (no_end_has end 7 (inr (inr (inr (inl refl)))) s)
+unattached : (o : Result End Setback) (asked : Asked) (before after : Outside) → session_status o ≡ 7 → Happens o asked before after
+    → Unattached asked before after
+unattached (Err (DeviceRefused text)) asked before after s h = absurd (omega arith)
+unattached (Err FileFault) asked before after s h = absurd (omega arith)
+unattached (Err StoreFault) asked before after s h = h.0
+unattached (Err (RowsRefused text)) asked before after s h = absurd (omega arith)
+unattached (Err NoMemory) asked before after s h = absurd (omega arith)
+unattached (Ok end) asked before after s h = absurd (no_end_has end 7 (inr (inr (inr (inl refl)))) s)
 
-unopened : (o : Outcome) (words : List (List ℕ)) (before after : Outside) → status_of o ≡ 10 → Happens o words before after
-    → Unopened words before (line_of o)
-unopened Usage words before after s h = absurd (omega arith)
-unopened (DeviceRefused text) words before after s h = absurd (omega arith)
-unopened FileFault words before after s h = absurd (omega arith)
-unopened StoreFault words before after s h = absurd (omega arith)
-unopened (RowsRefused text) words before after s h = h.0
-unopened NoMemory words before after s h = absurd (omega arith)
-unopened (Ended end) words before after s h = absurd (no_end_has end 10 (inr (inr (inr (inr refl)))) s)
+unopened : (o : Result End Setback) (asked : Asked) (before after : Outside) → session_status o ≡ 10 → Happens o asked before after
+    → Unopened asked before (session_line o)
+unopened (Err (DeviceRefused text)) asked before after s h = absurd (omega arith)
+unopened (Err FileFault) asked before after s h = absurd (omega arith)
+unopened (Err StoreFault) asked before after s h = absurd (omega arith)
+unopened (Err (RowsRefused text)) asked before after s h = h.0
+unopened (Err NoMemory) asked before after s h = absurd (omega arith)
+unopened (Ok end) asked before after s h = absurd (no_end_has end 10 (inr (inr (inr (inr refl)))) s)
 
 -- a run whose line was written whole
-told_whole : (o : Outcome) (words : List (List ℕ)) (before after : Surroundings) (status : ℕ)
-    → Happens o words before.outside after.outside → status ≡ status_of o → Appends before.errors.taken after.errors.taken (line_of o)
-    → HasCause words before after status
-told_whole o words before after status h s a = record {
-  worked = λ e. worked o words before.outside after.outside (sym s ∙ e) h;
-  stopped = λ e. stopped o words before.outside after.outside (sym s ∙ e) h;
-  misused = λ e. misused o words before.outside after.outside (sym s ∙ e) h;
-  refused = λ e. (line_of o, refused o words before.outside after.outside (sym s ∙ e) h, a);
-  unread = λ e. unread o words before.outside after.outside (sym s ∙ e) h;
-  read_fault = λ e. read_fault o words before.outside after.outside (sym s ∙ e) h;
-  write_fault = λ e. inl (write_fault o words before.outside after.outside (sym s ∙ e) h);
-  unattached = λ e. unattached o words before.outside after.outside (sym s ∙ e) h;
-  unopened = λ e. (line_of o, unopened o words before.outside after.outside (sym s ∙ e) h, a);
+told_whole : (o : Result End Setback) (asked : Asked) (before after : Surroundings) (status : ℕ)
+    → Happens o asked before.outside after.outside → status ≡ session_status o → Appends before.errors.taken after.errors.taken (session_line o)
+    → HasCause asked before after status
+told_whole o asked before after status h s a = record {
+  worked = λ e. worked o asked before.outside after.outside (sym s ∙ e) h;
+  stopped = λ e. stopped o asked before.outside after.outside (sym s ∙ e) h;
+  used = λ e. used o asked before.outside after.outside (sym s ∙ e) h;
+  refused = λ e. (session_line o, refused o asked before.outside after.outside (sym s ∙ e) h, a);
+  unread = λ e. unread o asked before.outside after.outside (sym s ∙ e) h;
+  read_fault = λ e. read_fault o asked before.outside after.outside (sym s ∙ e) h;
+  write_fault = λ e. inl (write_fault o asked before.outside after.outside (sym s ∙ e) h);
+  unattached = λ e. unattached o asked before.outside after.outside (sym s ∙ e) h;
+  unopened = λ e. (session_line o, unopened o asked before.outside after.outside (sym s ∙ e) h, a);
 }
 
 -- a run whose line wasn't
-told_partly : (words : List (List ℕ)) (before after : Surroundings) (status : ℕ)
-    → status ≡ 6 → HasRisen before.errors.faults after.errors.faults → HasCause words before after status
-told_partly words before after status s f = record {
+told_partly : (asked : Asked) (before after : Surroundings) (status : ℕ)
+    → status ≡ 6 → HasRisen before.errors.faults after.errors.faults → HasCause asked before after status
+told_partly asked before after status s f = record {
   worked = λ e. absurd (omega arith);
   stopped = λ e. absurd (omega arith);
-  misused = λ e. absurd (omega arith);
+  used = λ e. absurd (omega arith);
   refused = λ e. absurd (omega arith);
   unread = λ e. absurd (omega arith);
   read_fault = λ e. absurd (omega arith);
@@ -184,10 +172,10 @@ told_partly words before after status s f = record {
 }
 
 -- how a run went tells the cause of its status
-causes : (o : Outcome) (words : List (List ℕ)) (before after : Surroundings) (status : ℕ)
-    → Happens o words before.outside after.outside → Tells o before.errors after.errors status → HasCause words before after status
-causes o words before after status h (inl (s, a)) = told_whole o words before after status h s a
-causes o words before after status h (inr (s, f, p)) = told_partly words before after status s f
+causes : (o : Result End Setback) (asked : Asked) (before after : Surroundings) (status : ℕ)
+    → Happens o asked before.outside after.outside → Tells (session_line o) (session_status o) before.errors after.errors status → HasCause asked before after status
+causes o asked before after status h (inl (s, a)) = told_whole o asked before after status h s a
+causes o asked before after status h (inr (s, f, p)) = told_partly asked before after status s f
 
 -- a told file reads so
 reads_so : (told : Option (List FileBytes)) (files : List FileBytes) (name name' bytes : List ℕ) (read : Result Device ManifestFault)
@@ -213,60 +201,52 @@ unread_fault files name name' bytes before after (inr missing) t n b =
     absurd (not_missing before.files.files files name name' bytes missing t n b)
 
 -- memory ran out, or also the errors failed
-wanted : (errors errors' : SinkView) (status : ℕ) → Tells NoMemory errors errors' status
+wanted : (errors errors' : SinkView) (status : ℕ) → Tells want_line 8 errors errors' status
     → HasRisen errors.faults errors'.faults ⊎ (status ≡ 8)
 wanted errors errors' status (inl (s, a)) = inr s
 wanted errors errors' status (inr (s, f, p)) = inl f
 
 -- the device of a told file is the one that the run began with
-begun : (words : List (List ℕ)) (before : Outside) (files : List FileBytes) (bytes : List ℕ) (asked' asked : Asked) (device' device : Device)
-    → Begins words before asked' device' → asked' ≡ asked → before.files.files ≡ Some files → bytes_of asked.device files ≡ Some bytes
+begun : (asked : Asked) (before : Outside) (files : List FileBytes) (bytes : List ℕ) (device' device : Device)
+    → Describes before.files.files asked.device (Ok device') → before.files.files ≡ Some files → bytes_of asked.device files ≡ Some bytes
     → device_of bytes ≡ Ok device → device' ≡ device
-begun words before files bytes asked' asked device' device begins same f b d =
+begun asked before files bytes device' device file f b d =
     same_device (device_of bytes) device' device
-    (reads_so before.files.files files asked.device asked'.device bytes (Ok device') begins.file f (ap (λ a. a.device) same) b) d
+    (reads_so before.files.files files asked.device asked.device bytes (Ok device') file f refl b) d
 
--- how a run went tells that good words and a good device file gave the work
-completes : (o : Outcome) (words : List (List ℕ)) (before after : Surroundings) (status : ℕ)
-    → Happens o words before.outside after.outside → Tells o before.errors after.errors status → Completes words before after status
-completes Usage words before after status h t asked files bytes device w f b d =
-    let clash : None ≡ Some asked = sym h.0 ∙ w in cc
-completes (DeviceRefused line) words before after status h t asked files bytes device w f b d =
-    let same : h.0.asked.device ≡ asked.device = ap (λ a. a.device) (some_is (sym h.0.named ∙ w)) in
-    let clash : Ok device ≡ Err h.0.refused.fault =
-    sym d ∙ reads_so before.outside.files.files files asked.device h.0.asked.device bytes (Err h.0.refused.fault) h.0.refused.file f same b in cc
-completes FileFault words before after status h t asked files bytes device w f b d =
-    let same : h.0.asked.device ≡ asked.device = ap (λ a. a.device) (some_is (sym h.0.named ∙ w)) in
-    inr (inl (unread_fault files asked.device h.0.asked.device bytes before.outside after.outside h.0.unread f same b))
-completes StoreFault words before after status h t asked files bytes device w f b d =
+-- how a session went tells that a good device file gave the work
+completes : (o : Result End Setback) (asked : Asked) (before after : Surroundings) (status : ℕ)
+    → Happens o asked before.outside after.outside → Tells (session_line o) (session_status o) before.errors after.errors status → Completes asked before after status
+completes (Err (DeviceRefused line)) asked before after status h t files bytes device f b d =
+    let clash : Ok device ≡ Err h.0.fault =
+    sym d ∙ reads_so before.outside.files.files files asked.device asked.device bytes (Err h.0.fault) h.0.file f refl b in cc
+completes (Err FileFault) asked before after status h t files bytes device f b d =
+    inr (inl (unread_fault files asked.device asked.device bytes before.outside after.outside h.0 f refl b))
+completes (Err StoreFault) asked before after status h t files bytes device f b d =
     inr (inr (inl h.0.risen))
-completes (RowsRefused line) words before after status h t asked files bytes device w f b d =
-    let same : h.0.asked ≡ asked = some_is (sym h.0.begins.named ∙ w) in
-    let made : h.0.device ≡ device = begun words before.outside files bytes h.0.asked asked h.0.device device h.0.begins same f b d in
-    let kept : RefusesRows h.0.device asked.store before.outside.work.store line =
-    subst (λ (a : Asked). RefusesRows h.0.device a.store before.outside.work.store line) same h.0.refused in
-    inr (inr (inr (inl (line, subst (λ (one : Device). RefusesRows one asked.store before.outside.work.store line) made kept))))
-completes NoMemory words before after status h t asked files bytes device w f b d =
+completes (Err (RowsRefused line)) asked before after status h t files bytes device f b d =
+    let made : h.0.device ≡ device = begun asked before.outside files bytes h.0.device device h.0.file f b d in
+    inr (inr (inr (inl (line, subst (λ (one : Device). RefusesRows one asked.store before.outside.work.store line) made h.0.refused))))
+completes (Err NoMemory) asked before after status h t files bytes device f b d =
     inr (inr (inr (inr (wanted before.errors after.errors status t))))
-completes (Ended end) words before after status h t asked files bytes device w f b d =
-    let same : h.asked ≡ asked = some_is (sym h.begins.named ∙ w) in
-    let made : h.device ≡ device = begun words before.outside files bytes h.asked asked h.device device h.begins same f b d in
-    let works : Works asked h.device before.outside.work after.outside.work end =
-    subst (λ (a : Asked). Works a h.device before.outside.work after.outside.work end) same h.works in
-    inl (end, subst (λ (one : Device). Works asked one before.outside.work after.outside.work end) made works)
+completes (Ok end) asked before after status h t files bytes device f b d =
+    let made : h.device ≡ device = begun asked before.outside files bytes h.device device h.file f b d in
+    inl (end, subst (λ (one : Device). Works asked one before.outside.work after.outside.work end) made h.works)
 
--- a whole run
-runs : (o : Outcome) (words : List (List ℕ)) (before after : Surroundings) (status : ℕ)
-    → Happens o words before.outside after.outside → Tells o before.errors after.errors status → Runs words before after status
-runs o words before after status h t = record {
-  went = record { outcome = o; happened = h; told = t };
-  cause = causes o words before after status h t;
-  complete = completes o words before after status h t;
+-- a whole session
+runs : (o : Result End Setback) (asked : Asked) (before after : Surroundings) (status : ℕ)
+    → Happens o asked before.outside after.outside → Tells (session_line o) (session_status o) before.errors after.errors status → RunsSession asked before after status
+runs o asked before after status h t = record {
+  went = record { work = o; happened = h; told = t };
+  cause = causes o asked before after status h t;
+  complete = completes o asked before after status h t;
 }
 
--- a whole run, of work that ended so or didn't begin
-pub runs_of : (work : Result End Outcome) (o : Outcome) (words : List (List ℕ)) (before after : Surroundings) (status : ℕ)
-    → o ≡ outcome_of work → Happens (outcome_of work) words before.outside after.outside → Tells o before.errors after.errors status
-    → Runs words before after status
-runs_of work o words before after status is h t =
-    runs o words before after status (subst (λ (made : Outcome). Happens made words before.outside after.outside) (sym is) h) t
+-- a whole session, told by the line and the status that go with it
+pub runs_told : (o made : Result End Setback) (asked : Asked) (before after : Surroundings) (line : List ℕ) (code status : ℕ) → o ≡ made
+    → line ≡ session_line made → code ≡ session_status made → Happens o asked before.outside after.outside
+    → Tells line code before.errors after.errors status → RunsSession asked before after status
+runs_told o made asked before after line code status is says means h t =
+    runs o asked before after status h
+    (subst (λ (l : List ℕ). Tells l (session_status o) before.errors after.errors status) (says ∙ ap session_line (sym is))
+    (subst (λ (n : ℕ). Tells line n before.errors after.errors status) (means ∙ ap session_status (sym is)) t))

@@ -12,10 +12,10 @@ use Rattle.am_found.specs.Laws.{KeptIsFound}
 use Rattle.am_http.specs.declared.end.End.{End}
 use Rattle.am_machine.specs.Managed as machine
 use Rattle.am_words.specs.declared.command.StepWords.{StepWords}
-use Rattle.am_shell.specs.declared.asked.Asked.{Asked}
+use Rattle.am_shell.specs.declared.session.Asked.{Asked}
 use Rattle.am_shell.specs.Clocks.{ServesOn}
 use Rattle.am_shell.specs.Kept.{IsOrigin, IsUnchanged, Leaves}
-use Rattle.am_shell.specs.Outcomes.{sole_desk, link_of, Serves, Works}
+use Rattle.am_shell.specs.Sessions.{sole_desk, link_of, Serves, Works}
 use Rattle.am_shell.specs.Outside.{StoreView, Streams, Workplace}
 use Rattle.am_shell.proofs.FormedLemmas.{IsFormed, all_formed}
 use Rattle.am_shell.proofs.StoreLemmas.{leaves_asked}

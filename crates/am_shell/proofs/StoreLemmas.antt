@@ -77,9 +77,3 @@ leaves_asked origin place history old now new same at_place left = record {
       left.kept now_tells at (at_place t ∙ is);
   unkept = subst (λ (n : ℕ). raised_by (count_by is_unkept history) n ≤ new.faults) same.faults left.unkept;
 }
-
--- the rows that a keeper tells are those that it was attached with, if these were read
-pub attached_rows : (found : Option Rows) (rows told : Rows) → found ≡ Some rows → Some (unwrap_or found no_rows) ≡ Some told → rows ≡ told
-attached_rows found rows told read is =
-    let told_so : Some (unwrap_or (Some rows) no_rows) ≡ Some told = subst (λ (f : Option Rows). Some (unwrap_or f no_rows) ≡ Some told) read is in
-    cc

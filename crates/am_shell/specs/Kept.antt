@@ -1,5 +1,6 @@
 -- The rows that a session begins with, and what it leaves in the store.
-use Rattle.std.specs.Prelude.{◌≡◌, ◌≢◌, ℕ, ◌≤◌, List, count_by, Option, Some, None, Ok, Err, IsTrue}
+use Rattle.std.specs.Prelude.{◌≡◌, ◌≢◌, ℕ, ◌≤◌, List, count_by, Option, Some, None, Ok, Err, IsTrue, ⊤}
+use Rattle.am_outside.specs.Counts.{HasRisen}
 use Rattle.am_types.specs.declared.device.Device.{Device}
 use Rattle.am_types.specs.declared.history.Entry.{Entry}
 use Rattle.am_keeper.specs.declared.rows.Rows.{Rows}
@@ -9,6 +10,8 @@ use Rattle.am_history.specs.Opening.{opening_with}
 use Rattle.am_history.specs.Desks.{Origin, opening_of}
 use Rattle.am_found.specs.Found.{rows_after}
 use Rattle.am_machine.specs.Managed.{is_unkept}
+use Rattle.am_shell.specs.declared.setback.Setback.{Setback}
+use Rattle.am_shell.specs.declared.setback.Setback.TheVariants.{DeviceRefused, FileFault, StoreFault, RowsRefused, NoMemory}
 use Rattle.am_shell.specs.Lines.{rows_line}
 use Rattle.am_shell.specs.Outside.{StoreView}
 
@@ -48,3 +51,19 @@ pub record Leaves
   pub kept : IsTrue old.tells → (at : List ℕ) → place ≡ Some at
       → new.rows at ≡ rows_after (opening_of origin) origin.rows history
   pub unkept : raised_by (count_by is_unkept history) old.faults ≤ new.faults
+
+-- the setback of a package of that name whose row is refused: the line that names it, or memory ran out
+abbrev pub IsRowRefusal : Setback → List ℕ → Type 0
+IsRowRefusal (DeviceRefused line) name = ⊥
+IsRowRefusal FileFault name = ⊥
+IsRowRefusal StoreFault name = ⊥
+IsRowRefusal (RowsRefused line) name = line ≡ rows_line name
+IsRowRefusal NoMemory name = ⊤
+
+-- why no manager of the device began with the rows that were kept at the place
+abbrev pub FailsToOpenRows : Setback → Device → Option (List ℕ) → StoreView → StoreView → Type 0
+FailsToOpenRows (DeviceRefused line) device place old new = ⊥
+FailsToOpenRows FileFault device place old new = ⊥
+FailsToOpenRows StoreFault device place old new = HasRisen old.failed new.failed
+FailsToOpenRows (RowsRefused line) device place old new = RefusesRows device place old line
+FailsToOpenRows NoMemory device place old new = ⊤

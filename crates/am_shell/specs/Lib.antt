@@ -1,9 +1,9 @@
-pub mod Asked
 pub mod Clocks
 pub mod Devices
 pub mod Fails
 pub mod Kept
 pub mod Lines
-pub mod Outcomes
 pub mod Outside
+pub mod Questions
 pub mod Runs
+pub mod Sessions

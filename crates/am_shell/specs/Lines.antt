@@ -1,11 +1,48 @@
--- The lines that tell on the errors how a run went.
-use Rattle.std.specs.Prelude.{ℕ, codes, List, [], ◌++◌}
+-- The lines that tell on the errors how a run went, and the statuses.
+use Rattle.std.specs.Prelude.{◌≡◌, ℕ, ◌⊎◌, codes, List, [], ◌++◌, Result, Ok, Err}
+use Rattle.std.specs.Io.KnownBytes.{Appends}
 use Rattle.am_types.specs.declared.manifest.ManifestFault.{ManifestFault}
 use Rattle.am_types.specs.Printing.{printed}
+use Rattle.am_outside.specs.Counts.{HasRisen}
 use Rattle.am_http.specs.declared.end.End.{End}
 use Rattle.am_http.specs.declared.end.End.TheVariants.{Input, Close, Refused, Cut, Limit, ReadFault, WriteFault}
-use Rattle.am_shell.specs.declared.outcome.Outcome.{Outcome}
-use Rattle.am_shell.specs.declared.outcome.Outcome.TheVariants.{Usage, DeviceRefused, FileFault, StoreFault, RowsRefused, NoMemory, Ended}
+use Rattle.am_http.specs.Links.{SinkView}
+use Rattle.am_http.specs.Sending.{WritesPart}
+use Rattle.am_shell.specs.declared.setback.Setback.{Setback}
+use Rattle.am_shell.specs.declared.setback.Setback.TheVariants.{DeviceRefused, FileFault, StoreFault, RowsRefused, NoMemory}
+
+-- the line was written whole and the status is the one that goes with it, or the errors failed and took a part of it
+abbrev pub Tells : List ℕ → ℕ → SinkView → SinkView → ℕ → Type 0
+Tells line status errors errors' result =
+    ((result ≡ status) × Appends errors.taken errors'.taken line)
+    ⊎ ((result ≡ 6) × HasRisen errors.faults errors'.faults × WritesPart errors.taken errors'.taken line)
+
+-- the line of an output that failed
+abbrev pub write_line : List ℕ
+write_line = codes "am: write fault\n"
+
+-- what a command is told on: the output and the errors
+pub record Voices : Type 0 where
+  pub output : SinkView
+  pub errors : SinkView
+
+-- a text was printed whole, with status 0, or the output failed and took a part of it, and the errors tell that
+abbrev pub Prints : List ℕ → Voices → Voices → ℕ → Type 0
+Prints text before after status =
+    ((status ≡ 0) × Appends before.output.taken after.output.taken text × (after.errors ≡ before.errors))
+    ⊎ (HasRisen before.output.faults after.output.faults × WritesPart before.output.taken after.output.taken text
+    × Tells write_line 6 before.errors after.errors status)
+
+-- the line of words that are no command, and the one that memory ran out
+abbrev pub usage_line : List ℕ
+usage_line = codes "am: usage\n"
+
+abbrev pub want_line : List ℕ
+want_line = codes "am: out of memory\n"
+
+-- the line of a network that failed
+abbrev pub network_line : List ℕ
+network_line = codes "am: network fault\n"
 
 -- the line of a device file that has a fault
 abbrev pub refusal_line : ManifestFault → List ℕ
@@ -15,6 +52,22 @@ refusal_line fault = codes "am: device refused: " ++ printed fault ++ codes "\n"
 abbrev pub rows_line : List ℕ → List ℕ
 rows_line name = codes "am: kept rows refused: " ++ name ++ codes "\n"
 
+-- the line of a setback
+abbrev pub line_of : Setback → List ℕ
+line_of (DeviceRefused text) = text
+line_of FileFault = codes "am: file fault\n"
+line_of StoreFault = codes "am: store fault\n"
+line_of (RowsRefused text) = text
+line_of NoMemory = want_line
+
+-- the status of a setback
+abbrev pub status_of : Setback → ℕ
+status_of (DeviceRefused text) = 3
+status_of FileFault = 4
+status_of StoreFault = 7
+status_of (RowsRefused text) = 10
+status_of NoMemory = 8
+
 -- the line of a session's end; none where it ended well
 abbrev pub end_line : End → List ℕ
 end_line Input = []
@@ -23,17 +76,7 @@ end_line Refused = codes "am: session ended: refused\n"
 end_line Cut = codes "am: session ended: cut\n"
 end_line Limit = codes "am: session ended: limit\n"
 end_line ReadFault = codes "am: read fault\n"
-end_line WriteFault = codes "am: write fault\n"
-
--- the line of an outcome
-abbrev pub line_of : Outcome → List ℕ
-line_of Usage = codes "am: usage\n"
-line_of (DeviceRefused text) = text
-line_of FileFault = codes "am: file fault\n"
-line_of StoreFault = codes "am: store fault\n"
-line_of (RowsRefused text) = text
-line_of NoMemory = codes "am: out of memory\n"
-line_of (Ended end) = end_line end
+end_line WriteFault = write_line
 
 -- the status of a session's end
 abbrev pub end_status : End → ℕ
@@ -45,12 +88,11 @@ end_status Limit = 1
 end_status ReadFault = 5
 end_status WriteFault = 6
 
--- the status of an outcome
-abbrev pub status_of : Outcome → ℕ
-status_of Usage = 2
-status_of (DeviceRefused text) = 3
-status_of FileFault = 4
-status_of StoreFault = 7
-status_of (RowsRefused text) = 10
-status_of NoMemory = 8
-status_of (Ended end) = end_status end
+-- the line and the status of a session that ended so, or didn't begin
+abbrev pub session_line : Result End Setback → List ℕ
+session_line (Ok end) = end_line end
+session_line (Err setback) = line_of setback
+
+abbrev pub session_status : Result End Setback → ℕ
+session_status (Ok end) = end_status end
+session_status (Err setback) = status_of setback

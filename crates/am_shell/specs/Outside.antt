@@ -3,7 +3,12 @@ use Rattle.std.specs.Prelude.{◌≡◌, ℕ, Bool, List, Option, Some, None, �
 use Rattle.am_outside.specs.Files.{bytes_of}
 use Rattle.am_outside.specs.declared.files.FileBytes.{FileBytes}
 use Rattle.am_keeper.specs.declared.rows.Rows.{Rows}
-use Rattle.am_http.specs.Links.{SourceView, SinkView, Moments}
+use Rattle.am_outside.specs.declared.files.Files.{Ghosts as FilesGhosts}
+use Rattle.am_outside.specs.declared.outside.Source.{Ghosts as SourceGhosts}
+use Rattle.am_outside.specs.declared.outside.Sink.{Ghosts as SinkGhosts}
+use Rattle.am_outside.specs.declared.clock.Clock.{Ghosts as ClockGhosts}
+use Rattle.am_keeper.specs.declared.keeper.Store.{Ghosts as StoreGhosts}
+use Rattle.am_http.specs.Links.{SourceView, SinkView, Moments, source_of, sink_of}
 
 -- of a reader of files the files, where it tells them, and its count of faults
 pub record Shelf : Type 0 where
@@ -38,6 +43,22 @@ pub record Outside : Type 0 where
 pub record Surroundings : Type 0 where
   pub outside : Outside
   pub errors : SinkView
+
+-- the views of a reader of files, of a store, and of what a session is served over
+abbrev pub shelf_of : {F : Type 0} → FilesGhosts F → F → Shelf
+shelf_of g files = record { files = g.files files; faults = g.faults files }
+
+abbrev pub store_of : {T K : Type 0} → StoreGhosts T K → T → StoreView
+store_of g store = record {
+  tells = g.tells store;
+  rows = g.rows_at store;
+  failed = g.failed_attaches store;
+  faults = g.keeper_faults store;
+}
+
+abbrev pub streams_of : {S W C : Type 0} → SourceGhosts S → SinkGhosts W → ClockGhosts C → S → W → C → Streams
+streams_of s w c input output clock =
+    record { input = source_of s input; output = sink_of w output; clock = c.moments clock }
 
 -- the file of that name has those bytes, where the files are told
 abbrev pub Holds : Option (List FileBytes) → List ℕ → List ℕ → Type 0

@@ -1,5 +1,5 @@
 -- A run of the program, as its status, its files, its streams and its errors show it.
-use Rattle.std.specs.Prelude.{◌≡◌, ℕ, ◌⊎◌, List, Some, None, Ok}
+use Rattle.std.specs.Prelude.{◌≡◌, ℕ, ◌⊎◌, List, Option, Some, None, Result, Ok}
 use Rattle.std.specs.Io.KnownBytes.{Appends}
 use Rattle.am_outside.specs.Counts.{HasRisen}
 use Rattle.am_outside.specs.Files.{bytes_of}
@@ -8,68 +8,119 @@ use Rattle.am_outside.specs.declared.files.FileBytes.{FileBytes}
 use Rattle.am_manifest.specs.Devices.{device_of}
 use Rattle.am_http.specs.declared.end.End.{End}
 use Rattle.am_http.specs.declared.end.End.TheVariants.{Input, Close, Refused, Cut, Limit}
-use Rattle.am_http.specs.Links.{SinkView}
-use Rattle.am_http.specs.Sending.{WritesPart}
-use Rattle.am_shell.specs.declared.outcome.Outcome.{Outcome}
-use Rattle.am_shell.specs.Lines.{line_of, status_of}
-use Rattle.am_shell.specs.Outcomes.{Happens, Worked, Works, Unread, Refuses, Unattached, Unopened}
+use Rattle.am_http.specs.Links.{SourceView, SinkView, Moments}
+use Rattle.am_words.specs.Grammar.{read_command}
+use Rattle.am_words.specs.declared.command.Command.{Command}
+use Rattle.am_words.specs.declared.command.Command.TheVariants.{Session, Serve, Drill, Visible}
+use Rattle.am_shell.specs.declared.setback.Setback.{Setback}
+use Rattle.am_shell.specs.declared.session.Asked.{Asked}
+use Rattle.am_shell.specs.Devices.{IsRefused, IsUnread}
 use Rattle.am_shell.specs.Kept.{RefusesRows}
-use Rattle.am_shell.specs.declared.asked.Asked.{Asked}
-use Rattle.am_shell.specs.Asked.{session_of}
-use Rattle.am_shell.specs.Outside.{Surroundings}
+use Rattle.am_shell.specs.Lines.{Tells, Voices, session_line, session_status, usage_line, want_line}
+use Rattle.am_shell.specs.Sessions.{Happens, Worked, Works, Unattached, Unopened}
+use Rattle.am_shell.specs.Outside.{Shelf, StoreView, Surroundings}
+use Rattle.am_shell.specs.Questions.{Booth, RunsQuestion}
 
--- the outcome's line was written whole and the status is its own, or the errors failed and took a part of it
-abbrev pub Tells : Outcome → SinkView → SinkView → ℕ → Type 0
-Tells outcome errors errors' status =
-    ((status ≡ status_of outcome) × Appends errors.taken errors'.taken (line_of outcome))
-    ⊎ ((status ≡ 6) × HasRisen errors.faults errors'.faults × WritesPart errors.taken errors'.taken (line_of outcome))
+-- how a session went, and that the errors and the status tell it
+pub record Went (asked : Asked) (before after : Surroundings) (status : ℕ) : Type 0 where
+  pub work : Result End Setback
+  pub happened : Happens work asked before.outside after.outside
+  pub told : Tells (session_line work) (session_status work) before.errors after.errors status
 
--- how a run went, and that the errors and the status tell it
-pub record Went (words : List (List ℕ)) (before after : Surroundings) (status : ℕ) : Type 0 where
-  pub outcome : Outcome
-  pub happened : Happens outcome words before.outside after.outside
-  pub told : Tells outcome before.errors after.errors status
+-- the session ended so
+abbrev pub Ends : Asked → Surroundings → Surroundings → End → Type 0
+Ends asked before after end = Worked asked before.outside after.outside end
 
--- the words say a session, which ended so
-abbrev pub Ends : List (List ℕ) → Surroundings → Surroundings → End → Type 0
-Ends words before after end = Worked words before.outside after.outside end
-
--- the cause of each status; running out of memory, status 8, has none
-pub record HasCause (words : List (List ℕ)) (before after : Surroundings) (status : ℕ) : Type 0 where
-  pub worked : status ≡ 0 → Ends words before after Input ⊎ Ends words before after Close
+-- the cause of each status of a session; running out of memory, status 8, has none
+pub record HasCause (asked : Asked) (before after : Surroundings) (status : ℕ) : Type 0 where
+  pub worked : status ≡ 0 → Ends asked before after Input ⊎ Ends asked before after Close
   pub stopped : status ≡ 1 →
-      Ends words before after Refused ⊎ Ends words before after Cut ⊎ Ends words before after Limit
-  pub misused : status ≡ 2 → session_of words ≡ None
+      Ends asked before after Refused ⊎ Ends asked before after Cut ⊎ Ends asked before after Limit
+  pub used : status ≡ 2 → ⊥
   pub refused : status ≡ 3 →
-      (line : List ℕ) × Refuses words before.outside line × Appends before.errors.taken after.errors.taken line
-  pub unread : status ≡ 4 → Unread words before.outside after.outside
+      (line : List ℕ) × IsRefused device_of before.outside.files.files asked.device line
+      × Appends before.errors.taken after.errors.taken line
+  pub unread : status ≡ 4 → IsUnread asked.device before.outside.files after.outside.files
   pub read_fault : status ≡ 5 →
       HasRisen before.outside.work.streams.input.faults after.outside.work.streams.input.faults
   pub write_fault : status ≡ 6 →
       HasRisen before.outside.work.streams.output.faults after.outside.work.streams.output.faults
       ⊎ HasRisen before.errors.faults after.errors.faults
-  pub unattached : status ≡ 7 → Unattached words before.outside after.outside
+  pub unattached : status ≡ 7 → Unattached asked before.outside after.outside
   pub unopened : status ≡ 10 →
-      (line : List ℕ) × Unopened words before.outside line × Appends before.errors.taken after.errors.taken line
+      (line : List ℕ) × Unopened asked before.outside line × Appends before.errors.taken after.errors.taken line
 
 -- a row that was kept for the session that is asked for, of that device, is refused
 abbrev pub IsRowRefused : Asked → Device → Surroundings → Type 0
 IsRowRefused asked device before = (line : List ℕ) × RefusesRows device asked.store before.outside.work.store line
 
--- the words say a session, and its file is told and describes a device: the session was served, unless the files, the
--- store or the errors failed, a row that was kept is refused, or memory ran out
-abbrev pub Completes : List (List ℕ) → Surroundings → Surroundings → ℕ → Type 0
-Completes words before after status =
-    (asked : Asked) (files : List FileBytes) (bytes : List ℕ) (device : Device) →
-    session_of words ≡ Some asked → before.outside.files.files ≡ Some files → bytes_of asked.device files ≡ Some bytes →
-    device_of bytes ≡ Ok device →
+-- if the device file is told and describes a device, the session was served, unless the files, the store or the errors
+-- failed, a row that was kept is refused, or memory ran out
+abbrev pub Completes : Asked → Surroundings → Surroundings → ℕ → Type 0
+Completes asked before after status =
+    (files : List FileBytes) (bytes : List ℕ) (device : Device) →
+    before.outside.files.files ≡ Some files → bytes_of asked.device files ≡ Some bytes → device_of bytes ≡ Ok device →
     ((end : End) × Works asked device before.outside.work after.outside.work end)
     ⊎ HasRisen before.outside.files.faults after.outside.files.faults
     ⊎ HasRisen before.outside.work.store.failed after.outside.work.store.failed ⊎ IsRowRefused asked device before
     ⊎ HasRisen before.errors.faults after.errors.faults ⊎ (status ≡ 8)
 
--- a whole run: how it went, the cause of its status, and when it is the work
-pub record Runs (words : List (List ℕ)) (before after : Surroundings) (status : ℕ) : Type 0 where
-  pub went : Went words before after status
-  pub cause : HasCause words before after status
-  pub complete : Completes words before after status
+-- a run of a session that is asked for: how it went, the cause of its status, and when it is the work
+pub record RunsSession (asked : Asked) (before after : Surroundings) (status : ℕ) : Type 0 where
+  pub went : Went asked before after status
+  pub cause : HasCause asked before after status
+  pub complete : Completes asked before after status
+
+-- all that a run may touch: the files, the store of the kept rows, the input, the output, the clock, the network and the
+-- errors
+pub record World : Type 0 where
+  pub files : Shelf
+  pub store : StoreView
+  pub input : SourceView
+  pub output : SinkView
+  pub clock : Moments
+  pub errors : SinkView
+
+-- what a session, a serving, a question and a drill have of it
+abbrev pub for_session : World → Surroundings
+for_session w = record {
+  outside = record {
+    files = w.files;
+    work = record {
+      store = w.store;
+      streams = record { input = w.input; output = w.output; clock = w.clock };
+    };
+  };
+  errors = w.errors;
+}
+
+abbrev pub for_drill : World → Voices
+for_drill w = record { output = w.output; errors = w.errors }
+
+abbrev pub for_question : World → Booth
+for_question w = record { desk = record { files = w.files; input = w.input }; voices = for_drill w }
+
+-- nothing was done but to tell a line on the errors, with its status
+pub record OnlyTells (line : List ℕ) (status : ℕ) (before after : World) (result : ℕ) : Type 0 where
+  pub idle : after ≡ record before { errors = after.errors }
+  pub told : Tells line status before.errors after.errors result
+
+-- a run of the command that the words say, if they say one, which leaves the rest of the world as it was
+abbrev pub RunsCommand : Option Command → World → World → ℕ → Type 0
+RunsCommand None before after status = OnlyTells usage_line 2 before after status
+RunsCommand (Some (Session device store clock)) before after status =
+    RunsSession (record { device = device; store = store; clock = clock })
+    (for_session before) (for_session after) status
+RunsCommand (Some (Serve device port workers store most)) before after status =
+    OnlyTells usage_line 2 before after status
+RunsCommand (Some (Drill number packages requests)) before after status =
+    OnlyTells usage_line 2 before after status
+RunsCommand (Some (Visible device «package»)) before after status =
+    RunsQuestion (record { device = device; «package» = «package» })
+    (for_question before) (for_question after) status
+    × (after.store ≡ before.store) × (after.clock ≡ before.clock)
+
+-- a whole run: that of its command, or memory ran out while the words were read
+abbrev pub Runs : List (List ℕ) → World → World → ℕ → Type 0
+Runs words before after status =
+    RunsCommand (read_command words) before after status ⊎ OnlyTells want_line 8 before after status

@@ -2,11 +2,11 @@
 ghost use Rattle.std.specs.Prelude.{◌≡◌, ◌≤◌, ℕ, List as Items, [], Some, IfOk, OnOk, IfErr, IsTrue};
 ghost use Rattle.std.specs.Option.{option_copied};
 ghost use Rattle.am_model.specs.Sound.{IsSound};
-ghost use Rattle.am_shell.specs.Kept.{IsOrigin, IsUnchanged, Leaves};
+ghost use Rattle.am_shell.specs.Kept.{FailsToOpenRows, IsOrigin, IsRowRefusal, IsUnchanged, Leaves};
 ghost use Rattle.am_shell.specs.Lines.{rows_line};
-ghost use Rattle.am_shell.specs.Outcomes.{FailsToBegin, IsRowRefusal};
+ghost use Rattle.am_shell.specs.Outside.{store_of};
 
-use crate::outcome::Outcome;
+use crate::setback::Setback;
 use am_keeper::{Attached, Keeper, Store};
 use am_machine::{Manager, begin};
 use am_opening::OpenFault;
@@ -19,59 +19,32 @@ pub fn open_manager<T: Store>(
     store: &mut T,
     device: Device,
     place: Option<&Text>,
-) -> Result<Manager<T::Kept>, Outcome>
+) -> Result<Manager<T::Kept>, Setback>
     requires sound { IsSound device }
-    ensures origin { IfOk result (λ manager. IsOrigin manager.origin device (option_copied place.entry) (record {
-      tells = T.tells store.old;
-      rows = T.rows_at store.old;
-      failed = T.failed_attaches store.old;
-      faults = T.keeper_faults store.old;
-    })) }
+    ensures origin { IfOk result (λ manager. IsOrigin manager.origin device (option_copied place.entry)
+        (store_of T.Store store.old)) }
     ensures fresh { IfOk result (λ manager. manager.history ≡ []) }
     ensures attached { IsTrue (T.tells store.old) → OnOk result ((at : Items ℕ) →
         option_copied place.entry ≡ Some at → T.has_attached store.new at) }
-    ensures unchanged { IsUnchanged
-        (record {
-          tells = T.tells store.old;
-          rows = T.rows_at store.old;
-          failed = T.failed_attaches store.old;
-          faults = T.keeper_faults store.old;
-        })
-        (record {
-          tells = T.tells store.new;
-          rows = T.rows_at store.new;
-          failed = T.failed_attaches store.new;
-          faults = T.keeper_faults store.new;
-        }) }
-    ensures failed { IfErr result (λ outcome. FailsToBegin outcome device (option_copied place.entry)
-        (record {
-          tells = T.tells store.old;
-          rows = T.rows_at store.old;
-          failed = T.failed_attaches store.old;
-          faults = T.keeper_faults store.old;
-        })
-        (record {
-          tells = T.tells store.new;
-          rows = T.rows_at store.new;
-          failed = T.failed_attaches store.new;
-          faults = T.keeper_faults store.new;
-        })) }
+    ensures unchanged { IsUnchanged (store_of T.Store store.old) (store_of T.Store store.new) }
+    ensures failed { IfErr result (λ setback. FailsToOpenRows setback device (option_copied place.entry)
+        (store_of T.Store store.old) (store_of T.Store store.new)) }
 {
     let attached = store.attach(place)?;
     match begin(alloc, device, attached) {
         Ok(manager) => Ok(manager),
-        Err(OpenFault::NoMemory) => Err(Outcome::NoMemory),
+        Err(OpenFault::NoMemory) => Err(Setback::NoMemory),
         Err(OpenFault::Rows(name)) => Err(refusal(alloc, &name)),
     }
 }
 
-// The outcome of a package of that name whose row is refused.
-fn refusal(alloc: Global, name: &Text) -> Outcome
+// The setback of a package of that name whose row is refused.
+fn refusal(alloc: Global, name: &Text) -> Setback
     ensures { IsRowRefusal result name.now }
 {
     match rows_line(alloc, name) {
-        Ok(line) => Outcome::RowsRefused(line),
-        Err(NoMemory) => Outcome::NoMemory,
+        Ok(line) => Setback::RowsRefused(line),
+        Err(NoMemory) => Setback::NoMemory,
     }
 }
 
@@ -88,18 +61,7 @@ pub fn hand_back<T: Store>(store: &mut T, manager: Manager<T::Kept>)
     requires { IsTrue (T.tells store.old) → (at : Items ℕ) → manager.origin.place ≡ Some at
         → T.has_attached store.old at }
     ensures { Leaves manager.origin manager.origin.place manager.history
-        (record {
-          tells = T.tells store.old;
-          rows = T.rows_at store.old;
-          failed = T.failed_attaches store.old;
-          faults = T.keeper_faults store.old;
-        })
-        (record {
-          tells = T.tells store.new;
-          rows = T.rows_at store.new;
-          failed = T.failed_attaches store.new;
-          faults = T.keeper_faults store.new;
-        }) }
+        (store_of T.Store store.old) (store_of T.Store store.new) }
 {
     store.detach(manager.into_keeper());
 }

@@ -1,12 +1,14 @@
-//! The program behind its `main`: words, the device file, the kept rows, one session, and the line on the errors.
+//! The program behind its `main`: words, the device file, the kept rows, and what the words ask for: a session, a serving
+//! over a network, a drill, or what a package sees.
 #![tactic(auto)]
 
-mod asked;
 mod device;
-pub mod host;
 mod kept;
-mod outcome;
 mod program;
+mod question;
 mod session;
+mod setback;
+mod telling;
 
-pub use program::{run, tell_want};
+pub use program::run;
+pub use telling::tell_want;

@@ -1,28 +1,34 @@
 //! The top call.
-ghost use Rattle.std.specs.Prelude.{◌≡◌, ◌≤◌};
 ghost use Rattle.am_http.specs.Links.{source_of, sink_of};
-ghost use Rattle.am_shell.specs.Fails.{outcome_of};
-ghost use Rattle.am_shell.specs.Outcomes.{Happens};
-ghost use Rattle.am_shell.specs.Runs.{Runs, Tells};
+ghost use Rattle.am_shell.specs.Outside.{shelf_of, store_of};
+ghost use Rattle.am_shell.specs.Runs.{Runs};
 
-use crate::asked::read_session;
-use crate::device::open_device;
-use crate::outcome::Outcome;
-use crate::session::serve_session;
-use am_http::{End, write_all};
+use crate::question::{Question, run_question};
+use crate::session::{Asked, run_session};
+use crate::telling::{tell, tell_want};
 use am_keeper::Store;
-use am_outside::{Clock, Failed, Files, Sink, Source};
+use am_outside::{Clock, Files, Sink, Source};
 use am_types::Text;
+use am_words::{Command, WordsFault, read_command};
 use std::alloc::Global;
 
-/// Runs the program: the words, the device file, the rows that the store keeps at the place of the words, then one
-/// session from the input to the output, whose keeper is handed back to the store at the end. The session's moments are
-/// those of the clock that the words ask for, if they do, else those of the clock that is handed in.
+/// Runs the command that the words say.
 ///
-/// Its status is 0 where the session ended well, 1 where it ended at a refused or a cut frame or at the limit, 2 for
-/// words that ask for no session, 3 for a refused device file, 4, 5 and 6 for a fault of the files, of the input and of
-/// the output or the errors, 7 for a fault of the store, 8 for want of memory before the first frame, and 10 for a kept
-/// row that is refused. Each but 0 has its line on the errors.
+/// - A session, from the input to the output, over the device file and the rows that the store keeps at the place of the
+///   words; its moments are those of the clock that the words ask for, if they do, else those of the clock that is
+///   handed in.
+/// - A serving: as many workers as the words say serve the links of the network, over the device file and the kept rows.
+///   It ends when each gate has ended, or has handed out as many links as the words say, and prints how long the history
+///   is and how many links were served.
+/// - A drill in memory, whose counts it prints.
+/// - What a package sees of the components that a query on the input finds, which it prints.
+///
+/// Its status is 0 where the work ended well, 1 where a session ended at a refused or a cut frame or at the limit, 2 for
+/// words that say no command, 3 for a refused device file, 4, 5 and 6 for a fault of the files, of the input and of the
+/// output or the errors, 7 for a fault of the store, 8 for want of memory before the first frame, or in a drill or a
+/// question at any time, 9 for a fault of the network or of a gate, 10 for a kept row that is refused, 11 for a question
+/// that is no query, and 12 for a package that the device doesn't have. Each but 0 has its line on the errors. It waits
+/// for the links of the network.
 pub fn run<F: Files, S: Source, W: Sink, E: Sink, T: Store, C: Clock>(
     alloc: Global,
     words: &[Text],
@@ -35,113 +41,43 @@ pub fn run<F: Files, S: Source, W: Sink, E: Sink, T: Store, C: Clock>(
 ) -> u8
     ensures { Runs words.now
         (record {
-          outside = record {
-            files = record { files = F.files files.old; faults = F.faults files.old };
-            work = record {
-              store = record {
-                tells = T.tells store.old;
-                rows = T.rows_at store.old;
-                failed = T.failed_attaches store.old;
-                faults = T.keeper_faults store.old;
-              };
-              streams = record {
-                input = source_of S.Source input.old;
-                output = sink_of W.Sink output.old;
-                clock = C.moments clock.old;
-              };
-            };
-          };
+          files = shelf_of F.Files files.old;
+          store = store_of T.Store store.old;
+          input = source_of S.Source input.old;
+          output = sink_of W.Sink output.old;
+          clock = C.moments clock.old;
           errors = sink_of E.Sink errors.old;
         })
         (record {
-          outside = record {
-            files = record { files = F.files files.new; faults = F.faults files.new };
-            work = record {
-              store = record {
-                tells = T.tells store.new;
-                rows = T.rows_at store.new;
-                failed = T.failed_attaches store.new;
-                faults = T.keeper_faults store.new;
-              };
-              streams = record {
-                input = source_of S.Source input.new;
-                output = sink_of W.Sink output.new;
-                clock = C.moments clock.new;
-              };
-            };
-          };
+          files = shelf_of F.Files files.new;
+          store = store_of T.Store store.new;
+          input = source_of S.Source input.new;
+          output = sink_of W.Sink output.new;
+          clock = C.moments clock.new;
           errors = sink_of E.Sink errors.new;
         })
         result }
 {
-    let outcome = Outcome::of(work(alloc, words, files, input, output, store, clock));
-    tell(&outcome, errors)
-}
-
-// All but the line on the errors.
-fn work<F: Files, S: Source, W: Sink, T: Store, C: Clock>(
-    alloc: Global,
-    words: &[Text],
-    files: &mut F,
-    input: &mut S,
-    output: &mut W,
-    store: &mut T,
-    clock: &mut C,
-) -> Result<End, Outcome>
-    ensures { Happens (outcome_of result) words.now
-        (record {
-          files = record { files = F.files files.old; faults = F.faults files.old };
-          work = record {
-            store = record {
-              tells = T.tells store.old;
-              rows = T.rows_at store.old;
-              failed = T.failed_attaches store.old;
-              faults = T.keeper_faults store.old;
+    match read_command(alloc, words) {
+        Ok(
+            Command::Session {
+                device,
+                store: place,
+                clock: own,
+            },
+        ) => {
+            let asked = Asked {
+                device,
+                store: place,
+                clock: own,
             };
-            streams = record {
-              input = source_of S.Source input.old;
-              output = sink_of W.Sink output.old;
-              clock = C.moments clock.old;
-            };
-          };
-        })
-        (record {
-          files = record { files = F.files files.new; faults = F.faults files.new };
-          work = record {
-            store = record {
-              tells = T.tells store.new;
-              rows = T.rows_at store.new;
-              failed = T.failed_attaches store.new;
-              faults = T.keeper_faults store.new;
-            };
-            streams = record {
-              input = source_of S.Source input.new;
-              output = sink_of W.Sink output.new;
-              clock = C.moments clock.new;
-            };
-          };
-        }) }
-{
-    let asked = read_session(alloc, words)?;
-    let device = open_device(alloc, files, &asked.device)?;
-    let end = serve_session(alloc, device, asked, input, output, store, clock)?;
-    Ok(end)
-}
-
-// Writes the outcome's line on the errors, and answers the status.
-fn tell<E: Sink>(outcome: &Outcome, errors: &mut E) -> u8
-    ensures { Tells outcome.now (sink_of E.Sink errors.old) (sink_of E.Sink errors.new) result }
-{
-    match write_all(errors, outcome.line().as_bytes()) {
-        Ok(()) => outcome.status(),
-        Err(Failed) => 6,
+            run_session(alloc, asked, files, input, output, errors, store, clock)
+        }
+        Ok(Command::Visible { device, package }) => {
+            let asked = Question { device, package };
+            run_question(alloc, asked, files, input, output, errors)
+        }
+        Ok(_) | Err(WordsFault::Usage) => tell("am: usage\n", 2, errors),
+        Err(WordsFault::NoMemory) => tell_want(errors),
     }
-}
-
-/// Writes on the errors that memory ran out before the words were read, and answers the status: 8,
-/// or 6 where the line couldn't be written.
-pub fn tell_want<E: Sink>(errors: &mut E) -> u8
-    ensures { Tells Outcome.NoMemory (sink_of E.Sink errors.old) (sink_of E.Sink errors.new) result }
-{
-    tell(&Outcome::NoMemory, errors)
 }

@@ -3,25 +3,112 @@ ghost use Rattle.std.specs.Prelude.{◌≡◌, ◌≤◌, [], IfOk, OnErr};
 ghost use Rattle.am_model.specs.Sound.{IsSound};
 ghost use Rattle.am_http.specs.Links.{source_of, sink_of};
 ghost use Rattle.am_shell.specs.Clocks.{ServesOn};
-ghost use Rattle.am_shell.specs.Outcomes.{ServesOr, link_of};
+ghost use Rattle.am_shell.specs.Sessions.{Happens, ServesOr, link_of};
+ghost use Rattle.am_shell.specs.Lines.{end_line, end_status};
+ghost use Rattle.am_shell.specs.Outside.{shelf_of, store_of, streams_of};
+ghost use Rattle.am_shell.specs.Runs.{RunsSession};
 
-use crate::asked::Asked;
+use crate::device::open_device;
 use crate::kept::{hand_back, open_manager};
-use crate::outcome::Outcome;
+use crate::setback::Setback;
+use crate::telling::tell;
 use am_desk::Desk;
 use am_found::kept_is_found;
 use am_http::{Buffers, End, serve_connection};
 use am_keeper::Store;
 use am_machine::SoleDesk;
-use am_outside::{Clock, Sink, Source, StepClock};
-use am_types::Device;
+use am_outside::{Clock, Files, Sink, Source, StepClock};
+use am_types::{Device, Text};
 use am_words::StepWords;
 use std::alloc::Global;
 
-/// Serves the session that is asked for, of a sound device, and answers how it ended, or why it didn't begin. It begins
-/// with the rows that the store keeps at the place of the words, and its keeper is handed back at the end. Its moments
-/// are those of the clock that the words ask for, if they do, else those of the clock that is handed in.
-pub fn serve_session<S: Source, W: Sink, T: Store, C: Clock>(
+/// The session that words ask for.
+#[derive(Drop)]
+pub struct Asked {
+    /// The device file.
+    pub device: Text,
+    /// The place of the kept rows.
+    pub store: Option<Text>,
+    /// The session's own clock.
+    pub clock: Option<StepWords>,
+}
+
+/// Runs the session that is asked for, from the input to the output: it begins with the rows that the store keeps at
+/// the place of the words, and its keeper is handed back to the store at the end. Its moments are those of the clock
+/// that the words ask for, if they do, else those of the clock that is handed in. Answers the status, whose line it
+/// writes on the errors.
+pub fn run_session<F: Files, S: Source, W: Sink, E: Sink, T: Store, C: Clock>(
+    alloc: Global,
+    asked: Asked,
+    files: &mut F,
+    input: &mut S,
+    output: &mut W,
+    errors: &mut E,
+    store: &mut T,
+    clock: &mut C,
+) -> u8
+    ensures { RunsSession asked
+        (record {
+          outside = record {
+            files = shelf_of F.Files files.old;
+            work = record {
+              store = store_of T.Store store.old;
+              streams = streams_of S.Source W.Sink C.Clock input.old output.old clock.old;
+            };
+          };
+          errors = sink_of E.Sink errors.old;
+        })
+        (record {
+          outside = record {
+            files = shelf_of F.Files files.new;
+            work = record {
+              store = store_of T.Store store.new;
+              streams = streams_of S.Source W.Sink C.Clock input.new output.new clock.new;
+            };
+          };
+          errors = sink_of E.Sink errors.new;
+        })
+        result }
+{
+    match open_session(alloc, asked, files, input, output, store, clock) {
+        Ok(end) => tell(end_line(end), end_status(end), errors),
+        Err(setback) => tell(setback.line(), setback.status(), errors),
+    }
+}
+
+// All but the line on the errors.
+fn open_session<F: Files, S: Source, W: Sink, T: Store, C: Clock>(
+    alloc: Global,
+    asked: Asked,
+    files: &mut F,
+    input: &mut S,
+    output: &mut W,
+    store: &mut T,
+    clock: &mut C,
+) -> Result<End, Setback>
+    ensures { Happens result asked
+        (record {
+          files = shelf_of F.Files files.old;
+          work = record {
+            store = store_of T.Store store.old;
+            streams = streams_of S.Source W.Sink C.Clock input.old output.old clock.old;
+          };
+        })
+        (record {
+          files = shelf_of F.Files files.new;
+          work = record {
+            store = store_of T.Store store.new;
+            streams = streams_of S.Source W.Sink C.Clock input.new output.new clock.new;
+          };
+        }) }
+{
+    let device = open_device(alloc, files, &asked.device)?;
+    let end = serve_session(alloc, device, asked, input, output, store, clock)?;
+    Ok(end)
+}
+
+// Serves the session that is asked for, of a sound device, and answers how it ended, or why it didn't begin.
+fn serve_session<S: Source, W: Sink, T: Store, C: Clock>(
     alloc: Global,
     device: Device,
     asked: Asked,
@@ -29,34 +116,16 @@ pub fn serve_session<S: Source, W: Sink, T: Store, C: Clock>(
     output: &mut W,
     store: &mut T,
     clock: &mut C,
-) -> Result<End, Outcome>
+) -> Result<End, Setback>
     requires sound { IsSound device }
     ensures { ServesOr result asked device
         (record {
-          store = record {
-            tells = T.tells store.old;
-            rows = T.rows_at store.old;
-            failed = T.failed_attaches store.old;
-            faults = T.keeper_faults store.old;
-          };
-          streams = record {
-            input = source_of S.Source input.old;
-            output = sink_of W.Sink output.old;
-            clock = C.moments clock.old;
-          };
+          store = store_of T.Store store.old;
+          streams = streams_of S.Source W.Sink C.Clock input.old output.old clock.old;
         })
         (record {
-          store = record {
-            tells = T.tells store.new;
-            rows = T.rows_at store.new;
-            failed = T.failed_attaches store.new;
-            faults = T.keeper_faults store.new;
-          };
-          streams = record {
-            input = source_of S.Source input.new;
-            output = sink_of W.Sink output.new;
-            clock = C.moments clock.new;
-          };
+          store = store_of T.Store store.new;
+          streams = streams_of S.Source W.Sink C.Clock input.new output.new clock.new;
         }) }
 {
     let Asked {
@@ -84,16 +153,8 @@ fn serve_on<D: Desk, S: Source, W: Sink, C: Clock>(
     buffers: &mut Buffers,
 ) -> End
     ensures { ServesOn asked result
-        (link_of (D.view desk.old) (record {
-          input = source_of S.Source input.old;
-          output = sink_of W.Sink output.old;
-          clock = C.moments clock.old;
-        }))
-        (link_of (D.view desk.new) (record {
-          input = source_of S.Source input.new;
-          output = sink_of W.Sink output.new;
-          clock = C.moments clock.new;
-        })) }
+        (link_of (D.view desk.old) (streams_of S.Source W.Sink C.Clock input.old output.old clock.old))
+        (link_of (D.view desk.new) (streams_of S.Source W.Sink C.Clock input.new output.new clock.new)) }
 {
     match asked {
         None => serve_connection(alloc, desk, input, output, clock, buffers).end,
@@ -101,5 +162,31 @@ fn serve_on<D: Desk, S: Source, W: Sink, C: Clock>(
             let mut own = StepClock::new(asked.at, asked.step);
             serve_connection(alloc, desk, input, output, &mut own, buffers).end
         }
+    }
+}
+
+// The line of a session's end.
+fn end_line(end: End) -> &'static str
+    ensures { result.now ≡ end_line end }
+{
+    match end {
+        End::Input | End::Close => "",
+        End::Refused => "am: session ended: refused\n",
+        End::Cut => "am: session ended: cut\n",
+        End::Limit => "am: session ended: limit\n",
+        End::ReadFault => "am: read fault\n",
+        End::WriteFault => "am: write fault\n",
+    }
+}
+
+// The status of a session's end.
+fn end_status(end: End) -> u8
+    ensures { result ≡ end_status end }
+{
+    match end {
+        End::Input | End::Close => 0,
+        End::Refused | End::Cut | End::Limit => 1,
+        End::ReadFault => 5,
+        End::WriteFault => 6,
     }
 }

@@ -12,6 +12,32 @@ use std::alloc::Global;
 use std::process::Abort;
 use std::test::Fail;
 
+/// Three packages, of which the last asks to see what has the action x.A.
+const ASKING: &str = r#"system_key = "sys"
+[[package]]
+key = "k1"
+[package.manifest]
+package = "com.one"
+activity = [{ name = ".Main", exported = true, intent-filter = [{ action = ["x.A"] }] }]
+[[package]]
+key = "k2"
+[package.manifest]
+package = "com.two"
+activity = [{ name = ".Other", exported = true, intent-filter = [{ action = ["x.B"] }] }]
+[[package]]
+key = "k3"
+[package.manifest]
+package = "com.three"
+queries = { intent = [{ action = "x.A" }] }"#;
+
+/// A package that asks to see what has no action.
+const UNASKED: &str = r#"system_key = "sys"
+[[package]]
+key = "k1"
+[package.manifest]
+package = "com.one"
+queries = { intent = [{ scheme = "http" }] }"#;
+
 /// The device file of that name.
 fn device_file(name: &str) -> &'static str {
     match name {
@@ -19,6 +45,8 @@ fn device_file(name: &str) -> &'static str {
         "keyless" => "package = []",
         "bare" => "system_key = 'sys'",
         "taken" => "system_key = 'ka'",
+        "asking" => ASKING,
+        "unasked" => UNASKED,
         _ => EMPTY,
     }
 }
@@ -93,6 +121,6 @@ fn ends_with_a_status(rt: HostRuntime) -> Result<(), Fail> {
             rows = rows.wrapping_add(1);
         }
     }
-    assert_eq!(rt; rows, 30);
+    assert_eq!(rt; rows, 43);
     Ok(())
 }

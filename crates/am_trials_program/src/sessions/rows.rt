@@ -36,4 +36,19 @@ empty none session --device other | POST /v1/query HTTP/1.1\r\nAM-Key: k1\r\nCon
 empty files session --device d | POST /v1/query HTTP/1.1\r\nAM-Key: k1\r\nContent-Length: 45\r\n\r\n{"intent":{"action":"a.X"},"kind":"activity"} | 4 am: file fault | -
 empty input session --device d | POST /v1/query HTTP/1.1\r\nAM-Key: k1\r\nContent-Length: 45\r\n\r\n{"intent":{"action":"a.X"},"kind":"activity"} | 5 am: read fault | -
 empty output session --device d | POST /v1/query HTTP/1.1\r\nAM-Key: k1\r\nContent-Length: 45\r\n\r\n{"intent":{"action":"a.X"},"kind":"activity"} | 6 am: write fault | -
-empty errors session | POST /v1/query HTTP/1.1\r\nAM-Key: k1\r\nContent-Length: 45\r\n\r\n{"intent":{"action":"a.X"},"kind":"activity"} | 6 - | -"#;
+empty errors session | POST /v1/query HTTP/1.1\r\nAM-Key: k1\r\nContent-Length: 45\r\n\r\n{"intent":{"action":"a.X"},"kind":"activity"} | 6 - | -
+# What a package sees of what a query finds: its own, what its queries ask for, and all for the system.
+asking none visible --device d --as com.two | {"intent":{"action":"x.A"},"kind":"activity"} | 0 - | {"components":[]}\n
+asking none visible --device d --as com.one | {"intent":{"action":"x.A"},"kind":"activity"} | 0 - | {"components":["com.one/com.one.Main"]}\n
+asking none visible --as com.three --device d | {"intent":{"action":"x.A"},"kind":"activity"} | 0 - | {"components":["com.one/com.one.Main"]}\n
+asking none visible --device=d --as=android | {"intent":{"action":"x.B"},"kind":"activity"} | 0 - | {"components":["com.two/com.two.Other"]}\n
+asking none visible --device d --as com.none | { | 12 am: no package | -
+asking none visible --device d --as com.two | { | 11 am: query refused: not_json | -
+asking none visible --device d --as com.two | <65537: > | 11 am: query refused: too_long body | -
+asking input visible --device d --as com.two | {"kind":"activity"} | 5 am: read fault | -
+asking output visible --device d --as com.two | {"intent":{"action":"x.A"},"kind":"activity"} | 6 am: write fault | -
+asking files visible --device d --as com.two | { | 4 am: file fault | -
+asking none visible --device d | { | 2 am: usage | -
+# The device's own faults come first, then those of the queries, before the name and the input.
+unasked none visible --device d --as com.none | { | 3 am: device refused: missing package[0].manifest.queries.intent[0].action | -
+unasked none session --device d | - | 0 - | -"#;

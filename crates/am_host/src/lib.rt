@@ -1,0 +1,13 @@
+//! The outside of a real process, behind the traits that the program takes. These few lines are trusted: they count each
+//! fault, and tell nothing of what is read or written.
+#![tactic(auto)]
+
+mod clock;
+mod files;
+mod streams;
+mod words;
+
+pub use clock::SystemClock;
+pub use files::SystemFiles;
+pub use streams::{ReaderSource, WriterSink};
+pub use words::read_words;

@@ -1,0 +1,111 @@
+-- Links, the gates at which they arrive, and the network that the gates belong to, as clauses see them.
+use Rattle.std.specs.Prelude.{◌≡◌, ℕ, ◌+◌, ◌≤◌, ◌<◌, List, [], ◌∷◌, ◌++◌, length, slice_get, Option, Some, None, IfSome, ⊤, min}
+use Rattle.am_outside.specs.declared.outside.Source.{Ghosts as SourceGhosts}
+use Rattle.am_outside.specs.declared.outside.Sink.{Ghosts as SinkGhosts}
+
+-- a link: what is left of its bytes and what it took, if its two ends tell that, their counts of faults, and their marks
+pub record LinkView : Type 0 where
+  pub left : Option (List ℕ)
+  pub read_faults : ℕ
+  pub read_mark : ℕ
+  pub taken : Option (List ℕ)
+  pub write_faults : ℕ
+  pub write_mark : ℕ
+
+-- the view of a link with this reader and this writer
+abbrev pub link_of : {R W : Type 0} → SourceGhosts R → SinkGhosts W → R → W → LinkView
+link_of r w reader writer = record {
+  left = r.left reader;
+  read_faults = r.faults reader;
+  read_mark = r.mark reader;
+  taken = w.taken writer;
+  write_faults = w.faults writer;
+  write_mark = w.mark writer;
+}
+
+-- the links of a gate that tells them: the bytes that come over each, how many were handed out, which are the first
+-- ones, and those that were taken back
+pub record Links : Type 0 where
+  pub sent : List (List ℕ)
+  pub handed : ℕ
+  pub ended : List LinkView
+
+-- a gate: its links, if it tells them, and its count of faults
+pub record GateView : Type 0 where
+  pub links : Option Links
+  pub faults : ℕ
+
+-- the link of that number, counted from 0, as it is handed out, with those bytes to come
+abbrev pub new_link : ℕ → List ℕ → LinkView
+new_link number bytes = record {
+  left = Some bytes;
+  read_faults = 0;
+  read_mark = number;
+  taken = Some [];
+  write_faults = 0;
+  write_mark = number;
+}
+
+-- no fault was counted yet
+abbrev pub IsFaultless : LinkView → Type 0
+IsFaultless link = (link.read_faults ≡ 0) × (link.write_faults ≡ 0)
+
+-- no link is to come
+abbrev pub IsClosed : Links → Type 0
+IsClosed links = length links.sent ≤ links.handed
+
+-- every link that was handed out was taken back
+abbrev pub AreBack : Links → Type 0
+AreBack links = length links.ended ≡ links.handed
+
+-- the gate handed out its next link, or none if no link is to come
+abbrev pub HandsOut : Option Links → Option Links → Option LinkView → Type 0
+HandsOut None new handed = (new ≡ None) × IfSome handed IsFaultless
+HandsOut (Some links) new None = IsClosed links × (new ≡ Some links)
+HandsOut (Some links) new (Some link) =
+    (bytes : List ℕ) × (slice_get links.sent links.handed ≡ Some bytes)
+    × (link ≡ new_link links.handed bytes) × (new ≡ Some (record links { handed = links.handed + 1 }))
+
+-- the reader of a gate that tells its links has given nothing yet
+abbrev pub IsUnread : Option Links → Option (List ℕ) → Type 0
+IsUnread None given = ⊤
+IsUnread (Some links) given = given ≡ Some []
+
+-- a link may be taken back: one that was handed out is not back yet, and its two ends have one mark
+abbrev pub MayTakeBack : Option Links → LinkView → Type 0
+MayTakeBack None link = ⊤
+MayTakeBack (Some links) link = (length links.ended < links.handed) × (link.read_mark ≡ link.write_mark)
+
+-- the gate with a link that was taken back
+abbrev pub taken_back : Option Links → LinkView → Option Links
+taken_back None link = None
+taken_back (Some links) link = Some (record links { ended = links.ended ++ link ∷ [] })
+
+-- a gate as it is made: no fault was counted, no link was handed out, and none was taken back
+abbrev pub IsNewGate : GateView → Type 0
+IsNewGate gate = (gate.faults ≡ 0) × IfSome gate.links (λ links. (links.handed ≡ 0) × (links.ended ≡ []))
+
+-- what a network that tells it was asked for last: a port, how many gates it answered, and those that were released
+-- since, in their order
+pub record Listening : Type 0 where
+  pub port : ℕ
+  pub gates : ℕ
+  pub released : List GateView
+
+-- a gate may be released: fewer were released than were answered
+abbrev pub MayRelease : Option Listening → Type 0
+MayRelease told = IfSome told (λ listening. length listening.released < listening.gates)
+
+-- the network once a gate was released
+abbrev pub released : Option Listening → GateView → Option Listening
+released None gate = None
+released (Some listening) gate = Some (record listening { released = listening.released ++ gate ∷ [] })
+
+-- the network once it answered that many gates at a port
+abbrev pub listening_at : Option Listening → ℕ → ℕ → Option Listening
+listening_at None port gates = None
+listening_at (Some before) port gates = Some (record { port = port; gates = gates; released = [] })
+
+-- a count raised by another, which stays at the greatest 64-bit number
+abbrev pub raised_by : ℕ → ℕ → ℕ
+raised_by faults count = min 18446744073709551615 (count + faults)

@@ -1,0 +1,200 @@
+//! A gate in memory, whose links and failures are given.
+ghost use Rattle.std.specs.Prelude.{◌≡◌, ◌<◌, ◌≤◌, ◌↔◌, ◌++◌, ◌∷◌, [], Some, IsErr, IsTrue, IfOk, IfSome, OnErr, length, slice_get, vec_capacity};
+ghost use Rattle.std.specs.Option.{option_map};
+ghost use Rattle.am_outside.specs.Counts.{HasRisen};
+ghost use Rattle.am_outside.specs.Memory.{fails, one_more};
+ghost use Rattle.am_network.specs.Links.{HandsOut, IsUnread, MayTakeBack, link_of, taken_back};
+ghost use Rattle.am_network.specs.Memory.{AreUnused, IsUnused, after_accept, counted, ends_of, ends_view, handed_out, links_of, new_gate};
+
+use crate::memory_link::{LinkPlan, MemoryLink, MemoryReader, MemoryWriter};
+use crate::network::Acceptor;
+use am_outside::Failed;
+use am_types::List;
+use std::alloc::{AllocError, Global};
+use std::collections::VecDeque;
+use std::marker::Model;
+use std::snapshot::Snapshot;
+
+/// A gate that is to come: its links, whose readers and writers are unused, and the numbers of the calls of `accept`
+/// that fail, counted from 1.
+#[derive(Drop)]
+pub struct GatePlan {
+    /// The links that arrive, in their order.
+    pub links: List<LinkPlan>,
+    /// The numbers of the calls that fail.
+    pub failing: List<u32>,
+}
+
+/// A gate in memory. The calls of `accept` with the numbers that it was given fail, and no others.
+#[derive(Drop)]
+pub struct MemoryGate {
+    // The links as they were given, which contracts alone read.
+    plan: Snapshot<List<LinkPlan>>,
+    coming: VecDeque<LinkPlan>,
+    handed: u64,
+    // It has room for every link.
+    ended: Vec<MemoryLink>,
+    failing: List<u32>,
+    accepts: u64,
+    faults: u64,
+}
+
+impl Model for MemoryGate {
+    ghost use Rattle.std.specs.Prelude.{◌≡◌, ◌≤◌, drop, length, vec_capacity};
+    ghost use Rattle.am_network.specs.Memory.{AreUnused, GateInMemory};
+
+    ghost Value = { GateInMemory };
+
+    ghost view = { λ g. record {
+      plan = g.plan.value;
+      handed = g.handed;
+      ended = g.ended.items;
+      failing = g.failing;
+      accepts = g.accepts;
+      faults = g.faults;
+    } };
+
+    ghost invariant = { λ g. (g.coming.items ≡ drop g.handed g.plan.value) × (g.handed ≤ length g.plan.value)
+        × (length g.plan.value ≤ vec_capacity g.ended) × AreUnused g.plan.value };
+}
+
+// Whether a list of numbers has this one.
+pub(crate) fn is_listed(numbers: &List<u32>, number: u64) -> bool
+    ensures { result ≡ fails numbers.now number }
+{
+    numbers.as_slice().iter().any(|n| u64::from(*n) == number)
+}
+
+/// The room for links that a gate takes back. Contracts see how many it has room for.
+#[derive(Drop)]
+pub(crate) struct Room {
+    links: Vec<MemoryLink>,
+}
+
+impl Model for Room {
+    ghost use Rattle.std.specs.Prelude.{◌≡◌, ℕ, [], vec_capacity};
+
+    ghost Value = { ℕ };
+
+    ghost view = { λ r. vec_capacity r.links };
+
+    ghost invariant = { λ r. r.links.items ≡ [] };
+}
+
+impl Room {
+    // Room for that many links.
+    pub(crate) fn new(alloc: Global, links: usize) -> Result<Room, AllocError>
+        ensures { IfOk result (λ room. room ≡ links) }
+    {
+        Ok(Room {
+            links: Vec::with_capacity(alloc, links)?,
+        })
+    }
+}
+
+impl MemoryGate {
+    // The gate of a plan, with the room for its links.
+    pub(crate) fn open(plan: GatePlan, room: Room) -> MemoryGate
+        requires unused { AreUnused plan.links }
+        requires room { length plan.links ≤ room }
+        ensures { result ≡ new_gate plan }
+    {
+        MemoryGate {
+            plan: Snapshot::of(&plan.links),
+            coming: VecDeque::from_vec(plan.links.into_items()),
+            handed: 0,
+            ended: room.links,
+            failing: plan.failing,
+            accepts: 0,
+            faults: 0,
+        }
+    }
+
+    /// The links that it took back, in the order in which they came back. Takes no memory.
+    pub fn ended(&self) -> &[MemoryLink]
+        ensures { result.now ≡ self.now.ended }
+    {
+        self.ended.as_slice()
+    }
+
+    /// How many calls of `accept` failed. Takes no memory.
+    pub fn faults(&self) -> u64
+        ensures { result ≡ self.now.faults }
+    {
+        self.faults
+    }
+
+    // Counts a call of `accept`, and tells whether it is to fail.
+    fn count_accept(&mut self) -> Result<(), Failed>
+        ensures exact { self.new ≡ counted self.old result }
+        ensures fails { IsErr result ↔ IsTrue (fails self.old.failing (one_more self.old.accepts)) }
+        ensures never_falls { self.old.faults ≤ self.new.faults }
+        ensures failed { OnErr result (HasRisen self.old.faults self.new.faults) }
+    {
+        self.accepts = self.accepts.saturating_add(1);
+        if is_listed(&self.failing, self.accepts) {
+            self.faults = self.faults.saturating_add(1);
+            return Err(Failed);
+        }
+        Ok(())
+    }
+
+    // Hands out the next link.
+    fn hand_out(&mut self) -> Option<(MemoryReader, MemoryWriter)>
+        ensures exact { self.new ≡ handed_out self.old result }
+        ensures answer { result ≡ option_map (ends_of self.old.handed) (slice_get self.old.plan self.old.handed) }
+        ensures unused { IfSome (slice_get self.old.plan self.old.handed) IsUnused }
+    {
+        let link = self.coming.pop_front()?;
+        let mark = self.handed;
+        self.handed += 1;
+        Some((
+            MemoryReader {
+                source: link.reader,
+                mark,
+            },
+            MemoryWriter {
+                sink: link.writer,
+                mark,
+            },
+        ))
+    }
+}
+
+impl Acceptor for MemoryGate {
+    ghost use Rattle.std.specs.Prelude.{Some};
+    ghost use Rattle.am_network.specs.Memory.{links_of};
+
+    type Reader = MemoryReader;
+
+    type Writer = MemoryWriter;
+
+    ghost links = { λ g. Some (links_of g) };
+
+    ghost faults = { λ g. g.faults };
+
+    fn accept(&mut self) -> Result<Option<(MemoryReader, MemoryWriter)>, Failed>
+        ensures exact { self.new ≡ after_accept self.old result }
+        ensures fails { IsErr result ↔ IsTrue (fails self.old.failing (one_more self.old.accepts)) }
+        ensures answer { IfOk result (λ handed.
+            handed ≡ option_map (ends_of self.old.handed) (slice_get self.old.plan self.old.handed)) }
+        ensures next { IfOk result (λ handed. HandsOut (Some (links_of self.old)) (Some (links_of self.new))
+            (option_map ends_view handed)) }
+        ensures unread { IfOk result (λ handed. IfSome handed (λ ends. ends.0.source.given ≡ [])) }
+        ensures never_falls { self.old.faults ≤ self.new.faults }
+        ensures failed { OnErr result (HasRisen self.old.faults self.new.faults) }
+    {
+        self.count_accept()?;
+        Ok(self.hand_out())
+    }
+
+    fn finish(&mut self, reader: MemoryReader, writer: MemoryWriter)
+        requires { MayTakeBack (Some (links_of self.old)) (ends_view (reader, writer)) }
+        ensures exact { self.new
+            ≡ record self.old { ended = self.old.ended ++ (record { reader = reader; writer = writer }) ∷ [] } }
+        ensures back { Some (links_of self.new)
+            ≡ taken_back (Some (links_of self.old)) (ends_view (reader, writer)) }
+    {
+        self.ended.push_reserved(MemoryLink { reader, writer });
+    }
+}

@@ -1,0 +1,129 @@
+//! Gates at which links arrive, and the network that they belong to.
+ghost use Rattle.std.specs.Prelude.{◌≡◌, ℕ, ◌≤◌, Option, Some, Err, length, slice_get, IfOk, IfSome, OnErr};
+ghost use Rattle.std.specs.Option.{option_map};
+ghost use Rattle.am_outside.specs.Counts.{HasRisen};
+ghost use Rattle.am_network.specs.Links.{GateView, HandsOut, IsNewGate, IsUnread, Links, Listening, MayRelease, MayTakeBack, link_of, listening_at, raised_by, released, taken_back};
+
+use am_outside::{Failed, Sink, Source};
+use std::alloc::{AllocError, AllocFailed};
+use std::error::Error;
+use std::fmt;
+
+/// A gate at which links arrive: it hands them out one after the other, and takes them back. A link is a connection of
+/// a peer: a reader of what the peer sends, and a writer to it.
+pub trait Acceptor: Drop {
+    /// Where a link's bytes come from.
+    type Reader: Source + Drop;
+
+    /// Where a link's bytes go.
+    type Writer: Sink + Drop;
+
+    /// Its links, where it tells them. Then their readers and writers tell their bytes.
+    ghost links: { Self → Option Links };
+
+    /// How many calls of `accept` failed. It stays at the greatest 64-bit number.
+    ghost faults: { Self → ℕ };
+
+    /// Hands out the next link: its reader and its writer, which have counted no fault yet. Where the gate tells its
+    /// links they have given and taken nothing yet, and their mark is the link's number, counted from 0. It answers
+    /// `None` where no link is to come, and waits until one arrives where it can't tell that.
+    ///
+    /// # Errors
+    /// `Failed` where the gate failed. Its count of faults rose then, and its links are as they were.
+    fn accept(&mut self) -> Result<Option<(Self::Reader, Self::Writer)>, Failed>
+        ensures next { IfOk result (λ handed. HandsOut (links self.old) (links self.new)
+            (option_map (λ link. link_of Self.Reader.Source Self.Writer.Sink link.0 link.1) handed)) }
+        ensures unread { IfOk result (λ handed. IfSome handed (λ link.
+            IsUnread (links self.old) (Self.Reader.given link.0))) }
+        ensures same { OnErr result (links self.new ≡ links self.old) }
+        ensures never_falls { faults self.old ≤ faults self.new }
+        ensures failed { OnErr result (HasRisen (faults self.old) (faults self.new)) };
+
+    /// Takes a link back, and ends it. Takes no memory.
+    fn finish(&mut self, reader: Self::Reader, writer: Self::Writer)
+        requires { MayTakeBack (links self.old) (link_of Self.Reader.Source Self.Writer.Sink reader writer) }
+        ensures back { links self.new
+            ≡ taken_back (links self.old) (link_of Self.Reader.Source Self.Writer.Sink reader writer) }
+        ensures faults { faults self.new ≡ faults self.old };
+}
+
+/// Why a network doesn't listen.
+#[derive(Clone, Copy, Debug, PartialEq, Eq)]
+pub enum ListenFail {
+    /// The network failed, and its count of faults rose.
+    Failed,
+    /// Memory ran out.
+    NoMemory,
+}
+
+impl fmt::Display for ListenFail {
+    fn fmt<W: fmt::Write>(&self, f: &mut fmt::Formatter<W>) -> fmt::Result {
+        f.write_str(match self {
+            ListenFail::Failed => "the network failed",
+            ListenFail::NoMemory => "out of memory",
+        })
+    }
+}
+
+impl Error for ListenFail {}
+
+impl From<AllocError> for ListenFail {
+    ghost use Rattle.std.specs.Prelude.{◌≡◌};
+    ghost use Rattle.am_network.specs.declared.network.ListenFail.TheVariants.{NoMemory};
+
+    ghost from_gives = { λ _ fail. fail ≡ NoMemory };
+
+    fn from(_error: AllocError) -> ListenFail {
+        ListenFail::NoMemory
+    }
+}
+
+impl<T: Drop> From<AllocFailed<T>> for ListenFail {
+    ghost use Rattle.std.specs.Prelude.{◌≡◌};
+    ghost use Rattle.am_network.specs.declared.network.ListenFail.TheVariants.{NoMemory};
+
+    ghost from_gives = { λ _ fail. fail ≡ NoMemory };
+
+    fn from(_error: AllocFailed<T>) -> ListenFail {
+        ListenFail::NoMemory
+    }
+}
+
+/// Where gates come from.
+pub trait Network {
+    /// A gate of this network.
+    type Gate: Acceptor;
+
+    /// What it was asked for last, where it tells that.
+    ghost listening: { Self → Option Listening };
+
+    /// How many calls of `listen` failed. It stays at the greatest 64-bit number.
+    ghost faults: { Self → ℕ };
+
+    /// How many faults the released gates had. It stays at the greatest 64-bit number.
+    ghost gate_faults: { Self → ℕ };
+
+    /// Listens at a port, and answers that many gates at which its links arrive. It takes the memory for all that these
+    /// gates and the network are to take back.
+    ///
+    /// # Errors
+    /// `Failed` where the network failed: its count of faults rose then. `NoMemory` where memory ran out. What was
+    /// asked for last, and what was released since, is as it was.
+    fn listen(&mut self, port: u16, gates: u32) -> Result<Vec<Self::Gate>, ListenFail>
+        ensures count { IfOk result (λ made. length made.items ≡ gates) }
+        ensures new { IfOk result (λ made. (k : ℕ) (gate : Self.Gate) → slice_get made.items k ≡ Some gate
+            → IsNewGate (record { links = Self.Gate.links gate; faults = Self.Gate.faults gate })) }
+        ensures told { IfOk result (λ made. listening self.new ≡ listening_at (listening self.old) port gates) }
+        ensures same { OnErr result (listening self.new ≡ listening self.old) }
+        ensures never_falls { faults self.old ≤ faults self.new }
+        ensures failed { result ≡ Err ListenFail.Failed → HasRisen (faults self.old) (faults self.new) }
+        ensures gate_faults { gate_faults self.new ≡ gate_faults self.old };
+
+    /// Takes a gate back, whose faults are counted with those of the gates before. Takes no memory.
+    fn release(&mut self, gate: Self::Gate)
+        requires { MayRelease (listening self.old) }
+        ensures told { listening self.new ≡ released (listening self.old)
+            (record { links = Self.Gate.links gate; faults = Self.Gate.faults gate }) }
+        ensures faults { faults self.new ≡ faults self.old }
+        ensures gate_faults { gate_faults self.new ≡ raised_by (Self.Gate.faults gate) (gate_faults self.old) };
+}

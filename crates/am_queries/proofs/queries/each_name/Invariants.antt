@@ -1,0 +1,11 @@
+use Rattle.std.proofs.Common.{◌≡◌, drop, map}
+use Rattle.toml.specs.View.{view}
+use Rattle.am_manifest_filters.specs.Tables.{each}
+use Rattle.am_manifest_filters.proofs.Each.{front_then}
+use Rattle.am_queries.specs.Queries.{name_entry}
+use Rattle.am_queries.proofs.queries.each_name.Given as goal
+
+abbrev pub invariant-loop-i : goal.invariant-loop-i
+invariant-loop-i l =
+    let read = name_entry l.at in
+    front_then l.names.items (each read l.i (map view (drop l.i l.values))) ≡ each read 0 (map view l.values)

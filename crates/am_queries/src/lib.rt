@@ -1,0 +1,9 @@
+//! Reads what the packages of a device file ask to see: the table `queries` of each manifest. The answer is the value,
+//! or the first fault with its place.
+#![tactic(auto)]
+
+mod device;
+mod queries;
+mod signature;
+
+pub use device::{Described, read_described, read_queries};

@@ -1,0 +1,122 @@
+-- A session that words ask for, and what its end or a setback means.
+use Rattle.std.specs.Prelude.{◌≡◌, ℕ, List, [], Option, Some, None, Result, Ok, Err, IsTrue, ⊤}
+use Rattle.am_types.specs.declared.device.Device.{Device}
+use Rattle.am_types.specs.declared.history.Entry.{Entry}
+use Rattle.am_outside.specs.Counts.{HasRisen}
+use Rattle.am_history.specs.Desks.{DeskView, Origin, opening_of}
+use Rattle.am_history.specs.History.{IsLegal, entries_of, replay}
+use Rattle.am_found.specs.Found.{OpensAs}
+use Rattle.am_manifest.specs.Devices.{device_of}
+use Rattle.am_http.specs.declared.end.End.{End}
+use Rattle.am_http.specs.declared.end.Served.{Served}
+use Rattle.am_http.specs.Exchanges.{stored_entries}
+use Rattle.am_http.specs.Links.{Link, IsSameLink, Moments}
+use Rattle.am_http.specs.Sessions.{Session, HasFault}
+use Rattle.am_words.specs.declared.command.StepWords.{StepWords}
+use Rattle.am_shell.specs.declared.session.Asked.{Asked}
+use Rattle.am_shell.specs.declared.setback.Setback.{Setback}
+use Rattle.am_shell.specs.declared.setback.Setback.TheVariants.{DeviceRefused, FileFault, StoreFault, RowsRefused, NoMemory}
+use Rattle.am_shell.specs.Clocks.{left_of, timed, with_clock}
+use Rattle.am_shell.specs.Devices.{Describes, IsRefused, IsUnread}
+use Rattle.am_shell.specs.Kept.{IsOrigin, IsUnchanged, Leaves, RefusesRows}
+use Rattle.am_shell.specs.Outside.{Outside, StoreView, Streams, Workplace}
+
+-- the only desk of a manager of that origin, which has seen that history
+abbrev pub sole_desk : Origin → List Entry → DeskView
+sole_desk origin seen = record {
+  origin = origin;
+  number = 0;
+  sharing = record { id = []; desks = 1; handed = [] };
+  seen = seen;
+}
+
+-- a session's desk with the clock, the input and the output
+abbrev pub link_of : DeskView → Streams → Link
+link_of desk streams = record {
+  server = record { desk = desk; clock = streams.clock };
+  source = streams.input;
+  sink = streams.output;
+}
+
+-- the session of a manager of that origin over the clock of the session, from an empty history, with its end. The
+-- history at the end could have been made, and it is exactly what the session's calls stored, so that each of its
+-- entries is the desk's own
+pub record Serves
+    (origin : Origin) (asked : Option StepWords) (before after : Streams) (end : End) : Type 0 where
+  pub desk : DeskView
+  pub served : Served
+  pub ends : served.end ≡ end
+  pub told : Moments
+  pub session :
+      Session (timed asked (link_of (sole_desk origin []) before)) (with_clock (link_of desk after) told) served
+  pub same : IsSameLink (timed asked (link_of (sole_desk origin []) before)) (with_clock (link_of desk after) told)
+  pub legal : IsLegal (opening_of origin) desk.seen
+  pub calls : desk.seen ≡ stored_entries desk.seen session.exchanges
+  pub own : entries_of 0 desk.seen ≡ desk.seen
+  pub fault : HasFault end (timed asked (link_of (sole_desk origin []) before)) (with_clock (link_of desk after) told)
+  pub clock : after.clock ≡ left_of asked before.clock told
+
+-- the store keeps its rows, and the input, the output and the clock tell what they told before: nothing was kept, read,
+-- written or asked
+pub record IsIdle (before after : Workplace) : Type 0 where
+  pub store : IsUnchanged before.store after.store
+  pub input : after.streams.input ≡ before.streams.input
+  pub output : after.streams.output ≡ before.streams.output
+  pub clock : after.streams.clock ≡ before.streams.clock
+
+-- the device file describes a device, and the store failed
+pub record Unattached (asked : Asked) (before after : Outside) : Type 0 where
+  pub device : Device
+  pub file : Describes before.files.files asked.device (Ok device)
+  pub risen : HasRisen before.work.store.failed after.work.store.failed
+
+-- the device file describes a device, and a row that was kept for it is refused, whose package the line names
+pub record Unopened (asked : Asked) (before : Outside) (line : List ℕ) : Type 0 where
+  pub device : Device
+  pub file : Describes before.files.files asked.device (Ok device)
+  pub refused : RefusesRows device asked.store before.work.store line
+
+-- the session that is asked for, of that device, with its end: it begins with the rows that were kept, and leaves those
+-- that its history has kept. With these the device opens as the session left it
+pub record Works (asked : Asked) (device : Device) (before after : Workplace) (end : End) : Type 0 where
+  pub origin : Origin
+  pub begins : IsOrigin origin device asked.store before.store
+  pub session : Serves origin asked.clock before.streams after.streams end
+  pub store : Leaves origin asked.store session.desk.seen before.store after.store
+  pub found : IsTrue before.store.tells → (at : List ℕ) → asked.store ≡ Some at
+      → OpensAs device (after.store.rows at) (replay (opening_of origin) session.desk.seen)
+
+-- the session that is asked for, of the device that its file describes, ended so
+pub record Worked (asked : Asked) (before after : Outside) (end : End) : Type 0 where
+  pub device : Device
+  pub file : Describes before.files.files asked.device (Ok device)
+  pub works : Works asked device before.work after.work end
+
+-- why a session that is asked for didn't begin
+abbrev pub FailsToBegin : Setback → Asked → Outside → Outside → Type 0
+FailsToBegin (DeviceRefused line) asked before after =
+    IsRefused device_of before.files.files asked.device line × IsIdle before.work after.work
+FailsToBegin FileFault asked before after = IsUnread asked.device before.files after.files × IsIdle before.work after.work
+FailsToBegin StoreFault asked before after = Unattached asked before after × IsIdle before.work after.work
+FailsToBegin (RowsRefused line) asked before after = Unopened asked before line × IsIdle before.work after.work
+FailsToBegin NoMemory asked before after = IsIdle before.work after.work
+
+-- how a session that is asked for went
+abbrev pub Happens : Result End Setback → Asked → Outside → Outside → Type 0
+Happens (Ok end) asked before after = Worked asked before after end
+Happens (Err setback) asked before after = FailsToBegin setback asked before after
+
+-- why a session that is asked for, of that device, didn't begin
+abbrev pub FailsToServe : Setback → Asked → Device → Workplace → Workplace → Type 0
+FailsToServe (DeviceRefused line) asked device before after = ⊥
+FailsToServe FileFault asked device before after = ⊥
+FailsToServe StoreFault asked device before after =
+    HasRisen before.store.failed after.store.failed × IsIdle before after
+FailsToServe (RowsRefused line) asked device before after =
+    RefusesRows device asked.store before.store line × IsIdle before after
+FailsToServe NoMemory asked device before after = IsIdle before after
+
+-- the session that is asked for, of that device, or why it didn't begin
+abbrev pub ServesOr : Result End Setback → Asked → Device → Workplace → Workplace → Type 0
+ServesOr (Ok end) asked device before after = Works asked device before after end
+ServesOr (Err setback) asked device before after = FailsToServe setback asked device before after

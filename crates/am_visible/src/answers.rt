@@ -1,0 +1,77 @@
+//! What a question about a device is answered.
+ghost use Rattle.std.specs.Prelude.{◌≡◌, IfOk, IsTrue};
+ghost use Rattle.am_model.specs.Boards.{board_of};
+ghost use Rattle.am_model.specs.Sound.{IsSound};
+ghost use Rattle.am_wire_fields.specs.Reading.{Gives};
+ghost use Rattle.am_visible.specs.Answers.{answer_to, file_answer, is_query, line_of, reply_to};
+ghost use Rattle.am_visible.specs.Faults.{Answers};
+
+use crate::caller::caller_named;
+use crate::fault::VisibleFault;
+use crate::question::question_of;
+use crate::reply::{line_of, reply_to};
+use am_queries::{Described, read_described};
+use am_resolve::Board;
+use am_types::{Device, List, NoMemory, Queries, Request, Text};
+use am_wire_fields::Unread;
+use std::alloc::Global;
+
+/// The line that answers the query.
+fn line_to(
+    alloc: Global,
+    device: Device,
+    queries: &List<Queries>,
+    caller: u32,
+    request: &Request,
+) -> Result<Text, NoMemory>
+    requires sound { IsSound device }
+    requires query { IsTrue (is_query request.now) }
+    ensures { IfOk result (λ line. line ≡ line_of (reply_to (board_of device) queries.now caller request.now)) }
+{
+    let board = Board::from_device(alloc, device)?;
+    let reply = reply_to(alloc, &board, queries, caller, request)?;
+    line_of(alloc, &reply)
+}
+
+/// Answers what the caller asks about the device: the line of the components that the query finds and the caller sees,
+/// as JSON in its compact form, with its newline.
+///
+/// # Errors
+///
+/// `Unread::Fault` with `too_long body` for a text of more than 65,536 bytes, else with the first fault that the reader
+/// of a query's body meets; `Unread::NoMemory` if memory runs out.
+#[tactic(auto, unfolding(crate::specs::Answers::answer_to))]
+pub fn answer(alloc: Global, known: Described, caller: u32, text: &[u8]) -> Result<Text, Unread>
+    requires sound { IsSound known.device }
+    ensures { Gives result (answer_to known caller text.now) }
+{
+    let request = question_of(alloc, text)?;
+    let line = line_to(alloc, known.device, &known.queries, caller, &request);
+    drop(request);
+    match line {
+        Ok(line) => Ok(line),
+        Err(NoMemory) => Err(Unread::NoMemory),
+    }
+}
+
+/// Answers what the package of that name asks about the device of a file, as [`answer`] does.
+///
+/// # Errors
+///
+/// In this order: `Device` with the first fault of the file, `NoPackage` where the device has no package of the name
+/// and it isn't `android`, and `Query` as [`answer`]. `NoMemory` if memory runs out.
+#[tactic(auto, unfolding(crate::specs::Answers::file_answer, crate::specs::Answers::described_answer, crate::specs::Answers::known_answer, crate::specs::Answers::answer_of))]
+pub fn answer_file(
+    alloc: Global,
+    file: &[u8],
+    name: &Text,
+    text: &[u8],
+) -> Result<Text, VisibleFault>
+    ensures { Answers result (file_answer file.now name.now text.now) }
+{
+    let known = read_described(alloc, file)?;
+    let Some(caller) = caller_named(&known.device.packages, name) else {
+        return Err(VisibleFault::NoPackage);
+    };
+    Ok(answer(alloc, known, caller, text)?)
+}

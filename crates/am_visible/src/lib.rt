@@ -1,0 +1,21 @@
+//! Package visibility: which packages an app sees by the queries of its manifest, which components of a query it sees,
+//! and what a question of an app about a device is answered.
+#![tactic(auto)]
+
+mod answers;
+mod caller;
+mod fault;
+mod hosts;
+mod meeting;
+mod question;
+mod reply;
+mod seeing;
+mod shown;
+mod types;
+
+pub use answers::{answer, answer_file};
+pub use caller::caller_named;
+pub use fault::VisibleFault;
+pub use meeting::meets;
+pub use seeing::sees;
+pub use shown::visible;

@@ -1,0 +1,130 @@
+//! Which packages a caller sees.
+ghost use Rattle.std.specs.Prelude.{◌≡◌, codes, option_copied};
+ghost use Rattle.std.specs.List.{list_any};
+ghost use Rattle.am_model.specs.Boards.{is_granted};
+ghost use Rattle.am_model.specs.Gates.{holds, is_privileged};
+ghost use Rattle.am_model.specs.Visibility.{ask_for, is_asked_for, meets, queries_of, sees, shows};
+
+use crate::meeting::{lists, meets};
+use am_resolve::Board;
+use am_types::{Decl, Filter, Grant, List, Package, Queries, Signature};
+
+/// The uid of the root.
+const ROOT: u32 = 0;
+
+/// The uid of the system.
+const SYSTEM: u32 = 1000;
+
+/// What shows every package to who holds it.
+const QUERY_ALL_PACKAGES: &str = "android.permission.QUERY_ALL_PACKAGES";
+
+/// Whether the caller sees the package of that uid. The queries are those of the board's packages, in their order.
+///
+/// The system and the root see every package, and so does who holds `android.permission.QUERY_ALL_PACKAGES`. An app
+/// sees itself, what its queries name, and what has an exported and enabled component with a filter that meets one of
+/// their signatures. ("Package visibility filtering"; that the component must be enabled: own.) Takes no memory.
+pub fn sees(board: &Board, queries: &List<Queries>, caller: u32, package: u32) -> bool
+    ensures { result ≡ sees board.now queries.now caller «package» }
+{
+    is_privileged(caller)
+        || caller == package
+        || holds_all(caller, board.grants())
+        || ask_for(
+            queries_of(board.packages(), queries, caller),
+            board.package_at(package),
+        )
+}
+
+/// The uid is the system's or the root's.
+fn is_privileged(uid: u32) -> bool
+    ensures { result ≡ is_privileged uid }
+{
+    uid == ROOT || uid == SYSTEM
+}
+
+/// The uid holds the permission that shows every package.
+fn holds_all(uid: u32, grants: &List<Grant>) -> bool
+    ensures { result ≡ holds grants.now uid (codes "android.permission.QUERY_ALL_PACKAGES") }
+{
+    is_privileged(uid) || is_granted_all(uid, grants)
+}
+
+/// The uid was granted the permission that shows every package.
+fn is_granted_all(uid: u32, grants: &List<Grant>) -> bool
+    ensures { result ≡ is_granted grants.now uid (codes "android.permission.QUERY_ALL_PACKAGES") }
+{
+    grants.as_slice().iter().any(|grant| grant.uid == uid
+        && grant.permission.as_str() == QUERY_ALL_PACKAGES)
+}
+
+/// The queries of the package of the uid, if there is one: the n-th queries are those of the n-th package.
+fn queries_of<'a>(
+    packages: &List<Package>,
+    queries: &'a List<Queries>,
+    uid: u32,
+) -> Option<&'a Queries>
+    ensures { option_copied result ≡ queries_of packages.now queries.entry.now uid }
+{
+    let queries = queries.as_slice();
+    for (i, package) in packages.as_slice().iter().enumerate() {
+        if i >= queries.len() {
+            return None;
+        }
+        if package.uid == uid {
+            return Some(&queries[i]);
+        }
+    }
+    None
+}
+
+/// The queries, if there are any, ask for the package, if there is one.
+fn ask_for(queries: Option<&Queries>, found: Option<&Package>) -> bool
+    ensures { result ≡ ask_for (option_copied queries.entry) (option_copied found.entry) }
+{
+    match (queries, found) {
+        (Some(queries), Some(found)) => is_asked_for(queries, found),
+        _ => false,
+    }
+}
+
+/// The package is named by the queries, or has a component that shows it.
+fn is_asked_for(queries: &Queries, owner: &Package) -> bool
+    ensures { result ≡ is_asked_for queries.now owner.now }
+{
+    lists(&queries.names, &owner.name) || some_shows(&queries.signatures, &owner.decls)
+}
+
+/// Some component shows its package to who asks for these signatures.
+fn some_shows(signatures: &List<Signature>, decls: &List<Decl>) -> bool
+    ensures { result ≡ list_any (shows signatures.now) decls.now }
+{
+    decls.as_slice().iter().any(|decl| shows(signatures, decl))
+}
+
+/// The component is one that other apps may reach, and has a filter that meets one of the signatures.
+fn shows(signatures: &List<Signature>, decl: &Decl) -> bool
+    ensures { result ≡ shows signatures.now decl.now }
+{
+    decl.exported && decl.enabled && some_meets(&decl.filters, signatures)
+}
+
+/// Some filter meets one of the signatures.
+fn some_meets(filters: &List<Filter>, signatures: &List<Signature>) -> bool
+    ensures { result
+        ≡ list_any (λ filter. list_any (λ signature. meets filter signature) signatures.now) filters.now }
+{
+    filters
+        .as_slice()
+        .iter()
+        .any(|filter| meets_some(filter, signatures))
+}
+
+/// The filter meets one of the signatures.
+fn meets_some(filter: &Filter, signatures: &List<Signature>) -> bool
+    ensures { result ≡ list_any (λ signature. meets filter.now signature) signatures.now }
+{
+    signatures
+        .as_slice()
+        .iter()
+        .any(|signature| meets(filter, signature))
+}
