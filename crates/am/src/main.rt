@@ -4,6 +4,7 @@
 use am_host::{ReaderSource, SystemClock, SystemFiles, WriterSink, read_words};
 use am_shell::{run, tell_want};
 use am_store_sql::SqlStore;
+use am_tcp::TcpNetwork;
 use std::process::ExitCode;
 
 fn main(rt: HostRuntime) -> ExitCode {
@@ -11,17 +12,20 @@ fn main(rt: HostRuntime) -> ExitCode {
     let mut input = ReaderSource::new(rt.stdin());
     let mut output = WriterSink::new(rt.stdout());
     let mut errors = WriterSink::new(rt.stderr());
+    let mut network = TcpNetwork::new(rt, rt.alloc());
     let mut store = SqlStore::new(rt);
     let mut clock = SystemClock::new(rt);
     ExitCode::from(match read_words(&rt) {
         Err(_) => tell_want(&mut errors),
         Ok(words) => run(
+            &rt,
             rt.alloc(),
             words.as_slice(),
             &mut files,
             &mut input,
             &mut output,
             &mut errors,
+            &mut network,
             &mut store,
             &mut clock,
         ),

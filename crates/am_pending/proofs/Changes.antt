@@ -10,12 +10,14 @@ use Rattle.std.specs.Ordering.{nat_cmp, match_ordering}
 use Rattle.std.specs.declared.cmp.Ordering.TheVariants.{Less, Greater}
 use Rattle.std.specs.Cmp.{nat_cmp_is, nat_eq_equiv, ranked, unsigned_tied, unsigned_Decides}
 use Rattle.std.proofs.lemmas.List.Elements.{All-head, All-tail}
+use Rattle.std.proofs.lemmas.Bool.{or_parts}
 use Rattle.std.proofs.lemmas.Bool.Decides.{nat_tests}
+use Rattle.std.proofs.lemmas.Option.{same_Some}
 use Rattle.am_types.specs.declared.intent.Named.{Named}
 use Rattle.am_model.specs.Pendings.{Pending, updated, with_holder, without_holder, without_token}
 use Rattle.am_pending.specs.Once.{AtMostOne}
 use Rattle.am_pending.specs.Records.{Kept, held_by, is_token, let_go_by, pending_of, pendings_of, record_in, with_extras}
-use Rattle.am_pending.proofs.Lists.{any-none, filter-none, or_second, or_first, some_same}
+use Rattle.am_pending.proofs.Lists.{any-none, filter-none}
 
 -- whether an entry has the token
 at-token : (token place : ℕ) → is_at (nat_cmp token) place ≡ (place == token)
@@ -87,7 +89,7 @@ Changes t f g = (e : ℕ × Kept) → g (pending_of e.0 e.1) ≡ cond (e.0 == t)
 module _ (t : ℕ) (f : Kept → Kept) (g : Pending → Pending) (alike : Changes t f g) where
   none-changed : (es : List (ℕ × Kept)) → list_any (is_token t) (pendings_of es) ≡ false → map g (pendings_of es) ≡ pendings_of es
   none-changed [] h = refl
-  none-changed (e ∷ es) h = λ i. (alike e ∙ ap (λ b. cond b (pending_of e.0 (f e.1)) (pending_of e.0 e.1)) (or_first (e.0 == t) _ h)) i ∷ none-changed es (or_second (e.0 == t) _ h) i
+  none-changed (e ∷ es) h = λ i. (alike e ∙ ap (λ b. cond b (pending_of e.0 (f e.1)) (pending_of e.0 e.1)) (or_parts (e.0 == t) _ h).0) i ∷ none-changed es (or_parts (e.0 == t) _ h).1 i
 
   -- where none has the token, none is changed
   pub unchanged : (es : List (ℕ × Kept)) → lookup (is_at (nat_cmp t)) es ≡ None → pendings_of es ≡ map g (pendings_of es)
@@ -104,7 +106,7 @@ module _ (t : ℕ) (f : Kept → Kept) (g : Pending → Pending) (alike : Change
 
       by : (b : Bool) → (e.0 == t) ≡ b → cond b (Some e.1) (lookup (is_at (nat_cmp t)) es) ≡ Some v → (lookup (is_at (nat_cmp t)) es ≡ Some v → pendings_of (set_value (is_at (nat_cmp t)) es (f v)) ≡ map g (pendings_of es)) →
           pendings_of (cond b ((e.0, f v) ∷ es) (e ∷ set_value (is_at (nat_cmp t)) es (f v))) ≡ g (pending_of e.0 e.1) ∷ map g (pendings_of es)
-      by true k l rest = λ i. (ap (λ one. pending_of e.0 (f one)) (sym (some_same e.1 v l)) ∙ sym (first true k)) i ∷ sym (none-changed es (m.0 k)) i
+      by true k l rest = λ i. (ap (λ one. pending_of e.0 (f one)) (sym (same_Some e.1 v l)) ∙ sym (first true k)) i ∷ sym (none-changed es (m.0 k)) i
       by false k l rest = λ i. sym (first false k) i ∷ rest l i
 
   -- the record of a token is changed
@@ -113,19 +115,11 @@ module _ (t : ℕ) (f : Kept → Kept) (g : Pending → Pending) (alike : Change
 
 -- other extras
 pub extras-change : (t : ℕ) (extras : List Named) → Changes t (with_extras extras) (updated t extras)
-extras-change t extras e = by (e.0 == t)
-  where
-    by : (b : Bool) → cond b (record (pending_of e.0 e.1) { intent = record (e.1.key.intent) { extras = extras } }) (pending_of e.0 e.1) ≡ cond b (pending_of e.0 (with_extras extras e.1)) (pending_of e.0 e.1)
-    by true = refl
-    by false = refl
+extras-change t extras e = refl
 
 -- one more holder
 pub holder-change : (t to : ℕ) → Changes t (held_by to) (with_holder t to)
-holder-change t to e = by (e.0 == t)
-  where
-    by : (b : Bool) → cond b (record (pending_of e.0 e.1) { holders = e.1.holders ++ to ∷ [] }) (pending_of e.0 e.1) ≡ cond b (pending_of e.0 (held_by to e.1)) (pending_of e.0 e.1)
-    by true = refl
-    by false = refl
+holder-change t to e = refl
 
 -- the records of other creators
 pub pendings-others : (uid : ℕ) (es : List (ℕ × Kept)) → pendings_of (filter (λ (e : ℕ × Kept). not (e.1.key.creator == uid)) es) ≡ filter (λ (kept : Pending). not (kept.creator == uid)) (pendings_of es)

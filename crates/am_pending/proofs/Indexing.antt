@@ -4,8 +4,9 @@ use Rattle.std.specs.List.{find, list_any}
 use Rattle.std.specs.Option.{option_or, unwrap_or}
 use Rattle.std.specs.Cmp.{nat_eq_equiv, first_so, unsigned_Decides}
 use Rattle.std.proofs.lemmas.Bool.Decides.{nat_tests}
-use Rattle.std.proofs.lemmas.List.Elements.{All-filter, All-head, All-map, All-nil, All-push, All-tail, All-weaker}
-use Rattle.std.proofs.lemmas.List.Folds.{find-append}
+use Rattle.std.proofs.lemmas.Option.{same_Some}
+use Rattle.std.proofs.lemmas.List.Elements.{filter-append, All-filter, All-head, All-map, All-nil, All-push, All-tail, All-weaker}
+use Rattle.std.proofs.lemmas.List.Folds.{find-append, list_any_none}
 use Rattle.std.proofs.lemmas.List.Sums.{sum_by_push, sum_by-cons}
 use Rattle.am_types.specs.declared.intent.Named.{Named}
 use Rattle.am_model.proofs.Parts.{found_passes}
@@ -15,7 +16,7 @@ use Rattle.am_pending.specs.Keys.{asked_by, is_same_key}
 use Rattle.am_pending.specs.KeyLaws.{same_equiv}
 use Rattle.am_pending.specs.Once.{AtMostOne}
 use Rattle.am_pending.specs.Records.{IsIndexed, is_token, record_in, token_in}
-use Rattle.am_pending.proofs.Lists.{any-none, count-filter, count-without, find-alike, find-kept, found-otherwise, most-kept, most-push, none-kept, some_same}
+use Rattle.am_pending.proofs.Lists.{any-none, cond_not, count-filter, count-without, find-alike, find-kept, found-otherwise, most-kept, most-push, none-kept}
 
 -- the key of a record
 abbrev pub key_of : Pending → Key
@@ -70,11 +71,13 @@ none_indexed records f g e s t =
 
 -- the next token is none of those that stand
 none-next : (n : ℕ) (records : List Pending) → All (λ (kept : Pending). kept.token < n) records → list_any (is_token n) records ≡ false
-none-next n [] h = refl
-none-next n (first ∷ others) h =
-    let l : first.token < n = All-head (λ (kept : Pending). kept.token < n) first others h in
-    let e : (first.token == n) ≡ false = grind (arith, nat_tests) in
-    ap (λ b. b || list_any (is_token n) others) e ∙ none-next n others (All-tail (λ (kept : Pending). kept.token < n) first others h)
+none-next n records h =
+    list_any_none (is_token n) records
+    (All-weaker (λ (kept : Pending). kept.token < n) (λ (kept : Pending). (kept.token == n) ≡ false) (λ kept l. grind (arith, nat_tests)) records h)
+
+or_none : (o : Option Pending) → option_or o None ≡ o
+or_none None = refl
+or_none (Some x) = refl
 
 -- one more record under the next token, of a key that none has
 pub pushed : (records : List Pending) (f : Key → Option ℕ) (g : ℕ → ℕ) (n : ℕ) (key : Key) → IsIndexed records f g n → token_in key records ≡ None →
@@ -95,13 +98,9 @@ pushed records f g n key h none = record { apart = apart; once = once; below = b
         All-push (λ (kept : Pending). kept.token < n + 1) records one
         (All-weaker (λ (kept : Pending). kept.token < n) (λ (kept : Pending). kept.token < n + 1) (λ kept l. omega (arith, l)) records h.below) (omega arith)
 
-    or_none : (o : Option Pending) → o ≡ option_or o None
-    or_none None = refl
-    or_none (Some x) = refl
-
     found_by : (other : Key) (b : Bool) → is_same_key key other ≡ b → cond b (Some n) (f other) ≡ option_map token_of (option_or (find (has_key (asked_by other)) records) (cond b (Some one) None))
     found_by other true e = sym (ap (λ o. option_map token_of (option_or o (Some one))) (none-found key other records none e))
-    found_by other false e = h.found other ∙ ap (option_map token_of) (or_none (find (has_key (asked_by other)) records))
+    found_by other false e = h.found other ∙ ap (option_map token_of) (sym (or_none (find (has_key (asked_by other)) records)))
 
     found : (other : Key) → cond (is_same_key other key) (Some n) (f other) ≡ token_in other (records ++ one ∷ [])
     found other =
@@ -133,7 +132,7 @@ removed records f g n token gone h is = record {
     -- another key's record stays
     stays : (other : Key) (one : Pending) (b : Bool) → has_key (asked_by other) gone ≡ false → find (has_key (asked_by other)) records ≡ Some one → (one.token == token) ≡ b → (one.token == token) ≡ false
     stays other one true isnt k e =
-        let same : gone ≡ one = some_same gone one (sym is ∙ found-otherwise (has_key (asked_by other)) (is_token token) records one k e (h.once token)) in
+        let same : gone ≡ one = same_Some gone one (sym is ∙ found-otherwise (has_key (asked_by other)) (is_token token) records one k e (h.once token)) in
         absurd (true≢false (sym (found_passes (has_key (asked_by other)) records one k) ∙ ap (has_key (asked_by other)) (sym same) ∙ isnt))
     stays other one false isnt k e = e
 
@@ -183,14 +182,10 @@ others_left records f g n uid h = record {
         ∙ sym (ap (option_map token_of)
         (find-alike (has_key (asked_by other)) keep (not (other.creator == uid)) (λ kept e. ap (λ creator. not (creator == uid)) ((unsigned_Decides kept.creator other.creator).0 (has-creator other kept e))) records))
 
-    count-not : (b : Bool) (m : ℕ) → cond b 0 m ≡ cond (not b) m 0
-    count-not true m = refl
-    count-not false m = refl
-
     counted : (other : ℕ) → cond (other == uid) 0 (g other) ≡ count_of (filter keep records) other
     counted other =
         ap (cond (other == uid) 0) (h.counted other)
-        ∙ count-not (other == uid) (count_of records other)
+        ∙ sym (cond_not (other == uid) (count_of records other) 0)
         ∙ sym (count-filter (λ (kept : Pending). kept.creator == other) keep (not (other == uid)) (λ kept e. ap (λ creator. not (creator == uid)) ((unsigned_Decides kept.creator other).0 e)) records)
 
 module _ (change : Pending → Pending) where
@@ -272,19 +267,11 @@ without_holder-leaves uid = record { keys = λ key kept. refl; token = λ kept. 
 -- one record more doesn't change what is found by an earlier token
 found-earlier : (token : ℕ) (records : List Pending) (one : Pending) → (one.token == token) ≡ false → record_in token (records ++ one ∷ []) ≡ record_in token records
 found-earlier token records one h = find-append (is_token token) records (one ∷ []) ∙ ap (λ b. option_or (record_in token records) (cond b (Some one) None)) h ∙ or_none (record_in token records)
-  where
-    or_none : (o : Option Pending) → option_or o None ≡ o
-    or_none None = refl
-    or_none (Some x) = refl
 
 -- a record taken away from among some and one more under another token
 without-push : (token : ℕ) (records : List Pending) (one : Pending) → (one.token == token) ≡ false → without_token (records ++ one ∷ []) token ≡ without_token records token ++ one ∷ []
-without-push token [] one h = ap (λ b. cond (not b) (one ∷ []) []) h
-without-push token (first ∷ others) one h = by (first.token == token) (without-push token others one h)
-  where
-    by : (b : Bool) → without_token (others ++ one ∷ []) token ≡ without_token others token ++ one ∷ [] → cond (not b) (first ∷ without_token (others ++ one ∷ []) token) (without_token (others ++ one ∷ []) token) ≡ cond (not b) (first ∷ without_token others token) (without_token others token) ++ one ∷ []
-    by true rest = rest
-    by false rest = ap (λ l. first ∷ l) rest
+without-push token records one h =
+    filter-append (λ (kept : Pending). not (kept.token == token)) records (one ∷ []) ∙ ap (λ b. without_token records token ++ cond (not b) (one ∷ []) []) h
 
 -- a record that is found has a token below the next one
 found-below : (n : ℕ) (q : Pending → Bool) (records : List Pending) (one : Pending) → All (λ (kept : Pending). kept.token < n) records → find q records ≡ Some one → one.token < n
@@ -292,7 +279,7 @@ found-below n q [] one h e = cc
 found-below n q (first ∷ others) one h e = by (q first) e (λ k. found-below n q others one (All-tail (λ (kept : Pending). kept.token < n) first others h) k)
   where
     by : (b : Bool) → cond b (Some first) (find q others) ≡ Some one → (find q others ≡ Some one → one.token < n) → one.token < n
-    by true k rest = subst (λ (kept : Pending). kept.token < n) (some_same first one k) (All-head (λ (kept : Pending). kept.token < n) first others h)
+    by true k rest = subst (λ (kept : Pending). kept.token < n) (same_Some first one k) (All-head (λ (kept : Pending). kept.token < n) first others h)
     by false k rest = rest k
 
 -- the record that has the key, found by its token
@@ -340,7 +327,7 @@ module _ (records : List Pending) (f : Key → Option ℕ) (g : ℕ → ℕ) (n 
 
   -- what is taken out under its token is that record
   pub the_gone : (kept : Pending) → Some kept ≡ record_in old (records ++ fresh n (asked_by key) ∷ []) → kept ≡ gone
-  the_gone kept e = some_same kept gone (e ∙ replaced_found)
+  the_gone kept e = same_Some kept gone (e ∙ replaced_found)
 
   -- and one is taken out
   pub one_gone : None ≡ record_in old (records ++ fresh n (asked_by key) ∷ []) → ⊥

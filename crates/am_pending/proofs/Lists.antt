@@ -1,39 +1,27 @@
 -- What filters and additions leave to be found and counted.
-use Rattle.std.proofs.Common.{◌≡◌, ℕ, ◌+◌, Bool, true, false, not, ◌||◌, cond, List, [], ◌∷◌, ◌++◌, filter, count_by, Some, None, refl, sym, ap, ◌∙◌, true≢false, arith}
+use Rattle.std.proofs.Common.{◌≡◌, ℕ, ◌+◌, Bool, true, false, not, ◌||◌, cond, List, [], ◌∷◌, ◌++◌, filter, count_by, Some, None, refl, sym, ap, ◌∙◌, true≢false, zero-add, arith}
 use Rattle.std.specs.List.{find, list_any}
-use Rattle.std.specs.Option.{unwrap_or}
-use Rattle.std.proofs.lemmas.List.Recursion.{or_push}
+use Rattle.std.proofs.lemmas.Bool.{false_from_ne_true, or_parts}
 use Rattle.std.proofs.lemmas.List.Sums.{sum_by-cons}
-use Rattle.am_model.proofs.Parts.{IsPart-filter, none_of_part}
+use Rattle.std.proofs.lemmas.Option.{same_Some}
+use Rattle.am_model.proofs.Parts.{IsPart-filter, none_of_more, none_of_part}
 use Rattle.am_pending.specs.Once.{AtMostOne}
 
-pub or_first : (b c : Bool) → (b || c) ≡ false → b ≡ false
-or_first true c h = h
-or_first false c h = refl
-
-pub or_second : (b c : Bool) → (b || c) ≡ false → c ≡ false
-or_second true c h = absurd (true≢false h)
-or_second false c h = h
-
-or_none : (b c : Bool) → b ≡ false → c ≡ false → (b || c) ≡ false
-or_none b c e f = ap (λ a. a || c) e ∙ f
+pub cond_not : {A : Type 0} (b : Bool) (x y : A) → cond (not b) x y ≡ cond b y x
+cond_not true x y = refl
+cond_not false x y = refl
 
 module _ {X : Type 0} where
   -- where none passes, none of those kept does
   any-kept : (p keep : X → Bool) (xs : List X) → list_any p xs ≡ false → list_any p (filter keep xs) ≡ false
   any-kept p keep xs h = none_of_part p (filter keep xs) xs (IsPart-filter keep xs) h
 
-  pub some_same : (x y : X) → Some x ≡ Some y → x ≡ y
-  some_same x y e = ap (λ o. unwrap_or o x) e
-
   -- where none passes, none is found
   pub find-none : (p : X → Bool) (xs : List X) → list_any p xs ≡ false → find p xs ≡ None
   find-none p [] h = refl
-  find-none p (x ∷ xs) h = by (p x) h (find-none p xs (or_second (p x) (list_any p xs) h))
-    where
-      by : (b : Bool) → (b || list_any p xs) ≡ false → find p xs ≡ None → cond b (Some x) (find p xs) ≡ None
-      by true h rest = absurd (true≢false h)
-      by false h rest = rest
+  find-none p (x ∷ xs) h =
+      let parts = or_parts (p x) (list_any p xs) h in
+      rw parts.0 (find-none p xs parts.1)
 
   -- where none is found, none passes
   pub any-none : (p : X → Bool) (xs : List X) → find p xs ≡ None → list_any p xs ≡ false
@@ -47,12 +35,11 @@ module _ {X : Type 0} where
   -- what is found doesn't pass a test that none passes
   pub found-not : (r s : X → Bool) (xs : List X) (y : X) → find r xs ≡ Some y → list_any s xs ≡ false → s y ≡ false
   found-not r s [] y h k = cc
-  found-not r s (x ∷ xs) y h k = by (r x) (s x) h k refl (λ e f. found-not r s xs y e f)
+  found-not r s (x ∷ xs) y h k = by (r x) (or_parts (s x) (list_any s xs) k) h (found-not r s xs y)
     where
-      by : (b c : Bool) → cond b (Some x) (find r xs) ≡ Some y → (c || list_any s xs) ≡ false → s x ≡ c → (find r xs ≡ Some y → list_any s xs ≡ false → s y ≡ false) → s y ≡ false
-      by b true h k e rest = absurd (true≢false k)
-      by true false h k e rest = ap s (sym (some_same x y h)) ∙ e
-      by false false h k e rest = rest h k
+      by : (b : Bool) → (s x ≡ false) × (list_any s xs ≡ false) → cond b (Some x) (find r xs) ≡ Some y → (find r xs ≡ Some y → list_any s xs ≡ false → s y ≡ false) → s y ≡ false
+      by true none h rest = ap s (sym (same_Some x y h)) ∙ none.0
+      by false none h rest = rest h none.1
 
   -- what is found by one test is found by another that it alone passes
   pub found-otherwise : (q r : X → Bool) (xs : List X) (y : X) → find q xs ≡ Some y → r y ≡ true → AtMostOne r xs → find r xs ≡ Some y
@@ -61,18 +48,16 @@ module _ {X : Type 0} where
     where
       by : (b c : Bool) → r x ≡ c → cond b (Some x) (find q xs) ≡ Some y → (find q xs ≡ Some y → find r xs ≡ Some y) → cond c (Some x) (find r xs) ≡ Some y
       by true true f h rest = h
-      by true false f h rest = absurd (true≢false (sym e ∙ ap r (sym (some_same x y h)) ∙ f))
+      by true false f h rest = absurd (true≢false (sym e ∙ ap r (sym (same_Some x y h)) ∙ f))
       by false true f h rest = absurd (true≢false (sym e ∙ found-not q r xs y h (m.0 f)))
       by false false f h rest = rest h
 
   -- where none passes, all of the others are kept
   pub filter-none : (r : X → Bool) (xs : List X) → list_any r xs ≡ false → filter (λ x. not (r x)) xs ≡ xs
   filter-none r [] h = refl
-  filter-none r (x ∷ xs) h = by (r x) h (filter-none r xs (or_second (r x) (list_any r xs) h))
-    where
-      by : (b : Bool) → (b || list_any r xs) ≡ false → filter (λ x. not (r x)) xs ≡ xs → cond (not b) (x ∷ filter (λ x. not (r x)) xs) (filter (λ x. not (r x)) xs) ≡ x ∷ xs
-      by true h rest = absurd (true≢false h)
-      by false h rest = ap (λ l. x ∷ l) rest
+  filter-none r (x ∷ xs) h =
+      let parts = or_parts (r x) (list_any r xs) h in
+      rw parts.0 (ap (λ l. x ∷ l) (filter-none r xs parts.1))
 
   -- at most one of those kept passes
   pub most-kept : (p keep : X → Bool) (xs : List X) → AtMostOne p xs → AtMostOne p (filter keep xs)
@@ -83,20 +68,13 @@ module _ {X : Type 0} where
       by true rest = ((λ e. any-kept p keep xs (m.0 e)), rest)
       by false rest = rest
 
-  pub any-push : (p : X → Bool) (xs : List X) (y : X) → list_any p (xs ++ y ∷ []) ≡ (list_any p xs || p y)
-  any-push p xs y = or_push (list_any p) p refl (λ _ _. refl) xs y
-
   -- at most one passes of one more, where none before it does if it does
   pub most-push : (p : X → Bool) (xs : List X) (y : X) → AtMostOne p xs → (p y ≡ true → list_any p xs ≡ false) → AtMostOne p (xs ++ y ∷ [])
   most-push p [] y m h = ((λ _. refl), tt)
-  most-push p (x ∷ xs) y m h = (first, most-push p xs y m.1 (λ e. or_second (p x) (list_any p xs) (h e)))
+  most-push p (x ∷ xs) y m h = (first, most-push p xs y m.1 (λ e. (or_parts (p x) (list_any p xs) (h e)).1))
     where
-      not_both : (c : Bool) → p x ≡ true → p y ≡ c → c ≡ false
-      not_both true e f = absurd (true≢false (sym (ap (λ b. b || list_any p xs) e) ∙ h f))
-      not_both false e f = refl
-
       first : p x ≡ true → list_any p (xs ++ y ∷ []) ≡ false
-      first e = any-push p xs y ∙ or_none (list_any p xs) (p y) (m.0 e) (not_both (p y) e refl)
+      first e = none_of_more p xs y (m.0 e) (false_from_ne_true (p y) (λ f. true≢false (sym e ∙ (or_parts (p x) (list_any p xs) (h f)).0)))
 
   -- where none is found, none is among those kept
   pub none-kept : (q keep : X → Bool) (xs : List X) → find q xs ≡ None → find q (filter keep xs) ≡ None
@@ -111,12 +89,8 @@ module _ {X : Type 0} where
       others = filter keep xs
 
       by : (b c : Bool) → q x ≡ b → keep x ≡ c → cond b (Some x) (find q xs) ≡ Some y → (find q xs ≡ Some y → find q others ≡ cond (keep y) (Some y) None) → find q (cond c (x ∷ others) others) ≡ cond (keep y) (Some y) None
-      by true true e f h rest =
-          ap (λ a. cond a (Some x) (find q others)) e ∙ h
-          ∙ sym (ap (λ a. cond a (Some y) None) (ap keep (sym (some_same x y h)) ∙ f))
-      by true false e f h rest =
-          find-none q others (any-kept q keep xs (m.0 e))
-          ∙ sym (ap (λ a. cond a (Some y) None) (ap keep (sym (some_same x y h)) ∙ f))
+      by true true e f h rest = rw (← same_Some x y h, e, f) refl
+      by true false e f h rest = rw (← same_Some x y h, f) (find-none q others (any-kept q keep xs (m.0 e)))
       by false true e f h rest = ap (λ a. cond a (Some x) (find q others)) e ∙ rest h
       by false false e f h rest = rest h
 
@@ -130,14 +104,12 @@ module _ {X : Type 0} where
       others = filter keep xs
 
       by : (k c b : Bool) → keep x ≡ k → q x ≡ c → (q x ≡ true → keep x ≡ b) → find q others ≡ cond b (find q xs) None → find q (cond k (x ∷ others) others) ≡ cond b (cond (q x) (Some x) (find q xs)) None
-      by true true true e f tells rest = ap (λ a. cond a (Some x) (find q others)) f ∙ sym (ap (λ a. cond a (Some x) (find q xs)) f)
+      by true c true e f tells rest = ap (cond (q x) (Some x)) rest
       by true true false e f tells rest = absurd (true≢false (sym e ∙ tells f))
-      by true false true e f tells rest = ap (λ a. cond a (Some x) (find q others)) f ∙ rest ∙ sym (ap (λ a. cond a (Some x) (find q xs)) f)
-      by true false false e f tells rest = ap (λ a. cond a (Some x) (find q others)) f ∙ rest
+      by true false false e f tells rest = rw f rest
       by false true true e f tells rest = absurd (true≢false (sym (tells f) ∙ e))
-      by false true false e f tells rest = rest
-      by false false true e f tells rest = rest ∙ sym (ap (λ a. cond a (Some x) (find q xs)) f)
-      by false false false e f tells rest = rest
+      by false false true e f tells rest = rw f rest
+      by false c false e f tells rest = rest
 
   count_by-cons : (s : X → Bool) (x : X) (xs : List X) → count_by s (x ∷ xs) ≡ cond (s x) 1 0 + count_by s xs
   count_by-cons s x xs = sum_by-cons (λ x. cond (s x) 1 0) x xs
@@ -153,7 +125,7 @@ module _ {X : Type 0} where
       by : (b : Bool) → r x ≡ b → cond b (Some x) (find r xs) ≡ Some y → (find r xs ≡ Some y → count_by s others + cond (s y) 1 0 ≡ count_by s xs) → count_by s (cond (not b) (x ∷ others) others) + cond (s y) 1 0 ≡ count_by s (x ∷ xs)
       by true e h rest =
           let a = ap (count_by s) (filter-none r xs (m.0 e)) in
-          let c = ap {B = ℕ} (λ z. cond (s z) 1 0) (some_same x y h) in
+          let c = ap {B = ℕ} (λ z. cond (s z) 1 0) (same_Some x y h) in
           let d = count_by-cons s x xs in
           omega (arith, a, c, d)
       by false e h rest =
@@ -171,13 +143,7 @@ module _ {X : Type 0} where
       by : (b c k : Bool) → keep x ≡ b → s x ≡ c → (s x ≡ true → keep x ≡ k) → count_by s (filter keep xs) ≡ cond k (count_by s xs) 0 → count_by s (cond b (x ∷ filter keep xs) (filter keep xs)) ≡ cond k (count_by s (x ∷ xs)) 0
       by true c true e f says rest = count_by-cons s x (filter keep xs) ∙ ap (λ n. cond (s x) 1 0 + n) rest ∙ sym (count_by-cons s x xs)
       by true true false e f says rest = absurd (true≢false (sym e ∙ says f))
-      by true false false e f says rest =
-          let a = count_by-cons s x (filter keep xs) in
-          let d = ap {B = ℕ} (λ b. cond b 1 0) f in
-          omega (arith, a, d, rest)
+      by true false false e f says rest = count_by-cons s x (filter keep xs) ∙ rw (f, zero-add) rest
       by false true true e f says rest = absurd (true≢false (sym (says f) ∙ e))
-      by false false true e f says rest =
-          let a = count_by-cons s x xs in
-          let d = ap {B = ℕ} (λ b. cond b 1 0) f in
-          omega (arith, a, d, rest)
+      by false false true e f says rest = rest ∙ sym (count_by-cons s x xs ∙ rw (f, zero-add) refl)
       by false c false e f says rest = rest

@@ -1,7 +1,7 @@
 -- What canceling, giving and using a token come to, by the record that is found.
-use Rattle.std.proofs.Common.{◌≡◌, ℕ, ◌==◌, Bool, true, false, not, cond, length, map, List, Option, Some, None, Result, Ok, Err, option_map, refl, subst, sym, ap, ◌∙◌}
+use Rattle.std.proofs.Common.{◌≡◌, ℕ, ◌==◌, Bool, true, false, cond, length, map, List, Option, Some, None, Result, Ok, Err, option_map, refl, subst, sym, ap, ◌∙◌}
 use Rattle.std.specs.Prelude.{IsOk, nat_le, nat_lt}
-use Rattle.std.specs.Cmp.{nat_eq_equiv, unsigned_Decides}
+use Rattle.std.proofs.lemmas.Bool.{cond_both}
 use Rattle.am_types.specs.declared.intent.Intent.{Intent}
 use Rattle.am_types.specs.declared.filter.FillFault.{FillFault}
 use Rattle.am_types.specs.declared.filter.FillFault.TheVariants as fault
@@ -13,21 +13,11 @@ use Rattle.am_pending.specs.Answers.{IsChange}
 use Rattle.am_pending.specs.declared.key.Key.{Key}
 use Rattle.am_pending.specs.Records.{IsIndexed, Kept, before, pending_of, record_in}
 use Rattle.am_pending.proofs.Indexing.{mapped, with_holder-leaves}
+use Rattle.am_pending.proofs.Lists.{cond_not}
 
 -- what a look-up by token found, in the records as the definitions see them
 pub there : (token : ℕ) (inside : List Pending) (all : Pendings) (o found : Option Kept) → option_map (pending_of token) o ≡ record_in token inside → o ≡ found → inside ≡ all.records → record_in token all.records ≡ option_map (pending_of token) found
 there token inside all o found is e view = ap (record_in token) (sym view) ∙ sym is ∙ ap (option_map (pending_of token)) e
-
--- whether two numbers are the same
-pub is_one : (x y : ℕ) → x ≡ y → (x == y) ≡ true
-is_one x y e = ap (λ n. n == y) e ∙ nat_eq_equiv.refl y
-
-pub is_other : (x y : ℕ) → (x ≡ y → ⊥) → (x == y) ≡ false
-is_other x y h = by (x == y) refl
-  where
-    by : (b : Bool) → (x == y) ≡ b → b ≡ false
-    by true e = absurd (h ((unsigned_Decides x y).0 e))
-    by false e = refl
 
 module _ (all : Pendings) (token uid : ℕ) where
   pub cancel_none : record_in token all.records ≡ None → cancel all token uid ≡ Err NoToken
@@ -47,10 +37,6 @@ module _ (all : Pendings) (token uid : ℕ) where
 pub gift : Pendings → ℕ → ℕ → Pending → Bool → Bool → Bool → Result Pendings PendingFault
 gift all uid to kept own has full = cond own (cond has (Ok all) (cond full (Err HoldersFull) (Ok (record all { records = map (with_holder kept.token to) all.records })))) (Err NotCreator)
 
-not_not : (b : Bool) (x y : Result Pendings PendingFault) → cond (not b) x y ≡ cond b y x
-not_not true x y = refl
-not_not false x y = refl
-
 module _ (all : Pendings) (token uid to : ℕ) where
   pub give_none : record_in token all.records ≡ None → give all token uid to ≡ Err NoToken
   unfolding give
@@ -59,7 +45,7 @@ module _ (all : Pendings) (token uid to : ℕ) where
   module _ (kept : Pending) (is : record_in token all.records ≡ Some kept) where
     pub give_is : give all token uid to ≡ gift all uid to kept (kept.creator == uid) (is_holder kept to) (nat_le 64 (length kept.holders))
     unfolding give gift
-    give_is = ap (given all uid to) is ∙ not_not (kept.creator == uid) (Err NotCreator) (cond (is_holder kept to) (Ok all) (cond (nat_le 64 (length kept.holders)) (Err HoldersFull) (Ok (record all { records = map (with_holder kept.token to) all.records }))))
+    give_is = ap (given all uid to) is ∙ cond_not (kept.creator == uid) (Err NotCreator) (cond (is_holder kept to) (Ok all) (cond (nat_le 64 (length kept.holders)) (Err HoldersFull) (Ok (record all { records = map (with_holder kept.token to) all.records }))))
 
     pub give_other : (kept.creator == uid) ≡ false → give all token uid to ≡ Err NotCreator
     unfolding gift
@@ -117,21 +103,12 @@ module _ (all : Pendings) (token uid : ℕ) (filled : Option Intent) where
     unfolding use_token
     use_own lends e l = ap (used all token uid filled) is ∙ ap (λ b. cond b (used_as kept (lent kept filled)) (Err NotHolder)) e ∙ ap (used_as kept) l
 
-filled_or_full : Bool → Intent → Result Intent FillFault
-filled_or_full b intent = cond b (Err fault.ExtrasFull) (Ok intent)
-
-not_full : (b : Bool) (intent : Intent) → (filled_or_full b intent ≡ Err fault.ExtrasFull → ⊥) → IsOk (filled_or_full b intent)
-unfolding filled_or_full
-not_full true intent h = absurd (h refl)
-not_full false intent h = refl
-
-wants_apart : (r : Result Intent FillFault) → r ≡ Err fault.NoMemory → r ≡ Err fault.ExtrasFull → ⊥
-wants_apart r e f = cc
-
 -- where memory is wanting for a fill-in, there is room for the extras
 pub wanting_fill : (kept other : Intent) (r : Result Intent FillFault) → r ≡ Err fault.NoMemory → (fill_in kept other ≡ Err fault.ExtrasFull → r ≡ Err fault.ExtrasFull) → IsOk (fill_in kept other)
-unfolding fill_in filled_or_full
-wanting_fill kept other r e back = not_full (nat_lt 64 (length (united_extras kept.extras other.extras))) (filled kept other) (λ f. wants_apart r e (back f))
+unfolding fill_in
+wanting_fill kept other r e back =
+    cond_both (nat_lt 64 (length (united_extras kept.extras other.extras))) (Err fault.ExtrasFull) (Ok (filled kept other)) IsOk
+    (λ full. let both : r ≡ Err fault.ExtrasFull = back (rw full refl) in absurd cc) (λ _. refl)
 
 -- what a mutable record lends
 pub lent_mutable : (kept : Pending) (o : Option Intent) (other : Intent) → o ≡ Some other → kept.mutable ≡ true → lent kept o ≡ fill_in kept.intent other

@@ -4,9 +4,10 @@ use Rattle.std.proofs.Common.{sym, ap, ◌∙◌, true≢false}
 use Rattle.std.specs.Hash as fed
 use Rattle.std.specs.Hash.DefaultHasher as sip
 use Rattle.std.specs.Int.Bits.{xor_assoc, xor_zero_r}
+use Rattle.std.proofs.lemmas.Map.Views.{any-filter_same}
 use Rattle.std.proofs.lemmas.Nat.{xor_comm}
 use Rattle.std.specs.List.{fold, list_all}
-use Rattle.std.specs.Cmp.{first_so, second_so}
+use Rattle.std.specs.Cmp.{both_ways, first_so, second_so}
 use Rattle.std.specs.Cmp.Lexicographic.{bytes_decides, nat_list_eq_equiv}
 use Rattle.am_model.specs.Texts.{is_same, lists}
 use Rattle.am_model.specs.Intents.{are_same_set}
@@ -42,21 +43,14 @@ without one texts = filter (λ text. not (is_same text one)) texts
 
 -- that one isn't listed any more
 self-gone : (one : List ℕ) (texts : List (List ℕ)) → lists (without one texts) one ≡ false
-self-gone one [] = refl
-self-gone one (text ∷ texts) = by (is_same text one) refl (self-gone one texts)
-  where
-    by : (b : Bool) → is_same text one ≡ b → lists (without one texts) one ≡ false → lists (cond (not b) (text ∷ without one texts) (without one texts)) one ≡ false
-    by true e rest = rest
-    by false e rest = ap (λ b. b || lists (without one texts) one) e ∙ rest
+self-gone one texts = any-filter_same (λ text. is_same text one) (λ text. not (is_same text one)) false (λ text e. ap not e) texts
 
 -- the others are
 others-stay : (one other : List ℕ) → is_same one other ≡ false → (texts : List (List ℕ)) → lists (without one texts) other ≡ lists texts other
-others-stay one other h [] = refl
-others-stay one other h (text ∷ texts) = by (is_same text one) refl (others-stay one other h texts)
+others-stay one other h texts = any-filter_same (λ text. is_same text other) (λ text. not (is_same text one)) true (λ text e. ap not (differs text (same_text text other e))) texts
   where
-    by : (b : Bool) → is_same text one ≡ b → lists (without one texts) other ≡ lists texts other → lists (cond (not b) (text ∷ without one texts) (without one texts)) other ≡ (is_same text other || lists texts other)
-    by true e rest = rest ∙ sym (ap (λ b. b || lists texts other) (ap (λ t. is_same t other) (same_text text one e) ∙ h))
-    by false e rest = ap (λ b. is_same text other || b) rest
+    differs : (text : List ℕ) → text ≡ other → is_same text one ≡ false
+    differs text is = ap (λ t. is_same t one) is ∙ nat_list_eq_equiv.symm other one ∙ h
 
 xor-swap : (a b c : ℕ) → bit_xor a (bit_xor b c) ≡ bit_xor b (bit_xor a c)
 xor-swap a b c = sym (xor_assoc a b c) ∙ ap (λ n. bit_xor n c) (xor_comm a b) ∙ xor_assoc b a c
@@ -149,14 +143,9 @@ lists-through (b ∷ bs) cs x h all =
     lists-step b bs cs x (is_same b x) refl h (first_so (lists cs b) (list_all (λ t. lists cs t) bs) all)
     (λ k. lists-through bs cs x k (second_so (lists cs b) (list_all (λ t. lists cs t) bs) all))
 
-both-ways : (b c : Bool) → (b ≡ true → c ≡ true) → (c ≡ true → b ≡ true) → b ≡ c
-both-ways true c h k = sym (h refl)
-both-ways false true h k = k refl
-both-ways false false h k = refl
-
 -- sets that are the same have the same members
 pub same_members : (texts others : List (List ℕ)) → are_same_set texts others ≡ true → SameMembers texts others
 same_members texts others h text =
-    both-ways (lists texts text) (lists others text)
+    both_ways (lists texts text) (lists others text)
     (λ k. lists-through texts others text k (first_so (list_all (λ t. lists others t) texts) (list_all (λ t. lists texts t) others) h))
     (λ k. lists-through others texts text k (second_so (list_all (λ t. lists others t) texts) (list_all (λ t. lists texts t) others) h))

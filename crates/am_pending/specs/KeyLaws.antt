@@ -1,9 +1,11 @@
 -- Sameness of keys is an equivalence, and the same keys are hashed alike.
-use Rattle.std.specs.Prelude.{◌≡◌, ℕ, Bool, true, false, ◌&&◌, ◌||◌, List, [], ◌∷◌, ◌++◌, Option, Some, None, refl}
+use Rattle.std.specs.Prelude.{◌≡◌, ℕ, Bool, true, false, Decides, List, [], ◌∷◌, ◌++◌, Option, Some, None, refl}
 use Rattle.std.specs.Prelude.{pos}
+use mathlib.Core.Bool.{and_comm}
 use Rattle.std.proofs.Common.{sym, ap, ◌∙◌, true≢false}
+use Rattle.std.proofs.lemmas.Bool.{and_from, or_right}
 use Rattle.std.specs.List.{list_all}
-use Rattle.std.specs.Cmp.{IsEquivalence, equiv, and_equiv, on_equiv, back_equiv, int_eq_equiv, nat_eq_equiv, unsigned_Decides, signed_Decides}
+use Rattle.std.specs.Cmp.{IsEquivalence, equiv, and_equiv, decided, on_equiv, back_equiv, int_eq_equiv, nat_eq_equiv, unsigned_Decides, signed_Decides}
 use Rattle.std.specs.Cmp.Lexicographic.{nat_list_eq_equiv}
 use Rattle.std.specs.Hash as fed
 use Rattle.am_types.specs.declared.intent.Intent.{Intent}
@@ -42,17 +44,6 @@ module _ {X : Type 0} {E : X → X → Bool} (e : IsEquivalence E) where
   pub agree_equiv : IsEquivalence (agree E)
   agree_equiv = record { refl = agree-refl; symm = agree-symm; congr = agree-congr }
 
--- a comparison that tells all that differs is an equivalence
-module _ {X : Type 0} {E : X → X → Bool} (own : (x : X) → E x x ≡ true) (tells : (x y : X) → E x y ≡ true → x ≡ y) where
-  turned : (x y : X) (b c : Bool) → E x y ≡ b → E y x ≡ c → b ≡ c
-  turned x y true true h k = refl
-  turned x y true false h k = sym (own y) ∙ ap (E y) (sym (tells x y h)) ∙ k
-  turned x y false true h k = sym h ∙ ap (E x) (tells y x k) ∙ own x
-  turned x y false false h k = refl
-
-  pub exact_equiv : IsEquivalence E
-  exact_equiv = record { refl = own; symm = λ x y. turned x y (E x y) (E y x) refl refl; congr = λ x y z h. ap (λ w. E w z) (tells x y h) }
-
 kind-own : (x : Kind) → is_kind x x ≡ true
 kind-own Activity = refl
 kind-own Service = refl
@@ -69,49 +60,33 @@ same_kind Receiver Activity h = absurd (true≢false (sym h))
 same_kind Receiver Service h = absurd (true≢false (sym h))
 same_kind Receiver Receiver h = refl
 
-truth-own : (x : Bool) → is_same_truth x x ≡ true
-truth-own true = refl
-truth-own false = refl
+kind_decides : (x y : Kind) → Decides (is_kind x y) (x ≡ y)
+kind_decides x y = (same_kind x y, λ e. ap (is_kind x) (sym e) ∙ kind-own x)
 
-same_truth : (x y : Bool) → is_same_truth x y ≡ true → x ≡ y
-same_truth true true h = refl
-same_truth true false h = absurd (true≢false (sym h))
-same_truth false true h = absurd (true≢false (sym h))
-same_truth false false h = refl
+truth_decides : (x y : Bool) → Decides (is_same_truth x y) (x ≡ y)
+truth_decides true y = (λ e. sym e, λ e. sym e)
+truth_decides false true = (λ e. e, λ e. e)
+truth_decides false false = (λ e. refl, λ e. refl)
 
 kind_equiv : IsEquivalence is_kind
-kind_equiv = exact_equiv kind-own same_kind
+kind_equiv = decided is_kind kind_decides
 
 truth_equiv : IsEquivalence is_same_truth
-truth_equiv = exact_equiv truth-own same_truth
-
-both : (s t : Bool) → s ≡ true → t ≡ true → (s && t) ≡ true
-both true t p q = q
-both false t p q = p
-
-or_second : (s t : Bool) → t ≡ true → (s || t) ≡ true
-or_second true t p = refl
-or_second false t p = p
-
-and-swap : (s t : Bool) → (s && t) ≡ (t && s)
-and-swap true true = refl
-and-swap true false = refl
-and-swap false true = refl
-and-swap false false = refl
+truth_equiv = decided is_same_truth truth_decides
 
 -- texts whose members are all listed elsewhere
 all-listed : (xs ys : List (List ℕ)) → ((t : List ℕ) → lists xs t ≡ true → lists ys t ≡ true) → list_all (λ t. lists ys t) xs ≡ true
 all-listed [] ys h = refl
-all-listed (x ∷ xs) ys h = both _ _ (h x (one-listed x xs)) (all-listed xs ys (λ t k. h t (or_second (is_same x t) (lists xs t) k)))
+all-listed (x ∷ xs) ys h = and_from _ _ (h x (one-listed x xs)) (all-listed xs ys (λ t k. h t (or_right (is_same x t) (lists xs t) k)))
 
 -- sets with the same members are the same
 same_set : (xs ys : List (List ℕ)) → SameMembers xs ys → are_same_set xs ys ≡ true
-same_set xs ys h = both _ _ (all-listed xs ys (λ t k. sym (h t) ∙ k)) (all-listed ys xs (λ t k. h t ∙ k))
+same_set xs ys h = and_from _ _ (all-listed xs ys (λ t k. sym (h t) ∙ k)) (all-listed ys xs (λ t k. h t ∙ k))
 
 set_equiv : IsEquivalence are_same_set
 set_equiv =
     equiv (record {
-      symm = λ a b. and-swap (list_all (λ t. lists b t) a) (list_all (λ t. lists a t) b);
+      symm = λ a b. and_comm (list_all (λ t. lists b t) a) (list_all (λ t. lists a t) b);
       trans = λ a b c h k. same_set a c (λ t. same_members a b h t ∙ same_members b c k t);
     })
     (λ a. same_set a a (λ t. refl))
@@ -205,12 +180,6 @@ text_alike = record { fed = λ x y h. ap fed.str (same_text x y h) }
 agree_alike : {X : Type 0} {E : X → X → Bool} {F : X → fed.HashWrites} → fed.Alike E F → fed.Alike (agree E) (fed.option F)
 agree_alike {E = E} {F = F} alike = record { fed = agree_fed E F alike.fed }
 
-kind_alike : fed.Alike is_kind kind_fed
-kind_alike = record { fed = λ x y h. ap kind_fed (same_kind x y h) }
-
-truth_alike : fed.Alike is_same_truth fed.bool
-truth_alike = record { fed = λ x y h. ap fed.bool (same_truth x y h) }
-
 set_alike : fed.Alike are_same_set set_fed
 set_alike = record { fed = λ x y h. ap fed.u64 (same_digest x y (same_members x y h)) }
 
@@ -229,11 +198,11 @@ key_alike : fed.Alike is_same_key fed_by
 key_alike =
     fed.and-Alike (fed.and-Alike (fed.and-Alike (fed.and-Alike (fed.and-Alike (fed.and-Alike
     (fed.on_Alike (λ (k : Key). k.creator) (fed.same_Alike fed.u32 unsigned_Decides))
-    (fed.on_Alike (λ (k : Key). k.kind) kind_alike))
+    (fed.on_Alike (λ (k : Key). k.kind) (fed.same_Alike kind_fed kind_decides)))
     (fed.on_Alike (λ (k : Key). k.code) (fed.same_Alike fed.i64 signed_Decides)))
-    (fed.on_Alike (λ (k : Key). k.one_shot) truth_alike))
-    (fed.on_Alike (λ (k : Key). k.immutable) truth_alike))
-    (fed.on_Alike (λ (k : Key). k.mutable) truth_alike))
+    (fed.on_Alike (λ (k : Key). k.one_shot) (fed.same_Alike fed.bool truth_decides)))
+    (fed.on_Alike (λ (k : Key). k.immutable) (fed.same_Alike fed.bool truth_decides)))
+    (fed.on_Alike (λ (k : Key). k.mutable) (fed.same_Alike fed.bool truth_decides)))
     (fed.on_Alike (λ (k : Key). k.intent) intent_alike)
 
 -- the same keys are hashed alike

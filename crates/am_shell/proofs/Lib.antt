@@ -1,6 +1,7 @@
 pub mod ClockLemmas
-pub mod FormedLemmas
 pub mod QuestionLemmas
+pub mod Ranges
 pub mod RunLemmas
 pub mod ServeLemmas
+pub mod ServingLemmas
 pub mod StoreLemmas

@@ -17,7 +17,8 @@ use Rattle.am_shell.specs.Clocks.{ServesOn}
 use Rattle.am_shell.specs.Kept.{IsOrigin, IsUnchanged, Leaves}
 use Rattle.am_shell.specs.Sessions.{sole_desk, link_of, Serves, Works}
 use Rattle.am_shell.specs.Outside.{StoreView, Streams, Workplace}
-use Rattle.am_shell.proofs.FormedLemmas.{IsFormed, all_formed}
+use Rattle.am_workers.specs.Serving.{IsFormed}
+use Rattle.am_workers.proofs.FormedLemmas.{all_formed}
 use Rattle.am_shell.proofs.StoreLemmas.{leaves_asked}
 
 -- the only desk of a manager
@@ -64,7 +65,7 @@ formed origin asked before after end s =
     (all_formed (opening_of origin) 0 s.desk.seen s.session.exchanges s.session.answers.answers)
 
 -- with the rows that the session has kept the device opens as the session left it
-found : (origin : Origin) (device : Device) (place : Option (List ℕ)) (history : List Entry) (old new : StoreView) → KeptIsFound → IsSound device
+pub found : (origin : Origin) (device : Device) (place : Option (List ℕ)) (history : List Entry) (old new : StoreView) → KeptIsFound → IsSound device
     → IsOrigin origin device place old → Leaves origin place history old new → All IsFormed history → IsTrue old.tells
     → (at : List ℕ) → place ≡ Some at → OpensAs device (new.rows at) (replay (opening_of origin) history)
 found origin device place history old new law sound begins left forms tells at is =

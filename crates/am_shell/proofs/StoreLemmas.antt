@@ -1,11 +1,10 @@
 -- What a keeper that comes back leaves in the store.
 use Rattle.std.proofs.Common.{◌≡◌, ◌≢◌, ℕ, ◌≤◌, Bool, true, false, if◌then◌else◌, IsTrue, List, Option, Some, None, refl, sym, ap, ◌∙◌, subst, arith, inl, inr}
-use Rattle.std.specs.Prelude.{is_some, count_by, unwrap_or}
+use Rattle.std.specs.Prelude.{is_some, count_by}
 use Rattle.std.specs.Cmp.Lexicographic.{nat_list_eq_equiv, same_text as same_bytes}
 use Rattle.std.proofs.lemmas.Bool.{cases_Bool}
 use Rattle.am_types.specs.declared.history.Entry.{Entry}
 use Rattle.am_keeper.specs.declared.rows.Rows.{Rows}
-use Rattle.am_keeper.specs.Rows.{no_rows}
 use Rattle.am_keeper.specs.Keeping.{same_text, raised_by, rows_after as rows_back}
 use Rattle.am_history.specs.Desks.{Origin, opening_of}
 use Rattle.am_found.specs.Found.{rows_after}

@@ -1,9 +1,11 @@
 pub mod Clocks
 pub mod Devices
+pub mod Drillings
 pub mod Fails
 pub mod Kept
 pub mod Lines
 pub mod Outside
 pub mod Questions
 pub mod Runs
+pub mod Servings
 pub mod Sessions

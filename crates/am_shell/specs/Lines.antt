@@ -40,10 +40,6 @@ usage_line = codes "am: usage\n"
 abbrev pub want_line : List ℕ
 want_line = codes "am: out of memory\n"
 
--- the line of a network that failed
-abbrev pub network_line : List ℕ
-network_line = codes "am: network fault\n"
-
 -- the line of a device file that has a fault
 abbrev pub refusal_line : ManifestFault → List ℕ
 refusal_line fault = codes "am: device refused: " ++ printed fault ++ codes "\n"

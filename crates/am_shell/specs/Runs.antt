@@ -10,16 +10,19 @@ use Rattle.am_http.specs.declared.end.End.{End}
 use Rattle.am_http.specs.declared.end.End.TheVariants.{Input, Close, Refused, Cut, Limit}
 use Rattle.am_http.specs.Links.{SourceView, SinkView, Moments}
 use Rattle.am_words.specs.Grammar.{read_command}
+use Rattle.am_workers.specs.Serving.{NetworkView}
 use Rattle.am_words.specs.declared.command.Command.{Command}
 use Rattle.am_words.specs.declared.command.Command.TheVariants.{Session, Serve, Drill, Visible}
 use Rattle.am_shell.specs.declared.setback.Setback.{Setback}
 use Rattle.am_shell.specs.declared.session.Asked.{Asked}
 use Rattle.am_shell.specs.Devices.{IsRefused, IsUnread}
+use Rattle.am_shell.specs.Drillings.{RunsDrill}
 use Rattle.am_shell.specs.Kept.{RefusesRows}
 use Rattle.am_shell.specs.Lines.{Tells, Voices, session_line, session_status, usage_line, want_line}
 use Rattle.am_shell.specs.Sessions.{Happens, Worked, Works, Unattached, Unopened}
 use Rattle.am_shell.specs.Outside.{Shelf, StoreView, Surroundings}
 use Rattle.am_shell.specs.Questions.{Booth, RunsQuestion}
+use Rattle.am_shell.specs.Servings.{Premises, RunsServing}
 
 -- how a session went, and that the errors and the status tell it
 pub record Went (asked : Asked) (before after : Surroundings) (status : ℕ) : Type 0 where
@@ -79,9 +82,10 @@ pub record World : Type 0 where
   pub input : SourceView
   pub output : SinkView
   pub clock : Moments
+  pub network : NetworkView
   pub errors : SinkView
 
--- what a session, a serving, a question and a drill have of it
+-- what a session, a drill, a question and a serving have of it
 abbrev pub for_session : World → Surroundings
 for_session w = record {
   outside = record {
@@ -100,6 +104,15 @@ for_drill w = record { output = w.output; errors = w.errors }
 abbrev pub for_question : World → Booth
 for_question w = record { desk = record { files = w.files; input = w.input }; voices = for_drill w }
 
+abbrev pub for_serving : World → Premises
+for_serving w = record {
+  grounds = record {
+    files = w.files;
+    site = record { store = w.store; network = w.network };
+  };
+  voices = for_drill w;
+}
+
 -- nothing was done but to tell a line on the errors, with its status
 pub record OnlyTells (line : List ℕ) (status : ℕ) (before after : World) (result : ℕ) : Type 0 where
   pub idle : after ≡ record before { errors = after.errors }
@@ -111,14 +124,20 @@ RunsCommand None before after status = OnlyTells usage_line 2 before after statu
 RunsCommand (Some (Session device store clock)) before after status =
     RunsSession (record { device = device; store = store; clock = clock })
     (for_session before) (for_session after) status
-RunsCommand (Some (Serve device port workers store most)) before after status =
-    OnlyTells usage_line 2 before after status
-RunsCommand (Some (Drill number packages requests)) before after status =
-    OnlyTells usage_line 2 before after status
+    × (after.network ≡ before.network)
+RunsCommand (Some (Serve device port workers store connections)) before after status =
+    RunsServing
+    (record { device = device; port = port; workers = workers; store = store; connections = connections })
+    (for_serving before) (for_serving after) status
+    × (after.input ≡ before.input) × (after.clock ≡ before.clock)
+RunsCommand (Some (Drill from packages requests)) before after status =
+    RunsDrill (record { from = from; packages = packages; requests = requests })
+    (for_drill before) (for_drill after) status
+    × (after ≡ record before { output = after.output; errors = after.errors })
 RunsCommand (Some (Visible device «package»)) before after status =
     RunsQuestion (record { device = device; «package» = «package» })
     (for_question before) (for_question after) status
-    × (after.store ≡ before.store) × (after.clock ≡ before.clock)
+    × (after.store ≡ before.store) × (after.clock ≡ before.clock) × (after.network ≡ before.network)
 
 -- a whole run: that of its command, or memory ran out while the words were read
 abbrev pub Runs : List (List ℕ) → World → World → ℕ → Type 0

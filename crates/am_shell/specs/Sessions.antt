@@ -1,5 +1,5 @@
 -- A session that words ask for, and what its end or a setback means.
-use Rattle.std.specs.Prelude.{◌≡◌, ℕ, List, [], Option, Some, None, Result, Ok, Err, IsTrue, ⊤}
+use Rattle.std.specs.Prelude.{◌≡◌, ℕ, List, [], Option, Some, Result, Ok, Err, IsTrue}
 use Rattle.am_types.specs.declared.device.Device.{Device}
 use Rattle.am_types.specs.declared.history.Entry.{Entry}
 use Rattle.am_outside.specs.Counts.{HasRisen}
@@ -19,7 +19,7 @@ use Rattle.am_shell.specs.declared.setback.Setback.TheVariants.{DeviceRefused, F
 use Rattle.am_shell.specs.Clocks.{left_of, timed, with_clock}
 use Rattle.am_shell.specs.Devices.{Describes, IsRefused, IsUnread}
 use Rattle.am_shell.specs.Kept.{IsOrigin, IsUnchanged, Leaves, RefusesRows}
-use Rattle.am_shell.specs.Outside.{Outside, StoreView, Streams, Workplace}
+use Rattle.am_shell.specs.Outside.{Outside, Streams, Workplace}
 
 -- the only desk of a manager of that origin, which has seen that history
 abbrev pub sole_desk : Origin → List Entry → DeskView

@@ -3,9 +3,11 @@
 #![tactic(auto)]
 
 mod device;
+mod drilling;
 mod kept;
 mod program;
 mod question;
+mod serving;
 mod session;
 mod setback;
 mod telling;

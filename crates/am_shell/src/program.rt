@@ -1,44 +1,63 @@
 //! The top call.
 ghost use Rattle.am_http.specs.Links.{source_of, sink_of};
+ghost use Rattle.am_workers.specs.Serving.{network_of};
 ghost use Rattle.am_shell.specs.Outside.{shelf_of, store_of};
 ghost use Rattle.am_shell.specs.Runs.{Runs};
 
+use crate::drilling::{Drilling, run_drill};
 use crate::question::{Question, run_question};
+use crate::serving::{Serving, run_serving};
 use crate::session::{Asked, run_session};
 use crate::telling::{tell, tell_want};
 use am_keeper::Store;
+use am_network::{Acceptor, Network};
 use am_outside::{Clock, Files, Sink, Source};
 use am_types::Text;
 use am_words::{Command, WordsFault, read_command};
 use std::alloc::Global;
+use std::sync::Wait;
+use std::thread::Threads;
 
 /// Runs the command that the words say.
 ///
 /// - A session, from the input to the output, over the device file and the rows that the store keeps at the place of the
-///   words; its moments are those of the clock that the words ask for, if they do, else those of the clock that is
-///   handed in.
-/// - A serving: as many workers as the words say serve the links of the network, over the device file and the kept rows.
-///   It ends when each gate has ended, or has handed out as many links as the words say, and prints how long the history
-///   is and how many links were served.
-/// - A drill in memory, whose counts it prints.
-/// - What a package sees of the components that a query on the input finds, which it prints.
+///   words, to which its keeper is handed back at the end.
+///   Its moments are those of the clock that the words ask for, if they do, else those of the clock that is handed in.
+/// - What a package sees, of the device file with the queries of its packages, of the components that a query finds. The
+///   query is read from the input, to its end or to one byte more than a body may have.
+///   The line that answers it is printed on the output.
+/// - A serving: as many workers as the words say, each in a thread of its own if there are threads, serve the links of as
+///   many gates of the network, over the device file and the rows that the store keeps at the place of the words, to which
+///   its keeper is handed back at the end. Each worker ends when no link is to come, its gate fails, or it has served as
+///   many links as the words say. Then the length of the history and the number of links served are printed on the
+///   output. It waits for the links of the network.
+/// - A drill: as many generated requests as the words say, on a generated device, in memory. What is counted of their
+///   replies is printed on the output.
 ///
 /// Its status is 0 where the work ended well, 1 where a session ended at a refused or a cut frame or at the limit, 2 for
-/// words that say no command, 3 for a refused device file, 4, 5 and 6 for a fault of the files, of the input and of the
-/// output or the errors, 7 for a fault of the store, 8 for want of memory before the first frame, or in a drill or a
-/// question at any time, 9 for a fault of the network or of a gate, 10 for a kept row that is refused, 11 for a question
-/// that is no query, and 12 for a package that the device doesn't have. Each but 0 has its line on the errors. It waits
-/// for the links of the network.
-pub fn run<F: Files, S: Source, W: Sink, E: Sink, T: Store, C: Clock>(
+/// words that say no command, 3 for a refused device file, 4, 5 and 6 for a fault of the files, of the input and
+/// of the output or the errors, 7 for a fault of the store, 8 for want of memory, in a session and a serving before the
+/// first frame alone, 9 for a fault of the network or of one of its gates, 10 for a kept row that is refused, 11 for a
+/// question that is no query, and 12 for a package that the device doesn't have.
+/// Each but 0 has its line on the errors.
+pub fn run<R, F: Files, S: Source, W: Sink, E: Sink, N: Network, T: Store, C: Clock>(
+    rt: &R,
     alloc: Global,
     words: &[Text],
     files: &mut F,
     input: &mut S,
     output: &mut W,
     errors: &mut E,
+    network: &mut N,
     store: &mut T,
     clock: &mut C,
 ) -> u8
+where
+    R: Threads + Wait + Clone + Drop + Send + Sync,
+    N::Gate: Send,
+    <N::Gate as Acceptor>::Reader: Send,
+    <N::Gate as Acceptor>::Writer: Send,
+    T::Kept: Send,
     ensures { Runs words.now
         (record {
           files = shelf_of F.Files files.old;
@@ -46,6 +65,7 @@ pub fn run<F: Files, S: Source, W: Sink, E: Sink, T: Store, C: Clock>(
           input = source_of S.Source input.old;
           output = sink_of W.Sink output.old;
           clock = C.moments clock.old;
+          network = network_of N.Network network.old;
           errors = sink_of E.Sink errors.old;
         })
         (record {
@@ -54,6 +74,7 @@ pub fn run<F: Files, S: Source, W: Sink, E: Sink, T: Store, C: Clock>(
           input = source_of S.Source input.new;
           output = sink_of W.Sink output.new;
           clock = C.moments clock.new;
+          network = network_of N.Network network.new;
           errors = sink_of E.Sink errors.new;
         })
         result }
@@ -73,11 +94,45 @@ pub fn run<F: Files, S: Source, W: Sink, E: Sink, T: Store, C: Clock>(
             };
             run_session(alloc, asked, files, input, output, errors, store, clock)
         }
+        Ok(
+            Command::Serve {
+                device,
+                port,
+                workers,
+                store: place,
+                connections,
+            },
+        ) => {
+            let asked = Serving {
+                device,
+                port,
+                workers,
+                store: place,
+                connections,
+            };
+            run_serving(
+                rt, alloc, asked, files, output, errors, network, store, clock,
+            )
+        }
+        Ok(
+            Command::Drill {
+                from,
+                packages,
+                requests,
+            },
+        ) => {
+            let asked = Drilling {
+                from,
+                packages,
+                requests,
+            };
+            run_drill(alloc, asked, output, errors)
+        }
         Ok(Command::Visible { device, package }) => {
             let asked = Question { device, package };
             run_question(alloc, asked, files, input, output, errors)
         }
-        Ok(_) | Err(WordsFault::Usage) => tell("am: usage\n", 2, errors),
+        Err(WordsFault::Usage) => tell("am: usage\n", 2, errors),
         Err(WordsFault::NoMemory) => tell_want(errors),
     }
 }

@@ -2,6 +2,8 @@
 //! tell nothing of the rows.
 #![tactic(auto)]
 
+mod keeper;
 mod store;
 
+pub use keeper::FileKeeper;
 pub use store::SqlStore;

@@ -1,8 +1,9 @@
 //! The rows that are kept, in databases.
 ghost use Rattle.std.specs.Prelude.{◌≡◌};
 
+use crate::keeper::FileKeeper;
 use am_keeper::{Attached, KeepFail, Store};
-use am_keeper_sql::{SqlKeeper, attach_sql};
+use am_keeper_sql::attach_sql;
 use am_types::Text;
 use std::alloc::Global;
 
@@ -32,7 +33,7 @@ impl Store for SqlStore {
     ghost use Rattle.std.proofs.lemmas.Bool.{false≢true};
     ghost use Rattle.am_keeper.specs.Rows.{no_rows};
 
-    type Kept = SqlKeeper;
+    type Kept = FileKeeper;
 
     ghost tells = { λ s. false };
 
@@ -44,15 +45,23 @@ impl Store for SqlStore {
 
     ghost keeper_faults = { λ s. s.keeper_faults };
 
-    fn attach(&mut self, path: Option<&Text>) -> Result<Attached<SqlKeeper>, KeepFail> {
-        let attached = attach_sql(&self.rt, self.alloc, path);
-        if let Err(KeepFail::Failed) = attached {
-            self.failed_attaches = self.failed_attaches.saturating_add(1);
+    fn attach(&mut self, path: Option<&Text>) -> Result<Attached<FileKeeper>, KeepFail> {
+        match attach_sql(&self.rt, self.alloc, path) {
+            Ok(Attached { keeper, rows }) => Ok(Attached {
+                keeper: FileKeeper { keeper },
+                rows,
+            }),
+            Err(fail) => {
+                if let KeepFail::Failed = fail {
+                    self.failed_attaches = self.failed_attaches.saturating_add(1);
+                }
+                Err(fail)
+            }
         }
-        attached
     }
 
-    fn detach(&mut self, keeper: SqlKeeper) {
+    fn detach(&mut self, keeper: FileKeeper) {
+        let FileKeeper { keeper } = keeper;
         self.keeper_faults = self.keeper_faults.saturating_add(keeper.faults());
         // Where the close fails, the log beside the file has the rows that the file lacks.
         let _closed = keeper.close();

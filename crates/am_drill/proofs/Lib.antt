@@ -1,0 +1,11 @@
+pub mod AfterDraws
+pub mod Lines
+pub mod Decimals
+pub mod Soundness
+pub mod ShortBodies
+pub mod PlainRequests
+pub mod OneCall
+pub mod CallsMade
+pub mod Running
+pub mod Beginning
+pub mod Managers

@@ -1,0 +1,9 @@
+pub mod Draws
+pub mod Devices
+pub mod Requests
+pub mod Bodies
+pub mod Calls
+pub mod Desks
+pub mod Drills
+pub mod Beginnings
+pub mod Tallies

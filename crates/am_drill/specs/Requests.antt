@@ -1,0 +1,59 @@
+-- The generated requests.
+use Rattle.std.specs.Prelude.{ℕ, ◌==◌, pos, true, false, List, [], Some, None, if◌then◌else◌}
+use Rattle.am_types.specs.declared.broadcast.Ordered.{Ordered}
+use Rattle.am_types.specs.declared.intent.Flags.{Flags}
+use Rattle.am_types.specs.declared.intent.Intent.{Intent}
+use Rattle.am_types.specs.declared.manifest.Kind.TheVariants.{Activity}
+use Rattle.am_types.specs.declared.request.Request.{Request}
+use Rattle.am_types.specs.declared.request.Request.TheVariants as asks
+use Rattle.am_drill.specs.Draws.{draw}
+use Rattle.am_drill.specs.Devices.{activity_action, broadcast_action}
+
+-- no flag at all
+abbrev pub no_flags : Flags
+no_flags = record {
+  new_task = false;
+  multiple_task = false;
+  clear_task = false;
+  clear_top = false;
+  single_top = false;
+  reorder_to_front = false;
+  registered_only = false;
+  foreground = false;
+  no_abort = false;
+  include_stopped = false;
+}
+
+-- NEW_TASK alone
+abbrev pub new_task : Flags
+new_task = record no_flags { new_task = true }
+
+-- an intent of an action and flags alone
+abbrev pub acting : List ℕ → Flags → Intent
+acting action flags = record {
+  action = Some action;
+  uri = None;
+  mime = None;
+  identifier = None;
+  categories = [];
+  «package» = None;
+  component = None;
+  flags = flags;
+  extras = [];
+}
+
+-- in order, with the outcome that a broadcast has where none is named, whose result nobody wants
+abbrev pub in_order : Ordered
+in_order = record { initial = record { code = pos 0; text = None; extras = [] }; wanted = false }
+
+-- the request of a case: a query, a start, an ordered broadcast, or a tick; each but the tick takes a draw for its action
+unfoldable pub request_of : ℕ → ℕ → Request
+request_of case state =
+    if case == 0 then asks.Query Activity (acting (activity_action (draw 0 8 state)) no_flags) false
+    else if case == 1 then asks.Start (acting (activity_action (draw 0 8 state)) new_task) None
+    else if case == 2 then asks.Send (acting (broadcast_action (draw 0 4 state)) no_flags) None (Some in_order)
+    else asks.Tick
+
+-- the draws of a case
+abbrev pub draws_of : ℕ → ℕ
+draws_of case = if case == 3 then 0 else 1

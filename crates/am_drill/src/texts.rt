@@ -1,0 +1,20 @@
+//! The texts of generated names, keys and actions.
+ghost use Rattle.std.specs.Prelude.{◌≡◌, ◌++◌, codes, decimal, IfOk};
+
+use am_types::{NoMemory, Text};
+use std::alloc::Global;
+
+/// That text with a number behind it.
+pub(crate) fn numbered(alloc: Global, text: &str, number: u32) -> Result<Text, NoMemory>
+    ensures { IfOk result (λ made. made ≡ text.now ++ decimal number) }
+{
+    Ok(Text::new(format!(in alloc; "{text}{number}")?))
+}
+
+/// That text with another one behind it.
+pub(crate) fn joined(alloc: Global, text: &Text, end: &str) -> Result<Text, NoMemory>
+    ensures { IfOk result (λ made. made ≡ text.now ++ end.now) }
+{
+    let text = text.as_str();
+    Ok(Text::new(format!(in alloc; "{text}{end}")?))
+}

@@ -1,0 +1,147 @@
+-- What a serving is, and how it is told.
+use Rattle.std.proofs.Common.{◌≡◌, ℕ, List, [], ◌++◌, length, Option, Some, None, Result, Ok, Err, IsTrue, refl, sym, ap, ◌∙◌, subst, inl, inr, arith, append_assoc, length-append}
+use Rattle.std.specs.Prelude.{All}
+use Rattle.am_types.specs.declared.device.Device.{Device}
+use Rattle.am_types.specs.declared.history.Entry.{Entry}
+use Rattle.am_model.specs.Sound.{IsSound}
+use Rattle.std.specs.Io.KnownBytes.{Appends}
+use Rattle.am_outside.specs.declared.failure.Failed.{Failed}
+use Rattle.am_outside.specs.Counts.{HasRisen}
+use Rattle.am_network.specs.declared.network.ListenFail.{ListenFail}
+use Rattle.am_network.specs.declared.network.ListenFail.TheVariants as listens
+use Rattle.am_network.specs.Links.{Listening, listening_at}
+use Rattle.am_history.specs.Desks.{Origin}
+use Rattle.am_found.specs.Laws.{KeptIsFound}
+use Rattle.am_machine.specs.Managed as machine
+use Rattle.am_workers.specs.Serving.{Ended, IsFormed, MayReleaseAll, NetworkView, ServesAll}
+use Rattle.am_shell.specs.declared.serving.Done.{Done}
+use Rattle.am_shell.specs.declared.serving.Serving.{Serving}
+use Rattle.am_shell.specs.declared.serving.Unserved.{Unserved}
+use Rattle.am_shell.specs.declared.serving.Unserved.TheVariants as unserved
+use Rattle.am_http.specs.Sending.{Sends, WritesPart}
+use Rattle.am_http.proofs.SendLemmas.{appends_trans}
+use Rattle.am_shell.specs.Fails.{unserved_of}
+use Rattle.am_shell.specs.Kept.{IsOrigin, IsUnchanged, Leaves}
+use Rattle.am_shell.specs.Outside.{StoreView}
+use Rattle.am_shell.specs.Lines.{Tells}
+use Rattle.am_shell.specs.Servings.{FailsToServe, Happens, IsLeft, Premises, RunsServing, Site, Works, listened, network_line}
+use Rattle.am_shell.proofs.ServeLemmas.{found}
+use Rattle.am_shell.proofs.StoreLemmas.{leaves_asked}
+
+-- as many gates may be released as were answered
+pub may_release : (told now : Option Listening) (port gates count : ℕ) → now ≡ listening_at told port gates → count ≡ gates → MayReleaseAll now count
+may_release None now port gates count is all =
+    let P : Option Listening → Type 0 = λ (l : Option Listening). MayReleaseAll l count in
+    subst P (sym is) tt
+may_release (Some before) now port gates count is all =
+    let P : Option Listening → Type 0 = λ (l : Option Listening). MayReleaseAll l count in
+    subst P (sym is) (omega (arith, all))
+
+-- the network as it listened
+listened_so : (before mid after : NetworkView) (port gates : ℕ) → mid.listening ≡ listening_at before.listening port gates → mid.gate_faults ≡ before.gate_faults
+    → after.faults ≡ mid.faults → mid ≡ listened before port gates after.faults
+listened_so before mid after port gates told gate_faults faults =
+    ap (λ l. record { listening = l; faults = mid.faults; gate_faults = mid.gate_faults }) told
+    ∙ ap (λ n. record { listening = listening_at before.listening port gates; faults = n; gate_faults = mid.gate_faults }) (sym faults)
+    ∙ ap (λ n. record { listening = listening_at before.listening port gates; faults = after.faults; gate_faults = n }) gate_faults
+
+-- a serving that ended
+pub works_serving : {K : Type 0} (asked : Serving) (device : Device) (before after : Site) (now : StoreView) (mid : NetworkView) (done : Done) (place : Option (List ℕ))
+    (count : ℕ) (manager out : machine.Managed K) → KeptIsFound → IsSound device → place ≡ asked.store → count ≡ asked.workers
+    → IsOrigin manager.origin device place before.store → manager.history ≡ [] → IsUnchanged before.store now
+    → mid.listening ≡ listening_at before.network.listening asked.port asked.workers → mid.gate_faults ≡ before.network.gate_faults
+    → ServesAll asked.connections count (record { origin = manager.origin; history = manager.history }) (record { history = out.history; tally = done.tally }) mid after.network
+    → out.origin ≡ manager.origin → Leaves out.origin out.origin.place out.history now after.store → done.history ≡ length out.history → Works asked device before after done
+works_serving {K} asked device before after now mid done place count manager out law sound asks many begun fresh same told gate_faults served one left counted =
+    let begins : IsOrigin manager.origin device asked.store before.store =
+    subst (λ (p : Option (List ℕ)). IsOrigin manager.origin device p before.store) asks begun in
+    let ended : Ended = record { history = out.history; tally = done.tally } in
+    let whole : ServesAll asked.connections asked.workers (record { origin = manager.origin; history = [] }) ended mid after.network =
+    subst (λ (n : ℕ). ServesAll asked.connections n (record { origin = manager.origin; history = [] }) ended mid after.network) many
+    (subst (λ (h : List Entry). ServesAll asked.connections count (record { origin = manager.origin; history = h }) ended mid after.network) fresh served) in
+    let there : ServesAll asked.connections asked.workers (record { origin = manager.origin; history = [] }) ended
+    (listened before.network asked.port asked.workers after.network.faults) after.network =
+    subst (λ (n : NetworkView). ServesAll asked.connections asked.workers (record { origin = manager.origin; history = [] }) ended n after.network)
+    (listened_so before.network mid after.network asked.port asked.workers told gate_faults whole.faults) whole in
+    let kept : Leaves manager.origin asked.store out.history before.store after.store =
+    leaves_asked manager.origin asked.store out.history before.store now after.store same begins.at_place
+    (subst (λ (o : Origin). Leaves o o.place out.history now after.store) one left) in
+    record {
+      origin = manager.origin;
+      ended = ended;
+      begins = begins;
+      serves = there;
+      store = kept;
+      found = found manager.origin device asked.store out.history before.store after.store law sound begins kept
+          (subst (All IsFormed) (sym whole.numbered.1) whole.formed);
+      length = counted;
+      tally = refl;
+    }
+
+-- the store has attached the place of the keeper that comes back
+pub attached_again : {K : Type 0} (old now : StoreView) (place : Option (List ℕ)) (Attached : List ℕ → Type 0) (manager out : machine.Managed K)
+    → (IsTrue old.tells → (at : List ℕ) → place ≡ Some at → Attached at) → IsUnchanged old now → (IsTrue old.tells → manager.origin.place ≡ place)
+    → out.origin ≡ manager.origin → IsTrue now.tells → (at : List ℕ) → out.origin.place ≡ Some at → Attached at
+attached_again {K} old now place Attached manager out attached same at_place one tells at stands =
+    let told : IsTrue old.tells = sym same.tells ∙ tells in
+    attached told at (sym (at_place told) ∙ (sym (ap (λ (o : Origin). o.place) one) ∙ stands))
+
+-- a keeper that comes back without a call leaves the rows
+pub left_again : {K : Type 0} (asked : Serving) (device : Device) (before now after : StoreView) (place : Option (List ℕ)) (manager : machine.Managed K)
+    → place ≡ asked.store → IsOrigin manager.origin device place before → manager.history ≡ [] → IsUnchanged before now
+    → Leaves manager.origin manager.origin.place manager.history now after → IsLeft asked device before after
+left_again {K} asked device before now after place manager asks begun fresh same left =
+    let begins : IsOrigin manager.origin device asked.store before =
+    subst (λ (p : Option (List ℕ)). IsOrigin manager.origin device p before) asks begun in
+    record {
+      origin = manager.origin;
+      begins = begins;
+      store = leaves_asked manager.origin asked.store [] before now after same begins.at_place
+          (subst (λ (h : List Entry). Leaves manager.origin manager.origin.place h now after) fresh left);
+    }
+
+-- why a serving didn't begin, where the network didn't listen
+pub unheard : (fail : ListenFail) (why : Unserved) (asked : Serving) (device : Device) (before after : Site) → why ≡ unserved_of fail
+    → (fail ≡ listens.Failed → HasRisen before.network.faults after.network.faults) → IsLeft asked device before.store after.store
+    → FailsToServe why asked device before after
+unheard listens.Failed why asked device before after is risen left =
+    let P : Unserved → Type 0 = λ (w : Unserved). FailsToServe w asked device before after in
+    subst P (sym is) (risen refl, left)
+unheard listens.NoMemory why asked device before after is risen left =
+    let P : Unserved → Type 0 = λ (w : Unserved). FailsToServe w asked device before after in
+    subst P (sym is) (record { fails = tt; store = inr left; network = inl refl })
+
+-- a part of what comes first is a part of the whole
+pub cut : (old new : Option (List ℕ)) (xs ys : List ℕ) → WritesPart old new xs → WritesPart old new (xs ++ ys)
+cut old new xs ys part = (
+  part.0,
+  part.1 ++ ys,
+  ap (λ l. l ++ ys) part.2 ∙ append_assoc part.0 part.1 ys,
+  (let some_left = part.3 in omega (arith, some_left, length-append part.1 ys)),
+  part.4,
+)
+
+-- what came first whole, and a part of what is behind it
+pub behind : (old mid new : Option (List ℕ)) (xs ys : List ℕ) → Appends old mid xs → WritesPart mid new ys → WritesPart old new (xs ++ ys)
+behind old mid new xs ys first part = (
+  xs ++ part.0,
+  part.1,
+  ap (λ l. xs ++ l) part.2 ∙ sym (append_assoc xs part.0 part.1),
+  part.3,
+  appends_trans old mid new xs part.0 first part.4,
+)
+
+-- a piece that was sent behind what came first whole
+pub sends_behind : (old mid new : Option (List ℕ)) (xs ys : List ℕ) (result : Result (Unit {0}) Failed) → Appends old mid xs → Sends mid new ys result → Sends old new (xs ++ ys) result
+sends_behind old mid new xs ys (Ok done) first sent = appends_trans old mid new xs ys first sent
+sends_behind old mid new xs ys (Err e) first sent = behind old mid new xs ys first sent
+
+-- a serving whose network didn't listen
+pub network_failed : (why : Unserved) (asked : Serving) (before after : Premises) (status : ℕ) → why ≡ unserved.NetworkFault → Happens (Err why) asked before.grounds after.grounds
+    → after.voices.output ≡ before.voices.output → Tells network_line 9 before.voices.errors after.voices.errors status → RunsServing asked before after status
+network_failed why asked before after status is happened quiet told =
+    record {
+      work = Err unserved.NetworkFault;
+      happened = subst (λ (w : Unserved). Happens (Err w) asked before.grounds after.grounds) is happened;
+      told = (quiet, told);
+    }

@@ -1,0 +1,134 @@
+-- A serving that words ask for: a device that many workers serve over a network.
+use Rattle.std.specs.Prelude.{◌≡◌, ℕ, ◌≤◌, ◌⊎◌, codes, decimal, List, [], ◌++◌, length, Some, IfSome, Result, Ok, Err, Bool, IsTrue, true, false}
+use Rattle.am_types.specs.declared.device.Device.{Device}
+use Rattle.am_outside.specs.Counts.{HasRisen}
+use Rattle.am_network.specs.Links.{listening_at}
+use Rattle.am_history.specs.Desks.{Origin, opening_of}
+use Rattle.am_history.specs.History.{replay}
+use Rattle.am_found.specs.Found.{OpensAs}
+use Rattle.am_manifest.specs.Devices.{device_of}
+use Rattle.am_workers.specs.Serving.{Ended, NetworkView, ServesAll}
+use Rattle.am_shell.specs.declared.serving.Done.{Done}
+use Rattle.am_shell.specs.declared.serving.Serving.{Serving}
+use Rattle.am_shell.specs.declared.setback.Setback.{Setback}
+use Rattle.am_shell.specs.declared.setback.Setback.TheVariants.{NoMemory}
+use Rattle.am_shell.specs.declared.serving.Unserved.{Unserved}
+use Rattle.am_shell.specs.declared.serving.Unserved.TheVariants as unserved
+use Rattle.am_shell.specs.Devices.{Describes, FailsToOpen}
+use Rattle.am_shell.specs.Kept.{FailsToOpenRows, IsOrigin, IsUnchanged, Leaves}
+use Rattle.am_shell.specs.Lines.{Prints, Tells, Voices, line_of, status_of}
+use Rattle.am_shell.specs.Outside.{Shelf, StoreView}
+
+-- the numbers that words ask for lie in their ranges
+abbrev pub IsInRange : Serving → Type 0
+IsInRange asked = (1 ≤ asked.workers) × (asked.workers ≤ 64) × IfSome asked.connections (λ most. 1 ≤ most)
+
+-- what a serving works on: the store of the kept rows, and the network
+pub record Site : Type 0 where
+  pub store : StoreView
+  pub network : NetworkView
+
+-- what it is opened from, and works on
+pub record Grounds : Type 0 where
+  pub files : Shelf
+  pub site : Site
+
+-- the outside of a whole serving: that, and what it is told on
+pub record Premises : Type 0 where
+  pub grounds : Grounds
+  pub voices : Voices
+
+-- the network once it answered that many gates at a port, with that count of faults
+abbrev pub listened : NetworkView → ℕ → ℕ → ℕ → NetworkView
+listened network port gates faults = record {
+  listening = listening_at network.listening port gates;
+  faults = faults;
+  gate_faults = network.gate_faults;
+}
+
+-- the serving that is asked for, of that device: it begins with the rows that were kept, and an empty history; its
+-- workers serve it over the network, which listened as was asked for; and it leaves the rows that its history has kept.
+-- With these the device opens as the serving left it. What is told of it are the history's length and what the workers did
+pub record Works (asked : Serving) (device : Device) (before after : Site) (done : Done) : Type 0 where
+  pub origin : Origin
+  pub ended : Ended
+  pub begins : IsOrigin origin device asked.store before.store
+  pub serves : ServesAll asked.connections asked.workers (record { origin = origin; history = [] }) ended
+      (listened before.network asked.port asked.workers after.network.faults) after.network
+  pub store : Leaves origin asked.store ended.history before.store after.store
+  pub found : IsTrue before.store.tells → (at : List ℕ) → asked.store ≡ Some at
+      → OpensAs device (after.store.rows at) (replay (opening_of origin) ended.history)
+  pub length : done.history ≡ length ended.history
+  pub tally : done.tally ≡ ended.tally
+
+-- a manager began with the rows that were kept, and its keeper came back with these rows
+pub record IsLeft (asked : Serving) (device : Device) (before after : StoreView) : Type 0 where
+  pub origin : Origin
+  pub begins : IsOrigin origin device asked.store before
+  pub store : Leaves origin asked.store [] before after
+
+-- no manager began, or memory ran out; the rows stay, and nothing was asked of the network unless memory ran out
+pub record IsUnbegun (setback : Setback) (asked : Serving) (device : Device) (before after : Site) : Type 0 where
+  pub fails : FailsToOpenRows setback device asked.store before.store after.store
+  pub store : IsUnchanged before.store after.store ⊎ IsLeft asked device before.store after.store
+  pub network : (setback ≡ NoMemory) ⊎ (after.network ≡ before.network)
+
+-- why a serving that is asked for, of that device, didn't begin
+abbrev pub FailsToServe : Unserved → Serving → Device → Site → Site → Type 0
+FailsToServe (unserved.Setback setback) asked device before after = IsUnbegun setback asked device before after
+FailsToServe unserved.NetworkFault asked device before after =
+    HasRisen before.network.faults after.network.faults × IsLeft asked device before.store after.store
+
+-- the serving that is asked for, of that device, or why it didn't begin
+abbrev pub ServesOr : Result Done Unserved → Serving → Device → Site → Site → Type 0
+ServesOr (Ok done) asked device before after = Works asked device before after done
+ServesOr (Err why) asked device before after = FailsToServe why asked device before after
+
+-- the serving that is asked for, of the device that its file describes, or why it didn't begin
+pub record ServesFile (work : Result Done Unserved) (asked : Serving) (before after : Grounds) : Type 0 where
+  pub device : Device
+  pub file : Describes before.files.files asked.device (Ok device)
+  pub serves : ServesOr work asked device before.site after.site
+
+-- the device file describes no device, or memory ran out as it was read, and nothing else was done
+pub record LacksDevice (work : Result Done Unserved) (asked : Serving) (before after : Grounds) : Type 0 where
+  pub setback : Setback
+  pub is : work ≡ Err (unserved.Setback setback)
+  pub fails : FailsToOpen setback device_of asked.device before.files after.files
+  pub site : after.site ≡ before.site
+
+-- how a serving that is asked for went
+abbrev pub Happens : Result Done Unserved → Serving → Grounds → Grounds → Type 0
+Happens work asked before after = ServesFile work asked before after ⊎ LacksDevice work asked before after
+
+-- the line of a serving that ended: how long its history is, and how many links were served
+abbrev pub done_line : Done → List ℕ
+done_line done =
+    codes "history " ++ (decimal done.history ++ (codes " served " ++ (decimal done.tally.served ++ codes "\n")))
+
+-- the line of a network that failed
+abbrev pub network_line : List ℕ
+network_line = codes "am: network fault\n"
+
+-- a line was told on the errors, with its status, and the output took nothing
+abbrev pub OnlyTold : List ℕ → ℕ → Voices → Voices → ℕ → Type 0
+OnlyTold line code before after status =
+    (after.output ≡ before.output) × Tells line code before.errors after.errors status
+
+-- how a serving that ended is told: its line is printed, unless a gate failed
+abbrev pub TellsDone : Bool → Done → Voices → Voices → ℕ → Type 0
+TellsDone true done before after status = OnlyTold network_line 9 before after status
+TellsDone false done before after status = Prints (done_line done) before after status
+
+-- how a serving is told, on the output and the errors and by the status
+abbrev pub TellsServing : Result Done Unserved → Voices → Voices → ℕ → Type 0
+TellsServing (Ok done) before after status = TellsDone done.tally.failed done before after status
+TellsServing (Err (unserved.Setback setback)) before after status =
+    OnlyTold (line_of setback) (status_of setback) before after status
+TellsServing (Err unserved.NetworkFault) before after status = OnlyTold network_line 9 before after status
+
+-- a run of a serving that is asked for: how it went, and that the output, the errors and the status tell it
+pub record RunsServing (asked : Serving) (before after : Premises) (status : ℕ) : Type 0 where
+  pub work : Result Done Unserved
+  pub happened : Happens work asked before.grounds after.grounds
+  pub told : TellsServing work before.voices after.voices status

@@ -1,0 +1,164 @@
+//! The tables `queries` of device files: their values, and their first faults.
+
+mod documents;
+
+use self::documents::{ASKING, FILES, TABLES};
+use am_manifest::read_device;
+use am_queries::read_queries;
+use am_types::{List, Queries, Signature, Text};
+use std::alloc::{AllocError, Global};
+use std::test::Fail;
+
+/// The printed fault, or `read`.
+fn outcome(alloc: Global, document: &str) -> Result<String, AllocError> {
+    match read_queries(alloc, document.as_bytes()) {
+        Ok(_) => String::from_str(alloc, "read"),
+        Err(fault) => fault.to_string(alloc),
+    }
+}
+
+/// Adds the line, with `<3:a>` spelled out.
+fn push_line(all: &mut String, line: &str) -> Result<(), Fail> {
+    let Some((front, behind)) = line.split_once('<') else {
+        all.push_str(line)?;
+        return Ok(());
+    };
+    let (count, behind) = behind.split_once(':').ok_or("a count")?;
+    let (part, behind) = behind.split_once('>').ok_or("a part")?;
+    all.push_str(front)?;
+    push_often(all, count.parse::<usize>().unwrap_or(0), part)?;
+    all.push_str(behind)?;
+    Ok(())
+}
+
+fn push_often(all: &mut String, count: usize, part: &str) -> Result<(), AllocError> {
+    for _ in 0..count {
+        all.push_str(part)?;
+    }
+    Ok(())
+}
+
+/// The device file of one package whose manifest has that table `queries`.
+fn device_with(alloc: Global, queries: &str) -> Result<String, Fail> {
+    let mut all = String::from_str(alloc, "system_key = \"s\"\npackage = [{ key = \"k\", ")?;
+    all.push_str("manifest = { package = \"p\", queries = ")?;
+    push_line(&mut all, queries)?;
+    all.push_str(" } }]\n")?;
+    Ok(all)
+}
+
+#[test]
+fn tables_are_read_or_have_a_first_fault(rt: HostRuntime) -> Result<(), Fail> {
+    let alloc = rt.alloc();
+    for line in TABLES.lines() {
+        let (queries, wanted) = line.split_once(" => ").unwrap_or((line, "no row"));
+        let document = device_with(alloc, queries)?;
+        assert_eq!(rt;
+            outcome(alloc, document.as_str())?.as_str(),
+            wanted,
+            "{line}"
+        );
+    }
+    assert_eq!(rt; TABLES.lines().count(), 109);
+    Ok(())
+}
+
+#[test]
+fn a_device_is_read_without_its_queries(rt: HostRuntime) -> Result<(), Fail> {
+    let alloc = rt.alloc();
+    for line in TABLES.lines().filter(|line| !line.ends_with("not_toml")) {
+        let (queries, _) = line.split_once(" => ").unwrap_or((line, ""));
+        let document = device_with(alloc, queries)?;
+        assert!(rt; read_device(alloc, document.as_bytes()).is_ok(), "{line}");
+    }
+    Ok(())
+}
+
+#[test]
+fn the_faults_of_a_device_come_first(rt: HostRuntime) -> Result<(), Fail> {
+    let alloc = rt.alloc();
+    let mut document = String::new(alloc);
+    for line in FILES.lines() {
+        if let Some(wanted) = line.strip_prefix("= ") {
+            let found = outcome(alloc, document.as_str())?;
+            assert_eq!(rt; found.as_str(), wanted, "{document}");
+            document.clear();
+        } else {
+            push_line(&mut document, line)?;
+            document.push('\n')?;
+        }
+    }
+    Ok(())
+}
+
+/// Adds a word with its key, if there is one.
+fn push_optional(all: &mut String, key: &str, word: &Option<Text>) -> Result<(), AllocError> {
+    match word {
+        Some(word) => write!(all, " {key}={}", word.as_str()),
+        None => Ok(()),
+    }
+}
+
+/// Adds the data that a signature asks for.
+fn push_data(all: &mut String, signature: &Signature) -> Result<(), AllocError> {
+    push_optional(all, "scheme", &signature.scheme)?;
+    push_optional(all, "host", &signature.host)?;
+    match &signature.mime {
+        Some(mime) => write!(all, " type={}/{}", mime.main.as_str(), mime.sub.as_str()),
+        None => Ok(()),
+    }
+}
+
+/// Adds a signature.
+fn push_signature(all: &mut String, signature: &Signature) -> Result<(), AllocError> {
+    write!(all, " (action={}", signature.action.as_str())?;
+    for category in signature.categories.as_slice() {
+        write!(all, " category={}", category.as_str())?;
+    }
+    push_data(all, signature)?;
+    all.push_str(")")
+}
+
+/// Adds what a package asks to see.
+fn push_queries(all: &mut String, queries: &Queries) -> Result<(), AllocError> {
+    all.push_str("|")?;
+    for name in queries.names.as_slice() {
+        write!(all, " {}", name.as_str())?;
+    }
+    push_signatures(all, &queries.signatures)
+}
+
+fn push_signatures(all: &mut String, signatures: &List<Signature>) -> Result<(), AllocError> {
+    for signature in signatures.as_slice() {
+        push_signature(all, signature)?;
+    }
+    Ok(())
+}
+
+/// What each package of the device asks to see.
+fn asking(alloc: Global, document: &str) -> Result<String, Fail> {
+    let read = read_queries(alloc, document.as_bytes());
+    let all_queries = read.ok().ok_or("the queries are read")?;
+    let mut all = String::new(alloc);
+    for queries in all_queries.as_slice() {
+        push_queries(&mut all, queries)?;
+    }
+    Ok(all)
+}
+
+#[test]
+fn packages_ask_to_see_others(rt: HostRuntime) -> Result<(), Fail> {
+    let alloc = rt.alloc();
+    let mut document = String::new(alloc);
+    for line in ASKING.lines() {
+        if let Some(wanted) = line.strip_prefix("= ") {
+            let found = asking(alloc, document.as_str())?;
+            assert_eq!(rt; found.as_str(), wanted, "{document}");
+            document.clear();
+        } else {
+            document.push_str(line)?;
+            document.push('\n')?;
+        }
+    }
+    Ok(())
+}

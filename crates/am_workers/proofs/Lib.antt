@@ -1,0 +1,4 @@
+pub mod CrewLemmas
+pub mod FormedLemmas
+pub mod ServingLemmas
+pub mod WorkLemmas

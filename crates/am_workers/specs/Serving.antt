@@ -1,0 +1,93 @@
+-- A manager that many workers serve over a network.
+use Rattle.std.specs.Prelude.{◌≡◌, ℕ, suc, ◌+◌, ◌≤◌, ◌⊎◌, true, false, List, [], ◌∷◌, length, map, min, Option, IfSome, All, IsTrue, ⊤, sum_by}
+use Rattle.am_types.specs.declared.history.Entry.{Entry}
+use Rattle.am_outside.specs.Counts.{HasRisen}
+use Rattle.am_network.specs.declared.network.Network.{Ghosts as NetworkGhosts}
+use Rattle.am_network.specs.Links.{GateView, Links, Listening, raised_by, released}
+use Rattle.am_history.specs.Desks.{Origin, opening_of}
+use Rattle.am_history.specs.History.{IsLegal}
+use Rattle.am_history.specs.Steps.{is_formed}
+use Rattle.am_baton.specs.Shared.{IsNumbered}
+use Rattle.am_workers.specs.declared.worker.Tally.{Tally}
+use Rattle.am_workers.specs.Work.{AreItsLinks, IsWorked, MayStop, Service}
+
+-- a network as clauses see it: what it was asked for last, if it tells that, and its two counts of faults
+pub record NetworkView : Type 0 where
+  pub listening : Option Listening
+  pub faults : ℕ
+  pub gate_faults : ℕ
+
+abbrev pub network_of : {N G R W : Type 0} → NetworkGhosts N G R W → N → NetworkView
+network_of g network =
+    record { listening = g.listening network; faults = g.faults network; gate_faults = g.gate_faults network }
+
+-- that many gates may be released
+abbrev pub MayReleaseAll : Option Listening → ℕ → Type 0
+MayReleaseAll told count = IfSome told (λ listening. length listening.released + count ≤ listening.gates)
+
+-- the network once these gates were released, one after the other
+abbrev pub all_released : Option Listening → List GateView → Option Listening
+all_released told [] = told
+all_released told (gate ∷ others) = all_released (released told gate) others
+
+-- its count of the gates' faults after that
+abbrev pub faults_raised : ℕ → List GateView → ℕ
+faults_raised count [] = count
+faults_raised count (gate ∷ others) = faults_raised (raised_by gate.faults count) others
+
+-- what a manager had as its serving began: where it comes from, and its history
+pub record Begun : Type 0 where
+  pub origin : Origin
+  pub history : List Entry
+
+-- and what it had as its serving ended, with what the workers did
+pub record Ended : Type 0 where
+  pub history : List Entry
+  pub tally : Tally
+
+-- one gate as it was released, with the links that its worker served
+pub record Gatework : Type 0 where
+  pub gate : GateView
+  pub services : List Service
+
+-- all the links that a gate has handed out and taken back are these
+abbrev pub AreAllLinks : Links → List Service → Type 0
+AreAllLinks links services = AreItsLinks (record { sent = links.sent; handed = 0; ended = [] }) links services
+
+-- the worker of that number served the links of its gate over the history, which are all that the gate handed out, at
+-- most so many; and unless its gate failed, it stopped at that number or when no link was to come
+pub record IsGateServed (most : Option ℕ) (begun : Begun) (ended : Ended) (number : ℕ) (work : Gatework) : Type 0 where
+  pub worked : IsWorked (opening_of begun.origin) (length begun.history) number ended.history work.services
+  pub links : IfSome work.gate.links (λ links. AreAllLinks links work.services)
+  pub few : IfSome most (λ m. length work.services ≤ m)
+  pub stops : (ended.tally.failed ≡ false) ⊎ (work.gate.faults ≡ 0) → MayStop most work.gate.links (length work.services)
+
+-- each gate was served by the worker of its number, where the first has that number
+abbrev pub AreServed : Option ℕ → Begun → Ended → ℕ → List Gatework → Type 0
+AreServed most begun ended number [] = ⊤
+AreServed most begun ended number (work ∷ others) =
+    IsGateServed most begun ended number work × AreServed most begun ended (suc number) others
+
+-- the gates of these works
+abbrev pub gates_of : List Gatework → List GateView
+gates_of works = map (λ (work : Gatework). work.gate) works
+
+-- the entry's request is formed
+abbrev pub IsFormed : Entry → Type 0
+IsFormed entry = IsTrue (is_formed entry.request)
+
+-- the manager was served by that many workers over as many gates of the network: its history goes on from the one that
+-- it had, and could have been made from its opening state; each entry behind carries a worker's number and is formed; each
+-- worker served its gate over this history; the gates were released in order; and the tally is that of all workers
+pub record ServesAll (most : Option ℕ) (workers : ℕ) (begun : Begun) (ended : Ended) (old new : NetworkView) : Type 0 where
+  pub legal : IsLegal (opening_of begun.origin) ended.history
+  pub numbered : IsNumbered workers begun.history ended.history
+  pub formed : All IsFormed numbered.0
+  pub works : List Gatework
+  pub count : length works ≡ workers
+  pub served : AreServed most begun ended 0 works
+  pub told : new.listening ≡ all_released old.listening (gates_of works)
+  pub total : ended.tally.served ≡ min 18446744073709551615 (sum_by (λ (work : Gatework). length work.services) works)
+  pub failed : ended.tally.failed ≡ true → HasRisen old.gate_faults new.gate_faults
+  pub faults : new.faults ≡ old.faults
+  pub gate_faults : new.gate_faults ≡ faults_raised old.gate_faults (gates_of works)
