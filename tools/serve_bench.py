@@ -96,7 +96,7 @@ def measured(pids, port, connections, length, words):
     )
     used = processor_time(pids) - before
     count = int(re.search(r"(\d+) requests in", run.stdout)[1])
-    middle, late = (seconds(re.search(rf"{share}%\s+(\S+)", run.stdout)[1]) for share in (50, 99))
+    middle, late = (seconds(re.search(rf"(?m)^\s+{share}%\s+(\S+)", run.stdout)[1]) for share in (50, 99))
     rate = float(re.search(r"Requests/sec:\s+([\d.]+)", run.stdout)[1])
     notes = re.findall(r"(Socket errors: .*|Non-2xx or 3xx responses: \d+)", run.stdout)
     return f"{rate:9.0f} a second, {middle * 1e6:6.0f} us and {late * 1e6:6.0f} us, {used / max(count, 1) * 1e6:6.1f} us of processor a request {' '.join(notes)}"

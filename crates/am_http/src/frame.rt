@@ -149,8 +149,8 @@ fn frame_after(bytes: &[u8], headers: &[HeaderSpan], head: &RequestSpans) -> Fou
 
 /// The first frame of the bytes, taken as the whole input, by its spans.
 ///
-/// Only the first [`MAX_HEAD`] bytes are looked at for a head. An input that is cut off may become a
-/// whole frame or be refused when more bytes come; the other answers stay.
+/// Only the first [`MAX_HEAD`] bytes are looked at for a head. An input that is empty or
+/// cut off may become a whole frame or be refused when more bytes come; the other answers stay.
 pub fn find_frame(bytes: &[u8]) -> Found
     ensures framing { IsFraming bytes.now (outcome_at bytes.now result) }
     ensures empty { (result ≡ Found.Empty) ↔ (bytes.now ≡ []) }

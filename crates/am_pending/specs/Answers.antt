@@ -16,7 +16,7 @@ IsAnswer (Ok x) old new said = said ≡ Ok (x, new)
 IsAnswer (Err fault) old new said = IsRefusal fault said × (new ≡ old)
 
 -- what is kept is the definitions'; after a refusal all is as before
-abbrev pub IsChange : Result (Unit {0}) PendingFault → Pendings → Pendings → Result Pendings PendingFault → Type 0
+abbrev pub IsChange : {X : Type 0} → Result X PendingFault → Pendings → Pendings → Result Pendings PendingFault → Type 0
 IsChange (Ok x) old new said = said ≡ Ok new
 IsChange (Err fault) old new said = IsRefusal fault said × (new ≡ old)
 

@@ -42,10 +42,19 @@ pub fn set_token(tokens: &mut IndexMap<Key, u64>, key: &Key, token: u64)
 }
 
 /// Takes the key's token away. Takes no memory.
-pub fn unset_token(tokens: &mut IndexMap<Key, u64>, key: &Key)
+fn unset_token(tokens: &mut IndexMap<Key, u64>, key: &Key)
     ensures { IsSetAt tokens.old.entries tokens.new.entries key.now None }
 {
     tokens.swap_remove(key);
+}
+
+/// Takes the token of a key away, whose record is gone, and counts one less for its creator. Takes no memory.
+pub fn unlist(tokens: &mut IndexMap<Key, u64>, counts: &mut IndexMap<u32, u32>, key: &Key)
+    ensures tokens { IsSetAt tokens.old.entries tokens.new.entries key.now None }
+    ensures counts { (uid : ℕ) → count_at counts.new.entries uid ≡ lowered counts.old.entries key.now.creator uid }
+{
+    unset_token(tokens, key);
+    lower(counts, key.creator);
 }
 
 /// Takes the tokens of a creator's keys away. Takes no memory.
@@ -73,7 +82,7 @@ pub fn raise(counts: &mut IndexMap<u32, u32>, creator: u32)
 }
 
 /// The creator has one record less. Takes no memory.
-pub fn lower(counts: &mut IndexMap<u32, u32>, creator: u32)
+fn lower(counts: &mut IndexMap<u32, u32>, creator: u32)
     ensures { (uid : ℕ) → count_at counts.new.entries uid ≡ lowered counts.old.entries creator uid }
 {
     let left = count_of(counts, creator).saturating_sub(1);

@@ -23,7 +23,8 @@ const MOST_RECORDS: u32 = 1024;
 /// token.
 ///
 /// A step, wherever a call counts steps, is one look-up of a record: by its key, or by its token to read, change or
-/// remove it. Keeping the tables of tokens and of numbers in line with the records takes none.
+/// remove it. A record that is canceled is read and then removed in one step. Keeping the tables of tokens and of
+/// numbers in line with the records takes none.
 #[derive(Drop)]
 pub struct Pending {
     alloc: Global,
@@ -285,8 +286,7 @@ impl Pending {
         ensures steps { steps.new ≡ steps.old + 1 }
     {
         if let Some(gone) = self.records.take(token, steps) {
-            index::unset_token(&mut self.tokens, gone.key());
-            index::lower(&mut self.counts, gone.creator());
+            index::unlist(&mut self.tokens, &mut self.counts, gone.key());
             drop(gone);
         }
     }
@@ -302,16 +302,16 @@ impl Pending {
         ensures answer { IsChange result self.old self.new (cancel self.old token uid) }
         ensures next { self.new.next ≡ self.old.next }
         ensures memory { (result ≡ Err PendingFault.NoMemory) → ⊥ }
-        ensures steps { steps.new ≤ steps.old + 2 }
+        ensures steps { steps.new ≤ steps.old + 1 }
     {
-        let Some(kept) = self.records.read(token, steps) else {
-            return Err(PendingFault::NoToken);
-        };
-        if kept.creator() != uid {
-            return Err(PendingFault::NotCreator);
+        match self.records.take_own(token, uid, steps) {
+            Ok(gone) => {
+                index::unlist(&mut self.tokens, &mut self.counts, gone.key());
+                drop(gone);
+                Ok(())
+            }
+            Err(fault) => Err(fault),
         }
-        self.remove(token, steps);
-        Ok(())
     }
 
     /// Gives a token to another uid, by its creator. Refusals: `NoToken` if the token isn't live; `NotCreator`;

@@ -1,7 +1,7 @@
 //! Records in the order of their tokens.
-ghost use Rattle.std.specs.Prelude.{◌≡◌, ℕ, Err, IsOk, ◌+◌, ◌<◌, ◌==◌, ◌++◌, ◌∷◌, [], not, All, map, filter, OnOk, OnErr, option_map};
+ghost use Rattle.std.specs.Prelude.{◌≡◌, ℕ, Some, Err, IfOk, IsOk, ◌+◌, ◌<◌, ◌==◌, ◌++◌, ◌∷◌, [], not, All, map, filter, OnOk, OnErr, option_map};
 ghost use Rattle.std.specs.Option.{option_copied};
-ghost use Rattle.am_model.specs.Pendings.{Pending, give, updated, without_holder, without_token};
+ghost use Rattle.am_model.specs.Pendings.{Pending, cancel, give, updated, without_holder, without_token};
 ghost use Rattle.am_pending.specs.Answers.{IsChange};
 ghost use Rattle.am_pending.specs.Records.{before, pending_of, record_in};
 
@@ -71,6 +71,34 @@ impl Records {
     {
         steps.tick();
         self.by_token.remove(&token)
+    }
+
+    /// Takes the record of the token out for its creator, whom it reads once. Refusals: `NoToken`; `NotCreator`. Takes
+    /// no memory.
+    pub fn take_own<L: Ledger>(
+        &mut self,
+        token: u64,
+        uid: u32,
+        steps: &mut Steps<L>,
+    ) -> Result<Record, PendingFault>
+        ensures found { IfOk result (λ gone. record_in token self.old ≡ Some (pending_of token gone)) }
+        ensures others { OnOk result (self.new ≡ without_token self.old token) }
+        ensures err { OnErr result (self.new ≡ self.old) }
+        ensures answer { (next : ℕ) → IsChange result (before self.old next) (before self.new next) (cancel (before self.old next) token uid) }
+        ensures memory { (result ≡ Err PendingFault.NoMemory) → ⊥ }
+        ensures steps { steps.new ≡ steps.old + 1 }
+    {
+        steps.tick();
+        let Some(kept) = self.by_token.get(&token) else {
+            return Err(PendingFault::NoToken);
+        };
+        if kept.creator() != uid {
+            return Err(PendingFault::NotCreator);
+        }
+        let Some(gone) = self.by_token.remove(&token) else {
+            return Err(PendingFault::NoToken);
+        };
+        Ok(gone)
     }
 
     /// Gives the intent of the token's record other extras. Takes no memory.

@@ -25,7 +25,7 @@ pub enum Command {
         workers: u32,
         /// The file of the kept rows.
         store: Option<Text>,
-        /// How many connections are served before the end, from 1 to 1,000,000.
+        /// How many connections each worker serves before it ends, from 1 to 1,000,000.
         connections: Option<u32>,
     },
     /// A generated device and generated requests.

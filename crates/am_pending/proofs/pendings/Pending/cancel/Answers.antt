@@ -1,24 +1,20 @@
-use Rattle.std.proofs.Common.{◌∙◌, None, Some, Ok, ap, refl, sym, eq-eqb, ne_eqb}
-use Rattle.std.specs.Option.{option_copied}
-use Rattle.am_model.specs.Pendings.{Pending, Pendings}
-use Rattle.am_pending.specs.Records.{pending_of}
-use Rattle.am_pending.proofs.Using.{cancel_none, cancel_other, cancel_own, there}
+use Rattle.std.proofs.Common.{◌≡◌, ◌∙◌, ◌==◌, ◌-◌, List, None, Some, ap, cond, subst, sym}
+use Rattle.am_model.specs.Pendings.{Pending}
+use Rattle.am_pending.specs.declared.key.Key.{Key}
+use Rattle.am_pending.specs.Keys.{is_same_key}
+use Rattle.am_pending.specs.Records.{IsIndexed, count_at, pending_of, record_in, token_at}
+use Rattle.am_pending.proofs.Indexing.{removed, same_indexed}
 use Rattle.am_pending.proofs.pendings.Pending.cancel.Goals as goal
 
-pub returns-in_default-clause-answer : goal.returns-in_default-clause-answer
-returns-in_default-clause-answer g c =
-    let none = there c.args.token _ c.args.self.now _ None c.read.ensures.found (ap option_copied c.in_default.is) (ap (λ (all : Pendings). all.records) c.self.view_is) in
-    (cancel_none c.args.self.now c.args.token c.args.uid none, refl)
-
-pub returns-then-creator-uid-clause-answer : goal.returns-then-creator-uid-clause-answer
-returns-then-creator-uid-clause-answer g c =
-    let kept : Pending = pending_of c.args.token c.in-Some.kept.now in
-    let is = there c.args.token _ c.args.self.now _ (Some c.in-Some.kept.now) c.read.ensures.found (ap option_copied c.in-Some.is) (ap (λ (all : Pendings). all.records) c.self.view_is) in
-    (cancel_other c.args.self.now c.args.token c.args.uid kept is (ne_eqb kept.creator c.args.uid (λ e. c.if-creator-uid.true (c.creator.ensures ∙ e))), refl)
-
-pub returns-clause-answer : goal.returns-clause-answer
-returns-clause-answer g c =
-    let kept : Pending = pending_of c.args.token c.in-Some.kept.now in
-    let is = there c.args.token _ c.args.self.now _ (Some c.in-Some.kept.now) c.read.ensures.found (ap option_copied c.in-Some.is) (ap (λ (all : Pendings). all.records) c.self.view_is) in
-    cancel_own c.args.self.now c.args.token c.args.uid kept is (eq-eqb kept.creator c.args.uid (sym c.creator.ensures ∙ c.if-creator-uid.false))
-    ∙ ap Ok (sym c.remove.ensures.others)
+pub invariant_of-self : goal.invariant_of-self
+invariant_of-self g c =
+    let records = c.self.inside.records in
+    let tokens = c.self.inside.tokens.entries in
+    let counts = c.self.inside.counts.entries in
+    let gone : Pending = pending_of c.args.token c.in-Ok.gone in
+    let is : record_in c.args.token records ≡ Some gone = c.in-Ok.ensures.found in
+    subst (λ (all : List Pending). IsIndexed all (token_at c.unlist.new.tokens.entries) (count_at c.unlist.new.counts.entries) c.self.inside.next) (sym c.in-Ok.ensures.others)
+    (same_indexed _ _ (token_at c.unlist.new.tokens.entries) _ (count_at c.unlist.new.counts.entries) c.self.inside.next
+    (removed records (token_at tokens) (count_at counts) c.self.inside.next c.args.token gone c.self.invariant is)
+    (λ other. c.unlist.ensures.tokens other ∙ ap (λ (key : Key). cond (is_same_key other key) None (token_at tokens other)) c.key.ensures)
+    (λ uid. c.unlist.ensures.counts uid ∙ ap (λ (key : Key). count_at counts uid - cond (uid == key.creator) 1 0) c.key.ensures))

@@ -14,11 +14,11 @@ invariant_of-self g c =
     let counts = c.self.inside.counts.entries in
     let gone : Pending = pending_of c.args.token c.in-Some.gone in
     let is : record_in c.args.token records ≡ Some gone = sym c.take.ensures.found ∙ ap (option_map (pending_of c.args.token)) c.in-Some.is in
-    subst (λ (all : List Pending). IsIndexed all (token_at c.unset_token.new.tokens.entries) (count_at c.lower.new.counts.entries) c.self.inside.next) (sym c.take.ensures.others)
-    (same_indexed _ _ (token_at c.unset_token.new.tokens.entries) _ (count_at c.lower.new.counts.entries) c.self.inside.next
+    subst (λ (all : List Pending). IsIndexed all (token_at c.unlist.new.tokens.entries) (count_at c.unlist.new.counts.entries) c.self.inside.next) (sym c.take.ensures.others)
+    (same_indexed _ _ (token_at c.unlist.new.tokens.entries) _ (count_at c.unlist.new.counts.entries) c.self.inside.next
     (removed records (token_at tokens) (count_at counts) c.self.inside.next c.args.token gone c.self.invariant is)
-    (λ other. c.unset_token.ensures other ∙ ap (λ (key : Key). cond (is_same_key other key) None (token_at tokens other)) c.key.ensures)
-    (λ uid. c.lower.ensures uid ∙ ap (λ creator. count_at counts uid - cond (uid == creator) 1 0) c.creator.ensures))
+    (λ other. c.unlist.ensures.tokens other ∙ ap (λ (key : Key). cond (is_same_key other key) None (token_at tokens other)) c.key.ensures)
+    (λ uid. c.unlist.ensures.counts uid ∙ ap (λ (key : Key). count_at counts uid - cond (uid == key.creator) 1 0) c.key.ensures))
 
 pub invariant_of-self-in_default : goal.invariant_of-self-in_default
 invariant_of-self-in_default g c =

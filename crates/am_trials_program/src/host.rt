@@ -1,0 +1,57 @@
+//! What the program takes from the system: readers, writers, files and the clock.
+use am_host::{ReaderSource, SystemClock, SystemFiles, WriterSink};
+use am_outside::{Clock, Failed, FileFail, Files, Sink, Source};
+use am_types::Text;
+use std::io::{self, ErrorKind, Read};
+use std::test::Fail;
+
+/// A reader that a signal interrupts, that then gives a byte, and then fails.
+#[derive(Drop)]
+struct Flaky {
+    reads: u8,
+}
+
+impl Read for Flaky {
+    fn read(&mut self, buf: &mut [u8]) -> io::Result<usize> {
+        self.reads = self.reads.saturating_add(1);
+        match buf {
+            [first, ..] if self.reads == 2 => {
+                *first = b'x';
+                Ok(1)
+            }
+            _ if self.reads == 1 => Err(io::Error::from(ErrorKind::Interrupted)),
+            _ => Err(io::Error::from(ErrorKind::BrokenPipe)),
+        }
+    }
+}
+
+#[test]
+fn reads_again(rt: HostRuntime) {
+    let mut source = ReaderSource::new(Flaky { reads: 0 });
+    let mut into = [0u8; 4];
+    assert_eq!(rt; source.read(&mut into), Ok(1));
+    assert_eq!(rt; into[0], b'x');
+    assert_eq!(rt; source.read(&mut into), Err(Failed));
+}
+
+#[test]
+fn writes_some(rt: HostRuntime) {
+    let mut sink = WriterSink::new(Vec::new(rt.alloc()));
+    assert_eq!(rt; sink.write(b"abc"), Ok(3));
+    assert_eq!(rt; sink.write(b""), Ok(0));
+    let mut full = WriterSink::new(io::empty());
+    assert_eq!(rt; full.write(b"abc"), Ok(3));
+}
+
+#[test]
+fn reads_files_and_the_clock(rt: HostRuntime) -> Result<(), Fail> {
+    let mut files = SystemFiles::new(rt);
+    let absent = Text::of(rt.alloc(), "no/such/file")?;
+    assert!(rt; matches!(files.read_file(&absent), Err(FileFail::Failed)));
+    let nothing = Text::of(rt.alloc(), "/dev/null")?;
+    assert!(rt; matches!(files.read_file(&nothing), Ok(_)));
+    let mut clock = SystemClock::new(rt);
+    assert!(rt; 1_700_000_000_000 < clock.another().now());
+    assert!(rt; clock.now() <= clock.now());
+    Ok(())
+}
