@@ -1,0 +1,10 @@
+pub mod Lines
+pub mod MarkLemmas
+pub mod TextLemmas
+pub mod Asked
+pub mod Going
+pub mod Placed
+pub mod Unstored
+pub mod Stored
+pub mod Raised
+pub mod Wanted

@@ -1,0 +1,143 @@
+-- The exchanges of a frame that makes a request, where the bytes say one place of a call.
+use Rattle.std.proofs.Common.{◌≡◌, ℕ, ◌<◌, ◌^◌, Bool, true, false, ◌&&◌, cond, List, ◌++◌, length, take, refl, sym, ap, ◌∙◌, subst, inl, inr, arith}
+use Rattle.std.specs.Prelude.{Option, Some, None, Result, Ok, Err, is_some}
+use Rattle.am_types.specs.declared.history.Entry.{Entry}
+use Rattle.am_types.specs.declared.history.Shown.{Shown}
+use Rattle.am_types.specs.declared.reply.Reply.TheVariants.{Refused}
+use Rattle.am_types.specs.declared.request.Request.{Request}
+use Rattle.am_types.specs.declared.rule.Rule.TheVariants.{HistoryFull}
+use Rattle.am_history.specs.State.{State, uid_of}
+use Rattle.am_history.specs.Steps.{Call, act, step}
+use Rattle.am_history.specs.History.{entry_of, has_room, is_stored, may_change, replay, reply_after, reply_to}
+use Rattle.am_http.specs.declared.answer.Refusal.{Refusal}
+use Rattle.am_http.specs.Exchanges.{Exchange, IsAnswer, IsCalled, IsMarked, Point, by_late_want, by_refusal, by_reply, by_want, reply_of}
+use Rattle.am_http.specs.Head.{Frame}
+use Rattle.am_http.specs.Requests.{call_of, request_of}
+use Rattle.am_http.specs.Responses.{response, want_after, want_before}
+use Rattle.am_audit_answers.specs.Judged.{IsShownBy}
+use Rattle.am_audit_answers.specs.Judging.{Answers, Case, OnlyWants}
+use Rattle.am_audit_answers.specs.Marks.{HasMark, SaysOnly}
+use Rattle.am_audit_answers.proofs.TextLemmas.{response_marked, want_after_marked, want_before_unmarked}
+
+-- what is shown of a call at a point of the history
+abbrev pub shown_at : State → List Entry → Point → Call → Bool → Shown
+shown_at start history point call kept =
+    record { at = point.at; stored = point.stored; reply = reply_after start (take point.at history) call kept }
+
+-- the exchange shows the call of a request at that point
+pub record IsPlaced (c : Case) (request : Request) (point : Point) (desk : ℕ) (e : Exchange) : Type 0 where
+  pub now : ℕ
+  pub kept : Bool
+  pub asked : e.now ≡ Some now
+  pub placed : e.point ≡ Some point
+  pub marked : IsMarked c.ground.start c.ground.history (call_of desk c.frame now request) kept point
+  pub shows : IsShownBy (shown_at c.ground.start c.ground.history point (call_of desk c.frame now request) kept) e.bytes
+
+-- points that agree are one
+point_is : (one other : Point) → (one.at ≡ other.at) × (one.stored ≡ other.stored) → one ≡ other
+point_is one other same = λ i. record { at = same.0 i; stored = same.1 i }
+
+ok_is : {A B : Type 0} {x y : A} → ◌≡◌ {A = Result A B} (Ok x) (Ok y) → x ≡ y
+ok_is e = cc
+
+-- one request is made
+no_refusal : (read : Result Request Refusal) (request : Request) (refused : Refusal) → read ≡ Ok request → read ≡ Err refused → ⊥
+no_refusal read request refused asks refuses = absurd cc
+
+-- a call of the frame that is shown at the point
+placed_by : (c : Case) (request : Request) (point : Point) (desk : ℕ) (e : Exchange) → request_of c.frame ≡ Ok request → e.frame ≡ c.frame
+    → (called : IsCalled c.ground.start desk c.ground.history e) → (called.point.at ≡ point.at) × (called.point.stored ≡ point.stored)
+    → IsShownBy (shown_at c.ground.start c.ground.history called.point (call_of desk e.frame called.now called.request) called.kept) e.bytes
+    → IsPlaced c request point desk e
+placed_by c request point desk e asks frame called same shows =
+    let start : State = c.ground.start in
+    let history : List Entry = c.ground.history in
+    let is : called.point ≡ point = point_is called.point point same in
+    let read : called.request ≡ request = ok_is (sym called.asks ∙ (ap request_of frame ∙ asks)) in
+    let call : call_of desk e.frame called.now called.request ≡ call_of desk c.frame called.now request =
+    λ i. call_of desk (frame i) called.now (read i) in
+    record {
+      now = called.now;
+      kept = called.kept;
+      asked = called.asked;
+      placed = called.placed ∙ ap (λ (p : Point). Some p) is;
+      marked = subst (λ (p : Point). IsMarked start history (call_of desk c.frame called.now request) called.kept p) is
+          (subst (λ (l : Call). IsMarked start history l called.kept called.point) call called.marked);
+      shows = subst (λ (p : Point). IsShownBy (shown_at start history p (call_of desk c.frame called.now request) called.kept) e.bytes) is
+          (subst (λ (l : Call). IsShownBy (shown_at start history called.point l called.kept) e.bytes) call shows);
+    }
+
+-- each exchange of the frame shows its call at the place that the bytes say
+pub each_placed : (c : Case) (request : Request) (point : Point) → request_of c.frame ≡ Ok request → SaysOnly c.left point.at point.stored
+    → length c.ground.history < 2 ^ 64 → length c.left < 2 ^ 64
+    → (desk : ℕ) (e : Exchange) (rest : List ℕ) → Answers c desk e rest → IsPlaced c request point desk e
+each_placed c request point asks says short few desk e rest answers = by answers.audited.answer
+  where
+    begins : (text : List ℕ) → e.bytes ≡ text → c.left ≡ text ++ rest
+    begins text is = answers.bytes ∙ ap (λ (l : List ℕ). l ++ rest) is
+
+    by : IsAnswer c.ground.start desk c.ground.history e → IsPlaced c request point desk e
+    by (by_refusal refused refuses none point_none is) =
+        absurd (no_refusal (request_of c.frame) request refused asks (ap request_of (sym answers.frame) ∙ refuses))
+    by (by_reply called is) =
+        let reply = reply_of c.ground.start desk c.ground.history e called in
+        let has : HasMark c.left called.point.at called.point.stored =
+        response_marked called.point.at called.point.stored reply rest c.left (omega (arith, called.marked.within)) few
+        (begins (response called.point.at called.point.stored reply) is) in
+        placed_by c request point desk e asks answers.frame called (says.place called.point.at called.point.stored has) (inl is)
+    by (by_want none is) = absurd (says.made (want_before_unmarked rest c.left few (begins want_before is)))
+    by (by_late_want called is) =
+        let has : HasMark c.left called.point.at called.point.stored =
+        want_after_marked called.point.at called.point.stored rest c.left (omega (arith, called.marked.within)) few
+        (begins (want_after called.point.at called.point.stored) is) in
+        placed_by c request point desk e asks answers.frame called (says.place called.point.at called.point.stored has) (inr is)
+
+-- if the bytes say no place, memory ran out before the call
+pub unmarked_wants : (c : Case) (request : Request) → request_of c.frame ≡ Ok request → ((at : ℕ) (stored : Bool) → HasMark c.left at stored → ⊥)
+    → length c.ground.history < 2 ^ 64 → length c.left < 2 ^ 64 → OnlyWants c
+unmarked_wants c request asks none short few desk e rest answers = by answers.audited.answer
+  where
+    begins : (text : List ℕ) → e.bytes ≡ text → c.left ≡ text ++ rest
+    begins text is = answers.bytes ∙ ap (λ (l : List ℕ). l ++ rest) is
+
+    by : IsAnswer c.ground.start desk c.ground.history e → (e.point ≡ None) × (e.bytes ≡ want_before)
+    by (by_refusal refused refuses never point_none is) =
+        absurd (no_refusal (request_of c.frame) request refused asks (ap request_of (sym answers.frame) ∙ refuses))
+    by (by_reply called is) =
+        let reply = reply_of c.ground.start desk c.ground.history e called in
+        absurd (none called.point.at called.point.stored
+        (response_marked called.point.at called.point.stored reply rest c.left (omega (arith, called.marked.within)) few
+        (begins (response called.point.at called.point.stored reply) is)))
+    by (by_want point_none is) = (point_none, is)
+    by (by_late_want called is) =
+        absurd (none called.point.at called.point.stored
+        (want_after_marked called.point.at called.point.stored rest c.left (omega (arith, called.marked.within)) few
+        (begins (want_after called.point.at called.point.stored) is)))
+
+-- a call that is shown is an answer
+pub answer_by : (start : State) (desk : ℕ) (history : List Entry) (e : Exchange) (called : IsCalled start desk history e)
+    → IsShownBy (shown_at start history called.point (call_of desk e.frame called.now called.request) called.kept) e.bytes
+    → IsAnswer start desk history e
+answer_by start desk history e called (inl is) = by_reply called is
+answer_by start desk history e called (inr is) = by_late_want called is
+
+-- a call that isn't stored is answered the same on each desk, kept or not
+pub unstored_reply : (start : State) (history : List Entry) (frame : Frame) (now : ℕ) (request : Request) (desk other : ℕ) (kept : Bool)
+    → is_stored (replay start history) history (call_of desk frame now request) ≡ false
+    → reply_after start history (call_of desk frame now request) kept ≡ reply_after start history (call_of other frame now request) true
+unstored_reply start history frame now request desk other kept is = by (uid_of state frame.key) is
+  where
+    state : State
+    state = replay start history
+
+    tests : (uid : ℕ) (may room : Bool) → true && may && room ≡ false
+        → cond may (cond room (step state history (entry_of (call_of desk frame now request) uid kept)).0 (Refused HistoryFull)) (act state history uid request).0
+        ≡ cond may (cond room (step state history (entry_of (call_of other frame now request) uid true)).0 (Refused HistoryFull)) (act state history uid request).0
+    tests uid true true is = absurd cc
+    tests uid true false is = refl
+    tests uid false room is = refl
+
+    by : (uid : Option ℕ) → is_some uid && may_change state now request && has_room history (length frame.body) ≡ false
+        → reply_to state history (call_of desk frame now request) kept uid ≡ reply_to state history (call_of other frame now request) true uid
+    by None is = refl
+    by (Some uid) is = tests uid (may_change state now request) (has_room history (length frame.body)) is

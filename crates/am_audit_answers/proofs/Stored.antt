@@ -1,0 +1,221 @@
+-- A frame whose response says that its call is the next entry of the history.
+use Rattle.std.proofs.Common.{◌≡◌, ℕ, ◌+◌, ◌<◌, ◌^◌, Bool, true, List, [], ◌∷◌, ◌++◌, length, take, refl, sym, ap, ◌∙◌, subst, arith}
+use Rattle.std.specs.Prelude.{Option, Some, None, Result, Ok, Err, IfOk, MatchOption, slice_get}
+use Rattle.am_types.specs.declared.failure.NoMemory.{NoMemory}
+use Rattle.std.proofs.lemmas.List.{take-append-drop}
+use Rattle.am_types.specs.declared.history.Entry.{Entry}
+use Rattle.am_types.specs.declared.history.Shown.{Shown}
+use Rattle.am_types.specs.declared.request.Request.{Request}
+use Rattle.am_history.specs.State.{State, uid_of}
+use Rattle.am_history.specs.History.{IsEntryOf, is_stored, replay, reply_after}
+use Rattle.am_history.specs.Desks.{Follows}
+use Rattle.am_http.specs.Exchanges.{Exchange, IsAnswer, IsCalled, Point, floor_after}
+use Rattle.am_http.specs.Head.{Frame}
+use Rattle.am_http.specs.Requests.{call_of, request_of}
+use Rattle.am_audit_calls.specs.Replays.{Replay, ShowsKept}
+use Rattle.am_audit_answers.specs.declared.judging.Accepted.{Accepted}
+use Rattle.am_audit_answers.specs.declared.judging.Bench.{Bench}
+use Rattle.am_audit_answers.specs.Judged.{IsAccepted, IsMade, IsShownBy, Judges, ShowsAs, case_of, ground_of}
+use Rattle.am_audit_answers.specs.Judging.{Answers, Case, Refuses, Suits}
+use Rattle.am_audit_answers.specs.Marks.{SaysOnly}
+use Rattle.am_audit_answers.specs.Matching.{IsItsCall, IsReplayed}
+use Rattle.am_audit_answers.proofs.Going.{next_is_replayed, one_more}
+use Rattle.am_audit_answers.proofs.Placed.{IsPlaced, answer_by, each_placed, shown_at}
+
+some_is : {A : Type 0} {x y : A} → ◌≡◌ {A = Option A} (Some x) (Some y) → x ≡ y
+some_is e = cc
+
+no_some : {A : Type 0} (x : A) → ◌≡◌ {A = Option A} None (Some x) → ⊥
+no_some x e = cc
+
+module _ (history : List Entry) (bench : Bench) (frame : Frame) (left : List ℕ) (request : Request)
+    (asks : request_of frame ≡ Ok request) (says : SaysOnly left (length bench.replayed.history) true)
+    (short : length history < 2 ^ 64) (few : length left < 2 ^ 64) (first : IsReplayed (ground_of history bench) bench.replayed) where
+  -- the case, and its call's place
+  abbrev c : Case
+  c = case_of history bench frame left
+
+  abbrev point : Point
+  point = record { at = length bench.replayed.history; stored = true }
+
+  abbrev before : List Entry
+  before = take (length bench.replayed.history) history
+
+  -- an exchange of the frame shows that call
+  placed : (desk : ℕ) (e : Exchange) (rest : List ℕ) → Answers c desk e rest → IsPlaced c request point desk e
+  placed desk e rest answers = each_placed c request point asks says short few desk e rest answers
+
+  -- the history has an entry there
+  pub refuses_without : slice_get history (length bench.replayed.history) ≡ None → Refuses c
+  refuses_without none desk e rest answers =
+      let entry = (placed desk e rest answers).marked.entry in
+      no_some entry.0 (sym none ∙ entry.1)
+
+  module _ (next : Entry) (there : slice_get history (length bench.replayed.history) ≡ Some next) where
+    -- and this is the call
+    is_entry : (desk : ℕ) (e : Exchange) (p : IsPlaced c request point desk e)
+        → IsEntryOf (replay bench.replayed.start before) (call_of desk frame p.now request) p.kept next
+    is_entry desk e p =
+        let entry = p.marked.entry in
+        subst (IsEntryOf (replay bench.replayed.start before) (call_of desk frame p.now request) p.kept)
+        (some_is (sym entry.1 ∙ there)) entry.2
+
+    -- so it is the frame's, on a desk that suits
+    its_call : (desk : ℕ) (e : Exchange) (rest : List ℕ) → Answers c desk e rest
+        → Suits bench.desk next.desk × IsItsCall (replay bench.replayed.start bench.replayed.history) frame request next
+    its_call desk e rest answers =
+        let is = is_entry desk e (placed desk e rest answers) in (
+          subst (Suits bench.desk) (sym is.desk) answers.suits,
+          record {
+            uid = subst (λ (h : List Entry). uid_of (replay bench.replayed.start h) frame.key ≡ Some next.uid) (sym first.first) is.uid;
+            weight = is.weight;
+            asks = is.request;
+          },
+        )
+
+    pub refuses_other : (Suits bench.desk next.desk × IsItsCall (replay bench.replayed.start bench.replayed.history) frame request next → ⊥) → Refuses c
+    refuses_other other desk e rest answers = other (its_call desk e rest answers)
+
+    module _ (suits : Suits bench.desk next.desk) (kept : next.kept ≡ true)
+        (its : IsItsCall (replay bench.replayed.start bench.replayed.history) frame request next)
+        (after : Replay) (shown : Shown) (shows : ShowsKept bench.replayed (call_of next.desk frame next.now request) after shown) where
+      -- whether it is stored there
+      stored_is : (desk now : ℕ) → now ≡ next.now → shown.stored ≡ is_stored (replay bench.replayed.start before) before (call_of desk frame now request)
+      stored_is desk now same =
+          let P : List Entry → Type 0 = λ h. shown.stored ≡ is_stored (replay bench.replayed.start h) h (call_of desk frame next.now request) in
+          subst (λ (n : ℕ). shown.stored ≡ is_stored (replay bench.replayed.start before) before (call_of desk frame n request)) (sym same)
+          (subst P first.first shows.stored)
+
+      -- what is shown of it
+      shown_is : (desk now : ℕ) (truth : Bool) → desk ≡ next.desk → now ≡ next.now → truth ≡ true → shown.stored ≡ true
+          → shown_at bench.replayed.start history point (call_of desk frame now request) truth ≡ shown
+      shown_is desk now truth number moment is stored =
+          let reply : reply_after bench.replayed.start before (call_of desk frame now request) truth ≡ shown.reply =
+          (λ i. reply_after bench.replayed.start before (call_of (number i) frame (moment i) request) (is i))
+          ∙ (ap (λ (h : List Entry). reply_after bench.replayed.start h (call_of next.desk frame next.now request) true) (sym first.first) ∙ sym shows.reply) in
+          λ i. record { at = sym shows.at i; stored = sym stored i; reply = reply i }
+
+      -- the entry is added
+      after_is : shown.stored ≡ true → after.history ≡ bench.replayed.history ++ next ∷ []
+      after_is stored =
+          let state : State = replay bench.replayed.start bench.replayed.history in
+          let P : Bool → Type 0 = λ b. Follows bench.replayed.history after.history b (IsEntryOf state (call_of next.desk frame next.now request) true) in
+          let follows = subst P stored shows.follows in
+          let is = follows.1 in
+          let uid : follows.0.uid ≡ next.uid = some_is (sym is.uid ∙ its.uid) in
+          let same : follows.0 ≡ next =
+          λ i. record {
+            desk = is.desk i;
+            uid = uid i;
+            now = is.now i;
+            weight = (is.weight ∙ sym its.weight) i;
+            request = (is.request ∙ sym its.asks) i;
+            kept = (is.kept ∙ sym kept) i;
+          } in
+          follows.2 ∙ ap (λ (entry : Entry). bench.replayed.history ++ entry ∷ []) same
+
+      -- an exchange of the frame shows that it is stored
+      is_stored_there : (desk : ℕ) (e : Exchange) (rest : List ℕ) → Answers c desk e rest → shown.stored ≡ true
+      is_stored_there desk e rest answers =
+          let p = placed desk e rest answers in
+          stored_is desk p.now (sym (is_entry desk e p).now) ∙ sym p.marked.stored
+
+      -- and its bytes show what was shown
+      shows_it : (desk : ℕ) (e : Exchange) (rest : List ℕ) → Answers c desk e rest → IsShownBy shown e.bytes
+      shows_it desk e rest answers =
+          let p = placed desk e rest answers in
+          let is = is_entry desk e p in
+          subst (λ (s : Shown). IsShownBy s e.bytes)
+          (shown_is desk p.now p.kept (sym is.desk) (sym is.now) (sym is.kept ∙ kept) (is_stored_there desk e rest answers)) p.shows
+
+      -- if no bytes show it there is none
+      refuses : ShowsAs true shown left None → Refuses c
+      refuses none desk e rest answers = none (is_stored_there desk e rest answers) e.bytes rest (shows_it desk e rest answers) answers.bytes
+
+      -- the exchange of so many bytes
+      abbrev exchange : ℕ → Exchange
+      exchange taken = record { frame = frame; now = Some next.now; point = Some point; bytes = take taken left }
+
+      called : (desk taken : ℕ) → desk ≡ next.desk → shown.stored ≡ true → IsCalled bench.replayed.start desk history (exchange taken)
+      called desk taken number stored = record {
+        request = request;
+        asks = asks;
+        now = next.now;
+        asked = refl;
+        kept = true;
+        point = point;
+        placed = refl;
+        marked = record { within = first.within; stored = sym stored ∙ stored_is desk next.now refl; entry = (next, there, is) };
+      }
+        where
+          is : IsEntryOf (replay bench.replayed.start before) (call_of desk frame next.now request) true next
+          is = record {
+            desk = sym number;
+            uid = subst (λ (h : List Entry). uid_of (replay bench.replayed.start h) frame.key ≡ Some next.uid) first.first its.uid;
+            now = refl;
+            weight = its.weight;
+            request = its.asks;
+            kept = kept;
+          }
+
+      count : shown.stored ≡ true → length after.history ≡ length bench.replayed.history + 1
+      count stored = one_more bench.replayed after next (after_is stored)
+
+      -- it is accepted by them
+      accepts : (taken : ℕ) → ShowsAs true shown left (Some taken)
+          → IsAccepted c (record { bench = record { replayed = after; desk = Some next.desk }; taken = taken })
+      unfolding called
+      accepts taken takes = record {
+        accepts = record {
+          exchange = exchange taken;
+          answers = λ desk number. record {
+            frame = refl;
+            suits = subst (Suits bench.desk) (sym number) suits;
+            audited = record { answer = answer desk number; timed = λ stored. absurd cc };
+            above = omega arith;
+            bytes = sym (take-append-drop taken left);
+          };
+          floor = sym (count takes.0);
+          only = λ desk e rest answers. record {
+            ends = takes.1.2 e.bytes rest (shows_it desk e rest answers) answers.bytes;
+            suits = sym (is_entry desk e (placed desk e rest answers)).desk;
+            floor = ap (λ (o : Option Point). floor_after (length bench.replayed.history) o) (placed desk e rest answers).placed
+                ∙ sym (count takes.0);
+          };
+        };
+        taken = takes.1.0;
+        start = shows.start;
+        replayed = next_is_replayed (ground_of history bench) bench.replayed after next first there shows.start (after_is takes.0);
+      }
+        where
+          answer : (desk : ℕ) → desk ≡ next.desk → IsAnswer bench.replayed.start desk history (exchange taken)
+          answer desk number =
+              answer_by bench.replayed.start desk history (exchange taken) (called desk taken number takes.0)
+              (subst (λ (s : Shown). IsShownBy s (take taken left)) (sym (shown_is desk next.now true number refl refl takes.0)) takes.1.1)
+
+-- such a frame is judged by what the call comes to
+pub stored_judged : (history : List Entry) (bench : Bench) (frame : Frame) (left : List ℕ) (request : Request) (next : Entry) (after : Replay)
+    (taken : Option ℕ) (result : Option Accepted) → request_of frame ≡ Ok request → SaysOnly left (length bench.replayed.history) true
+    → length history < 2 ^ 64 → length left < 2 ^ 64 → IsReplayed (ground_of history bench) bench.replayed
+    → slice_get history (length bench.replayed.history) ≡ Some next → Suits bench.desk next.desk → next.kept ≡ true
+    → IsItsCall (replay bench.replayed.start bench.replayed.history) frame request next
+    → IsMade bench.replayed (call_of next.desk frame next.now request) true left (after, taken)
+    → MatchOption result (taken ≡ None) (λ a. (a.bench ≡ record { replayed = after; desk = Some next.desk }) × (taken ≡ Some a.taken))
+    → Judges (case_of history bench frame left) result
+stored_judged history bench frame left request next after taken None asks says short few first there suits kept its made is =
+    refuses history bench frame left request asks says short few first next there suits kept its after made.shown made.shows
+    (subst (ShowsAs true made.shown left) is made.taken)
+stored_judged history bench frame left request next after taken (Some a) asks says short few first there suits kept its made is =
+    let same : record { bench = record { replayed = after; desk = Some next.desk }; taken = a.taken } ≡ a = λ i. record { bench = sym is.0 i; taken = a.taken } in
+    subst (IsAccepted (case_of history bench frame left)) same
+    (accepts history bench frame left request asks says short few first next there suits kept its after made.shown made.shows a.taken
+    (subst (ShowsAs true made.shown left) is.1 made.taken))
+
+-- what is judged so by each such history is judged so by this one
+pub judged_by : (history : List Entry) (bench : Bench) (frame : Frame) (left : List ℕ) (next : Entry) (result : Result (Option Accepted) NoMemory)
+    → length history < 2 ^ 64 → IsReplayed (ground_of history bench) bench.replayed → slice_get history (length bench.replayed.history) ≡ Some next
+    → IfOk result (λ judged. (others : List Entry) → length others < 2 ^ 64 → IsReplayed (ground_of others bench) bench.replayed
+    → slice_get others (length bench.replayed.history) ≡ Some next → Judges (case_of others bench frame left) judged)
+    → IfOk result (λ judged. Judges (case_of history bench frame left) judged)
+judged_by history bench frame left next (Ok judged) short first there each = each history short first there
+judged_by history bench frame left next (Err want) short first there each = tt

@@ -1,0 +1,43 @@
+-- What a connection's responses are held against: a history, from the state with which it begins.
+use Rattle.std.specs.Prelude.{◌≡◌, ℕ, false, List, ◌++◌, Option, Some, None, ⊤}
+use Rattle.std.specs.List.{AllByRecursion}
+use Rattle.am_types.specs.declared.history.Entry.{Entry}
+use Rattle.am_history.specs.State.{State}
+use Rattle.am_http.specs.Head.{Frame}
+use Rattle.am_http.specs.Exchanges.{Exchange, IsAnswer, AreInOrder, Point, bytes_of, frames_of}
+
+-- the state with which a history begins, and the history
+pub record Ground : Type 0 where
+  pub start : State
+  pub history : List Entry
+
+-- a call that isn't stored was made at moment 0; the moment of one that is stored stands in its entry
+abbrev pub IsTimedBy : Option Point → Option ℕ → Type 0
+IsTimedBy None now = ⊤
+IsTimedBy (Some point) now = point.stored ≡ false → now ≡ Some 0
+
+-- the response to a frame on a desk is one that the history has
+pub record IsAudited (ground : Ground) (desk : ℕ) (e : Exchange) : Type 0 where
+  pub answer : IsAnswer ground.start desk ground.history e
+  pub timed : IsTimedBy e.point e.now
+
+-- each of these is, and along them no place is below one before it
+pub record AreAudited (ground : Ground) (desk : ℕ) (es : List Exchange) : Type 0 where
+  pub each : AllByRecursion (IsAudited ground desk) es
+  pub order : AreInOrder 0 es
+
+-- the bytes are responses to these frames that the history has; the entries that their stored calls became carry one
+-- desk's number
+pub record AreResponses (ground : Ground) (frames : List Frame) (bytes : List ℕ) : Type 0 where
+  pub desk : ℕ
+  pub exchanges : List Exchange
+  pub asked : frames_of exchanges ≡ frames
+  pub audited : AreAudited ground desk exchanges
+  pub output : bytes_of exchanges ≡ bytes
+
+-- some first bytes are
+pub record BeginsAudited (ground : Ground) (frames : List Frame) (bytes : List ℕ) : Type 0 where
+  pub first : List ℕ
+  pub rest : List ℕ
+  pub splits : bytes ≡ first ++ rest
+  pub audited : AreResponses ground frames first

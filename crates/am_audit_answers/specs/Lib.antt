@@ -1,0 +1,5 @@
+pub mod Audits
+pub mod Marks
+pub mod Judging
+pub mod Matching
+pub mod Judged

@@ -1,0 +1,33 @@
+-- When an entry of the history is a frame's call, and how a history is replayed up to a place.
+use Rattle.std.specs.Prelude.{◌≡◌, ℕ, ◌≤◌, length, take, Option, Some, None, All}
+use Rattle.am_types.specs.declared.history.Entry.{Entry}
+use Rattle.am_types.specs.declared.request.Request.{Request}
+use Rattle.am_history.specs.State.{State, uid_of}
+use Rattle.am_history.specs.History.{IsLegal}
+use Rattle.am_http.specs.Head.{Frame}
+use Rattle.am_audit_calls.specs.Replays.{Replay}
+use Rattle.am_audit_lines.specs.Lines.{IsWhole}
+use Rattle.am_audit_answers.specs.Audits.{Ground}
+
+-- in that state the entry is the call of the frame with that request, on whichever desk
+pub record IsItsCall (state : State) (frame : Frame) (request : Request) (entry : Entry) : Type 0 where
+  pub uid : uid_of state frame.key ≡ Some entry.uid
+  pub weight : entry.weight ≡ length frame.body
+  pub asks : entry.request ≡ request
+
+-- a history that could have been made, of whole entries
+pub record IsRecord (ground : Ground) : Type 0 where
+  pub legal : IsLegal ground.start ground.history
+  pub whole : All IsWhole ground.history
+
+-- the first entries of the history were replayed
+pub record IsReplayed (ground : Ground) (r : Replay) : Type 0 where
+  pub start : r.start ≡ ground.start
+  pub within : length r.history ≤ length ground.history
+  pub first : r.history ≡ take (length r.history) ground.history
+
+-- the history was replayed up to that place, unless it is before the one that was reached, or behind the history
+abbrev pub GoesTo : Ground → Replay → ℕ → Option Replay → Type 0
+GoesTo ground before at (Some after) =
+    IsReplayed ground after × (length after.history ≡ at) × (length before.history ≤ at)
+GoesTo ground before at None = length before.history ≤ at → at ≤ length ground.history → ⊥

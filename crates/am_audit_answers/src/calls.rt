@@ -1,0 +1,91 @@
+//! The call of a frame, made at the end of a history.
+ghost use Rattle.std.specs.Prelude.{◌≡◌, ◌≤◌, Ok, IfOk, IsUtf8, length};
+ghost use Rattle.am_http.specs.FrameSpans.{frame_held};
+ghost use Rattle.am_http.specs.Requests.{call_of, request_of};
+ghost use Rattle.am_audit_answers.specs.Judged.{IsMade, ShowsAs, ShowsFirst};
+
+use crate::requests::key_text;
+use crate::texts::{begins, want_after};
+use am_audit_calls::Replayed;
+use am_http::frame::WholeFrame;
+use am_http::response_bytes;
+use am_types::{NoMemory, Request, Shown};
+use std::alloc::Global;
+
+/// How a call is made: on which desk, at which moment, and whether it is to be stored.
+#[derive(Clone, Copy)]
+pub(crate) struct Making {
+    pub(crate) desk: u32,
+    pub(crate) now: u64,
+    pub(crate) stored: bool,
+}
+
+// How many bytes the response has that shows this, or that says that memory ran out behind it, if the bytes
+// begin with it.
+fn shown_length(alloc: Global, shown: &Shown, left: &[u8]) -> Result<Option<usize>, NoMemory>
+    ensures { IfOk result (λ length. ShowsFirst shown.now left.now length) }
+{
+    let response = response_bytes(alloc, shown)?;
+    if begins(left, response.as_slice()) {
+        return Ok(Some(response.len()));
+    }
+    let want = want_after(alloc, shown.at, shown.stored)?;
+    if begins(left, want.as_bytes()) {
+        Ok(Some(want.len()))
+    } else {
+        Ok(None)
+    }
+}
+
+// The same of what is shown of a call, if it is stored or not as was said.
+fn length_as(
+    alloc: Global,
+    stored: bool,
+    shown: &Shown,
+    left: &[u8],
+) -> Result<Option<usize>, NoMemory>
+    ensures { IfOk result (λ taken. ShowsAs stored shown.now left.now taken) }
+{
+    if shown.stored == stored {
+        shown_length(alloc, shown, left)
+    } else {
+        Ok(None)
+    }
+}
+
+/// Makes the call of a frame that makes that request at the end of the history that was replayed: the history
+/// behind it, and how many bytes show the call, if it is stored or not as was said.
+pub(crate) fn make_call(
+    alloc: Global,
+    replayed: Replayed,
+    making: Making,
+    frame: &WholeFrame<'_>,
+    request: Request,
+    left: &[u8],
+) -> Result<(Replayed, Option<usize>), NoMemory>
+    requires key { IsUtf8 (frame_held frame.now).key }
+    requires body { length (frame_held frame.now).body ≤ 65536 }
+    requires asks { request_of (frame_held frame.now) ≡ Ok request }
+    ensures { IfOk result (λ made. IsMade replayed (call_of making.desk (frame_held frame.now) making.now request)
+        making.stored left.now made) }
+{
+    let key = match key_text(alloc, frame.key) {
+        Ok(key) => key,
+        Err(error) => {
+            drop(request);
+            drop(replayed);
+            return Err(error);
+        }
+    };
+    let weight = frame.body.len() as u32;
+    let (replayed, shown) = replayed.call(making.desk, &key, making.now, weight, request)?;
+    let taken = length_as(alloc, making.stored, &shown, left);
+    drop(shown);
+    match taken {
+        Ok(taken) => Ok((replayed, taken)),
+        Err(error) => {
+            drop(replayed);
+            Err(error)
+        }
+    }
+}

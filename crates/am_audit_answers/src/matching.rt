@@ -1,0 +1,48 @@
+//! Whether an entry of the history is a frame's call.
+ghost use Rattle.std.specs.Prelude.{◌≡◌, ◌↔◌, IsTrue, IfOk, Ok, Some, length};
+ghost use Rattle.am_history.specs.State.{uid_of};
+ghost use Rattle.am_http.specs.FrameSpans.{frame_held};
+ghost use Rattle.am_http.specs.Requests.{request_of};
+ghost use Rattle.am_audit_lines.specs.Lines.{IsReadAgain};
+ghost use Rattle.am_audit_calls.specs.Replays.{state_of};
+ghost use Rattle.am_audit_answers.specs.Matching.{IsItsCall};
+
+use am_audit_calls::Replayed;
+use am_audit_lines::is_same_request;
+use am_http::frame::WholeFrame;
+use am_types::{Entry, NoMemory, Request};
+use std::alloc::Global;
+
+// Whether the key is that of the caller with that uid, after the history that was replayed.
+fn has_key(replayed: &Replayed, uid: u32, key: &[u8]) -> bool
+    ensures { IsTrue result ↔ (uid_of (state_of replayed.now) key.now ≡ Some uid) }
+{
+    replayed.keys_are_known();
+    match replayed.key_of(uid) {
+        Some(known) => known.as_str().as_bytes() == key,
+        None => false,
+    }
+}
+
+/// Whether the entry is the call of a frame that makes that request, after the history that was replayed, on
+/// whichever desk.
+pub(crate) fn is_its_call(
+    alloc: Global,
+    replayed: &Replayed,
+    next: &Entry,
+    frame: &WholeFrame<'_>,
+    request: &Request,
+) -> Result<bool, NoMemory>
+    requires asks { request_of (frame_held frame.now) ≡ Ok request.now }
+    requires again { IsReadAgain next.now.request }
+    ensures { IfOk result (λ is. IsTrue is
+        ↔ IsItsCall (state_of replayed.now) (frame_held frame.now) request.now next.entry.now) }
+{
+    if next.weight as usize != frame.body.len() {
+        return Ok(false);
+    }
+    if !has_key(replayed, next.uid, frame.key) {
+        return Ok(false);
+    }
+    is_same_request(alloc, request, &next.request)
+}

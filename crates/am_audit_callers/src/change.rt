@@ -1,0 +1,49 @@
+//! What a request changes of the callers.
+ghost use Rattle.std.specs.Prelude.{◌≡◌, IfOk};
+ghost use Rattle.am_manifest.specs.Manifests.{manifest_of};
+ghost use Rattle.am_audit_callers.specs.Callers.{added_by, change_of};
+
+use am_manifest::{ReadFault, read_package};
+use am_types::{NoMemory, Request, Text};
+use std::alloc::Global;
+
+/// What an accepted request changes of the callers.
+#[derive(Drop)]
+pub enum Change {
+    /// Nothing.
+    Nothing,
+    /// There is one more package.
+    Adds { name: Text, key: Text },
+    /// The package of that name is gone.
+    Removes { name: Text },
+}
+
+// What an installation changes.
+fn added_by(alloc: Global, text: &Text, key: &Text) -> Result<Change, NoMemory>
+    ensures { IfOk result (λ change. change ≡ added_by (manifest_of text.now) key.now) }
+{
+    match read_package(alloc, text) {
+        Ok(manifest) => {
+            let key = key.clone()?;
+            Ok(Change::Adds {
+                name: manifest.package,
+                key,
+            })
+        }
+        Err(ReadFault::Manifest(_)) => Ok(Change::Nothing),
+        Err(ReadFault::NoMemory) => Err(NoMemory),
+    }
+}
+
+/// What the request changes of the callers if it is accepted.
+pub fn change_of(alloc: Global, request: &Request) -> Result<Change, NoMemory>
+    ensures { IfOk result (λ change. change ≡ change_of request.now) }
+{
+    match request {
+        Request::Install { text, key } => added_by(alloc, text, key),
+        Request::Uninstall { package } => Ok(Change::Removes {
+            name: package.clone()?,
+        }),
+        _ => Ok(Change::Nothing),
+    }
+}

@@ -1,0 +1,4 @@
+pub mod Beginnings
+pub mod Replays
+pub mod Histories
+pub mod Reading

@@ -1,0 +1,278 @@
+//! A history that is replayed, call by call.
+ghost use Rattle.std.specs.Prelude.{◌≡◌, [], true, false, IfOk, IfErr, IsTrue, MatchOption, OnOk, Ok, length, if◌then◌else◌};
+ghost use Rattle.std.specs.Option.{option_copied};
+ghost use Rattle.am_keeper.specs.Rows.{IsInOrder, no_rows};
+ghost use Rattle.am_model.specs.Sound.{IsSound};
+ghost use Rattle.am_history.specs.Desks.{opening_of};
+ghost use Rattle.am_history.specs.History.{IsLegal};
+ghost use Rattle.am_history.specs.State.{opening};
+ghost use Rattle.am_history.specs.Steps.{is_formed};
+ghost use Rattle.am_audit_callers.specs.Callers.{callers_of, followed, key_in};
+ghost use Rattle.am_audit_callers.specs.Laws.{KeysAreKnown};
+ghost use Rattle.am_audit_calls.specs.Beginnings.{BeginsWith, IsWant};
+ghost use Rattle.am_audit_calls.specs.Replays.{Advances, ShowsKept, state_of};
+
+use crate::keeper::NoKeeper;
+use am_audit_callers::{Callers, Change, callers_follow, change_of, keys_are_exact};
+use am_keeper::{Attached, Rows, RowsBuilder};
+use am_machine::{Manager, begin};
+use am_opening::OpenFault;
+use am_types::{Device, Entry, NoMemory, Request, Shown, Text};
+use std::alloc::Global;
+use std::marker::Model;
+
+/// A history that is replayed from the opening of a device without kept rows. Contracts see the state with
+/// which it begins, and its entries so far.
+#[derive(Drop)]
+pub struct Replayed {
+    alloc: Global,
+    manager: Manager<NoKeeper>,
+    callers: Callers,
+}
+
+impl Model for Replayed {
+    ghost use Rattle.std.specs.Prelude.{◌≡◌};
+    ghost use Rattle.am_history.specs.Desks.{opening_of};
+    ghost use Rattle.am_history.specs.History.{replay};
+    ghost use Rattle.am_model.specs.Sound.{IsSound};
+    ghost use Rattle.am_audit_callers.specs.Callers.{callers_of};
+    ghost use Rattle.am_audit_calls.specs.Replays.{Replay};
+
+    ghost Value = { Replay };
+
+    ghost view = { λ r. record { start = opening_of r.manager.origin; history = r.manager.history } };
+
+    // The device is sound, and the callers are those of the state that the history leaves.
+    ghost invariant = { λ r. IsSound r.manager.origin.device
+        × (r.callers ≡ callers_of (replay (opening_of r.manager.origin) r.manager.history)) };
+}
+
+// No rows at all.
+fn no_rows(alloc: Global) -> Rows
+    ensures rows { result ≡ no_rows }
+    ensures order { IsInOrder result }
+{
+    RowsBuilder::new(alloc).finish()
+}
+
+// The manager that began, if memory sufficed.
+fn begun(manager: Result<Manager<NoKeeper>, OpenFault>) -> Result<Manager<NoKeeper>, NoMemory>
+    requires { IfErr manager IsWant }
+    ensures { IfOk result (λ begun. manager ≡ Ok begun) }
+{
+    match manager {
+        Ok(manager) => Ok(manager),
+        Err(OpenFault::NoMemory) => Err(NoMemory),
+        Err(OpenFault::Rows(_)) => unreachable!(),
+    }
+}
+
+// A manager of a sound device of which nothing was kept.
+fn manager_of(alloc: Global, device: Device) -> Result<Manager<NoKeeper>, NoMemory>
+    requires { IsSound device }
+    ensures { IfOk result (λ manager. BeginsWith device manager) }
+{
+    let rows = no_rows(alloc);
+    let keeper = NoKeeper;
+    begun(begin(alloc, device, Attached { keeper, rows }))
+}
+
+// One call of a manager whose keeper never fails: what is stored is kept.
+fn kept_call(
+    manager: &mut Manager<NoKeeper>,
+    desk: u32,
+    key: &Text,
+    now: u64,
+    weight: u32,
+    request: Request,
+) -> Result<Shown, NoMemory>
+    requires formed { IsTrue (is_formed request) }
+    ensures origin { manager.new.origin ≡ manager.old.origin }
+    ensures shown { IfOk result (λ shown. ShowsKept
+        (record { start = opening_of manager.old.origin; history = manager.old.history })
+        (record { desk = desk; key = key.now; now = now; weight = weight; request = request })
+        (record { start = opening_of manager.old.origin; history = manager.new.history })
+        shown) }
+{
+    manager.step(desk, key, now, weight, request)
+}
+
+// Follows a call with that change, if it is stored.
+fn follow(callers: &mut Callers, change: Change, shown: &Shown) -> Result<(), NoMemory>
+    ensures { OnOk result (callers.new ≡ (if shown.now.stored
+        then followed callers.old change shown.now.reply else callers.old)) }
+{
+    if shown.stored {
+        callers.follow(change, &shown.reply)
+    } else {
+        drop(change);
+        Ok(())
+    }
+}
+
+// The replay behind a call, if the call was stored.
+fn if_stored(after: Replayed, shown: Shown) -> Option<Replayed>
+    ensures { MatchOption result (shown.stored ≡ false) (λ kept. (shown.stored ≡ true) × (kept ≡ after)) }
+{
+    let stored = shown.stored;
+    drop(shown);
+    if stored {
+        Some(after)
+    } else {
+        drop(after);
+        None
+    }
+}
+
+impl Replayed {
+    /// The empty history of a sound device.
+    pub fn begin(alloc: Global, device: Device) -> Result<Replayed, NoMemory>
+        requires sound { IsSound device }
+        ensures begun { IfOk result (λ replayed. replayed ≡ record { start = opening device; history = [] }) }
+    {
+        let callers = match Callers::of(alloc, &device) {
+            Ok(callers) => callers,
+            Err(error) => {
+                drop(device);
+                return Err(error);
+            }
+        };
+        let manager = manager_of(alloc, device)?;
+        Ok(Replayed {
+            alloc,
+            manager,
+            callers,
+        })
+    }
+
+    /// How many entries there are so far. Takes no memory.
+    pub fn length(&self) -> u64
+        ensures count { result ≡ length self.now.history }
+        ensures legal { IsLegal self.now.start self.now.history }
+    {
+        self.manager.length()
+    }
+
+    /// The key of the caller with that uid, after the entries so far. Takes no memory.
+    pub fn key_of(&self, uid: u32) -> Option<&Text>
+        ensures { option_copied result ≡ key_in (callers_of (state_of self.now)) uid }
+    {
+        self.callers.key_of(uid)
+    }
+
+    /// In the state after the entries so far the known keys are those of its callers. Takes no memory.
+    pub fn keys_are_known(&self)
+        ensures { KeysAreKnown (state_of self.now) }
+    {
+        self.manager.stays_sound();
+        keys_are_exact();
+    }
+
+    // A copy of the key of the caller with that uid.
+    fn key_copied(&self, uid: u32) -> Result<Option<Text>, NoMemory>
+        ensures { IfOk result (λ key. key ≡ key_in (callers_of (state_of self.now)) uid) }
+    {
+        match self.key_of(uid) {
+            Some(key) => Ok(Some(key.clone()?)),
+            None => Ok(None),
+        }
+    }
+
+    /// One call at the end of the history. What is stored is kept.
+    pub fn call(
+        self,
+        desk: u32,
+        key: &Text,
+        now: u64,
+        weight: u32,
+        request: Request,
+    ) -> Result<(Replayed, Shown), NoMemory>
+        requires formed { IsTrue (is_formed request) }
+        ensures shown { IfOk result (λ done. ShowsKept self
+            (record { desk = desk; key = key.now; now = now; weight = weight; request = request })
+            done.0 done.1) }
+    {
+        let change = match change_of(self.alloc, &request) {
+            Ok(change) => change,
+            Err(error) => {
+                drop(request);
+                drop(self);
+                return Err(error);
+            }
+        };
+        let Replayed {
+            alloc,
+            mut manager,
+            mut callers,
+        } = self;
+        let shown = match kept_call(&mut manager, desk, key, now, weight, request) {
+            Ok(shown) => shown,
+            Err(error) => {
+                drop(change);
+                drop(callers);
+                drop(manager);
+                return Err(error);
+            }
+        };
+        if let Err(error) = follow(&mut callers, change, &shown) {
+            drop(shown);
+            drop(callers);
+            drop(manager);
+            return Err(error);
+        }
+        callers_follow();
+        let replayed = Replayed {
+            alloc,
+            manager,
+            callers,
+        };
+        Ok((replayed, shown))
+    }
+
+    // The entry as a call with that key.
+    fn call_of(self, key: &Text, entry: &Entry) -> Result<(Replayed, Shown), NoMemory>
+        requires formed { IsTrue (is_formed entry.now.request) }
+        ensures shown { IfOk result (λ done. ShowsKept self
+            (record {
+              desk = entry.entry.now.desk;
+              key = key.now;
+              now = entry.entry.now.now;
+              weight = entry.entry.now.weight;
+              request = entry.entry.now.request;
+            })
+            done.0 done.1) }
+    {
+        match entry.request.clone() {
+            Ok(request) => self.call(entry.desk, key, entry.now, entry.weight, request),
+            Err(error) => {
+                drop(self);
+                Err(NoMemory::from(error))
+            }
+        }
+    }
+
+    /// Goes on with an entry, if it may be next.
+    pub fn advance(self, entry: &Entry) -> Result<Option<Replayed>, NoMemory>
+        requires kept { entry.now.kept ≡ true }
+        requires formed { IsTrue (is_formed entry.now.request) }
+        ensures { IfOk result (λ after. Advances self entry.entry.now after) }
+    {
+        self.keys_are_known();
+        match self.key_copied(entry.uid) {
+            Ok(Some(key)) => {
+                let called = self.call_of(&key, entry);
+                drop(key);
+                let (after, shown) = called?;
+                Ok(if_stored(after, shown))
+            }
+            Ok(None) => {
+                drop(self);
+                Ok(None)
+            }
+            Err(error) => {
+                drop(self);
+                Err(error)
+            }
+        }
+    }
+}

@@ -1,0 +1,99 @@
+//! How a connection may end.
+ghost use Rattle.std.specs.Prelude.{◌≡◌, ◌↔◌, IsTrue};
+ghost use Rattle.am_http.specs.Head.{Outcome};
+ghost use Rattle.am_http.specs.Framing.{HasNoHead, IsFraming, window};
+ghost use Rattle.am_http.specs.Sessions.{defect_text};
+ghost use Rattle.am_audit_frames.specs.Streams.{IsLast, IsWrittenAt, IsWrittenAtDead, MayBeDead, waiting_text};
+
+use crate::target::may_overlook;
+use am_http::frame::{Defect, Found, MAX_FIELDS, MAX_HEAD, find_frame};
+use httparse::Status;
+use httparse::spans::{EMPTY_HEADER_SPAN, parse_request};
+
+// The text for a defect, which ends a connection.
+#[tactic(auto, unfolding(am_http::proofs::Literals::responses_on_literals))]
+fn defect_text(defect: Defect) -> &'static [u8]
+    ensures { result.now ≡ defect_text defect }
+{
+    match defect {
+        Defect::BadHead => {
+            b"HTTP/1.1 400 Bad Request\r\nContent-Type: application/json\r\nContent-Length: 20\r\n\r\n{\"error\":\"bad_head\"}"
+        }
+        Defect::HeadTooLarge => {
+            b"HTTP/1.1 431 Request Header Fields Too Large\r\nContent-Type: application/json\r\nContent-Length: 26\r\n\r\n{\"error\":\"head_too_large\"}"
+        }
+        Defect::TransferEncoding => {
+            b"HTTP/1.1 501 Not Implemented\r\nContent-Type: application/json\r\nContent-Length: 29\r\n\r\n{\"error\":\"transfer_encoding\"}"
+        }
+        Defect::LengthRequired => {
+            b"HTTP/1.1 411 Length Required\r\nContent-Type: application/json\r\nContent-Length: 27\r\n\r\n{\"error\":\"length_required\"}"
+        }
+        Defect::BodyTooLarge => {
+            b"HTTP/1.1 413 Payload Too Large\r\nContent-Type: application/json\r\nContent-Length: 26\r\n\r\n{\"error\":\"body_too_large\"}"
+        }
+    }
+}
+
+// The bytes that are looked at for a head.
+fn window(input: &[u8]) -> &[u8]
+    ensures { result.now ≡ window input.now }
+{
+    &input[..MAX_HEAD.min(input.len())]
+}
+
+// Whether no head of at most 64 fields begins the window.
+fn has_no_head(window: &[u8]) -> bool
+    ensures { IsTrue result ↔ HasNoHead window.now }
+{
+    let mut headers = [EMPTY_HEADER_SPAN; MAX_FIELDS];
+    match parse_request(window, &mut headers) {
+        Ok(Status::Complete(_)) => false,
+        Ok(Status::Partial) => true,
+        Err(_) => true,
+    }
+}
+
+// Whether a reader may see no whole head where none can follow, or not see it yet.
+fn may_be_dead(input: &[u8]) -> bool
+    ensures { IsTrue result ↔ MayBeDead input.now }
+{
+    let window = window(input);
+    has_no_head(window) && may_overlook(window)
+}
+
+// What is written where a reader waits for bytes that don't come, or that the window has no room for.
+fn waiting_text(input: &[u8]) -> &'static [u8]
+    ensures { result.now ≡ waiting_text (window input.now) }
+{
+    if input.len() >= MAX_HEAD {
+        defect_text(Defect::HeadTooLarge)
+    } else {
+        b""
+    }
+}
+
+// Whether that is written last at the outcome that is found.
+fn is_found_text(input: &[u8], left: &[u8]) -> bool
+    ensures { (outcome : Outcome) × IsFraming input.now outcome × (IsTrue result ↔ IsWrittenAt outcome left.now) }
+{
+    match find_frame(input) {
+        Found::Whole(_) => false,
+        Found::Empty => left.is_empty(),
+        Found::Refused(defect) => left == defect_text(defect),
+        Found::Cut => left.is_empty(),
+    }
+}
+
+// Whether that may be written last at a window that may be dead.
+fn is_dead_text(input: &[u8], left: &[u8]) -> bool
+    ensures { IsTrue result ↔ IsWrittenAtDead input.now left.now }
+{
+    left == defect_text(Defect::BadHead) || left == waiting_text(input)
+}
+
+/// Whether the bytes may be what is written last behind an input without a further whole frame. Takes no memory.
+pub(crate) fn may_end(input: &[u8], left: &[u8]) -> bool
+    ensures { IsTrue result ↔ IsLast input.now left.now }
+{
+    is_found_text(input, left) || (may_be_dead(input) && is_dead_text(input, left))
+}

@@ -1,0 +1,8 @@
+//! All frames of a connection and the responses to them, held against a history.
+#![tactic(auto)]
+
+mod audit;
+mod endings;
+mod target;
+
+pub use audit::{Verdict, audit_frames};

@@ -1,0 +1,42 @@
+//! The text of an entry.
+ghost use Rattle.std.specs.Prelude.{◌≡◌, ◌↔◌, IsTrue, IfOk, string_bytes};
+ghost use Rattle.serde_json.specs.View.{view};
+ghost use Rattle.serde_json.specs.Read.{max_depth};
+ghost use Rattle.am_wire_values.specs.Replies.{entry_data};
+ghost use Rattle.am_audit_lines.specs.Lines.{IsTextOf};
+
+use am_types::{Entry, NoMemory};
+use am_wire_values::{request_value, route_of};
+use serde_json::{Value, json};
+use std::alloc::{AllocError, Global};
+
+// An entry with its number, as a value.
+#[tactic(auto, unfolding(am_wire_values::specs::Replies::entry_data))]
+fn entry_value(alloc: Global, at: u64, entry: &Entry) -> Result<Value, AllocError>
+    ensures { IfOk result (λ value. view value ≡ entry_data at entry.entry.now) }
+{
+    let request = request_value(alloc, &entry.request)?;
+    json!(in alloc; {
+        "at": at,
+        "desk": entry.desk,
+        "kept": entry.kept,
+        "now": entry.now,
+        "request": request,
+        "route": route_of(&entry.request),
+        "uid": entry.uid,
+        "weight": entry.weight,
+    })
+}
+
+/// Whether the text is that of the entry with that number.
+pub(crate) fn is_text_of(
+    alloc: Global,
+    at: u64,
+    entry: &Entry,
+    text: &[u8],
+) -> Result<bool, NoMemory>
+    ensures { IfOk result (λ is. IsTrue is ↔ IsTextOf at entry.entry.now text.now) }
+{
+    let written = entry_value(alloc, at, entry)?.to_string(alloc)?;
+    Ok(written.as_bytes() == text)
+}

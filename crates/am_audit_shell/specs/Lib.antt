@@ -1,0 +1,8 @@
+pub mod Words
+pub mod Contents
+pub mod Lines
+pub mod Audits
+pub mod Naming
+pub mod Fails
+pub mod Devices
+pub mod Held
