@@ -17,10 +17,12 @@ import argparse
 import http.client
 import json
 import os
+import select
 import signal
 import socket
 import sys
 import threading
+import time
 
 PATIENCE_SECONDS = 60
 
@@ -59,20 +61,19 @@ class Connection:
 
     def __init__(self, number, client, server, folder):
         self.client, self.server = client, server
-        self.ended = threading.Event()
+        self.server_ended, self.closed = threading.Event(), threading.Event()
         frames, responses = (os.path.join(folder, f"{name}-{number}") for name in ("frames", "responses"))
         self.ways = [
             threading.Thread(target=self.pass_frames, args=(frames,), daemon=True),
             threading.Thread(target=self.pass_responses, args=(responses,), daemon=True),
         ]
-        for way in self.ways:
-            way.start()
+        threading.Thread(target=self.pass_on, daemon=True).start()
 
     def pass_frames(self, path):
         """Once the server has ended its side it reads nothing more, and nothing more is written down."""
         with open(path, "wb") as kept:
             while piece := read(self.client):
-                if not self.ended.is_set():
+                if not self.server_ended.is_set():
                     kept.write(piece)
                     write(self.server, piece)
         shut(self.server, socket.SHUT_WR)
@@ -82,20 +83,19 @@ class Connection:
             while piece := read(self.server):
                 kept.write(piece)
                 write(self.client, piece)
-        self.ended.set()
+        self.server_ended.set()
         shut(self.server, socket.SHUT_WR)
         shut(self.client, socket.SHUT_WR)
 
-    def end(self):
-        """Ends the client's side, and waits until the server has answered. Says whether it did in time."""
-        shut(self.client, socket.SHUT_RD)
+    def pass_on(self):
+        """Passes both ways on, and closes both ends once they are over."""
         for way in self.ways:
-            way.join(PATIENCE_SECONDS)
-        if any(way.is_alive() for way in self.ways):
-            return False
+            way.start()
+        for way in self.ways:
+            way.join()
         self.client.close()
         self.server.close()
-        return True
+        self.closed.set()
 
 
 def entries(port, key):
@@ -126,9 +126,20 @@ def write_history(port, key, path):
     return count
 
 
-def accept_all(gate, port, folder, connections):
-    """Takes connections until it is interrupted."""
-    while True:
+def interrupted():
+    """A socket that can be read once the process was interrupted."""
+    told, teller = socket.socketpair()
+    teller.setblocking(False)
+    signal.set_wakeup_fd(teller.fileno())
+    for number in (signal.SIGINT, signal.SIGTERM):
+        signal.signal(number, lambda *_: None)
+    return told, teller
+
+
+def take_connections(gate, end, port, folder):
+    """Takes connections until the end is told."""
+    connections = []
+    while end not in select.select([gate, end], [], [])[0]:
         client, _ = gate.accept()
         client.setsockopt(socket.IPPROTO_TCP, socket.TCP_NODELAY, 1)
         try:
@@ -138,10 +149,15 @@ def accept_all(gate, port, folder, connections):
             client.close()
             continue
         connections.append(Connection(len(connections), client, server, folder))
+    return connections
 
 
-def interrupt(*_):
-    raise KeyboardInterrupt
+def end_all(connections):
+    """Ends the clients' sides, and answers which connections the server leaves open."""
+    for one in connections:
+        shut(one.client, socket.SHUT_RD)
+    end = time.monotonic() + PATIENCE_SECONDS
+    return [number for number, one in enumerate(connections) if not one.closed.wait(max(0, end - time.monotonic()))]
 
 
 def main():
@@ -152,15 +168,11 @@ def main():
     words.add_argument("--into", required=True, metavar="FOLDER", help="where the files go")
     asked = words.parse_args()
     os.makedirs(asked.into, exist_ok=True)
-    signal.signal(signal.SIGINT, interrupt)
-    signal.signal(signal.SIGTERM, interrupt)
-    connections = []
+    end, _teller = interrupted()
     with socket.create_server(("127.0.0.1", asked.listen)) as gate:
-        try:
-            accept_all(gate, asked.to, asked.into, connections)
-        except KeyboardInterrupt:
-            pass
-    open_still = [number for number, one in enumerate(connections) if not one.end()]
+        connections = take_connections(gate, end, asked.to, asked.into)
+    signal.signal(signal.SIGINT, signal.default_int_handler)
+    open_still = end_all(connections)
     count = write_history(asked.to, asked.key, os.path.join(asked.into, "history"))
     print(f"{len(connections)} connections, {count} entries")
     if open_still:
