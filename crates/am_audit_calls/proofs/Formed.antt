@@ -18,6 +18,7 @@ use Rattle.am_audit_lines.specs.Lines.{IsReadAgain}
 own_route : (endpoint : Endpoint) → endpoint_of (method_of endpoint) (path_of endpoint) ≡ Ok endpoint
 unfolding endpoint_at
 own_route at.Query = refl
+own_route at.Explain = refl
 own_route at.Start = refl
 own_route at.FinishActivity = refl
 own_route at.Back = refl

@@ -15,6 +15,7 @@ use Rattle.am_uri.specs.declared.text.Form.TheVariants.{Any}
 use Rattle.am_wire_intents.specs.Components.{required_component}
 use Rattle.am_wire_intents.specs.Filters.{required_filter}
 use Rattle.am_wire_intents.specs.Intents.{required_intent, optional_intent}
+use Rattle.am_wire.specs.Accounts.{asks_receivers, explain_fields, permission_for, explain_about, explain_in, explain_of}
 use Rattle.am_wire.specs.Activities.{fields_of, query_fields, default_only_of, number_in, query_in, start_in, finish_activity_in, start_service_in, stop_service_in, history_in, plain_in}
 use Rattle.am_wire.specs.Broadcasts.{is_ordered, send_fields, ordered_if, register_fields, sets_outcome, finish_fields, outcome_if, send_in, send_of, register_in, unregister_in, finish_in, finish_of}
 use Rattle.am_wire.specs.Pendings.{pending_get_in, get_of, pending_send_in, pending_cancel_in, pending_give_in}
@@ -35,9 +36,11 @@ bound endpoint (Err fault) next h = tt
 
 -- the request that a JSON value makes at an endpoint
 value_is_at : (endpoint : Endpoint) (value : Data) → IfOk (request_in endpoint value) (IsAt endpoint)
-unfolding request_in query_in start_in finish_activity_in plain_in start_service_in stop_service_in send_in send_of register_in unregister_in finish_in finish_of pending_get_in get_of pending_send_in pending_cancel_in pending_give_in install_in uninstall_in grant_in link_in force_stop_in history_in
+unfolding request_in query_in explain_in explain_of explain_about start_in finish_activity_in plain_in start_service_in stop_service_in send_in send_of register_in unregister_in finish_in finish_of pending_get_in get_of pending_send_in pending_cancel_in pending_give_in install_in uninstall_in grant_in link_in force_stop_in history_in
 value_is_at at.Query value =
     bound at.Query (fields_of query_fields value) _ (λ x0. bound at.Query (kind_of value) _ (λ x1. bound at.Query (required_intent (codes "intent") value) _ (λ x2. bound at.Query (default_only_of value) _ (λ x3. refl))))
+value_is_at at.Explain value =
+    bound at.Explain (fields_of (explain_fields (asks_receivers value)) value) _ (λ x0. bound at.Explain (kind_of value) _ (λ x1. bound at.Explain (required_intent (codes "intent") value) _ (λ x2. bound at.Explain (optional_text Any 1024 (codes "as") value) _ (λ x3. bound at.Explain (permission_for x1 value) _ (λ x4. bound at.Explain (optional_text Any 1024 (codes "of") value) _ (λ x5. refl))))))
 value_is_at at.Start value =
     bound at.Start (fields_of (codes "intent" ∷ codes "source" ∷ []) value) _ (λ x0. bound at.Start (required_intent (codes "intent") value) _ (λ x1. bound at.Start (optional_natural (codes "source") value) _ (λ x2. refl)))
 value_is_at at.FinishActivity value =
@@ -95,6 +98,7 @@ body_is_at at.Services body = refl
 body_is_at at.Inbox body = refl
 body_is_at at.Status body = refl
 body_is_at at.Query body = posted_is_at at.Query body
+body_is_at at.Explain body = posted_is_at at.Explain body
 body_is_at at.Start body = posted_is_at at.Start body
 body_is_at at.FinishActivity body = posted_is_at at.FinishActivity body
 body_is_at at.Back body = posted_is_at at.Back body

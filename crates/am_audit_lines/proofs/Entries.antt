@@ -24,7 +24,7 @@ use Rattle.am_wire.specs.Requests.{request_of}
 use Rattle.am_wire_routes.specs.declared.endpoint.Endpoint.{Endpoint}
 use Rattle.am_wire_written.specs.Written.{HasFewRows}
 use Rattle.am_audit_lines.specs.Lines.{IsReadAgain, IsTextOf, number_in}
-use Rattle.am_audit_lines.proofs.Depths.{shallow}
+use Rattle.am_wire_written.proofs.Depths.{shallow}
 
 -- the fields of an entry's value
 pub desk_is : (at : ℕ) (e : Entry) → number_in (codes "desk") (entry_data at e) ≡ Some e.desk
@@ -84,6 +84,7 @@ written_is text value at e is compact reads =
 pub route_asks : (r : Request) → endpoint_with (route_of r) ≡ Some (endpoint_at r)
 unfolding endpoint_with
 route_asks (asks.Query kind intent default_only) = refl
+route_asks (asks.Explain kind intent caller permission shown) = refl
 route_asks (asks.Start intent source) = refl
 route_asks (asks.FinishActivity instance) = refl
 route_asks asks.Back = refl

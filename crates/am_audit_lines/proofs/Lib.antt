@@ -1,3 +1,2 @@
-pub mod Depths
 pub mod Endpoints
 pub mod Entries

@@ -83,6 +83,7 @@ module _ (state : State) (caller : ℕ) where
   pub other_stays : (before : List Entry) (request : Request) → keeps_row request ≡ false → Stays (act state before caller request).1
   unfolding act finish_activity back stop_service register unregister finish pending_get pending_cancel pending_give force_stop
   other_stays before (asks.Query kind intent default_only) keeps = refl
+  other_stays before (asks.Explain kind intent name permission shown) keeps = refl
   other_stays before (asks.Start intent source) keeps =
       start_cases Stays state caller intent refl source (λ component found landed is admits placed. stopped_stays found.0 false)
   other_stays before (asks.FinishActivity instance) keeps = end_stays (tasks.finish state.tasks instance caller)

@@ -20,6 +20,7 @@ use Rattle.am_history.specs.Services.{start_service, stop_service, services_of}
 use Rattle.am_history.specs.BroadcastCalls.{send, register, unregister, finish}
 use Rattle.am_history.specs.PendingCalls.{pending_get, pending_send, pending_cancel, pending_give}
 use Rattle.am_history.specs.Packages.{install, uninstall, grant, link, force_stop}
+use Rattle.am_history.specs.Explaining.{explain}
 use Rattle.am_history.specs.Steps.{act, page}
 
 pub act_query : (state : State) (before : List Entry) (caller : ℕ) (kind : Kind) (intent : Intent) (default_only : Bool)
@@ -27,6 +28,12 @@ pub act_query : (state : State) (before : List Entry) (caller : ℕ) (kind : Kin
     ≡ (replies.Components (components_of (hits state.board.packages kind intent default_only)), state)
 unfolding act
 act_query state before caller kind intent default_only = refl
+
+pub act_explain : (state : State) (before : List Entry) (caller : ℕ) (kind : Kind) (intent : Intent) (name permission shown : Option (List ℕ))
+    → act state before caller (asks.Explain kind intent name permission shown)
+    ≡ (explain state.board (record { caller = caller; kind = kind; intent = intent; required = permission }) name shown, state)
+unfolding act
+act_explain state before caller kind intent name permission shown = refl
 
 pub act_tasks : (state : State) (before : List Entry) (caller : ℕ) → act state before caller asks.ListTasks ≡ (replies.Tasks (views state.tasks caller), state)
 unfolding act

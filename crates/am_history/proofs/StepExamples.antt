@@ -1,5 +1,6 @@
 -- Worked examples of calls on a small device.
 use Rattle.std.specs.Prelude.{◌≡◌, ℕ, ℤ, pos, negsuc, true, false, codes, List, [], ◌∷◌, Option, Some, None, refl}
+use Rattle.am_types.specs.declared.account.Standing.TheVariants.{Tied, Refused, Reached}
 use Rattle.am_types.specs.declared.device.Package.{Package}
 use Rattle.am_types.specs.declared.intent.Intent.{Intent}
 use Rattle.am_types.specs.declared.intent.Component.{Component}
@@ -23,6 +24,7 @@ use Rattle.am_history.specs.Services.{start_service, stop_service}
 use Rattle.am_history.specs.BroadcastCalls.{send, register, unregister, finish}
 use Rattle.am_history.specs.PendingCalls.{pending_get, pending_send, pending_give}
 use Rattle.am_history.specs.Packages.{grant, force_stop}
+use Rattle.am_history.specs.Explaining.{explain}
 use Rattle.am_history.specs.Steps.{act}
 use Rattle.am_history.proofs.Samples.{listing, component, app, device, no_flags, act_on, entry, replies_of, outcome, plainly}
 
@@ -66,6 +68,14 @@ pub a_choice_needs_a_task :
 unfolding act start
 a_choice_needs_a_task = refl
 
+-- and so it is explained, without a task too
+pub a_tie_is_explained :
+    replies_of two_equals (entry 10001 0 (asks.Explain Activity (act_on (codes "x.A") no_flags) None None None) ∷ [])
+    ≡ replies.Accounts (record { to = Declared (record { «package» = codes "com.one"; class = codes "com.one.Main" }); standing = Tied }
+    ∷ record { to = Declared (record { «package» = codes "com.two"; class = codes "com.two.Main" }); standing = Tied } ∷ []) ∷ []
+unfolding act explain
+a_tie_is_explained = refl
+
 -- the component that isn't exported
 abbrev hidden : Decl → Decl
 hidden decl = record decl { exported = false }
@@ -96,6 +106,25 @@ pub a_hidden_activity_is_its_owners :
     ∷ replies.Refused rules.NoComponent ∷ []
 unfolding act start place
 a_hidden_activity_is_its_owners = refl
+
+-- an activity that isn't exported is explained to another app, and to the system as its owner's start of it; only what one
+-- app has may be shown, only the system and the root may ask for others, and `as` comes before what is shown
+pub a_hidden_activity_is_explained :
+    replies_of hidden_app
+    (entry 10001 0 (asks.Explain Activity (naming main_of_one) None None None)
+    ∷ entry 1000 0 (asks.Explain Activity (naming main_of_one) (Some (codes "com.one")) None None)
+    ∷ entry 1000 0 (asks.Explain Activity (naming main_of_one) (Some (codes "android")) None (Some (codes "com.two")))
+    ∷ entry 10000 0 (asks.Explain Activity (naming main_of_one) (Some (codes "com.one")) None None)
+    ∷ entry 1000 0 (asks.Explain Activity (naming main_of_one) (Some (codes "com.none")) None None)
+    ∷ entry 10000 0 (asks.Explain Activity (naming main_of_one) None None (Some (codes "android"))) ∷ [])
+    ≡ replies.Accounts (record { to = Declared main_of_one; standing = Refused rules.NotExported } ∷ [])
+    ∷ replies.Accounts (record { to = Declared main_of_one; standing = Reached } ∷ [])
+    ∷ replies.Accounts []
+    ∷ replies.Refused rules.AdminOnly
+    ∷ replies.Refused rules.NoPackage
+    ∷ replies.Refused rules.NoPackage ∷ []
+unfolding act explain
+a_hidden_activity_is_explained = refl
 
 -- an app with a service that asks for a permission, and another app
 abbrev service_app : List Package

@@ -17,18 +17,12 @@ use Rattle.am_types.specs.declared.reply.Reply.TheVariants as replies
 use Rattle.am_types.specs.declared.rule.Rule.{Rule}
 use Rattle.am_types.specs.declared.rule.Rule.TheVariants as rules
 use Rattle.am_types.specs.declared.rule.Limit.TheVariants as limits
-use Rattle.am_model.specs.Texts.{lists}
 use Rattle.am_model.specs.Gates.{is_privileged}
-use Rattle.am_model.specs.Receivers.{receivers, admitted}
+use Rattle.am_model.specs.Receivers.{is_protected, receivers, admitted}
 use Rattle.am_model.specs.Broadcasts.{Broadcasts}
 use Rattle.am_model.specs.Sending as sending
 use Rattle.am_history.specs.State.{State}
 use Rattle.am_history.specs.Answers.{refused, done}
-
--- the action is there and is protected
-abbrev pub is_protected : List (List ℕ) → Option (List ℕ) → Bool
-is_protected protected None = false
-is_protected protected (Some action) = lists protected action
 
 -- the rule by which a broadcast isn't sent (want of memory, which a sending never gives, stands with the last)
 abbrev pub send_rule : SendFault → Rule

@@ -5,6 +5,7 @@ pub mod Services
 pub mod BroadcastCalls
 pub mod PendingCalls
 pub mod Packages
+pub mod Explaining
 pub mod Opening
 pub mod Kept
 pub mod Steps

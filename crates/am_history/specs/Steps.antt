@@ -20,6 +20,7 @@ use Rattle.am_history.specs.Services.{start_service, stop_service, services_of}
 use Rattle.am_history.specs.BroadcastCalls.{send, register, unregister, finish}
 use Rattle.am_history.specs.PendingCalls.{pending_get, pending_send, pending_cancel, pending_give}
 use Rattle.am_history.specs.Packages.{install, uninstall, grant, link, force_stop}
+use Rattle.am_history.specs.Explaining.{explain}
 
 -- a call on a desk: the desk's number, the caller's key, the moment in milliseconds, the length of the
 -- request's body, and the request
@@ -55,6 +56,8 @@ page before from = take 64 (drop from before)
 unfoldable pub act : State → List Entry → ℕ → Request → Reply × State
 act state before caller (asks.Query kind intent default_only) =
     (replies.Components (components_of (hits state.board.packages kind intent default_only)), state)
+act state before caller (asks.Explain kind intent name permission shown) =
+    (explain state.board (record { caller = caller; kind = kind; intent = intent; required = permission }) name shown, state)
 act state before caller (asks.Start intent source) = start state caller intent source
 act state before caller (asks.FinishActivity instance) = finish_activity state caller instance
 act state before caller asks.Back = for_admin state caller (back state)
@@ -90,6 +93,7 @@ pub data Class : Type 0 where
 -- what the request may do
 abbrev pub class_of : Request → Class
 class_of (asks.Query kind intent default_only) = Reads
+class_of (asks.Explain kind intent name permission shown) = Reads
 class_of asks.ListTasks = Reads
 class_of asks.Services = Reads
 class_of asks.Inbox = Reads
@@ -140,6 +144,7 @@ is_formed _ = true
 -- the answer to the request depends neither on broadcasts nor on the moment, and it changes nothing
 abbrev pub is_steady : Request → Bool
 is_steady (asks.Query kind intent default_only) = true
+is_steady (asks.Explain kind intent name permission shown) = true
 is_steady asks.ListTasks = true
 is_steady asks.Services = true
 is_steady (asks.History from) = true

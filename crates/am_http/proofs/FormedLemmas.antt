@@ -24,6 +24,7 @@ use Rattle.am_wire_intents.specs.Components.{required_component}
 use Rattle.am_wire_intents.specs.Filters.{required_filter}
 use Rattle.am_wire_intents.specs.Intents.{required_intent, optional_intent}
 use Rattle.am_wire.specs.Activities.{fields_of, query_fields, default_only_of, number_in, query_in, start_in, finish_activity_in, start_service_in, stop_service_in, history_in, plain_in}
+use Rattle.am_wire.specs.Accounts.{asks_receivers, explain_fields, permission_for, explain_about, explain_of, explain_in}
 use Rattle.am_wire.specs.Broadcasts.{is_ordered, send_fields, ordered_if, register_fields, sets_outcome, finish_fields, outcome_if, send_in, send_of, register_in, unregister_in, finish_in, finish_of}
 use Rattle.am_wire.specs.Pendings.{pending_get_in, get_of, pending_send_in, pending_cancel_in, pending_give_in}
 use Rattle.am_wire.specs.Packages.{package_in, grant_fields, link_fields, key_of, key_in, install_in, uninstall_in, grant_in, link_in, force_stop_in}
@@ -94,9 +95,12 @@ install_is_formed text (Ok found) = install_with_key text (key_of (as_str found)
 
 -- the request that a JSON value makes at an endpoint is formed
 value_is_formed : (endpoint : Endpoint) (value : Data) → IfOk (request_in endpoint value) IsFormed
-unfolding request_in query_in start_in finish_activity_in plain_in start_service_in stop_service_in send_in send_of register_in unregister_in finish_in finish_of pending_get_in get_of pending_send_in pending_cancel_in pending_give_in install_in key_in uninstall_in grant_in link_in force_stop_in history_in
+unfolding request_in query_in explain_in explain_of explain_about start_in finish_activity_in plain_in start_service_in stop_service_in send_in send_of register_in unregister_in finish_in finish_of pending_get_in get_of pending_send_in pending_cancel_in pending_give_in install_in key_in uninstall_in grant_in link_in force_stop_in history_in
 value_is_formed at.Query value =
     bound (fields_of query_fields value) _ (λ x0. bound (kind_of value) _ (λ x1. bound (required_intent (codes "intent") value) _ (λ x2. bound (default_only_of value) _ (λ x3. refl))))
+value_is_formed at.Explain value =
+    bound (fields_of (explain_fields (asks_receivers value)) value) _ (λ x0. bound (kind_of value) _ (λ x1. bound (required_intent (codes "intent") value) _ (λ x2.
+    bound (optional_text Any 1024 (codes "as") value) _ (λ x3. bound (permission_for x1 value) _ (λ x4. bound (optional_text Any 1024 (codes "of") value) _ (λ x5. refl))))))
 value_is_formed at.Start value =
     bound (fields_of (codes "intent" ∷ codes "source" ∷ []) value) _ (λ x0. bound (required_intent (codes "intent") value) _ (λ x1. bound (optional_natural (codes "source") value) _ (λ x2. refl)))
 value_is_formed at.FinishActivity value =
@@ -156,6 +160,7 @@ body_is_formed at.Services body = refl
 body_is_formed at.Inbox body = refl
 body_is_formed at.Status body = refl
 body_is_formed at.Query body = posted_is_formed at.Query body
+body_is_formed at.Explain body = posted_is_formed at.Explain body
 body_is_formed at.Start body = posted_is_formed at.Start body
 body_is_formed at.FinishActivity body = posted_is_formed at.FinishActivity body
 body_is_formed at.Back body = posted_is_formed at.Back body

@@ -43,6 +43,7 @@ rule_has_a_phrase (rules.ReceiverLacks permission) = refl
 -- and so have all replies
 pub every_status_has_a_phrase : (reply : Reply) → HasPhrase (status_of reply)
 every_status_has_a_phrase (says.Components found) = refl
+every_status_has_a_phrase (says.Accounts accounts) = refl
 every_status_has_a_phrase (says.Choose found) = refl
 every_status_has_a_phrase (says.Placed landed) = refl
 every_status_has_a_phrase (says.Finished instance) = refl

@@ -2,11 +2,17 @@
 ghost use Rattle.std.specs.Prelude.{◌≡◌, option_copied};
 ghost use Rattle.std.specs.Option.{option_map};
 ghost use Rattle.std.specs.List.Sorted.{IsStrictlyIncreasing};
-ghost use Rattle.am_model.specs.Boards.{package_at, package_named};
+ghost use Rattle.am_model.specs.Boards.{caller_of, package_at, package_named, uid_named};
 ghost use Rattle.am_model.specs.Receivers.{decl_in, declared};
 ghost use Rattle.am_model.specs.Sound.{uids_of};
 
 use am_types::{Component, Decl, Kind, List, Package, Text};
+
+/// The uid of the system.
+const SYSTEM: u32 = 1000;
+
+/// The name of the system's package.
+const SYSTEM_NAME: &str = "android";
 
 /// The package of the uid, if there is one, by halving: packages stand in the order of their uids.
 /// Takes no memory.
@@ -28,6 +34,29 @@ pub(crate) fn package_named<'a>(packages: &'a List<Package>, name: &Text) -> Opt
     for package in packages.as_slice() {
         if package.name == *name {
             return Some(package);
+        }
+    }
+    None
+}
+
+/// The uid of the caller of that name, if there is one: a package, or `android`, which is the system.
+/// Takes no memory.
+pub fn caller_named(packages: &List<Package>, name: &Text) -> Option<u32>
+    ensures { result ≡ caller_of packages.now name.now }
+{
+    if name.as_str() == SYSTEM_NAME {
+        return Some(SYSTEM);
+    }
+    uid_named(packages, name)
+}
+
+/// The uid of the package of that name, if there is one. Takes no memory.
+pub fn uid_named(packages: &List<Package>, name: &Text) -> Option<u32>
+    ensures { result ≡ uid_named packages.now name.now }
+{
+    for package in packages.as_slice() {
+        if package.name == *name {
+            return Some(package.uid);
         }
     }
     None

@@ -7,5 +7,5 @@ mod installed;
 mod lists;
 mod rights;
 
-pub use find::{decl_in, declared, package_at};
+pub use find::{caller_named, decl_in, declared, package_at, uid_named};
 pub use installed::Installed;

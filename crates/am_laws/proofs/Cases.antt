@@ -24,7 +24,7 @@ use Rattle.am_types.specs.declared.task.PlaceFault.{PlaceFault}
 use Rattle.am_model.specs.Boards.{with_stopped}
 use Rattle.am_model.specs.Candidates.{hits}
 use Rattle.am_model.specs.Gates.{Verdict, Admit, NotExported, NeedsPermission, verdict, is_privileged}
-use Rattle.am_model.specs.Receivers.{declared, rule_of, or_rule, receivers}
+use Rattle.am_model.specs.Receivers.{declared, rule_of, or_rule, receivers, is_protected}
 use Rattle.am_model.specs.Targets.{target}
 use Rattle.am_model.specs.Tasks.{Tasks}
 use Rattle.am_model.specs.Placement.{place}
@@ -39,7 +39,7 @@ use Rattle.am_history.specs.Activities as activities
 use Rattle.am_history.specs.Activities.{start_call, after_place, source_rule, caller_rule, start_target, start}
 use Rattle.am_history.specs.Services as services
 use Rattle.am_history.specs.Services.{running, is_too_many, with_start, started, gate_rule, start_first, start_service}
-use Rattle.am_history.specs.BroadcastCalls.{is_protected, sending_of, after_send, send_to, send}
+use Rattle.am_history.specs.BroadcastCalls.{sending_of, after_send, send_to, send}
 use Rattle.am_history.specs.PendingCalls.{lend, left_of, used_up, after_use, pending_send}
 use Rattle.am_laws.proofs.Answered.{either_leaves, unless_leaves}
 use Rattle.am_laws.proofs.NextTokens.{cancel_keeps, used_up_keeps}

@@ -41,10 +41,11 @@ use Rattle.am_types.specs.declared.reply.Reply.TheVariants as replies
 use Rattle.am_types.specs.declared.rule.Rule.{Rule}
 use Rattle.am_types.specs.declared.rule.Rule.TheVariants as rules
 use Rattle.am_types.specs.declared.rule.Limit.TheVariants as limits
-use Rattle.am_model.specs.Boards.{package_named}
+use Rattle.am_model.specs.Accounts.{Question}
+use Rattle.am_model.specs.Boards.{caller_of, package_named, uid_named}
 use Rattle.am_model.specs.Gates.{Verdict, Admit, NotExported, NeedsPermission, verdict, is_privileged}
 use Rattle.am_model.specs.Candidates.{hits}
-use Rattle.am_model.specs.Receivers.{declared, rule_of, or_rule, receivers}
+use Rattle.am_model.specs.Receivers.{declared, rule_of, or_rule, receivers, is_protected}
 use Rattle.am_model.specs.Targets.{target}
 use Rattle.am_model.specs.Tasks as tasks
 use Rattle.am_model.specs.Tasks.{Tasks, owner, may_end}
@@ -60,9 +61,10 @@ use Rattle.am_history.specs.Activities as activities
 use Rattle.am_history.specs.Activities.{start_call, place_rule, after_place, source_rule, absent_rule, owned_rule, caller_rule, start_declared, start_target, start, end_rule, after_end, finish_activity, back}
 use Rattle.am_history.specs.Services as services
 use Rattle.am_history.specs.Services.{running, is_too_many, started, gate_rule, start_first, start_service, stopped_rule, stop_maybe, stop_service}
-use Rattle.am_history.specs.BroadcastCalls.{is_protected, sending_of, send_rule, after_send, send, count_of, register, unregister_found, unregister, finish_rule, after_finish, finish}
+use Rattle.am_history.specs.BroadcastCalls.{sending_of, send_rule, after_send, send, count_of, register, unregister_found, unregister, finish_rule, after_finish, finish}
 use Rattle.am_history.specs.PendingCalls.{pending_rule, after_get, pending_get, after_change, pending_cancel, pending_give, in_new_task, lend, after_use, used_up, pending_send}
 use Rattle.am_history.specs.Packages.{is_name_used, is_key_used, is_full, install_read, install, without, uninstall, force_stop, too_many_grants, grant_to, grant, too_many_links, link_to, link}
+use Rattle.am_history.specs.Explaining.{told_at, told, told_as, explain}
 use Rattle.am_history.specs.Steps.{act}
 
 -- the rule is that a row couldn't be kept
@@ -385,10 +387,38 @@ link_answers state caller name host approved =
     by_admin state caller _ (of_package state name (λ (owner : Package). link_to state owner.uid host approved)
     (λ owner. either (too_many_links state.board.links owner.uid host approved) (refused state (rules.OverLimit limits.Links)) _ refl refl))
 
+-- either of two replies
+either_reply : (state : State) (test : Bool) (first second : Reply) → Answers (first, state) → Answers (second, state) → Answers (cond test first second, state)
+either_reply state true first second one other = one
+either_reply state false first second one other = other
+
+-- the accounts of what has a uid, of what the package of a name has, and as a uid would ask for them
+told_at_answers : (state : State) (asked : Question) (uid : Option ℕ) → Answers (told_at state.board asked uid, state)
+told_at_answers state asked None = refl
+told_at_answers state asked (Some uid) = refl
+
+told_answers : (state : State) (asked : Question) (shown : Option (List ℕ)) → Answers (told state.board asked shown, state)
+told_answers state asked None = refl
+told_answers state asked (Some name) = told_at_answers state asked (uid_named state.board.packages name)
+
+told_as_answers : (state : State) (asked : Question) (shown : Option (List ℕ)) (uid : Option ℕ) → Answers (told_as state.board asked shown uid, state)
+told_as_answers state asked shown None = refl
+told_as_answers state asked shown (Some uid) = told_answers state (record asked { caller = uid }) shown
+
+-- whom an intent reaches and why not the others
+explain_answers : (state : State) (asked : Question) (name shown : Option (List ℕ)) → Answers (explain state.board asked name shown, state)
+unfolding explain
+explain_answers state asked None shown = told_answers state asked shown
+explain_answers state asked (Some name) shown =
+    either_reply state (is_privileged asked.caller) (told_as state.board asked shown (caller_of state.board.packages name)) (replies.Refused rules.AdminOnly)
+    (told_as_answers state asked shown (caller_of state.board.packages name)) refl
+
 -- each request
 act_answers : (state : State) (before : List Entry) (caller : ℕ) (request : Request) → Answers (act state before caller request)
 unfolding act
 act_answers state before caller (asks.Query kind intent default_only) = refl
+act_answers state before caller (asks.Explain kind intent name permission shown) =
+    explain_answers state (record { caller = caller; kind = kind; intent = intent; required = permission }) name shown
 act_answers state before caller (asks.Start intent source) = start_answers state caller intent source
 act_answers state before caller (asks.FinishActivity instance) = finish_activity_answers state caller instance
 act_answers state before caller asks.Back = by_admin state caller (back state) (back_answers state)

@@ -30,7 +30,7 @@ use Rattle.am_types.specs.declared.rule.Rule.TheVariants as rules
 use Rattle.am_types.specs.declared.rule.Limit.TheVariants as limits
 use Rattle.am_model.specs.Boards.{is_package_uid, with_stopped, with_grant, with_link}
 use Rattle.am_model.specs.Gates.{verdict, Admit, is_privileged}
-use Rattle.am_model.specs.Receivers.{declared, receivers}
+use Rattle.am_model.specs.Receivers.{declared, is_protected, receivers}
 use Rattle.am_model.specs.Tasks as tasks
 use Rattle.am_model.specs.Tasks.{Instance, Tasks, owner, may_end, ended, tasks_keeping, without_instance, seen, back_from}
 use Rattle.am_model.specs.Placement.{place}
@@ -44,7 +44,7 @@ use Rattle.am_history.specs.State.{State, Service, with_packages}
 use Rattle.am_history.specs.Answers.{refused, done}
 use Rattle.am_history.specs.Activities.{start_call, after_end, finish_activity, went_back, back}
 use Rattle.am_history.specs.Services.{is_service, running, with_start, stopped_rule, gate_rule, stop_maybe, stop_service}
-use Rattle.am_history.specs.BroadcastCalls.{is_protected, sending_of, with_registered, count_of, register, taken_back, unregister_found, unregister, after_finish, finish}
+use Rattle.am_history.specs.BroadcastCalls.{sending_of, with_registered, count_of, register, taken_back, unregister_found, unregister, after_finish, finish}
 use Rattle.am_history.specs.PendingCalls.{after_get, pending_get, after_change, pending_cancel, pending_give, in_new_task, lend, pending_send}
 use Rattle.am_history.specs.Packages.{forget, installed, is_name_used, is_key_used, is_full, install_read, install, without, uninstall, force_stop, too_many_grants, grant_to, grant, too_many_links, link_to, link}
 use Rattle.am_history.specs.Steps.{act, after_due, step}
@@ -202,6 +202,7 @@ module _ (P : State → Type 0) (state : State) (caller : ℕ) where
   pub act_leaves : (before : List Entry) (request : Request) → Steps P state caller request → P (act state before caller request).1
   unfolding act finish_activity tasks.finish back stop_service register unregister pending_get pending_cancel pending_give install uninstall grant link force_stop
   act_leaves before (asks.Query kind intent default_only) steps = steps.here
+  act_leaves before (asks.Explain kind intent name permission shown) steps = steps.here
   act_leaves before (asks.Start intent source) steps =
       start_cases P state caller intent steps.here source
       (λ component found landed is admits done. steps.started caller intent source component found landed refl is admits done)

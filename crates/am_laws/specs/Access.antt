@@ -14,12 +14,11 @@ use Rattle.am_types.specs.declared.history.Entry.{Entry}
 use Rattle.am_types.specs.declared.request.Request.{Request}
 use Rattle.am_types.specs.declared.request.Request.TheVariants as asks
 use Rattle.am_model.specs.Gates.{verdict, Admit, is_privileged}
-use Rattle.am_model.specs.Receivers.{declared, receivers, admitted}
+use Rattle.am_model.specs.Receivers.{declared, receivers, admitted, is_protected}
 use Rattle.am_model.specs.Broadcasts.{Broadcasts, Normal, Delivery, InTurn, Past}
 use Rattle.am_model.specs.Tasks.{Instance, Task}
 use Rattle.am_model.specs.Pendings.{use_token}
 use Rattle.am_history.specs.State.{State, Service}
-use Rattle.am_history.specs.BroadcastCalls.{is_protected}
 use Rattle.am_history.specs.PendingCalls.{in_new_task}
 use Rattle.am_history.specs.Steps.{after_due}
 use Rattle.am_history.specs.History.{replay}

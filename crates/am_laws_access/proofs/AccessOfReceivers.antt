@@ -8,9 +8,9 @@ use Rattle.am_types.specs.declared.broadcast.Spot.{Spot}
 use Rattle.am_types.specs.declared.broadcast.Ordered.{Ordered}
 use Rattle.am_types.specs.declared.history.Entry.{Entry}
 use Rattle.am_model.specs.Gates.{is_privileged}
-use Rattle.am_model.specs.Receivers.{receivers, admitted}
+use Rattle.am_model.specs.Receivers.{receivers, admitted, is_protected}
 use Rattle.am_history.specs.State.{State}
-use Rattle.am_history.specs.BroadcastCalls.{is_protected, sending_of}
+use Rattle.am_history.specs.BroadcastCalls.{sending_of}
 use Rattle.am_history.specs.Steps.{after_due, moment_after, step}
 use Rattle.am_history.specs.History.{replay}
 use Rattle.am_history.specs.Desks.{Origin, opening_of}

@@ -8,12 +8,12 @@ use Rattle.am_types.specs.declared.broadcast.Ordered.{Ordered}
 use Rattle.am_types.specs.declared.request.Request.{Request}
 use Rattle.am_types.specs.declared.request.Request.TheVariants as asks
 use Rattle.am_model.specs.Gates.{is_privileged}
-use Rattle.am_model.specs.Receivers.{receivers}
+use Rattle.am_model.specs.Receivers.{is_protected, receivers}
 use Rattle.am_model.specs.Broadcasts.{Broadcasts}
 use Rattle.am_model.specs.Sending as sending
 use Rattle.am_model.specs.Sending.{Held, with_sent, held, finished, is_registered}
 use Rattle.am_history.specs.State.{State}
-use Rattle.am_history.specs.BroadcastCalls.{is_protected, sending_of}
+use Rattle.am_history.specs.BroadcastCalls.{sending_of}
 use Rattle.am_laws.specs.Access.{Sends, deed_of}
 use Rattle.am_laws.proofs.Requests.{Steps}
 

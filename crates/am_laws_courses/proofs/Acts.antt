@@ -28,7 +28,7 @@ use Rattle.am_types.specs.declared.rule.Rule.TheVariants as rules
 use Rattle.am_types.specs.declared.rule.Limit.TheVariants as limits
 use Rattle.am_model.specs.Boards.{package_named}
 use Rattle.am_model.specs.Gates.{is_privileged}
-use Rattle.am_model.specs.Receivers.{declared, receivers}
+use Rattle.am_model.specs.Receivers.{declared, is_protected, receivers}
 use Rattle.am_model.specs.Tasks as tasks
 use Rattle.am_model.specs.Tasks.{Tasks}
 use Rattle.am_model.specs.Broadcasts.{Broadcasts}
@@ -42,9 +42,10 @@ use Rattle.am_history.specs.State.{State}
 use Rattle.am_history.specs.Answers.{refused, done, for_admin, for_found, for_package}
 use Rattle.am_history.specs.Activities.{after_end, start, finish_activity, back}
 use Rattle.am_history.specs.Services.{running, stopped_rule, gate_rule, stop_maybe, start_service, stop_service}
-use Rattle.am_history.specs.BroadcastCalls.{is_protected, sending_of, count_of, register, taken_back, unregister_found, unregister, after_finish, send, finish}
+use Rattle.am_history.specs.BroadcastCalls.{sending_of, count_of, register, taken_back, unregister_found, unregister, after_finish, send, finish}
 use Rattle.am_history.specs.PendingCalls.{after_get, pending_get, after_change, pending_cancel, pending_give, in_new_task, lend, pending_send}
 use Rattle.am_history.specs.Packages.{is_name_used, is_key_used, is_full, install_read, install, without, uninstall, force_stop, too_many_grants, grant_to, grant, too_many_links, link_to, link}
+use Rattle.am_history.specs.Explaining.{explain}
 use Rattle.am_history.specs.Steps.{page, act}
 use Rattle.am_laws.specs.Access.{Sends, lent_deed, deed_of, used_deed}
 use Rattle.am_laws.proofs.Answered.{either_leaves, unless_leaves}
@@ -181,6 +182,9 @@ module _ (P : Bool → Broadcasts → Type 0) (state : State) (caller : ℕ) whe
   pub acts_do : (before : List Entry) (request : Request) → Acts P state caller request → Does (act state before caller request)
   unfolding act finish_activity back stop_service register pending_get pending_cancel pending_give install uninstall grant link force_stop
   acts_do before (asks.Query kind intent default_only) acts = acts.same
+  acts_do before (asks.Explain kind intent name permission shown) acts =
+      any_does (explain state.board (record { caller = caller; kind = kind; intent = intent; required = permission }) name shown, state)
+      (any_same (asks.Explain kind intent name permission shown) refl acts)
   acts_do before (asks.Start intent source) acts =
       let here = any_same (asks.Start intent source) refl acts in
       any_does (start state caller intent source) (start_cases Any state caller intent here source (λ component found landed is admits placed. here))

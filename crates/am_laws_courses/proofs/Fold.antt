@@ -15,12 +15,12 @@ use Rattle.am_types.specs.declared.reply.Reply.TheVariants as replies
 use Rattle.am_types.specs.declared.rule.Rule.TheVariants as rules
 use Rattle.am_model.specs.Boards.{package_named}
 use Rattle.am_model.specs.Gates.{is_privileged}
-use Rattle.am_model.specs.Receivers.{receivers}
+use Rattle.am_model.specs.Receivers.{is_protected, receivers}
 use Rattle.am_model.specs.Broadcasts.{Broadcasts, InTurn, Delivery, Result}
 use Rattle.am_model.specs.Sending as sending
 use Rattle.am_model.specs.Sending.{in_turn, with_sent, finished, is_current, is_registered, strike, unwanted, Held, held}
 use Rattle.am_history.specs.State.{State}
-use Rattle.am_history.specs.BroadcastCalls.{is_protected, sending_of}
+use Rattle.am_history.specs.BroadcastCalls.{sending_of}
 use Rattle.am_history.specs.Steps.{act, moment_after, step}
 use Rattle.am_history.specs.History.{replay}
 use Rattle.am_history.specs.Desks.{Origin, opening_of}

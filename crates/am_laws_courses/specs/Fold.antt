@@ -9,11 +9,11 @@ use Rattle.am_types.specs.declared.broadcast.Outcome.{Outcome}
 use Rattle.am_types.specs.declared.history.Entry.{Entry}
 use Rattle.am_types.specs.declared.request.Request.TheVariants as asks
 use Rattle.am_model.specs.Gates.{is_privileged}
-use Rattle.am_model.specs.Receivers.{receivers}
+use Rattle.am_model.specs.Receivers.{is_protected, receivers}
 use Rattle.am_model.specs.Broadcasts.{Broadcasts, InTurn, Past, Result, Doing, Answered, Late, Gone, fold_outcome, doings, is_over}
 use Rattle.am_model.specs.Sending.{in_turn}
 use Rattle.am_history.specs.State.{State}
-use Rattle.am_history.specs.BroadcastCalls.{is_protected, sending_of}
+use Rattle.am_history.specs.BroadcastCalls.{sending_of}
 use Rattle.am_laws.specs.Access.{Deed, Sends, Once}
 use Rattle.am_laws_courses.specs.Course.{course_of, course_after, finishing}
 

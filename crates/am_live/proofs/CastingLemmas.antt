@@ -21,12 +21,12 @@ use Rattle.am_types.specs.declared.rule.Rule.TheVariants as rules
 use Rattle.am_model.specs.Boards.{Board}
 use Rattle.am_model.specs.Broadcasts.{Broadcasts, InTurn, expired, expired_queue, is_head_due, late_head, settle, with_queue}
 use Rattle.am_model.specs.Gates.{is_privileged}
-use Rattle.am_model.specs.Receivers.{receivers}
+use Rattle.am_model.specs.Receivers.{is_protected, receivers}
 use Rattle.am_model.specs.Sending as model
 use Rattle.am_installed.specs.Places.{place_registered}
 use Rattle.am_installed.proofs.Placing.{place_last}
 use Rattle.am_history.specs.Answers.{done, refused}
-use Rattle.am_history.specs.BroadcastCalls.{after_finish, after_send, count_of, finish, finish_rule, is_protected, register, send, send_to, sending_of, taken_back, unregister, unregister_found, with_registered}
+use Rattle.am_history.specs.BroadcastCalls.{after_finish, after_send, count_of, finish, finish_rule, register, send, send_to, sending_of, taken_back, unregister, unregister_found, with_registered}
 use Rattle.am_history.specs.State.{State}
 use Rattle.am_history.specs.Steps.{at_moment}
 

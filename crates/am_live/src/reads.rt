@@ -1,15 +1,24 @@
 //! What is read of the state.
-ghost use Rattle.std.specs.Prelude.{◌≡◌, ◌≤◌, length, IfOk, OnOk, OnErr};
+ghost use Rattle.std.specs.Prelude.{◌≡◌, ◌≤◌, length, option_copied, IfOk, OnOk, OnErr};
+ghost use Rattle.am_types.specs.declared.reply.Reply.TheVariants.{Accounts};
+ghost use Rattle.am_model.specs.Accounts.{accounts};
 ghost use Rattle.am_model.specs.Candidates.{hits};
 ghost use Rattle.am_model.specs.Gates.{is_privileged};
 ghost use Rattle.am_model.specs.Sending.{inbox};
 ghost use Rattle.am_model.specs.Tasks.{views};
 ghost use Rattle.am_history.specs.Activities.{components_of};
+ghost use Rattle.am_history.specs.Explaining.{explain, told};
 ghost use Rattle.am_history.specs.Services.{services_of};
 ghost use Rattle.am_history.specs.Steps.{at_moment};
+ghost use Rattle.am_explain.specs.Asking.{question_of};
 
 use crate::{Live, callers};
-use am_types::{Component, Hit, Intent, Item, Kind, List, NoMemory, ServiceView, Steps, TaskView};
+use am_explain::{Question, accounts};
+use am_installed::{caller_named, uid_named};
+use am_types::{
+    Component, Hit, Intent, Item, Kind, List, NoMemory, Reply, Rule, ServiceView, Steps, TaskView,
+    Text,
+};
 use std::alloc::Global;
 use std::sync::ledger::Ledger;
 
@@ -31,6 +40,66 @@ impl Live {
             .query(self.alloc, kind, intent, default_only, steps)?;
         let names = components_of(self.alloc, found)?;
         Ok(names)
+    }
+
+    /// Whom an intent reaches and why not the others. With `name` the question is that of the package of the
+    /// name, or of the system (`android`), which only the system and the root may ask; with `shown` only what
+    /// that package has is shown. Refused by `AdminOnly`, then by `NoPackage`. Each full test of a filter is a
+    /// step.
+    #[tactic(auto, unfolding(am_history::specs::Explaining::explain))]
+    pub fn explain<L: Ledger>(
+        &self,
+        question: &Question,
+        name: Option<&Text>,
+        shown: Option<&Text>,
+        steps: &mut Steps<L>,
+    ) -> Result<Reply, NoMemory>
+        ensures { IfOk result (λ reply. reply ≡ explain self.now.board (question_of question.now)
+            (option_copied name.entry) (option_copied shown.entry)) }
+    {
+        let Some(name) = name else {
+            return self.told(question, shown, steps);
+        };
+        if !callers::is_privileged(question.caller) {
+            return Ok(Reply::Refused(Rule::AdminOnly));
+        }
+        let Some(uid) = caller_named(self.board.packages(), name) else {
+            return Ok(Reply::Refused(Rule::NoPackage));
+        };
+        self.told(&question.of_caller(uid), shown, steps)
+    }
+
+    /// All accounts, or those of what the package of a name has. Refused by `NoPackage`.
+    fn told<L: Ledger>(
+        &self,
+        question: &Question,
+        shown: Option<&Text>,
+        steps: &mut Steps<L>,
+    ) -> Result<Reply, NoMemory>
+        ensures { IfOk result
+            (λ reply. reply ≡ told self.now.board (question_of question.now) (option_copied shown.entry)) }
+    {
+        match shown {
+            None => self.accounts(question, None, steps),
+            Some(name) => match uid_named(self.board.packages(), name) {
+                None => Ok(Reply::Refused(Rule::NoPackage)),
+                Some(uid) => self.accounts(question, Some(uid), steps),
+            },
+        }
+    }
+
+    /// All accounts, or those of one uid.
+    fn accounts<L: Ledger>(
+        &self,
+        question: &Question,
+        shown: Option<u32>,
+        steps: &mut Steps<L>,
+    ) -> Result<Reply, NoMemory>
+        ensures { IfOk result
+            (λ reply. reply ≡ Accounts (accounts self.now.board (question_of question.now) shown)) }
+    {
+        let told = accounts(self.alloc, &self.board, question, shown, steps)?;
+        Ok(Reply::Accounts(told))
     }
 
     /// The tasks that the caller sees, from front to back.

@@ -3,11 +3,11 @@ ghost use Rattle.std.specs.Prelude.{◌≡◌, ◌≢◌, ◌≤◌, ◌&&◌, n
 ghost use Rattle.std.specs.Option.{option_copied};
 ghost use Rattle.am_model.specs.Broadcasts.{expired};
 ghost use Rattle.am_model.specs.Gates.{is_privileged};
-ghost use Rattle.am_model.specs.Receivers.{admitted};
+ghost use Rattle.am_model.specs.Receivers.{admitted, is_protected};
 ghost use Rattle.am_model.specs.Sending.{send};
 ghost use Rattle.am_model.specs.Texts.{lists};
 ghost use Rattle.am_history.specs.State.{State};
-ghost use Rattle.am_history.specs.BroadcastCalls.{is_protected, send_rule, sending_of};
+ghost use Rattle.am_history.specs.BroadcastCalls.{send_rule, sending_of};
 
 use crate::callers;
 use am_queue::Queues;

@@ -5,13 +5,15 @@ ghost use Rattle.am_types.specs.declared.request.Request.TheVariants as asks;
 ghost use Rattle.am_types.specs.declared.rule.Rule.TheVariants.{AdminOnly};
 ghost use Rattle.am_model.specs.Broadcasts.{Broadcasts};
 ghost use Rattle.am_model.specs.Gates.{is_privileged};
+ghost use Rattle.am_history.specs.Explaining.{explain};
 ghost use Rattle.am_history.specs.Steps.{act, at_moment, is_calm, is_changing, is_steady, page};
 ghost use Rattle.am_machine.specs.Subjects.{subject_of};
 
 use crate::history::page;
 use crate::subject::Subject;
+use am_explain::Question;
 use am_live::Live;
-use am_types::{Entry, NoMemory, Reply, Request, Rule, Steps};
+use am_types::{Entry, Intent, Kind, NoMemory, Reply, Request, Rule, Steps, Text};
 use std::alloc::Global;
 use std::sync::ledger::Ledger;
 
@@ -126,6 +128,13 @@ fn steady<L: Ledger>(
             let found = live.query(*kind, intent, *default_only, steps)?;
             Ok(Reply::Components(found))
         }
+        Request::Explain {
+            kind,
+            intent,
+            caller: name,
+            permission,
+            shown,
+        } => explained(live, caller, *kind, intent, name, permission, shown, steps),
         Request::ListTasks => {
             let tasks = live.tasks(caller)?;
             Ok(Reply::Tasks(tasks))
@@ -137,6 +146,24 @@ fn steady<L: Ledger>(
         Request::History { from } => entries(alloc, history, caller, *from),
         _ => unreachable!(),
     }
+}
+
+/// Whom an intent of the caller reaches, or of the one that has the name, and why not the others.
+fn explained<L: Ledger>(
+    live: &Live,
+    caller: u32,
+    kind: Kind,
+    intent: &Intent,
+    name: &Option<Text>,
+    permission: &Option<Text>,
+    shown: &Option<Text>,
+    steps: &mut Steps<L>,
+) -> Result<Reply, NoMemory>
+    ensures { IfOk result (λ reply. reply ≡ explain live.now.board
+        (record { caller = caller; kind = kind; intent = intent.now; required = permission.now }) name.now shown.now) }
+{
+    let question = Question::new(caller, kind, intent, permission.as_ref());
+    live.explain(&question, name.as_ref(), shown.as_ref(), steps)
 }
 
 /// A page of the history, for the system and the root.

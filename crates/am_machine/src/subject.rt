@@ -49,6 +49,7 @@ pub(crate) fn is_changing(request: &Request) -> bool
 {
     match request {
         Request::Query { .. } => false,
+        Request::Explain { .. } => false,
         Request::ListTasks => false,
         Request::Services => false,
         Request::Inbox => false,

@@ -1,3 +1,4 @@
+pub mod AccountExamples
 pub mod BoardExamples
 pub mod BroadcastExamples
 pub mod BroadcastLaws

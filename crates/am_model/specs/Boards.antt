@@ -1,5 +1,5 @@
 -- What is installed on a device and what was given to it: packages, grants, links and registered receivers.
-use Rattle.std.specs.Prelude.{ℕ, Bool, true, false, not, ◌&&◌, ◌||◌, ◌==◌, nat_lt, List, [], ◌∷◌, map, filter, if◌then◌else◌, Option, Some, None}
+use Rattle.std.specs.Prelude.{ℕ, Bool, true, false, not, ◌&&◌, ◌||◌, ◌==◌, nat_lt, codes, List, [], ◌∷◌, map, filter, if◌then◌else◌, Option, Some, None}
 use Rattle.std.specs.List.{list_any}
 use Rattle.am_types.specs.declared.device.Device.{Device}
 use Rattle.am_types.specs.declared.device.Package.{Package}
@@ -35,6 +35,15 @@ board_of device = record {
 abbrev pub package_named : List Package → List ℕ → Option Package
 package_named [] name = None
 package_named (first ∷ others) name = if is_same first.name name then Some first else package_named others name
+
+-- the uid of the package of that name, if there is one
+abbrev pub uid_named : List Package → List ℕ → Option ℕ
+uid_named [] name = None
+uid_named (first ∷ others) name = if is_same first.name name then Some first.uid else uid_named others name
+
+-- the uid of the caller of that name, if there is one; `android` is the system's
+abbrev pub caller_of : List Package → List ℕ → Option ℕ
+caller_of packages name = if is_same name (codes "android") then Some 1000 else uid_named packages name
 
 -- the package with that uid, if there is one
 abbrev pub package_at : List Package → ℕ → Option Package

@@ -9,6 +9,7 @@ pub mod Boards
 pub mod Gates
 pub mod Targets
 pub mod Receivers
+pub mod Accounts
 pub mod Broadcasts
 pub mod Sending
 pub mod Pendings

@@ -127,6 +127,11 @@ abbrev pub is_exempt : List (List ℕ) → Option (List ℕ) → Bool
 is_exempt exempt None = false
 is_exempt exempt (Some action) = lists exempt action
 
+-- the action is there and is protected
+abbrev pub is_protected : List (List ℕ) → Option (List ℕ) → Bool
+is_protected protected None = false
+is_protected protected (Some action) = lists protected action
+
 -- the intent names neither a component nor a package, and its action isn't exempt
 abbrev pub is_unaimed : List (List ℕ) → Intent → Bool
 is_unaimed exempt intent = (is_none intent.component && is_none intent.«package») && not (is_exempt exempt intent.action)

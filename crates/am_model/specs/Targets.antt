@@ -47,10 +47,13 @@ host_to_view intent =
     then web_host intent.uri
     else None
 
--- the hit's package is approved for the host, with ASCII case ignored
+-- the package of the uid is approved for the host, with ASCII case ignored
+abbrev pub approves : List Link → List ℕ → ℕ → Bool
+approves links host uid = list_any (λ (link : Link). (link.uid == uid) && is_same (lowered link.host) (lowered host)) links
+
+-- the hit's package is approved for the host
 abbrev pub is_approved : List Link → List ℕ → Hit → Bool
-is_approved links host hit =
-    list_any (λ (link : Link). (link.uid == hit.uid) && is_same (lowered link.host) (lowered host)) links
+is_approved links host hit = approves links host hit.uid
 
 -- a filter that the intent passes and that lists no authority
 abbrev pub takes_any_host : Intent → Filter → Bool

@@ -149,6 +149,13 @@ impl Board {
         self.installed.package_named(name)
     }
 
+    /// What is installed, without the index. Takes no memory.
+    pub fn installed(&self) -> &Installed
+        ensures { result.now ≡ self.now }
+    {
+        &self.installed
+    }
+
     /// The packages in the order of their uids. Takes no memory.
     pub fn packages(&self) -> &List<Package>
         ensures packages { result.now ≡ self.now.packages }

@@ -11,3 +11,7 @@ mod skips;
 mod top;
 
 pub use board::Board;
+pub use names::is_for;
+pub use narrow::{approves, host_to_view};
+pub use offers::Offer;
+pub use skips::skip_of;

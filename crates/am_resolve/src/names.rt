@@ -15,8 +15,8 @@ const SYSTEM: u32 = 1000;
 /// The name of the system's and the root's package.
 const SYSTEM_NAME: &str = "android";
 
-/// The intent names no package, or that of the uid.
-pub(crate) fn is_for(installed: &Installed, intent: &Intent, uid: u32) -> bool
+/// The intent names no package, or that of the uid. Takes no memory.
+pub fn is_for(installed: &Installed, intent: &Intent, uid: u32) -> bool
     ensures { result ≡ is_for intent.now.«package» (name_of installed.now.packages uid) }
 {
     match &intent.package {

@@ -8,7 +8,7 @@ ghost use Rattle.am_types.specs.declared.resolve.Hit.{Hit};
 ghost use Rattle.am_model.specs.Boards.{package_at};
 ghost use Rattle.am_model.specs.Candidates.{hits};
 ghost use Rattle.am_model.specs.Sound.{uids_of};
-ghost use Rattle.am_model.specs.Targets.{browser_hits, host_to_view, is_approved, is_general, is_view, is_web_category, is_web_scheme, named_host, narrowed, takes_any_host, web_hits, web_host};
+ghost use Rattle.am_model.specs.Targets.{approves, browser_hits, host_to_view, is_approved, is_general, is_view, is_web_category, is_web_scheme, named_host, narrowed, takes_any_host, web_hits, web_host};
 ghost use Rattle.am_model.specs.Texts.{is_same, lowered};
 ghost use Rattle.am_index.specs.Groups.{group_size, in_group};
 ghost use Rattle.am_resolve.specs.Narrowing.{cost_at, cost_in, cost_of, is_general_at, is_general_in};
@@ -76,8 +76,8 @@ fn are_web_categories(categories: &List<Text>) -> bool
 }
 
 /// The host of a web intent: one that asks to view a web page, by no other categories and for no
-/// named app.
-fn host_to_view(intent: &Intent) -> Option<&Text>
+/// named app. Takes no memory.
+pub fn host_to_view(intent: &Intent) -> Option<&Text>
     ensures { option_copied result ≡ host_to_view intent.now }
 {
     if is_view(&intent.action)
@@ -91,11 +91,21 @@ fn host_to_view(intent: &Intent) -> Option<&Text>
     }
 }
 
-/// The hit's package is approved for the host, with ASCII case ignored.
+/// The package of the uid is approved for the host, with ASCII case ignored. Takes no memory.
+pub fn approves(links: &List<Link>, host: &Text, uid: u32) -> bool
+    ensures { result ≡ approves links.now host.now uid }
+{
+    links
+        .as_slice()
+        .iter()
+        .any(|link| link.uid == uid && is_same_host(&link.host, host))
+}
+
+/// The hit's package is approved for the host.
 fn is_approved(links: &List<Link>, host: &Text, hit: &Hit) -> bool
     ensures { result ≡ is_approved links.now host.now hit.now }
 {
-    links.as_slice().iter().any(|link| link.uid == hit.uid && is_same_host(&link.host, host))
+    approves(links, host, hit.uid)
 }
 
 /// The hosts are the same, with ASCII case ignored.

@@ -13,7 +13,11 @@ use std::alloc::AllocError;
 
 /// The first rule by which an offer is skipped; none where the receiver is admitted. `required` is
 /// what the sender requires.
-pub(crate) fn skip_of(
+///
+/// # Errors
+///
+/// `AllocError` if memory runs out.
+pub fn skip_of(
     installed: &Installed,
     intent: &Intent,
     sender: u32,

@@ -2,11 +2,12 @@
 use Rattle.std.specs.Prelude.{◌≡◌, ℕ, ◌≤◌, ◌⊎◌, codes, List, ◌++◌, length, Some, None, Result, Ok, Err, ⊤}
 use Rattle.std.specs.Io.KnownBytes.{Consumes, IsAtEnd}
 use Rattle.am_outside.specs.Counts.{HasRisen}
+use Rattle.am_model.specs.Boards.{caller_of}
 use Rattle.am_wire_fields.specs.declared.fault.WireFault.{WireFault}
 use Rattle.am_wire_fields.specs.Printing.{printed}
 use Rattle.am_queries.specs.declared.device.Described.{Described}
 use Rattle.am_queries.specs.Queries.{described}
-use Rattle.am_visible.specs.Answers.{answer_to, caller_of}
+use Rattle.am_visible.specs.Answers.{answer_to}
 use Rattle.am_http.specs.Links.{SourceView}
 use Rattle.am_shell.specs.declared.setback.Setback.{Setback}
 use Rattle.am_shell.specs.declared.question.Question.{Question}

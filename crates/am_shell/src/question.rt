@@ -9,10 +9,11 @@ ghost use Rattle.am_shell.specs.Questions.{FailsToRead, Happens, IsNoReply, IsRe
 use crate::device::open_described;
 use crate::setback::Setback;
 use crate::telling::{print, tell};
+use am_installed::caller_named;
 use am_outside::{Failed, Files, Sink, Source};
 use am_queries::Described;
 use am_types::{NoMemory, Text};
-use am_visible::{answer, caller_named};
+use am_visible::answer;
 use am_wire_fields::{Unread, WireFault};
 use std::alloc::{AllocError, Global};
 

@@ -4,6 +4,7 @@ ghost use Rattle.std.specs.Prelude.{◌<◌, IfOk};
 mod activities;
 mod broadcasts;
 mod devices;
+mod explaining;
 mod finding;
 mod packages;
 mod pending_intents;
@@ -109,6 +110,12 @@ fn answers_reads(rt: HostRuntime) -> Result<(), Fail> {
 #[test]
 fn finds_and_reaches(rt: HostRuntime) -> Result<(), Fail> {
     assert_eq!(rt; try_sessions(&rt, rt.alloc(), finding::SESSIONS)?, 45);
+    Ok(())
+}
+
+#[test]
+fn explains(rt: HostRuntime) -> Result<(), Fail> {
+    assert_eq!(rt; try_sessions(&rt, rt.alloc(), explaining::SESSIONS)?, 116);
     Ok(())
 }
 

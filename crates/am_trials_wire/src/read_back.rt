@@ -57,6 +57,6 @@ fn requests_are_read_back(rt: HostRuntime) -> Result<(), Fail> {
         try_row(&rt, rt.alloc(), row)?;
         rows = rows.wrapping_add(1);
     }
-    assert_eq!(rt; rows, 14);
+    assert_eq!(rt; rows, 17);
     Ok(())
 }

@@ -122,6 +122,6 @@ fn bodies(rt: HostRuntime) -> Result<(), Fail> {
         try_row(&rt, rt.alloc(), row)?;
         rows = rows.wrapping_add(1);
     }
-    assert_eq!(rt; rows, 593);
+    assert_eq!(rt; rows, 647);
     Ok(())
 }

@@ -30,7 +30,7 @@ fn routes_requests(rt: HostRuntime) -> Result<(), Fail> {
         try_row(&rt, alloc, &routes, row)?;
         rows = rows.wrapping_add(1);
     }
-    assert_eq!(rt; rows, 46);
+    assert_eq!(rt; rows, 49);
     Ok(())
 }
 

@@ -129,7 +129,10 @@ fn later(n: u32, alloc: Global) -> Result<Request, AllocError> {
         29 => Ok(Request::Tick),
         30 => Ok(Request::History { from: 64 }),
         31 => Ok(Request::Status),
-        _ => for_admins(n, alloc),
+        32..=36 => for_admins(n, alloc),
+        37 => explained(alloc, Kind::Activity, ["", "", ""]),
+        38 => explained(alloc, Kind::Service, ["android", "", "com.b"]),
+        _ => explained(alloc, Kind::Receiver, ["com.a", "p.X", "com.b"]),
     }
 }
 
@@ -155,6 +158,28 @@ fn for_admins(n: u32, alloc: Global) -> Result<Request, AllocError> {
     }
 }
 
+/// The text, unless it is empty.
+fn said(alloc: Global, text: &str) -> Result<Option<Text>, AllocError> {
+    if text.is_empty() {
+        return Ok(None);
+    }
+    Ok(Some(Text::of(alloc, text)?))
+}
+
+/// A question with its `as`, `permission` and `of`.
+fn explained(alloc: Global, kind: Kind, texts: [&str; 3]) -> Result<Request, AllocError> {
+    let caller = said(alloc, texts[0])?;
+    let permission = said(alloc, texts[1])?;
+    let shown = said(alloc, texts[2])?;
+    Ok(Request::Explain {
+        kind,
+        intent: small(alloc)?,
+        caller,
+        permission,
+        shown,
+    })
+}
+
 /// The route and the text of a request.
 fn written(n: u32, alloc: Global) -> Result<String, Fail> {
     let request = asked(n, alloc)?;
@@ -176,6 +201,6 @@ fn every_request_is_written(rt: HostRuntime) -> Result<(), Fail> {
         assert_eq!(rt; found.as_str(), wanted.as_str(), "{n}");
         n = n.wrapping_add(1);
     }
-    assert_eq!(rt; n, 37);
+    assert_eq!(rt; n, 40);
     Ok(())
 }

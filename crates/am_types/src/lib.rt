@@ -1,6 +1,7 @@
 //! The values that the activity manager speaks of.
 #![tactic(auto)]
 
+mod account;
 mod broadcast;
 mod copies;
 mod device;
@@ -22,6 +23,7 @@ mod text;
 mod uri;
 mod visible;
 
+pub use account::{Account, Narrowing, Standing};
 pub use broadcast::{
     Aim, Answer, FinishFault, Item, ItemKind, Ordered, Outcome, Receiving, SendFault, Sending, Spot,
 };

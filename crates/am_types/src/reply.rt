@@ -1,6 +1,8 @@
 ghost use Rattle.std.specs.Prelude.{◌≡◌};
 
-use crate::{Component, Entry, Item, Landed, List, Receiving, Rule, ServiceView, TaskView, copies};
+use crate::{
+    Account, Component, Entry, Item, Landed, List, Receiving, Rule, ServiceView, TaskView, copies,
+};
 use std::alloc::AllocError;
 
 /// What the manager answers.
@@ -8,6 +10,8 @@ use std::alloc::AllocError;
 pub enum Reply {
     /// In the order of priority, uid and place.
     Components(List<Component>),
+    /// By uid and place, then registered receivers by number.
+    Accounts(List<Account>),
     /// Several activities share the greatest priority.
     Choose(List<Component>),
     /// Where an activity start landed.

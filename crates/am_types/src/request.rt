@@ -12,6 +12,16 @@ pub enum Request {
         intent: Intent,
         default_only: bool,
     },
+    /// Whom the intent would reach as a start with NEW_TASK and without a source, a start of a service or a normal
+    /// broadcast, component by component, and why it doesn't reach the others. Of the package's calls, if `caller` names
+    /// one; only what the package has, if `shown` names one.
+    Explain {
+        kind: Kind,
+        intent: Intent,
+        caller: Option<Text>,
+        permission: Option<Text>,
+        shown: Option<Text>,
+    },
     /// Starts the activity that the intent finds, from an activity instance if one is named.
     Start {
         intent: Intent,
@@ -126,6 +136,19 @@ impl Clone for Request {
                 kind: *kind,
                 intent: intent.clone()?,
                 default_only: *default_only,
+            }),
+            Request::Explain {
+                kind,
+                intent,
+                caller,
+                permission,
+                shown,
+            } => Ok(Request::Explain {
+                kind: *kind,
+                intent: intent.clone()?,
+                caller: copies::option(caller)?,
+                permission: copies::option(permission)?,
+                shown: copies::option(shown)?,
             }),
             Request::Start { intent, source } => Ok(Request::Start {
                 intent: intent.clone()?,

@@ -1,7 +1,6 @@
 -- What a question of a package about a device is answered.
-use Rattle.std.specs.Prelude.{ℕ, Bool, true, false, nat_lt, codes, List, [], ◌∷◌, ◌++◌, length, map, if◌then◌else◌, Option, Some, None, Result, Ok, Err}
+use Rattle.std.specs.Prelude.{ℕ, Bool, true, false, nat_lt, codes, List, [], ◌++◌, length, map, if◌then◌else◌, Option, Some, None, Result, Ok, Err}
 use Rattle.serde_json.specs.Written.{compact_text}
-use Rattle.am_types.specs.declared.device.Package.{Package}
 use Rattle.am_types.specs.declared.intent.Component.{Component}
 use Rattle.am_types.specs.declared.manifest.ManifestFault.{ManifestFault}
 use Rattle.am_types.specs.declared.reply.Reply.{Reply}
@@ -10,8 +9,7 @@ use Rattle.am_types.specs.declared.request.Request.{Request}
 use Rattle.am_types.specs.declared.request.Request.TheVariants as asks
 use Rattle.am_types.specs.declared.resolve.Hit.{Hit}
 use Rattle.am_types.specs.declared.visible.Queries.{Queries}
-use Rattle.am_model.specs.Boards.{Board, board_of}
-use Rattle.am_model.specs.Texts.{is_same}
+use Rattle.am_model.specs.Boards.{Board, board_of, caller_of}
 use Rattle.am_model.specs.Visibility.{visible}
 use Rattle.am_queries.specs.declared.device.Described.{Described}
 use Rattle.am_queries.specs.Queries.{described}
@@ -23,15 +21,6 @@ use Rattle.am_wire.specs.Requests.{request_of}
 use Rattle.am_wire_values.specs.Replies.{reply_data}
 use Rattle.am_visible.specs.declared.fault.VisibleFault.{VisibleFault}
 use Rattle.am_visible.specs.declared.fault.VisibleFault.TheVariants as ends
-
--- the uid of the package of that name, if there is one
-abbrev pub uid_named : List Package → List ℕ → Option ℕ
-uid_named [] name = None
-uid_named (first ∷ others) name = if is_same first.name name then Some first.uid else uid_named others name
-
--- the uid of who asks; the name `android` is the system's
-abbrev pub caller_of : List Package → List ℕ → Option ℕ
-caller_of packages name = if is_same name (codes "android") then Some 1000 else uid_named packages name
 
 -- the request is a query
 abbrev pub is_query : Request → Bool

@@ -6,10 +6,10 @@ ghost use Rattle.am_wire_fields.specs.Reading.{Gives};
 ghost use Rattle.am_visible.specs.Answers.{answer_to, file_answer, is_query, line_of, reply_to};
 ghost use Rattle.am_visible.specs.Faults.{Answers};
 
-use crate::caller::caller_named;
 use crate::fault::VisibleFault;
 use crate::question::question_of;
 use crate::reply::{line_of, reply_to};
+use am_installed::caller_named;
 use am_queries::{Described, read_described};
 use am_resolve::Board;
 use am_types::{Device, List, NoMemory, Queries, Request, Text};

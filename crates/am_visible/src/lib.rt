@@ -3,7 +3,6 @@
 #![tactic(auto)]
 
 mod answers;
-mod caller;
 mod fault;
 mod hosts;
 mod meeting;
@@ -14,7 +13,6 @@ mod shown;
 mod types;
 
 pub use answers::{answer, answer_file};
-pub use caller::caller_named;
 pub use fault::VisibleFault;
 pub use meeting::meets;
 pub use seeing::sees;

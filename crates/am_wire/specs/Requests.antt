@@ -1,5 +1,5 @@
 -- The request that a body makes at a route, or its first fault.
-use Rattle.std.specs.Prelude.{ℕ, List, Result, Ok, Err}
+use Rattle.std.specs.Prelude.{ℕ, List, Result, Ok}
 use Rattle.serde_json.specs.Data.{Data}
 use Rattle.am_types.specs.declared.request.Request.{Request}
 use Rattle.am_types.specs.declared.request.Request.TheVariants as asks
@@ -9,6 +9,7 @@ use Rattle.am_wire_fields.specs.declared.fault.WireFault.{WireFault}
 use Rattle.am_wire_fields.specs.Bodies.{value_of}
 use Rattle.am_wire_fields.specs.Reading.{◌>>=◌}
 use Rattle.am_wire.specs.Activities.{plain_in, query_in, start_in, finish_activity_in, start_service_in, stop_service_in, history_in}
+use Rattle.am_wire.specs.Accounts.{explain_in}
 use Rattle.am_wire.specs.Broadcasts.{send_in, register_in, unregister_in, finish_in}
 use Rattle.am_wire.specs.Pendings.{pending_get_in, pending_send_in, pending_cancel_in, pending_give_in}
 use Rattle.am_wire.specs.Packages.{install_in, uninstall_in, grant_in, link_in, force_stop_in}
@@ -16,6 +17,7 @@ use Rattle.am_wire.specs.Packages.{install_in, uninstall_in, grant_in, link_in, 
 -- the request that a JSON value makes at a route; at a route of GET no value is looked at
 unfoldable pub request_in : Endpoint → Data → Result Request WireFault
 request_in at.Query body = query_in body
+request_in at.Explain body = explain_in body
 request_in at.Start body = start_in body
 request_in at.FinishActivity body = finish_activity_in body
 request_in at.Back body = plain_in asks.Back body

@@ -3,6 +3,7 @@
 //! has no more than its limit.
 #![tactic(auto)]
 
+mod accounts;
 mod activities;
 mod broadcasts;
 mod packages;

@@ -3,6 +3,7 @@ ghost use Rattle.serde_json.specs.View.{view};
 ghost use Rattle.am_wire_fields.specs.Reading.{Gives};
 ghost use Rattle.am_wire.specs.Requests.{request_in, posted, request_of};
 
+use crate::accounts::explain_in;
 use crate::activities::{
     finish_activity_in, history_in, plain_in, query_in, start_in, start_service_in, stop_service_in,
 };
@@ -22,6 +23,7 @@ fn request_in(alloc: Global, endpoint: Endpoint, body: &Value) -> Result<Request
 {
     match endpoint {
         Endpoint::Query => query_in(alloc, body),
+        Endpoint::Explain => explain_in(alloc, body),
         Endpoint::Start => start_in(alloc, body),
         Endpoint::FinishActivity => finish_activity_in(alloc, body),
         Endpoint::Back => plain_in(alloc, Request::Back, body),
@@ -66,6 +68,7 @@ fn posted(alloc: Global, endpoint: Endpoint, body: &[u8]) -> Result<Request, Unr
 /// | Endpoint | Fields, in the order in which they are read |
 /// |---|---|
 /// | `Query` | `kind` (`activity`, `service` or `receiver`), `intent`, `defaultOnly`? |
+/// | `Explain` | `kind` (the same), `intent`, `as`?; where `kind` is `receiver` also `permission`?; then `of`? |
 /// | `Start` | `intent`, `source`? |
 /// | `FinishActivity` | `instance` |
 /// | `Back`, `Tick` | none |
@@ -88,10 +91,10 @@ fn posted(alloc: Global, endpoint: Endpoint, body: &[u8]) -> Result<Request, Unr
 /// `source`, `instance`, `number`, `delivery`, `token` and `from` are whole numbers from 0 to
 /// 18,446,744,073,709,551,615, and `code` is one from -9,223,372,036,854,775,808 to 9,223,372,036,854,775,807, 0 where
 /// an ordered broadcast has none. `defaultOnly`, `ordered`, `result`, `abort`, `held` and `approved` are truths, false
-/// where they aren't there. `permission`, `data`, `package` and `host` are texts of at most 1,024 bytes, `manifest` is
-/// one of at most 65,536, and `key` has 1 to 255 visible ASCII characters. `flags` lists 64 names of pending flags at
-/// most. A host is put in lower ASCII case. A field that is `null` counts as absent, and of a key that stands twice in
-/// an object the last value counts.
+/// where they aren't there. `as`, `permission`, `of`, `data`, `package` and `host` are texts of at most 1,024 bytes,
+/// `manifest` is one of at most 65,536, and `key` has 1 to 255 visible ASCII characters. `flags` lists 64 names of
+/// pending flags at most. A host is put in lower ASCII case. A field that is `null` counts as absent, and of a key that
+/// stands twice in an object the last value counts.
 ///
 /// # Errors
 ///

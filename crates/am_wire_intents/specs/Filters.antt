@@ -1,5 +1,5 @@
 -- A filter.
-use Rattle.std.specs.Prelude.{ℕ, ℤ, pos, negsuc, int_lt, ◌==◌, nat_lt, List, [], ◌∷◌, length, fold, codes, if◌then◌else◌, Option, Some, None, option_map, option_and_then, Result, Ok, Err}
+use Rattle.std.specs.Prelude.{ℕ, ℤ, pos, negsuc, int_lt, nat_lt, List, [], ◌∷◌, length, fold, codes, if◌then◌else◌, Option, Some, None, option_map, option_and_then, Result, Ok, Err}
 use Rattle.serde_json.specs.Data.{Data}
 use Rattle.serde_json.specs.Find.{as_str, as_number, as_u64, as_i64}
 use Rattle.am_types.specs.declared.filter.Authority.{Authority}

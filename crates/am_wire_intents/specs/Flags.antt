@@ -1,5 +1,5 @@
 -- The flags of an intent, by their names.
-use Rattle.std.specs.Prelude.{ℕ, List, [], ◌∷◌, codes, Result, Ok, Err}
+use Rattle.std.specs.Prelude.{ℕ, List, [], ◌∷◌, codes, Result, Ok}
 use Rattle.serde_json.specs.Data.{Data}
 use Rattle.am_types.specs.declared.intent.Flags.{Flags}
 use Rattle.am_model.specs.Texts.{lists}

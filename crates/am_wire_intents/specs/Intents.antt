@@ -1,10 +1,7 @@
 -- An intent.
 use Rattle.std.specs.Prelude.{ℕ, List, [], ◌∷◌, codes, Option, Some, None, Result, Ok, Err}
 use Rattle.serde_json.specs.Data.{Data}
-use Rattle.am_types.specs.declared.intent.Component.{Component}
-use Rattle.am_types.specs.declared.intent.Flags.{Flags}
 use Rattle.am_types.specs.declared.intent.Intent.{Intent}
-use Rattle.am_types.specs.declared.intent.Named.{Named}
 use Rattle.am_types.specs.declared.uri.Mime.{Mime}
 use Rattle.am_types.specs.declared.uri.MimeFault.{MimeFault}
 use Rattle.am_types.specs.declared.uri.Uri.{Uri}

@@ -2,7 +2,7 @@
 use Rattle.std.specs.Prelude.{ℕ, List, [], ◌∷◌, Bool, Option, None, Some, Result, Ok, Err, codes, bytes_eq, ◌==◌, if◌then◌else◌}
 use Rattle.std.specs.List.{before_first, find}
 use Rattle.am_wire_routes.specs.declared.endpoint.Endpoint.{Endpoint}
-use Rattle.am_wire_routes.specs.declared.endpoint.Endpoint.TheVariants.{Query, Start, FinishActivity, Back, ListTasks, StartService, StopService, Services, Send, Register, Unregister, Inbox, Finish, PendingGet, PendingSend, PendingCancel, PendingGive, Install, Uninstall, Grant, Link, ForceStop, Tick, History, Status}
+use Rattle.am_wire_routes.specs.declared.endpoint.Endpoint.TheVariants.{Query, Explain, Start, FinishActivity, Back, ListTasks, StartService, StopService, Services, Send, Register, Unregister, Inbox, Finish, PendingGet, PendingSend, PendingCancel, PendingGive, Install, Uninstall, Grant, Link, ForceStop, Tick, History, Status}
 use Rattle.am_wire_routes.specs.declared.routes.RouteFault.{RouteFault}
 use Rattle.am_wire_routes.specs.declared.routes.RouteFault.TheVariants.{NoRoute, NoMethod}
 
@@ -22,6 +22,7 @@ post path = record { method = codes "POST"; path = path }
 -- the method and the path of each request
 abbrev pub line_of : Endpoint → Line
 line_of Query = post (codes "/v1/query")
+line_of Explain = post (codes "/v1/explain")
 line_of Start = post (codes "/v1/start")
 line_of FinishActivity = post (codes "/v1/finish_activity")
 line_of Back = post (codes "/v1/back")
@@ -58,7 +59,7 @@ method_of endpoint = (line_of endpoint).method
 -- every request
 abbrev pub endpoints : List Endpoint
 endpoints =
-    Query ∷ Start ∷ FinishActivity ∷ Back ∷ ListTasks ∷ StartService ∷ StopService ∷ Services ∷ Send
+    Query ∷ Explain ∷ Start ∷ FinishActivity ∷ Back ∷ ListTasks ∷ StartService ∷ StopService ∷ Services ∷ Send
     ∷ Register ∷ Unregister ∷ Inbox ∷ Finish ∷ PendingGet ∷ PendingSend ∷ PendingCancel ∷ PendingGive ∷ Install
     ∷ Uninstall ∷ Grant ∷ Link ∷ ForceStop ∷ Tick ∷ History ∷ Status ∷ []
 

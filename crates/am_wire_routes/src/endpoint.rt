@@ -8,6 +8,8 @@ use http::Method;
 pub enum Endpoint {
     /// `POST /v1/query`.
     Query,
+    /// `POST /v1/explain`.
+    Explain,
     /// `POST /v1/start`.
     Start,
     /// `POST /v1/finish_activity`.
@@ -60,8 +62,9 @@ pub enum Endpoint {
 
 impl Endpoint {
     /// Every request, in the order of the variants.
-    pub const ALL: [Endpoint; 25] = [
+    pub const ALL: [Endpoint; 26] = [
         Endpoint::Query,
+        Endpoint::Explain,
         Endpoint::Start,
         Endpoint::FinishActivity,
         Endpoint::Back,
@@ -96,6 +99,7 @@ impl Endpoint {
     {
         match self {
             Endpoint::Query => "/v1/query",
+            Endpoint::Explain => "/v1/explain",
             Endpoint::Start => "/v1/start",
             Endpoint::FinishActivity => "/v1/finish_activity",
             Endpoint::Back => "/v1/back",

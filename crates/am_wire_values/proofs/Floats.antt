@@ -24,7 +24,7 @@ use Rattle.am_wire_values.specs.Fields.{put_given, natural, whole, some_whole, s
 use Rattle.am_wire_values.specs.Filters.{scheme_row, authority_row, path_row, type_row, rows_of, filter_data}
 use Rattle.am_wire_values.specs.Intents.{component_data, mime_data, uri_data, extra_data, with_extras, extras_data, some_extras, asked, aimed, carried, intent_data}
 use Rattle.am_wire_values.specs.Names.{names_set, flags_named, pending_named, kind_name, pending_name}
-use Rattle.am_wire_values.specs.Requests.{with_one, with_two, with_outcome, with_ordered, with_order, with_set, query_data, start_data, send_data, register_data, finish_data, get_data, pending_send_data, grant_data, link_data, request_data}
+use Rattle.am_wire_values.specs.Requests.{with_one, with_two, with_outcome, with_ordered, with_order, with_set, query_data, explain_data, start_data, send_data, register_data, finish_data, get_data, pending_send_data, grant_data, link_data, request_data}
 
 -- neither of two
 pub neither : (a b : Bool) → a ≡ false → b ≡ false → (a || b) ≡ false
@@ -223,6 +223,19 @@ query_none kind intent default_only =
     let none-b : members_have_float ms-b ≡ false = put_none (codes "intent") (intent_data intent) ms-a (intent_none intent) none-a in
     given_none (codes "defaultOnly") (some_truth default_only) ms-b (truth_none default_only) none-b
 
+explain_none : (kind : Kind) (intent : Intent) (caller permission shown : Option (List ℕ)) → has_float (explain_data kind intent caller permission shown) ≡ false
+unfolding explain_data
+explain_none kind intent caller permission shown =
+    let ms-a : Members = put (codes "kind") (string (kind_name kind)) no_members in
+    let none-a : members_have_float ms-a ≡ false = put_none (codes "kind") (string (kind_name kind)) no_members refl refl in
+    let ms-b : Members = put (codes "intent") (intent_data intent) ms-a in
+    let none-b : members_have_float ms-b ≡ false = put_none (codes "intent") (intent_data intent) ms-a (intent_none intent) none-a in
+    let ms-c : Members = put_given (codes "as") (option_map string caller) ms-b in
+    let none-c : members_have_float ms-c ≡ false = given_none (codes "as") (option_map string caller) ms-b (option_none string text_none caller) none-b in
+    let ms-d : Members = put_given (codes "permission") (option_map string permission) ms-c in
+    let none-d : members_have_float ms-d ≡ false = given_none (codes "permission") (option_map string permission) ms-c (option_none string text_none permission) none-c in
+    given_none (codes "of") (option_map string shown) ms-d (option_none string text_none shown) none-d
+
 start_none : (intent : Intent) (source : Option ℕ) → has_float (start_data intent source) ≡ false
 unfolding start_data
 start_none intent source =
@@ -295,6 +308,7 @@ link_none name host approved =
 pub request_none : (r : Request) → has_float (request_data r) ≡ false
 unfolding request_data
 request_none (asks.Query kind intent default_only) = query_none kind intent default_only
+request_none (asks.Explain kind intent caller permission shown) = explain_none kind intent caller permission shown
 request_none (asks.Start intent source) = start_none intent source
 request_none (asks.FinishActivity instance) = one_none (codes "instance") (natural instance) refl
 request_none asks.Back = refl

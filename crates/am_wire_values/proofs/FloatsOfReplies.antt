@@ -2,6 +2,9 @@
 use Rattle.std.proofs.Common.{◌≡◌, ℕ, false, List, [], ◌∷◌, Option, Some, None, codes, refl}
 use Rattle.serde_json.specs.View.{items_of}
 use Rattle.serde_json.specs.Written.{has_float, items_have_float}
+use Rattle.am_types.specs.declared.account.Account.{Account}
+use Rattle.am_types.specs.declared.account.Standing.{Standing}
+use Rattle.am_types.specs.declared.account.Standing.TheVariants as stands
 use Rattle.am_types.specs.declared.broadcast.Aim.{Aim}
 use Rattle.am_types.specs.declared.broadcast.Aim.TheVariants.{Declared, Registered}
 use Rattle.am_types.specs.declared.broadcast.ItemKind.{ItemKind}
@@ -14,7 +17,7 @@ use Rattle.am_types.specs.declared.task.InstanceView.{InstanceView}
 use Rattle.am_types.specs.declared.task.ServiceView.{ServiceView}
 use Rattle.am_types.specs.declared.task.TaskView.{TaskView}
 use Rattle.am_wire_values.specs.Intents.{component_data}
-use Rattle.am_wire_values.specs.Replies.{aim_data, entries_data, entry_data, instance_data, item_data, number_after, number_or_null, offered_data, receiving_data, reply_data, service_data, skipped_data, task_data, text_or_null, waiting_data}
+use Rattle.am_wire_values.specs.Replies.{account_data, aim_data, entries_data, entry_data, instance_data, item_data, number_after, number_or_null, offered_data, reason_data, receiving_data, reply_data, service_data, skipped_data, standing_data, task_data, text_or_null, waiting_data}
 use Rattle.am_wire_values.specs.Rules.{error_data, named_by, rule_name}
 use Rattle.am_wire_values.proofs.Floats.{neither, mapped_none, whole_none, extras_none, intent_none, request_none}
 
@@ -47,6 +50,20 @@ offered_none : (a : Aim) (skip : Option Rule) → has_float (offered_data a skip
 offered_none a None = skipped_none a (codes "admitted") None
 offered_none a (Some rule) = skipped_none a (rule_name rule) (named_by rule)
 
+standing_none : (a : Aim) (s : Standing) → has_float (standing_data a s) ≡ false
+standing_none a stands.OtherComponent = skipped_none a (codes "other_component") None
+standing_none a stands.OtherPackage = skipped_none a (codes "other_package") None
+standing_none a stands.Disabled = skipped_none a (codes "disabled") None
+standing_none a (stands.Filters reasons) = neither _ _ (mapped_none reason_data (λ w. refl) reasons) (neither _ _ (aim_none a) refl)
+standing_none a (stands.Narrowed narrowing) = neither _ _ (aim_none a) refl
+standing_none a stands.Outranked = skipped_none a (codes "outranked") None
+standing_none a stands.Tied = skipped_none a (codes "tied") None
+standing_none a (stands.Refused rule) = skipped_none a (rule_name rule) (named_by rule)
+standing_none a stands.Reached = skipped_none a (codes "reached") None
+
+account_none : (account : Account) → has_float (account_data account) ≡ false
+account_none account = standing_none account.to account.standing
+
 item_none : (broadcast delivery : ℕ) (what : ItemKind) → has_float (item_data broadcast delivery what) ≡ false
 item_none b d (Normal aim intent) = neither _ _ (intent_none intent) (neither _ _ (aim_none aim) refl)
 item_none b d (InOrder aim intent outcome) =
@@ -70,6 +87,7 @@ error_none error (Some name) = refl
 pub reply_none : (reply : Reply) → has_float (reply_data reply) ≡ false
 unfolding reply_data
 reply_none (says.Components found) = neither _ _ (mapped_none component_data (λ c. refl) found) refl
+reply_none (says.Accounts accounts) = neither _ _ (mapped_none account_data account_none accounts) refl
 reply_none (says.Choose found) = neither _ _ (mapped_none component_data (λ c. refl) found) refl
 reply_none (says.Placed landed) = refl
 reply_none (says.Finished instance) = neither _ _ (number_none instance) refl

@@ -1,5 +1,9 @@
--- Names of kinds, flags, limits and placements.
+-- Names of kinds, flags, placements, and of what leaves a component out.
 use Rattle.std.specs.Prelude.{ℕ, Bool, List, [], ◌∷◌, codes, if◌then◌else◌}
+use Rattle.am_types.specs.declared.account.Narrowing.{Narrowing}
+use Rattle.am_types.specs.declared.account.Narrowing.TheVariants.{Approved, Browser, General}
+use Rattle.am_types.specs.declared.filter.Why.{Why}
+use Rattle.am_types.specs.declared.filter.Why.TheVariants.{Action, Scheme, Host, Path, Type_, Category}
 use Rattle.am_types.specs.declared.intent.Flags.{Flags}
 use Rattle.am_types.specs.declared.pending.PendingFlags.{PendingFlags}
 use Rattle.am_types.specs.declared.manifest.Kind.{Kind}
@@ -24,6 +28,21 @@ abbrev pub placed_name : Placed → List ℕ
 placed_name Fresh = codes "fresh"
 placed_name NewIntent = codes "new_intent"
 placed_name Fronted = codes "fronted"
+
+-- why a filter doesn't pass
+abbrev pub why_name : Why → List ℕ
+why_name Action = codes "action"
+why_name Scheme = codes "scheme"
+why_name Host = codes "host"
+why_name Path = codes "path"
+why_name Type_ = codes "type"
+why_name Category = codes "category"
+
+-- by what the activities that open a web intent are narrowed
+abbrev pub narrowing_name : Narrowing → List ℕ
+narrowing_name Approved = codes "approved"
+narrowing_name Browser = codes "browser"
+narrowing_name General = codes "general"
 
 -- the names of those that are set
 abbrev pub names_set : List (Bool × List ℕ) → List (List ℕ)

@@ -1,12 +1,16 @@
 -- The value and the status of a reply. The fields of each object stand in the order of their bytes.
 use Rattle.std.specs.Prelude.{ℕ, suc, nat_lt, List, [], ◌∷◌, map, codes, true, false, Option, Some, None, if◌then◌else◌}
-use Rattle.serde_json.specs.Data.{Data, null, boolean, string, object, no_members, member}
+use Rattle.serde_json.specs.Data.{Data, null, boolean, string, object, Members, no_members, member}
+use Rattle.am_types.specs.declared.account.Account.{Account}
+use Rattle.am_types.specs.declared.account.Standing.{Standing}
+use Rattle.am_types.specs.declared.account.Standing.TheVariants as stands
 use Rattle.am_types.specs.declared.broadcast.Aim.{Aim}
 use Rattle.am_types.specs.declared.broadcast.Aim.TheVariants.{Declared, Registered}
 use Rattle.am_types.specs.declared.broadcast.Item.{Item}
 use Rattle.am_types.specs.declared.broadcast.ItemKind.{ItemKind}
 use Rattle.am_types.specs.declared.broadcast.ItemKind.TheVariants.{Normal, InOrder, Final}
 use Rattle.am_types.specs.declared.broadcast.Receiving.{Receiving}
+use Rattle.am_types.specs.declared.filter.Why.{Why}
 use Rattle.am_types.specs.declared.history.Entry.{Entry}
 use Rattle.am_types.specs.declared.intent.Component.{Component}
 use Rattle.am_types.specs.declared.reply.Reply.{Reply}
@@ -18,7 +22,7 @@ use Rattle.am_types.specs.declared.task.ServiceView.{ServiceView}
 use Rattle.am_types.specs.declared.task.TaskView.{TaskView}
 use Rattle.am_wire_values.specs.Fields.{natural, whole, listed}
 use Rattle.am_wire_values.specs.Intents.{component_data, extras_data, intent_data}
-use Rattle.am_wire_values.specs.Names.{placed_name}
+use Rattle.am_wire_values.specs.Names.{narrowing_name, placed_name, why_name}
 use Rattle.am_wire_values.specs.Requests.{request_data}
 use Rattle.am_wire_values.specs.Routes.{route_of}
 use Rattle.am_wire_values.specs.Rules.{rule_name, named_by, refusal_data, rule_status}
@@ -69,11 +73,14 @@ abbrev pub aim_data : Aim → Data
 aim_data (Declared component) = component_data component
 aim_data (Registered number) = natural number
 
+-- whom the verdict is on, and the verdict
+abbrev pub judged : Aim → List ℕ → Members
+judged aim verdict = member (codes "to") (aim_data aim) (member (codes "verdict") (string verdict) no_members)
+
 -- a receiver that was left out
 abbrev pub skipped_data : Aim → List ℕ → Option (List ℕ) → Data
-skipped_data aim verdict None = object (member (codes "to") (aim_data aim) (member (codes "verdict") (string verdict) no_members))
-skipped_data aim verdict (Some name) =
-    object (member (codes "name") (string name) (member (codes "to") (aim_data aim) (member (codes "verdict") (string verdict) no_members)))
+skipped_data aim verdict None = object (judged aim verdict)
+skipped_data aim verdict (Some name) = object (member (codes "name") (string name) (judged aim verdict))
 
 -- a receiver with what became of it
 abbrev pub offered_data : Aim → Option Rule → Data
@@ -83,6 +90,28 @@ offered_data aim (Some rule) = skipped_data aim (rule_name rule) (named_by rule)
 -- a receiver that a broadcast was offered to
 abbrev pub receiving_data : Receiving → Data
 receiving_data offered = offered_data offered.aim offered.skip
+
+-- why a filter doesn't pass
+abbrev pub reason_data : Why → Data
+reason_data why = string (why_name why)
+
+-- a component or a registered receiver with how it stands, and what is told besides
+abbrev pub standing_data : Aim → Standing → Data
+standing_data aim stands.OtherComponent = object (judged aim (codes "other_component"))
+standing_data aim stands.OtherPackage = object (judged aim (codes "other_package"))
+standing_data aim stands.Disabled = object (judged aim (codes "disabled"))
+standing_data aim (stands.Filters reasons) =
+    object (member (codes "reasons") (listed (map reason_data reasons)) (judged aim (codes "filters")))
+standing_data aim (stands.Narrowed narrowing) =
+    object (member (codes "by") (string (narrowing_name narrowing)) (judged aim (codes "narrowed")))
+standing_data aim stands.Outranked = object (judged aim (codes "outranked"))
+standing_data aim stands.Tied = object (judged aim (codes "tied"))
+standing_data aim (stands.Refused rule) = skipped_data aim (rule_name rule) (named_by rule)
+standing_data aim stands.Reached = object (judged aim (codes "reached"))
+
+-- what is said of one
+abbrev pub account_data : Account → Data
+account_data account = standing_data account.to account.standing
 
 -- what waits in an inbox
 abbrev pub item_data : ℕ → ℕ → ItemKind → Data
@@ -124,6 +153,7 @@ entries_data at (first ∷ others) = entry_data at first ∷ entries_data (numbe
 -- the value of a reply
 unfoldable pub reply_data : Reply → Data
 reply_data (says.Components found) = components_data (codes "components") found
+reply_data (says.Accounts accounts) = object (member (codes "accounts") (listed (map account_data accounts)) no_members)
 reply_data (says.Choose found) = components_data (codes "choose") found
 reply_data (says.Placed landed) = landed_data landed
 reply_data (says.Finished instance) = object (member (codes "finished") (number_or_null instance) no_members)

@@ -50,6 +50,13 @@ query_data kind intent default_only =
     object (put_given (codes "defaultOnly") (some_truth default_only)
     (put (codes "intent") (intent_data intent) (put (codes "kind") (string (kind_name kind)) no_members)))
 
+unfoldable pub explain_data : Kind → Intent → Option (List ℕ) → Option (List ℕ) → Option (List ℕ) → Data
+explain_data kind intent caller permission shown =
+    object (put_given (codes "of") (option_map string shown)
+    (put_given (codes "permission") (option_map string permission)
+    (put_given (codes "as") (option_map string caller)
+    (put (codes "intent") (intent_data intent) (put (codes "kind") (string (kind_name kind)) no_members)))))
+
 unfoldable pub start_data : Intent → Option ℕ → Data
 start_data intent source =
     object (put_given (codes "source") (option_map natural source) (put (codes "intent") (intent_data intent) no_members))
@@ -91,6 +98,7 @@ link_data name host approved =
 -- the value of a request, as its body says it; `{}` for one without a body
 unfoldable pub request_data : Request → Data
 request_data (asks.Query kind intent default_only) = query_data kind intent default_only
+request_data (asks.Explain kind intent caller permission shown) = explain_data kind intent caller permission shown
 request_data (asks.Start intent source) = start_data intent source
 request_data (asks.FinishActivity instance) = with_one (codes "instance") (natural instance)
 request_data asks.Back = object no_members

@@ -1,11 +1,12 @@
 -- The route of a request.
 use Rattle.std.specs.Prelude.{ℕ, List, codes}
 use Rattle.am_types.specs.declared.request.Request.{Request}
-use Rattle.am_types.specs.declared.request.Request.TheVariants.{Query, Start, FinishActivity, Back, ListTasks, StartService, StopService, Services, Send, Register, Unregister, Inbox, Finish, PendingGet, PendingSend, PendingCancel, PendingGive, Install, Uninstall, Grant, Link, ForceStop, Tick, History, Status}
+use Rattle.am_types.specs.declared.request.Request.TheVariants.{Query, Explain, Start, FinishActivity, Back, ListTasks, StartService, StopService, Services, Send, Register, Unregister, Inbox, Finish, PendingGet, PendingSend, PendingCancel, PendingGive, Install, Uninstall, Grant, Link, ForceStop, Tick, History, Status}
 
 -- the path under which a request is asked
 abbrev pub route_of : Request → List ℕ
 route_of (Query kind intent default_only) = codes "/v1/query"
+route_of (Explain kind intent caller permission shown) = codes "/v1/explain"
 route_of (Start intent source) = codes "/v1/start"
 route_of (FinishActivity instance) = codes "/v1/finish_activity"
 route_of Back = codes "/v1/back"

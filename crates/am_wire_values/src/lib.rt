@@ -1,6 +1,7 @@
 //! Requests and replies as JSON values.
 #![tactic(auto)]
 
+mod accounts;
 mod fields;
 mod filters;
 mod intents;

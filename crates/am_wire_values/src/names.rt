@@ -1,11 +1,11 @@
-//! Names of kinds, flags and placements.
+//! Names of kinds, flags, placements, and of what leaves a component out.
 ghost use Rattle.std.specs.Prelude.{◌≡◌, IfOk, map};
 ghost use Rattle.serde_json.specs.Data.{string};
 ghost use Rattle.serde_json.specs.View.{view};
-ghost use Rattle.am_wire_values.specs.Names.{flags_named, kind_name, names_set, pending_name, pending_named, placed_name};
+ghost use Rattle.am_wire_values.specs.Names.{flags_named, kind_name, names_set, narrowing_name, pending_name, pending_named, placed_name, why_name};
 
 use crate::fields;
-use am_types::{Flags, Kind, PendingFlags, Placed};
+use am_types::{Flags, Kind, Narrowing, PendingFlags, Placed, Why};
 use serde_json::Value;
 use std::alloc::{AllocError, Global};
 
@@ -39,6 +39,31 @@ pub(crate) fn placed_name(how: Placed) -> &'static str
         Placed::Fresh => "fresh",
         Placed::NewIntent => "new_intent",
         Placed::Fronted => "fronted",
+    }
+}
+
+/// Why a filter doesn't pass.
+pub(crate) fn why_name(why: Why) -> &'static str
+    ensures { result.now ≡ why_name why }
+{
+    match why {
+        Why::Action => "action",
+        Why::Scheme => "scheme",
+        Why::Host => "host",
+        Why::Path => "path",
+        Why::Type_ => "type",
+        Why::Category => "category",
+    }
+}
+
+/// By what the activities that open a web intent are narrowed.
+pub(crate) fn narrowing_name(by: Narrowing) -> &'static str
+    ensures { result.now ≡ narrowing_name by }
+{
+    match by {
+        Narrowing::Approved => "approved",
+        Narrowing::Browser => "browser",
+        Narrowing::General => "general",
     }
 }
 

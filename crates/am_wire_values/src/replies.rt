@@ -6,6 +6,7 @@ ghost use Rattle.serde_json.specs.Written.{compact_text};
 ghost use Rattle.am_types.specs.declared.reply.Reply.TheVariants.{Started, Sent, Entries, Status};
 ghost use Rattle.am_wire_values.specs.Replies.{components_data, number_or_null, reply_data, status_of};
 
+use crate::accounts::account_values;
 use crate::fields::listed;
 use crate::intents::component_value;
 use crate::rules::{refusal_value, rule_status};
@@ -39,6 +40,10 @@ fn value_of(alloc: Global, reply: &Reply) -> Result<Value, AllocError>
 {
     match reply {
         Reply::Components(found) => components(alloc, "components", found.as_slice()),
+        Reply::Accounts(accounts) => {
+            let accounts = account_values(alloc, accounts.as_slice())?;
+            one(alloc, "accounts", listed(accounts))
+        }
         Reply::Choose(found) => components(alloc, "choose", found.as_slice()),
         Reply::Placed(landed) => landed_value(alloc, *landed),
         Reply::Finished(instance) => one(alloc, "finished", number_or_null(*instance)),

@@ -4,7 +4,7 @@ ghost use Rattle.serde_json.specs.Data.{string, put as with_member};
 ghost use Rattle.serde_json.specs.View.{view, members_view};
 ghost use Rattle.am_wire_values.specs.Fields.{put_given};
 ghost use Rattle.am_wire_values.specs.Intents.{intent_data};
-ghost use Rattle.am_wire_values.specs.Requests.{finish_data, get_data, grant_data, link_data, pending_send_data, query_data, register_data, request_data, send_data, start_data, with_one, with_two};
+ghost use Rattle.am_wire_values.specs.Requests.{explain_data, finish_data, get_data, grant_data, link_data, pending_send_data, query_data, register_data, request_data, send_data, start_data, with_one, with_two};
 
 use crate::fields::{
     Members, listed, put_some_number, put_some_text, put_some_truth, put_text, put_word, text_value,
@@ -29,6 +29,13 @@ pub fn request_value(alloc: Global, request: &Request) -> Result<Value, AllocErr
             intent,
             default_only,
         } => query_value(alloc, *kind, intent, *default_only),
+        Request::Explain {
+            kind,
+            intent,
+            caller,
+            permission,
+            shown,
+        } => explain_value(alloc, *kind, intent, caller, permission, shown),
         Request::Start { intent, source } => start_value(alloc, intent, *source),
         Request::FinishActivity { instance } => one(alloc, "instance", Value::from(*instance)),
         Request::StartService { intent } => one(alloc, "intent", intent_value(alloc, intent)?),
@@ -133,6 +140,26 @@ fn query_value(
     put_word(alloc, &mut members, "kind", kind_name(kind))?;
     put_intent(alloc, &mut members, intent)?;
     put_some_truth(alloc, &mut members, "defaultOnly", default_only)?;
+    Ok(Value::Object(members))
+}
+
+#[tactic(auto, unfolding(crate::specs::Requests::explain_data))]
+fn explain_value(
+    alloc: Global,
+    kind: Kind,
+    intent: &Intent,
+    caller: &Option<Text>,
+    permission: &Option<Text>,
+    shown: &Option<Text>,
+) -> Result<Value, AllocError>
+    ensures { IfOk result (λ value. view value ≡ explain_data kind intent.now caller.now permission.now shown.now) }
+{
+    let mut members = Map::new(alloc);
+    put_word(alloc, &mut members, "kind", kind_name(kind))?;
+    put_intent(alloc, &mut members, intent)?;
+    put_some_text(alloc, &mut members, "as", caller)?;
+    put_some_text(alloc, &mut members, "permission", permission)?;
+    put_some_text(alloc, &mut members, "of", shown)?;
     Ok(Value::Object(members))
 }
 

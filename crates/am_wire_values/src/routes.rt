@@ -10,6 +10,7 @@ pub fn route_of(request: &Request) -> &'static str
 {
     match request {
         Request::Query { .. } => "/v1/query",
+        Request::Explain { .. } => "/v1/explain",
         Request::Start { .. } => "/v1/start",
         Request::FinishActivity { .. } => "/v1/finish_activity",
         Request::Back => "/v1/back",

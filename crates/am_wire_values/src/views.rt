@@ -1,9 +1,11 @@
 //! What replies show: tasks, services, receivers, items and stored calls.
 ghost use Rattle.std.specs.Prelude.{◌≡◌, IfOk, map};
+ghost use Rattle.serde_json.specs.Data.{object};
 ghost use Rattle.serde_json.specs.View.{view};
 ghost use Rattle.am_types.specs.declared.broadcast.ItemKind.TheVariants.{Normal, InOrder, Final};
 ghost use Rattle.am_wire_values.specs.Intents.{component_data};
-ghost use Rattle.am_wire_values.specs.Replies.{aim_data, entries_data, entry_data, instance_data, item_data, landed_data, number_after, offered_data, receiving_data, service_data, task_data, text_or_null, waiting_data};
+ghost use Rattle.am_wire_values.specs.Replies.{aim_data, entries_data, entry_data, instance_data, item_data, landed_data, number_after, judged, offered_data, receiving_data, service_data, skipped_data, task_data, text_or_null, waiting_data};
+ghost use Rattle.am_wire_values.specs.Rules.{named_by, rule_name};
 
 use crate::fields::{listed, text_value};
 use crate::intents::{component_value, extras_value, intent_value};
@@ -113,7 +115,7 @@ pub(crate) fn service_values(
 }
 
 /// A receiver: a component, or the number of a registered one.
-fn aim_value(alloc: Global, aim: &Aim) -> Result<Value, AllocError>
+pub(crate) fn aim_value(alloc: Global, aim: &Aim) -> Result<Value, AllocError>
     ensures { IfOk result (λ value. view value ≡ aim_data aim.now) }
 {
     match aim {
@@ -122,17 +124,32 @@ fn aim_value(alloc: Global, aim: &Aim) -> Result<Value, AllocError>
     }
 }
 
+/// A receiver with the verdict on it.
+pub(crate) fn verdict_value(alloc: Global, aim: &Aim, verdict: &str) -> Result<Value, AllocError>
+    ensures { IfOk result (λ value. view value ≡ object (judged aim.now verdict.now)) }
+{
+    let to = aim_value(alloc, aim)?;
+    json!(in alloc; {"to": to, "verdict": verdict})
+}
+
+/// A receiver that was left out by a rule.
+pub(crate) fn skipped_value(alloc: Global, aim: &Aim, rule: &Rule) -> Result<Value, AllocError>
+    ensures { IfOk result (λ value. view value ≡ skipped_data aim.now (rule_name rule.now) (named_by rule.now)) }
+{
+    let to = aim_value(alloc, aim)?;
+    match named_by(alloc, rule)? {
+        None => json!(in alloc; {"to": to, "verdict": rule_name(rule)}),
+        Some(name) => json!(in alloc; {"name": &name, "to": to, "verdict": rule_name(rule)}),
+    }
+}
+
 /// A receiver with what became of it.
 fn offered_value(alloc: Global, aim: &Aim, skip: &Option<Rule>) -> Result<Value, AllocError>
     ensures { IfOk result (λ value. view value ≡ offered_data aim.now skip.now) }
 {
-    let to = aim_value(alloc, aim)?;
-    let Some(rule) = skip else {
-        return json!(in alloc; {"to": to, "verdict": "admitted"});
-    };
-    match named_by(alloc, rule)? {
-        None => json!(in alloc; {"to": to, "verdict": rule_name(rule)}),
-        Some(name) => json!(in alloc; {"name": &name, "to": to, "verdict": rule_name(rule)}),
+    match skip {
+        None => verdict_value(alloc, aim, "admitted"),
+        Some(rule) => skipped_value(alloc, aim, rule),
     }
 }
 

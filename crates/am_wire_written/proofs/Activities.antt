@@ -58,7 +58,7 @@ kind_again Activity = refl
 kind_again Service = refl
 kind_again Receiver = refl
 
-kind_at : (kind : Kind) (es : List Entry) → are_apart es ≡ true → value_at (codes "kind") es ≡ Some (string (kind_name kind)) → kind_of (object (members_with es)) ≡ Ok kind
+pub kind_at : (kind : Kind) (es : List Entry) → are_apart es ≡ true → value_at (codes "kind") es ≡ Some (string (kind_name kind)) → kind_of (object (members_with es)) ≡ Ok kind
 unfolding kind_of
 kind_at kind es apart is =
     steps (required (codes "kind") (object (members_with es))) (λ value. word_in kind_words (codes "kind") value >>= λ word. Ok (kind_named word)) (string (kind_name kind)) kind

@@ -20,7 +20,8 @@ use Rattle.am_wire_values.specs.Fields.{natural, whole, some_whole, listed, some
 use Rattle.am_wire_values.specs.Filters.{scheme_row, authority_row, path_row, type_row, rows_of, filter_data}
 use Rattle.am_wire_values.specs.Intents.{component_data, mime_data, uri_data, extra_data, with_extras, some_extras, intent_data}
 use Rattle.am_wire_values.specs.Names.{names_set, flags_named, pending_named, kind_name, pending_name}
-use Rattle.am_wire_values.specs.Requests.{with_one, with_two, with_outcome, with_ordered, query_data, start_data, send_data, register_data, finish_data, get_data, pending_send_data, grant_data, link_data, request_data}
+use Rattle.am_wire_values.specs.Requests.{with_one, with_two, with_outcome, with_ordered, query_data, explain_data, start_data, send_data, register_data, finish_data, get_data, pending_send_data, grant_data, link_data, request_data}
+use Rattle.am_wire_written.proofs.Accounts.{explain_entries}
 use Rattle.am_wire_written.proofs.Broadcasts.{plain_entries, ordered_entries, answer_entries, outcome_entries}
 use Rattle.am_wire_written.proofs.Filters.{filter_entries, filter_is}
 use Rattle.am_wire_written.proofs.Intents.{intent_entries, intent_is}
@@ -138,7 +139,7 @@ filter f =
     subst P (sym (filter_is f)) (object_within 2 (filter_entries f) (number 2 f.priority, (rows f, (wider 1 2 (some_texts f.categories) (omega arith) (texts f.categories), (omega (arith, texts_array f.actions), tt)))))
 
 -- a request
-abbrev IsShallow : Data → Type 0
+abbrev pub IsShallow : Data → Type 0
 IsShallow d = depth d ≤ 4
 
 within_four : (es : List Entry) → AreWithin 3 es → IsShallow (object (members_with es))
@@ -156,10 +157,13 @@ one_flat name d h = within_four ((name, Some d) ∷ []) (h, tt)
 two_flat : (name : List ℕ) (d : Data) (other : List ℕ) (e : Data) → depth d ≤ 3 → depth e ≤ 3 → IsShallow (with_two name d other e)
 two_flat name d other e h k = within_four ((other, Some e) ∷ (name, Some d) ∷ []) (k, (h, tt))
 
-shallow : (r : Request) → IsShallow (request_data r)
-unfolding request_data query_data start_data send_data register_data finish_data get_data pending_send_data grant_data link_data with_ordered with_outcome
+pub shallow : (r : Request) → IsShallow (request_data r)
+unfolding request_data query_data explain_data start_data send_data register_data finish_data get_data pending_send_data grant_data link_data with_ordered with_outcome
 shallow (asks.Query kind i default_only) =
     within_four ((codes "defaultOnly", some_truth default_only) ∷ (codes "intent", Some (intent_data i)) ∷ (codes "kind", Some (string (kind_name kind))) ∷ []) (truth 3 default_only, (an_intent i, (least 3, tt)))
+shallow (asks.Explain kind i caller permission shown) =
+    within_four (explain_entries kind i caller permission shown)
+    (flat 3 string (λ t. refl) shown, (flat 3 string (λ t. refl) permission, (flat 3 string (λ t. refl) caller, (an_intent i, (least 3, tt)))))
 shallow (asks.Start i source) = within_four ((codes "source", option_map natural source) ∷ (codes "intent", Some (intent_data i)) ∷ []) (flat 3 natural (λ n. refl) source, (an_intent i, tt))
 shallow (asks.FinishActivity instance) = one_flat (codes "instance") (natural instance) (least 3)
 shallow asks.Back = within_four [] tt

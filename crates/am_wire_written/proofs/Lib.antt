@@ -10,6 +10,7 @@ pub mod Extras
 pub mod Flags
 pub mod Intents
 pub mod Activities
+pub mod Accounts
 pub mod Packages
 pub mod Pendings
 pub mod Broadcasts

@@ -11,6 +11,7 @@ use Rattle.am_wire_fields.specs.Bodies.{json_of, value_of}
 use Rattle.am_wire.specs.Requests.{request_in, posted, request_of}
 use Rattle.am_wire_values.specs.Requests.{request_data}
 use Rattle.am_wire_written.specs.Written.{endpoint_at, IsReadable, HasFewRows}
+use Rattle.am_wire_written.proofs.Accounts.{explain_again}
 use Rattle.am_wire_written.proofs.Activities.{plain_again, query_again, start_again, finish_activity_again, history_again, start_service_again, stop_service_again}
 use Rattle.am_wire_written.proofs.Broadcasts.{send_again, unregister_again, finish_again}
 use Rattle.am_wire_written.proofs.Depths.{request_within}
@@ -25,6 +26,7 @@ use Rattle.am_wire_written.proofs.Texts.{if_read}
 value_again : (value : Data) (r : Request) → IsKept value → HasFewRows r → request_in (endpoint_at r) value ≡ Ok r → request_in (endpoint_at r) (request_data r) ≡ Ok r
 unfolding request_in request_data
 value_again value (asks.Query kind intent default_only) k few h = query_again value (asks.Query kind intent default_only) k h
+value_again value (asks.Explain kind intent caller permission shown) k few h = explain_again value (asks.Explain kind intent caller permission shown) k h
 value_again value (asks.Start intent source) k few h = start_again value (asks.Start intent source) k h
 value_again value (asks.FinishActivity instance) k few h = finish_activity_again value (asks.FinishActivity instance) k h
 value_again value asks.Back k few h = plain_again asks.Back
@@ -75,6 +77,8 @@ posted_again body text r h few utf8 is =
 pub read_back : (text : List ℕ) (r : Request) → IsUtf8 text → read text ≡ Some (request_data r) → IsReadable r → HasFewRows r → request_of (endpoint_at r) text ≡ Ok r
 unfolding request_of
 read_back text (asks.Query kind intent default_only) utf8 is h few = posted_again h.0 text (asks.Query kind intent default_only) h.1 few utf8 is
+read_back text (asks.Explain kind intent caller permission shown) utf8 is h few =
+    posted_again h.0 text (asks.Explain kind intent caller permission shown) h.1 few utf8 is
 read_back text (asks.Start intent source) utf8 is h few = posted_again h.0 text (asks.Start intent source) h.1 few utf8 is
 read_back text (asks.FinishActivity instance) utf8 is h few = posted_again h.0 text (asks.FinishActivity instance) h.1 few utf8 is
 read_back text asks.Back utf8 is h few = posted_again h.0 text asks.Back h.1 few utf8 is

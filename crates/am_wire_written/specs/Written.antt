@@ -10,6 +10,7 @@ use Rattle.am_wire.specs.Requests.{request_of}
 -- the endpoint at which a request is asked
 abbrev pub endpoint_at : Request → Endpoint
 endpoint_at (asks.Query kind intent default_only) = at.Query
+endpoint_at (asks.Explain kind intent caller permission shown) = at.Explain
 endpoint_at (asks.Start intent source) = at.Start
 endpoint_at (asks.FinishActivity instance) = at.FinishActivity
 endpoint_at asks.Back = at.Back

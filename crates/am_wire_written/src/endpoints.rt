@@ -14,6 +14,7 @@ pub fn endpoint_of(request: &Request) -> Endpoint
 {
     match request {
         Request::Query { .. } => Endpoint::Query,
+        Request::Explain { .. } => Endpoint::Explain,
         Request::Start { .. } => Endpoint::Start,
         Request::FinishActivity { .. } => Endpoint::FinishActivity,
         Request::Back => Endpoint::Back,

@@ -2,6 +2,9 @@
 
 pub const ROWS: &str =
     r#"query  { "kind" : "service", "intent" : {} , "defaultOnly" : false }  -> {"intent":{},"kind":"service"}
+explain {"kind":"activity","as":null,"intent":{},"of":null} -> {"intent":{},"kind":"activity"}
+explain {"kind":"service","as":"","intent":{"package":"com.b"}} -> {"as":"","intent":{"package":"com.b"},"kind":"service"}
+explain {"of":"com.b","permission":"p.X","kind":"receiver","as":"android","intent":{"categories":["b","a"]}} -> {"as":"android","intent":{"categories":["a","b"]},"kind":"receiver","of":"com.b","permission":"p.X"}
 start {"source":7,"intent":{"flags":["NO_ABORT","NEW_TASK","NO_ABORT"],"categories":["b","a","b"]}} -> {"intent":{"categories":["a","b"],"flags":["NEW_TASK","NO_ABORT"]},"source":7}
 start_service {"intent":{"component":"com.a/.Main","data":"http://h:80/p%20q","type":"text/plain"}} -> {"intent":{"component":"com.a/com.a.Main","data":"http://h:80/p%20q","type":"text/plain"}}
 stop_service {"component":"com.a/Main"} -> {"component":"com.a/Main"}

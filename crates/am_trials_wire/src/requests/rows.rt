@@ -78,6 +78,60 @@ query {"kind":"activity","intent":{"action":1},"defaultOnly":1} -> wrong_kind ac
 query {"kind":"activity","intent":{},"defaultOnly":1} -> wrong_kind defaultOnly
 query {"kind":"activity","intent":{},"defaultOnly":"true"} -> wrong_kind defaultOnly
 query {"kind":"activity","intent":{},"defaultOnly":[]} -> wrong_kind defaultOnly
+explain {"kind":"activity","intent":{}} -> Explain activity [ ]
+explain {"kind":"service","intent":{}} -> Explain service [ ]
+explain {"kind":"receiver","intent":{}} -> Explain receiver [ ]
+explain {"of":"com.b","as":"com.a","intent":{"action":"a.X"},"kind":"activity"} -> Explain activity [ action=a.X ] as=com.a of=com.b
+explain {"kind":"service","intent":{"package":"com.b"},"as":"android","of":"com.b"} -> Explain service [ package=com.b ] as=android of=com.b
+explain {"kind":"receiver","intent":{},"as":"android","permission":"p.X","of":"com.b"} -> Explain receiver [ ] as=android permission=p.X of=com.b
+explain {"kind":"service","intent":{},"as":null,"of":null} -> Explain service [ ]
+explain {"kind":"receiver","intent":{},"as":null,"permission":null,"of":null} -> Explain receiver [ ]
+explain {"kind":"receiver","intent":{},"as":"","permission":"","of":""} -> Explain receiver [ ] as= permission= of=
+explain {"k\u0069nd":"rece\u0069ver","intent":{},"permission":"p.X"} -> Explain receiver [ ] permission=p.X
+explain {"kind":"activity","kind":"receiver","intent":{},"permission":"p.X"} -> Explain receiver [ ] permission=p.X
+explain {"kind":"receiver","kind":"activity","intent":{},"permission":"p.X"} -> unknown_field permission
+explain {"kind":"receiver","intent":{},"as":"<text 1024>","permission":"<text 1024>","of":"<text 1024>"} -> Explain receiver [ ] as=<text 1024> permission=<text 1024> of=<text 1024>
+explain  -> not_json
+explain [] -> wrong_kind body
+explain "receiver" -> wrong_kind body
+explain {"kind":"activity","intent":{},"permission":"p.X"} -> unknown_field permission
+explain {"kind":"service","intent":{},"permission":"p.X"} -> unknown_field permission
+explain {"kind":"activity","intent":{},"permission":null} -> unknown_field permission
+explain {"intent":{},"permission":"p.X"} -> unknown_field permission
+explain {"kind":null,"intent":{},"permission":"p.X"} -> unknown_field permission
+explain {"kind":"Receiver","intent":{},"permission":"p.X"} -> unknown_field permission
+explain {"kind":"receiver ","permission":1} -> unknown_field permission
+explain {"kind":["receiver"],"intent":{},"permission":"p.X"} -> unknown_field permission
+explain {"kind":1,"z":1,"permission":1} -> unknown_field permission
+explain {"kind":"receiver","z":1,"permission":1} -> unknown_field z
+explain {"kind":"activity","intent":{},"defaultOnly":false} -> unknown_field defaultOnly
+explain {"kind":"activity","intent":{},"source":1} -> unknown_field source
+explain {"kind":"receiver","intent":{},"ordered":true} -> unknown_field ordered
+explain {"kind":"activity","intent":{},"caller":"com.a"} -> unknown_field caller
+explain {"kind":1,"package":"com.a"} -> unknown_field package
+explain {} -> missing kind
+explain {"kind":null,"intent":1} -> missing kind
+explain {"intent":1,"as":1,"of":1} -> missing kind
+explain {"kind":1,"intent":1} -> wrong_kind kind
+explain {"kind":"","intent":{}} -> wrong_kind kind
+explain {"kind":"broadcast","intent":{}} -> wrong_kind kind
+explain {"kind":["receiver"],"intent":1} -> wrong_kind kind
+explain {"kind":"activity"} -> missing intent
+explain {"kind":"receiver","intent":null,"as":1,"permission":1} -> missing intent
+explain {"kind":"activity","intent":[],"as":1} -> wrong_kind intent
+explain {"kind":"activity","intent":{"x":1},"as":1} -> unknown_field x
+explain {"kind":"receiver","intent":{"action":"<text 1025>"},"as":1,"permission":1,"of":1} -> too_long action
+explain {"kind":"receiver","intent":{"data":""},"as":1,"permission":1,"of":1} -> bad_uri 1
+explain {"kind":"receiver","intent":{"type":""},"as":1,"permission":1,"of":1} -> bad_mime 1
+explain {"kind":"receiver","intent":{},"as":1,"permission":1,"of":1} -> wrong_kind as
+explain {"kind":"activity","intent":{},"as":["com.a"],"of":1} -> wrong_kind as
+explain {"kind":"receiver","intent":{},"as":"<text 1025>","permission":1,"of":1} -> too_long as
+explain {"kind":"receiver","intent":{},"permission":1,"of":1} -> wrong_kind permission
+explain {"kind":"receiver","intent":{},"as":"com.a","permission":["p.X"],"of":"<text 1025>"} -> wrong_kind permission
+explain {"kind":"receiver","intent":{},"permission":"<text 1025>","of":1} -> too_long permission
+explain {"kind":"receiver","intent":{},"permission":"p.X","of":1} -> wrong_kind of
+explain {"kind":"service","intent":{},"as":"com.a","of":{}} -> wrong_kind of
+explain {"kind":"activity","intent":{},"of":"<text 1025>"} -> too_long of
 start_service {"intent":{}} -> StartService [ ]
 start_service {} -> missing intent
 start_service {"intent":null} -> missing intent

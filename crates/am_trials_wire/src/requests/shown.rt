@@ -199,6 +199,26 @@ fn push_filter(all: &mut String, filter: &Filter) -> Result<(), AllocError> {
     write!(all, " priority={}", filter.priority)
 }
 
+/// Adds a question whom an intent would reach.
+fn push_explained(all: &mut String, request: &Request) -> Result<(), AllocError> {
+    match request {
+        Request::Explain {
+            kind,
+            intent,
+            caller,
+            permission,
+            shown,
+        } => {
+            push_kind(all, *kind)?;
+            push_intent(all, intent)?;
+            push_optional(all, " as=", caller)?;
+            push_optional(all, " permission=", permission)?;
+            push_optional(all, " of=", shown)
+        }
+        _ => push_broadcast(all, request),
+    }
+}
+
 /// Adds a request about an activity or a service.
 fn push_activity(all: &mut String, request: &Request) -> Result<(), AllocError> {
     match request {
@@ -221,7 +241,7 @@ fn push_activity(all: &mut String, request: &Request) -> Result<(), AllocError> 
         Request::FinishActivity { instance } => write!(all, " {instance}"),
         Request::StartService { intent } => push_intent(all, intent),
         Request::StopService { component } => push_component(all, component),
-        _ => push_broadcast(all, request),
+        _ => push_explained(all, request),
     }
 }
 
@@ -315,6 +335,7 @@ fn push_package(all: &mut String, request: &Request) -> Result<(), AllocError> {
 fn name_of(request: &Request) -> &'static str {
     match request {
         Request::Query { .. } => "Query",
+        Request::Explain { .. } => "Explain",
         Request::Start { .. } => "Start",
         Request::FinishActivity { .. } => "FinishActivity",
         Request::Back => "Back",

@@ -36,4 +36,7 @@ pub const ROWS: &str = r#"/v1/query {"intent":{"action":"a.X"},"kind":"activity"
 /v1/uninstall {"package":"com.b"}
 /v1/grant {"held":true,"package":"com.b","permission":"p.X"}
 /v1/link {"approved":false,"host":"h","package":"com.b"}
-/v1/force_stop {"package":"com.b"}"#;
+/v1/force_stop {"package":"com.b"}
+/v1/explain {"intent":{"action":"a.X"},"kind":"activity"}
+/v1/explain {"as":"android","intent":{"action":"a.X"},"kind":"service","of":"com.b"}
+/v1/explain {"as":"com.a","intent":{"action":"a.X"},"kind":"receiver","of":"com.b","permission":"p.X"}"#;

@@ -9,8 +9,9 @@ use Rattle.am_types.specs.declared.rule.Rule.TheVariants.{AdminOnly}
 use Rattle.am_model.specs.Broadcasts.{Broadcasts}
 use Rattle.am_model.specs.Gates.{is_privileged}
 use Rattle.am_history.specs.State.{State}
+use Rattle.am_history.specs.Explaining.{explain}
 use Rattle.am_history.specs.Steps.{act, page}
-use Rattle.am_history.proofs.Acts.{act_query, act_tasks, act_services, act_history}
+use Rattle.am_history.proofs.Acts.{act_query, act_explain, act_tasks, act_services, act_history}
 use Rattle.am_machine.proofs.Stored.{one_state}
 use Rattle.am_machine.proofs.reads.steady.Goals as goal
 
@@ -20,6 +21,28 @@ returns-in_ok-found-in-Query g c = λ (broadcasts : Broadcasts) (moment : ℕ).
     ap (λ (request : Request). act state c.args.history.now c.args.caller request) c.in-Query.is
     ∙ act_query state c.args.history.now c.args.caller _ _ _
     ∙ ap (λ found. (replies.Components found, state)) (sym c.in_ok-found-in-Query.ensures)
+
+pub returns-in-Explain : goal.returns-in-Explain
+returns-in-Explain g c = by c.explained.result c.explained.ensures
+  where
+    before : List Entry
+    before = c.args.history.now
+
+    answered : Broadcasts → ℕ → State
+    answered broadcasts moment = record (c.args.live.now) { broadcasts = broadcasts; moment = moment }
+
+    told : Reply
+    told = explain c.args.live.now.board
+        (record { caller = c.args.caller; kind = c.in-Explain.kind; intent = c.in-Explain.intent; required = c.in-Explain.permission })
+        c.in-Explain.name c.in-Explain.shown
+
+    by : (read : Result Reply NoMemory) → IfOk read (λ reply. reply ≡ told)
+        → IfOk read (λ reply. (broadcasts : Broadcasts) (moment : ℕ) → act (answered broadcasts moment) before c.args.caller c.args.request.now ≡ (reply, answered broadcasts moment))
+    by (Err error) is = tt
+    by (Ok reply) is = λ (broadcasts : Broadcasts) (moment : ℕ).
+        ap (λ (request : Request). act (answered broadcasts moment) before c.args.caller request) c.in-Explain.is
+        ∙ act_explain (answered broadcasts moment) before c.args.caller _ _ _ _ _
+        ∙ ap (λ (r : Reply). (r, answered broadcasts moment)) (sym is)
 
 pub returns-in_ok-tasks-in-ListTasks : goal.returns-in_ok-tasks-in-ListTasks
 returns-in_ok-tasks-in-ListTasks g c = λ (broadcasts : Broadcasts) (moment : ℕ).

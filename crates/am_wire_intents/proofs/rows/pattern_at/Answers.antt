@@ -1,5 +1,5 @@
 -- A text that was read fits a pattern.
-use Rattle.std.proofs.Common.{◌≤◌, ◌∙◌, ap, length, sym, Some, Ok, codes}
+use Rattle.std.proofs.Common.{◌≤◌, length, codes}
 use Rattle.serde_json.specs.View.{view}
 use Rattle.am_uri.specs.declared.text.Form.TheVariants.{Filled}
 use Rattle.am_wire_intents.proofs.ShortTexts.{short_if_said}

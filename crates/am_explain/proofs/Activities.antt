@@ -1,0 +1,46 @@
+-- The law of activities.
+use Rattle.std.proofs.Common.{◌≡◌, ℕ, List, Option, Some, None, refl, sym, ap, ◌∙◌, subst}
+use Rattle.std.proofs.lemmas.List.{append-nil}
+use Rattle.am_types.specs.declared.intent.Component.{Component}
+use Rattle.am_types.specs.declared.intent.Intent.{Intent}
+use Rattle.am_types.specs.declared.manifest.Kind.{Kind}
+use Rattle.am_types.specs.declared.manifest.Kind.TheVariants.{Activity}
+use Rattle.am_model.specs.Boards.{Board}
+use Rattle.am_installed.specs.Installed.{AreInstalled}
+use Rattle.am_model.specs.Accounts.{Question, accounts, declared_accounts}
+use Rattle.am_explain.specs.Laws.{ActivitiesAreStarted, is_decided, is_tied, standing_at, started_activity, tied_activities}
+use Rattle.am_explain.proofs.Explicit.{explicit_decided, explicit_tied}
+use Rattle.am_explain.proofs.Started.{implicit_decided, implicit_tied}
+
+module _ (board : Board) (caller : ℕ) (intent : Intent) (required : Option (List ℕ)) where
+  abbrev pub asked : Question
+  asked = record { caller = caller; kind = Activity; intent = intent; required = required }
+
+  decided : (component : Option Component) → intent.component ≡ component → AreInstalled board.packages
+      → standing_at is_decided (accounts board asked None) ≡ started_activity board asked component
+  decided None names installed = implicit_decided board caller intent required installed names
+  decided (Some c) names installed =
+      ap (standing_at is_decided) (append-nil (declared_accounts board asked None board.packages))
+      ∙ explicit_decided board asked c names (λ r. refl) installed
+
+  tied : (component : Option Component) → intent.component ≡ component → AreInstalled board.packages
+      → standing_at is_tied (accounts board asked None) ≡ tied_activities board asked component
+  tied None names installed = implicit_tied board caller intent required installed names
+  tied (Some c) names installed =
+      ap (standing_at is_tied) (append-nil (declared_accounts board asked None board.packages))
+      ∙ explicit_tied board asked c names (λ r. refl)
+
+-- the same question of a kind
+abbrev of_kind : Question → Kind → Question
+of_kind asked kind = record { caller = asked.caller; kind = kind; intent = asked.intent; required = asked.required }
+
+-- the law
+pub activities_are_started : ActivitiesAreStarted
+activities_are_started = record {
+  decided = λ board q installed e.
+      subst (λ (kind : Kind). standing_at is_decided (accounts board (of_kind q kind) None) ≡ started_activity board (of_kind q kind) q.intent.component) (sym e)
+      (decided board q.caller q.intent q.required q.intent.component refl installed);
+  tied = λ board q installed e.
+      subst (λ (kind : Kind). standing_at is_tied (accounts board (of_kind q kind) None) ≡ tied_activities board (of_kind q kind) q.intent.component) (sym e)
+      (tied board q.caller q.intent q.required q.intent.component refl installed);
+}

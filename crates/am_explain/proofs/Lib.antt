@@ -1,0 +1,13 @@
+pub mod Activities
+pub mod Explicit
+pub mod Known
+pub mod Leading
+pub mod Named
+pub mod OfFilters
+pub mod Orders
+pub mod Reasons
+pub mod Rivals
+pub mod SentTo
+pub mod Services
+pub mod Started
+pub mod Tops

@@ -1,0 +1,60 @@
+-- What of the whole device decides on a component that an implicit start finds.
+use Rattle.std.specs.Prelude.{◌≡◌, ℕ, ℤ, Bool, false, List, [], ◌∷◌, Option, Some, None, int_lt}
+use Rattle.am_types.specs.declared.intent.Intent.{Intent}
+use Rattle.am_types.specs.declared.device.Link.{Link}
+use Rattle.am_types.specs.declared.manifest.Kind.TheVariants as kinds
+use Rattle.am_types.specs.declared.resolve.Hit.{Hit}
+use Rattle.am_types.specs.declared.resolve.Target.{Target}
+use Rattle.am_types.specs.declared.resolve.Target.TheVariants.{Nothing, One, Choose}
+use Rattle.am_model.specs.Boards.{Board}
+use Rattle.am_model.specs.Candidates.{hits}
+use Rattle.am_model.specs.Targets.{host_to_view, is_approved, target}
+use Rattle.am_model.specs.Accounts.{Question, first_of, is_choice, is_outranked, is_some_approved, start_hits}
+use Rattle.am_explain.specs.declared.contest.Contest.{Contest}
+use Rattle.am_explain.specs.declared.contest.Contest.TheVariants.{Start, Service, Broadcast}
+use Rattle.am_explain.specs.declared.contest.Leaders.{Leaders}
+
+-- the first hit that a start is for, if there is one
+abbrev pub leader : Target → Option Hit
+leader Nothing = None
+leader (One hit) = Some hit
+leader (Choose []) = None
+leader (Choose (first ∷ others)) = Some first
+
+-- the priority of a hit, if there is one
+abbrev pub priority_of_hit : Option Hit → Option ℤ
+priority_of_hit None = None
+priority_of_hit (Some hit) = Some hit.priority
+
+-- the hit is there, and its package is approved for the host of a web intent
+abbrev pub is_approved_hit : List Link → Option (List ℕ) → Option Hit → Bool
+is_approved_hit links None hit = false
+is_approved_hit links (Some host) None = false
+is_approved_hit links (Some host) (Some hit) = is_approved links host hit
+
+-- what the target of a start tells
+abbrev pub leaders_of : List Link → Option (List ℕ) → Target → Leaders
+leaders_of links host reached = record {
+  approved = is_approved_hit links host (leader reached);
+  greatest = priority_of_hit (leader reached);
+  tied = is_choice reached;
+}
+
+-- the priority is below that one, if there is one
+abbrev pub is_below : ℤ → Option ℤ → Bool
+is_below priority None = false
+is_below priority (Some greatest) = int_lt priority greatest
+
+-- what decides on an activity: whether a package is approved, which priorities are outranked, and whether the user
+-- must choose
+pub record IsLed (board : Board) (intent : Intent) (leaders : Leaders) : Type 0 where
+  pub approved : leaders.approved ≡ is_some_approved board intent (host_to_view intent)
+  pub greatest : (priority : ℤ) → is_below priority leaders.greatest ≡ is_outranked priority (start_hits board intent)
+  pub tied : leaders.tied ≡ is_choice (target board intent)
+
+-- what decides on a component of the kind that is asked for
+abbrev pub IsContest : Board → Question → Contest → Type 0
+IsContest board asked (Start leaders) = (asked.kind ≡ kinds.Activity) × IsLed board asked.intent leaders
+IsContest board asked (Service first) =
+    (asked.kind ≡ kinds.Service) × (first ≡ first_of (hits board.packages kinds.Service asked.intent false))
+IsContest board asked Broadcast = asked.kind ≡ kinds.Receiver

@@ -1,0 +1,152 @@
+//! What of the whole device decides on a component that an implicit start finds.
+ghost use Rattle.std.specs.Prelude.{◌≡◌, ◌+◌, ◌*◌, ◌≤◌, IsSome, IfOk, false, option_copied};
+ghost use Rattle.am_types.specs.declared.manifest.Kind.TheVariants.{Activity, Service};
+ghost use Rattle.am_model.specs.Candidates.{hits};
+ghost use Rattle.am_model.specs.Targets.{host_to_view};
+ghost use Rattle.am_index.specs.Groups.{group_size};
+ghost use Rattle.am_model.specs.Accounts.{first_of, is_choice};
+ghost use Rattle.am_explain.specs.Asking.{question_of};
+ghost use Rattle.am_explain.specs.Contests.{IsContest, IsLed, is_approved_hit, leader, leaders_of, priority_of_hit};
+
+use crate::asking::Question;
+use am_resolve::{Board, approves, host_to_view};
+use am_types::{Component, Hit, Intent, Kind, Link, List, NoMemory, Steps, Target};
+use std::alloc::Global;
+use std::sync::ledger::Ledger;
+
+/// What decides on a component of a kind that the intent finds, beside the component itself.
+#[derive(Drop)]
+pub(crate) enum Contest {
+    /// A start of an activity, for which others may be before it.
+    Start(Leaders),
+    /// A start of a service: the first component that is found.
+    Service(Option<Component>),
+    /// A broadcast, which no receiver keeps from another.
+    Broadcast,
+}
+
+/// What decides on an activity.
+#[derive(Clone, Copy)]
+pub(crate) struct Leaders {
+    /// Some activity that is found is of a package that is approved for the host of the web intent.
+    pub(crate) approved: bool,
+    /// The greatest priority of those that the narrowing leaves.
+    pub(crate) greatest: Option<i32>,
+    /// Several have it.
+    pub(crate) tied: bool,
+}
+
+/// The first hit that a start is for, if there is one.
+fn leader(reached: &Target) -> Option<&Hit>
+    ensures { option_copied result ≡ leader reached.now }
+{
+    match reached {
+        Target::Nothing => None,
+        Target::One(hit) => Some(hit),
+        Target::Choose(several) => several.as_slice().first(),
+    }
+}
+
+/// The user must choose.
+fn is_choice(reached: &Target) -> bool
+    ensures { result ≡ is_choice reached.now }
+{
+    match reached {
+        Target::Nothing | Target::One(_) => false,
+        Target::Choose(_) => true,
+    }
+}
+
+/// The hit is there, and its package is approved for the host of a web intent.
+fn is_approved_hit(links: &List<Link>, intent: &Intent, hit: Option<&Hit>) -> bool
+    ensures { result ≡ is_approved_hit links.now (host_to_view intent.now) (option_copied hit.entry) }
+{
+    match (host_to_view(intent), hit) {
+        (Some(host), Some(hit)) => approves(links, host, hit.uid),
+        _ => false,
+    }
+}
+
+/// The priority of a hit, if there is one.
+fn priority_of_hit(hit: Option<&Hit>) -> Option<i32>
+    ensures { result ≡ priority_of_hit (option_copied hit.entry) }
+{
+    match hit {
+        Some(hit) => Some(hit.priority),
+        None => None,
+    }
+}
+
+/// What the target of a start tells.
+fn leaders_of(links: &List<Link>, intent: &Intent, reached: &Target) -> Leaders
+    ensures { result ≡ leaders_of links.now (host_to_view intent.now) reached.now }
+{
+    let first = leader(reached);
+    Leaders {
+        approved: is_approved_hit(links, intent, first),
+        greatest: priority_of_hit(first),
+        tied: is_choice(reached),
+    }
+}
+
+/// What decides on activities. Each full test of a filter is a step.
+fn find_leaders<L: Ledger>(
+    alloc: Global,
+    board: &Board,
+    intent: &Intent,
+    steps: &mut Steps<L>,
+) -> Result<Leaders, NoMemory>
+    ensures led { IfOk result (λ leaders. IsLed board.now intent.now leaders) }
+    ensures tests { steps.new ≤ steps.old + 2 * group_size board.now.packages Activity intent.now }
+    ensures explicit { IsSome intent.now.component → steps.new ≡ steps.old }
+{
+    let reached = board.target(alloc, intent, steps)?;
+    let leaders = leaders_of(board.links(), intent, &reached);
+    drop(reached);
+    Ok(leaders)
+}
+
+/// The first of the services that are found. Each full test of a filter is a step.
+fn first_service<L: Ledger>(
+    alloc: Global,
+    board: &Board,
+    intent: &Intent,
+    steps: &mut Steps<L>,
+) -> Result<Option<Component>, NoMemory>
+    ensures first { IfOk result (λ first. first ≡ first_of (hits board.now.packages Service intent.now false)) }
+    ensures tests { steps.new ≤ steps.old + group_size board.now.packages Service intent.now }
+    ensures explicit { IsSome intent.now.component → steps.new ≡ steps.old }
+{
+    let found = board.query(alloc, Kind::Service, intent, false, steps)?;
+    let first = first_of(&found);
+    drop(found);
+    first
+}
+
+/// The first of the components that were found.
+fn first_of(found: &List<Hit>) -> Result<Option<Component>, NoMemory>
+    ensures { IfOk result (λ first. first ≡ first_of found.now) }
+{
+    match found.as_slice().first() {
+        None => Ok(None),
+        Some(hit) => Ok(Some(hit.component.clone()?)),
+    }
+}
+
+/// What decides on components of the kind that is asked for. Each full test of a filter is a step.
+pub(crate) fn find_contest<L: Ledger>(
+    alloc: Global,
+    board: &Board,
+    question: &Question,
+    steps: &mut Steps<L>,
+) -> Result<Contest, NoMemory>
+    ensures contest { IfOk result (λ contest. IsContest board.now (question_of question.now) contest) }
+    ensures tests { steps.new ≤ steps.old + 2 * group_size board.now.packages question.now.kind question.now.intent.now }
+    ensures explicit { IsSome question.now.intent.now.component → steps.new ≡ steps.old }
+{
+    match question.kind {
+        Kind::Activity => Ok(Contest::Start(find_leaders(alloc, board, question.intent, steps)?)),
+        Kind::Service => Ok(Contest::Service(first_service(alloc, board, question.intent, steps)?)),
+        Kind::Receiver => Ok(Contest::Broadcast),
+    }
+}

@@ -1,0 +1,62 @@
+//! What is said of each component of a device.
+ghost use Rattle.std.specs.Prelude.{◌≡◌, ◌+◌, ◌*◌, ◌≤◌, IsSome, IfOk, length};
+ghost use Rattle.am_index.specs.Groups.{group_size};
+ghost use Rattle.am_model.specs.Accounts.{accounts};
+ghost use Rattle.am_explain.specs.Asking.{question_of};
+ghost use Rattle.am_explain.specs.Contests.{IsContest};
+ghost use Rattle.am_explain.specs.Costs.{filters_in};
+
+use crate::asking::Question;
+use crate::contest::{Contest, find_contest};
+use crate::walk::{add_declared, add_registered};
+use am_installed::Installed;
+use am_resolve::Board;
+use am_types::{Account, Kind, List, NoMemory, Steps};
+use std::alloc::Global;
+use std::sync::ledger::Ledger;
+
+/// Whom the intent reaches, and why not the others: an account of each component of the kind by uid,
+/// then place, and if receivers are asked for then of each registered one by number. With `shown` only
+/// those of that uid are shown, but they are judged among all. Each full test of a filter is a step:
+/// finding what is reached takes at most two for each filter of the intent's group, and then each
+/// filter is asked once. ("Intents and intent filters"; which reason comes first is (own).)
+pub fn accounts<L: Ledger>(
+    alloc: Global,
+    board: &Board,
+    question: &Question,
+    shown: Option<u32>,
+    steps: &mut Steps<L>,
+) -> Result<List<Account>, NoMemory>
+    ensures accounts { IfOk result (λ told. told ≡ accounts board.now (question_of question.now) shown) }
+    ensures tests { steps.new ≤ steps.old + 2 * group_size board.now.packages question.now.kind question.now.intent.now
+        + (filters_in question.now.kind board.now.packages + length board.now.registered) }
+    ensures explicit { IsSome question.now.intent.now.component → steps.new ≡ steps.old }
+{
+    let contest = find_contest(alloc, board, question, steps)?;
+    let told = told(alloc, board.installed(), &contest, question, shown, steps);
+    drop(contest);
+    told
+}
+
+/// The accounts, where it is known what decides.
+fn told<L: Ledger>(
+    alloc: Global,
+    installed: &Installed,
+    contest: &Contest,
+    question: &Question,
+    shown: Option<u32>,
+    steps: &mut Steps<L>,
+) -> Result<List<Account>, NoMemory>
+    requires { IsContest installed.now (question_of question.now) contest.now }
+    ensures accounts { IfOk result (λ told. told ≡ accounts installed.now (question_of question.now) shown) }
+    ensures tests { steps.new
+        ≤ steps.old + (filters_in question.now.kind installed.now.packages + length installed.now.registered) }
+    ensures explicit { IsSome question.now.intent.now.component → steps.new ≡ steps.old }
+{
+    let mut told = Vec::new(alloc);
+    add_declared(&mut told, alloc, installed, contest, question, shown, steps)?;
+    if question.kind == Kind::Receiver {
+        add_registered(&mut told, alloc, installed, question, shown, steps)?;
+    }
+    Ok(List::new(told))
+}

@@ -1,0 +1,97 @@
+//! What is said of each component of a device.
+
+mod boards;
+mod documents;
+mod rows;
+mod shown;
+
+ghost use Rattle.std.specs.Prelude.{◌≡◌, ◌<◌};
+
+use self::boards::{board_of, described, kind_of};
+use self::documents::{CASTS, STARTS, WEB};
+use self::rows::{BROADCASTS, STARTED, VIEWED};
+use self::shown::told;
+use am_explain::{Question, accounts};
+use am_resolve::Board;
+use am_trials_words::{intent, number, optional};
+use am_types::{Account, List, NoMemory, Steps};
+use std::alloc::Global;
+use std::marker::Brand;
+use std::process::Abort;
+use std::sync::ledger::{Blank, Ledger};
+use std::test::Fail;
+
+/// What is said, by a new counter.
+fn counted<L: Ledger>(
+    alloc: Global,
+    board: &Board,
+    question: &Question,
+    shown: Option<u32>,
+    blank: Blank,
+) -> Result<List<Account>, NoMemory>
+    requires name { blank.name ≡ L.name }
+    requires parts { blank.parts ≡ L.parts }
+    requires some { 0 < blank.parts }
+{
+    let mut steps = Steps::<L>::new(blank);
+    accounts(alloc, board, question, shown, &mut steps)
+}
+
+/// The uid that a word names.
+fn uid_of(words: &str, key: &str) -> Option<u32> {
+    number(words, key).and_then(|uid| u32::try_from(uid).ok())
+}
+
+/// What is said of the components of a board, in words.
+fn told_of(alloc: Global, board: &Board, words: &str) -> Result<String, NoMemory> {
+    let intent = intent(alloc, words)?;
+    let permission = optional(alloc, words, "require=")?;
+    let caller = uid_of(words, "caller=").unwrap_or(u32::MAX);
+    let question = Question::new(caller, kind_of(words), &intent, permission.as_ref());
+    let shown = uid_of(words, "shown=");
+    let all = counted::<Brand>(alloc, board, &question, shown, Blank::new(1))?;
+    Ok(told(alloc, &all)?)
+}
+
+/// What is said of the components of a device that the words change, in words.
+fn explained(alloc: Global, document: &str, words: &str) -> Result<String, NoMemory> {
+    let device = described(alloc, document, words)?;
+    let board = board_of(alloc, device, words)?;
+    told_of(alloc, &board, words)
+}
+
+/// Tries the rows of a table on a device, and counts them.
+fn tried(rt: &impl Abort, alloc: Global, document: &str, rows: &str) -> Result<u32, Fail> {
+    let mut count: u32 = 0;
+    for line in rows.lines() {
+        let (words, wanted) = line.split_once(" | ").unwrap_or((line, "no row"));
+        assert_eq!(rt;
+            explained(alloc, document, words)?.as_str(),
+            wanted,
+            "{words}"
+        );
+        count = count.wrapping_add(1);
+    }
+    Ok(count)
+}
+
+#[test]
+fn starts_are_explained(rt: HostRuntime) -> Result<(), Fail> {
+    let alloc = rt.alloc();
+    assert_eq!(rt; tried(&rt, alloc, STARTS, STARTED)?, 44);
+    Ok(())
+}
+
+#[test]
+fn web_pages_are_explained(rt: HostRuntime) -> Result<(), Fail> {
+    let alloc = rt.alloc();
+    assert_eq!(rt; tried(&rt, alloc, WEB, VIEWED)?, 13);
+    Ok(())
+}
+
+#[test]
+fn broadcasts_are_explained(rt: HostRuntime) -> Result<(), Fail> {
+    let alloc = rt.alloc();
+    assert_eq!(rt; tried(&rt, alloc, CASTS, BROADCASTS)?, 23);
+    Ok(())
+}

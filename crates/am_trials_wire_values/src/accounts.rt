@@ -1,0 +1,91 @@
+//! Each verdict of an account, with what is told besides.
+mod rows;
+
+use self::rows::ROWS;
+use crate::parts::{component_a, none};
+use am_types::{Account, Aim, List, Narrowing, Reply, Rule, Standing, Text, Why};
+use am_wire_values::{reply_status, reply_text};
+use std::alloc::{AllocError, Global};
+use std::test::Fail;
+
+fn every_reason(alloc: Global) -> Result<Standing, AllocError> {
+    let mut reasons = Vec::new(alloc);
+    reasons.push(Why::Action)?;
+    reasons.push(Why::Scheme)?;
+    reasons.push(Why::Host)?;
+    reasons.push(Why::Path)?;
+    reasons.push(Why::Type_)?;
+    reasons.push(Why::Category)?;
+    reasons.push(Why::Action)?;
+    Ok(Standing::Filters(List::new(reasons)))
+}
+
+fn rule(n: u32, alloc: Global) -> Result<Rule, AllocError> {
+    match n {
+        8 => Ok(Rule::ImplicitService),
+        11 => Ok(Rule::RegisteredOnly),
+        12 => Ok(Rule::ManifestImplicit),
+        13 => Ok(Rule::StoppedPackage),
+        14 => Ok(Rule::NotExported),
+        15 => Ok(Rule::NeedsPermission(Text::of(alloc, "p.X")?)),
+        16 => Ok(Rule::ReceiverLacks(Text::of(alloc, "p.X")?)),
+        _ => Ok(Rule::ProtectedAction),
+    }
+}
+
+fn standing(n: u32, alloc: Global) -> Result<Standing, AllocError> {
+    match n {
+        0 => Ok(Standing::OtherComponent),
+        1 => Ok(Standing::OtherPackage),
+        2 => Ok(Standing::Disabled),
+        3 => Ok(Standing::Filters(none(alloc))),
+        4 => every_reason(alloc),
+        5 => Ok(Standing::Narrowed(Narrowing::Approved)),
+        6 => Ok(Standing::Narrowed(Narrowing::Browser)),
+        7 => Ok(Standing::Narrowed(Narrowing::General)),
+        9 => Ok(Standing::Outranked),
+        10 => Ok(Standing::Tied),
+        18 => Ok(Standing::Reached),
+        _ => Ok(Standing::Refused(rule(n, alloc)?)),
+    }
+}
+
+/// What is said of a component and of a registered receiver; the last row's reply says nothing.
+fn accounts(n: u32, alloc: Global) -> Result<List<Account>, AllocError> {
+    if n > 18 {
+        return Ok(none(alloc));
+    }
+    let mut accounts = Vec::new(alloc);
+    accounts.push(Account {
+        to: Aim::Declared(component_a(alloc)?),
+        standing: standing(n, alloc)?,
+    })?;
+    accounts.push(Account {
+        to: Aim::Registered(8),
+        standing: standing(n, alloc)?,
+    })?;
+    Ok(List::new(accounts))
+}
+
+/// The status and the text of a reply.
+fn written(n: u32, alloc: Global) -> Result<String, Fail> {
+    let reply = Reply::Accounts(accounts(n, alloc)?);
+    let text = reply_text(alloc, &reply);
+    let status = reply_status(&reply);
+    drop(reply);
+    let text = text?;
+    Ok(format!(in alloc; "{status} {text}")?)
+}
+
+#[test]
+fn every_account_is_written(rt: HostRuntime) -> Result<(), Fail> {
+    let alloc = rt.alloc();
+    let mut n: u32 = 0;
+    for line in ROWS.lines() {
+        let found = written(n, alloc)?;
+        assert_eq!(rt; found.as_str(), line, "{n}");
+        n = n.wrapping_add(1);
+    }
+    assert_eq!(rt; n, 20);
+    Ok(())
+}

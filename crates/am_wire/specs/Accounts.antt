@@ -1,0 +1,63 @@
+-- What is asked of whom an intent would reach.
+use Rattle.std.specs.Prelude.{ℕ, Bool, false, List, [], ◌∷◌, codes, if◌then◌else◌, Option, Some, None, Result, Ok}
+use Rattle.serde_json.specs.Data.{Data}
+use Rattle.serde_json.specs.Find.{get, as_str}
+use Rattle.am_types.specs.declared.intent.Intent.{Intent}
+use Rattle.am_types.specs.declared.manifest.Kind.{Kind}
+use Rattle.am_types.specs.declared.manifest.Kind.TheVariants.{Activity, Service, Receiver}
+use Rattle.am_types.specs.declared.request.Request.{Request}
+use Rattle.am_types.specs.declared.request.Request.TheVariants as asks
+use Rattle.am_model.specs.Texts.{is_same}
+use Rattle.am_uri.specs.declared.text.Form.TheVariants.{Any}
+use Rattle.am_wire_fields.specs.declared.fault.WireFault.{WireFault}
+use Rattle.am_wire_fields.specs.Texts.{optional_text}
+use Rattle.am_wire_fields.specs.Reading.{◌>>=◌}
+use Rattle.am_wire_intents.specs.Intents.{required_intent}
+use Rattle.am_wire.specs.Activities.{fields_of}
+use Rattle.am_wire.specs.Words.{kind_of}
+
+-- the text is the word for receivers
+abbrev pub is_receiver : Option (List ℕ) → Bool
+is_receiver None = false
+is_receiver (Some word) = is_same word (codes "receiver")
+
+-- the value of a field, if it is a text
+abbrev pub text_at : Option Data → Option (List ℕ)
+text_at None = None
+text_at (Some value) = as_str value
+
+-- receivers are asked about: the field `kind` says literally `receiver`
+unfoldable pub asks_receivers : Data → Bool
+asks_receivers body = is_receiver (text_at (get (codes "kind") body))
+
+-- the fields of the question, which are more where receivers are asked about
+unfoldable pub explain_fields : Bool → List (List ℕ)
+explain_fields receivers =
+    if receivers then codes "kind" ∷ codes "intent" ∷ codes "as" ∷ codes "permission" ∷ codes "of" ∷ []
+    else codes "kind" ∷ codes "intent" ∷ codes "as" ∷ codes "of" ∷ []
+
+-- the permission that receivers must hold; of no other kind it is asked
+unfoldable pub permission_for : Kind → Data → Result (Option (List ℕ)) WireFault
+permission_for Activity body = Ok None
+permission_for Service body = Ok None
+permission_for Receiver body = optional_text Any 1024 (codes "permission") body
+
+-- a question about that kind and that intent
+unfoldable pub explain_about : Kind → Intent → Data → Result Request WireFault
+explain_about kind intent body = do
+  caller ← optional_text Any 1024 (codes "as") body
+  permission ← permission_for kind body
+  shown ← optional_text Any 1024 (codes "of") body
+  Ok (asks.Explain kind intent caller permission shown)
+
+-- a question that has no fields but its own
+unfoldable pub explain_of : Data → Result Request WireFault
+explain_of body = do
+  kind ← kind_of body
+  intent ← required_intent (codes "intent") body
+  explain_about kind intent body
+
+unfoldable pub explain_in : Data → Result Request WireFault
+explain_in body = do
+  known ← fields_of (explain_fields (asks_receivers body)) body
+  explain_of body

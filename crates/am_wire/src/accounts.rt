@@ -1,0 +1,97 @@
+//! Accounts of whom an intent would reach.
+ghost use Rattle.std.specs.Prelude.{◌≡◌};
+ghost use Rattle.serde_json.specs.Find.{as_str};
+ghost use Rattle.serde_json.specs.View.{view};
+ghost use Rattle.am_wire_fields.specs.Reading.{Gives};
+ghost use Rattle.am_wire.specs.Activities.{fields_of};
+ghost use Rattle.am_wire.specs.Accounts.{is_receiver, asks_receivers, explain_fields, permission_for, explain_about, explain_of, explain_in};
+
+use crate::activities::fields_of;
+use crate::words::kind_of;
+use am_types::{Intent, Kind, Request, Text};
+use am_uri::Form;
+use am_wire_fields::{Unread, optional_text};
+use am_wire_intents::required_intent;
+use serde_json::Value;
+use std::alloc::Global;
+
+/// Whether a value is the word for receivers.
+fn is_receiver(value: &Value) -> bool
+    ensures { result ≡ is_receiver (as_str (view value.now)) }
+{
+    match value.as_str() {
+        None => false,
+        Some(word) => word == "receiver",
+    }
+}
+
+/// Whether the field `kind` says `receiver`.
+#[tactic(auto, unfolding(crate::specs::Accounts::asks_receivers))]
+fn asks_receivers(body: &Value) -> bool
+    ensures { result ≡ asks_receivers (view body.now) }
+{
+    match body.get("kind") {
+        None => false,
+        Some(value) => is_receiver(value),
+    }
+}
+
+/// Refuses a question with other fields than its own, which are more where receivers are asked about.
+#[tactic(auto, unfolding(crate::specs::Accounts::explain_fields))]
+fn only_explain_fields(alloc: Global, receivers: bool, body: &Value) -> Result<(), Unread>
+    ensures { Gives result (fields_of (explain_fields receivers) (view body.now)) }
+{
+    if receivers {
+        fields_of(alloc, &["kind", "intent", "as", "permission", "of"], body)
+    } else {
+        fields_of(alloc, &["kind", "intent", "as", "of"], body)
+    }
+}
+
+/// The permission that receivers must hold, if the text `permission` says one.
+#[tactic(auto, unfolding(crate::specs::Accounts::permission_for))]
+fn permission_for(alloc: Global, kind: Kind, body: &Value) -> Result<Option<Text>, Unread>
+    ensures { Gives result (permission_for kind (view body.now)) }
+{
+    match kind {
+        Kind::Activity | Kind::Service => Ok(None),
+        Kind::Receiver => optional_text(alloc, Form::Any, 1024, "permission", body),
+    }
+}
+
+/// A question about that kind and that intent: perhaps the texts `as`, `permission` and `of`.
+#[tactic(auto, unfolding(crate::specs::Accounts::explain_about))]
+fn explain_about(alloc: Global, kind: Kind, intent: Intent, body: &Value) -> Result<Request, Unread>
+    ensures { Gives result (explain_about kind intent (view body.now)) }
+{
+    let caller = optional_text(alloc, Form::Any, 1024, "as", body)?;
+    let permission = permission_for(alloc, kind, body)?;
+    let shown = optional_text(alloc, Form::Any, 1024, "of", body)?;
+    Ok(Request::Explain {
+        kind,
+        intent,
+        caller,
+        permission,
+        shown,
+    })
+}
+
+/// A question that has no fields but its own.
+#[tactic(auto, unfolding(crate::specs::Accounts::explain_of))]
+fn explain_of(alloc: Global, body: &Value) -> Result<Request, Unread>
+    ensures { Gives result (explain_of (view body.now)) }
+{
+    let kind = kind_of(alloc, body)?;
+    let intent = required_intent(alloc, "intent", body)?;
+    explain_about(alloc, kind, intent, body)
+}
+
+/// A question whom an intent would reach: `kind`, `intent`, and perhaps the texts `as` and `of`. Only where `kind` says
+/// `receiver` may there be the text `permission`, which is read before `of`.
+#[tactic(auto, unfolding(crate::specs::Accounts::explain_in))]
+pub fn explain_in(alloc: Global, body: &Value) -> Result<Request, Unread>
+    ensures { Gives result (explain_in (view body.now)) }
+{
+    only_explain_fields(alloc, asks_receivers(body), body)?;
+    explain_of(alloc, body)
+}
