@@ -25,8 +25,8 @@ use Rattle.am_history.specs.Steps.{act, keeps_row}
 use Rattle.am_found.specs.Found.{Kept, as_stopped, kept_of}
 use Rattle.am_found.proofs.OtherRequests.{other_stays}
 use Rattle.am_audit_callers.specs.declared.callers.Owner.{Owner}
-use Rattle.am_audit_callers.specs.declared.change.Change.{Change}
-use Rattle.am_audit_callers.specs.declared.change.Change.TheVariants as changes
+use Rattle.am_audit_callers.specs.declared.change.CallerChange.{CallerChange}
+use Rattle.am_audit_callers.specs.declared.change.CallerChange.TheVariants as changes
 use Rattle.am_audit_callers.specs.Callers as callers
 use Rattle.am_audit_callers.specs.Callers.{Known, added_by, callers_of, change_of, followed, owner_named, owner_of, with_removed}
 
@@ -73,19 +73,19 @@ without_is (p ∷ ps) uid = by (not (eqb p.uid uid)) (without_is ps uid)
 
 module _ (state : State) (caller : ℕ) where
   -- the callers of what is left follow from the reply
-  abbrev Follows : Change → Reply × State → Type 0
+  abbrev Follows : CallerChange → Reply × State → Type 0
   Follows change out = callers_of out.1 ≡ followed (callers_of state) change out.0
 
-  refused_follows : (change : Change) (rule : Rule) → Follows change (refused state rule)
+  refused_follows : (change : CallerChange) (rule : Rule) → Follows change (refused state rule)
   refused_follows changes.Nothing rule = refl
   refused_follows (changes.Adds name key) rule = refl
   refused_follows (changes.Removes name) rule = refl
 
-  either_follows : (change : Change) (test : Bool) (first second : Reply × State) → Follows change first → Follows change second → Follows change (cond test first second)
+  either_follows : (change : CallerChange) (test : Bool) (first second : Reply × State) → Follows change first → Follows change second → Follows change (cond test first second)
   either_follows change true first second one other = one
   either_follows change false first second one other = other
 
-  admin_follows : (change : Change) (next : Reply × State) → Follows change next → Follows change (for_admin state caller next)
+  admin_follows : (change : CallerChange) (next : Reply × State) → Follows change next → Follows change (for_admin state caller next)
   admin_follows change next follows = either_follows change (is_privileged caller) next (refused state rules.AdminOnly) follows (refused_follows change rules.AdminOnly)
 
   read_follows : (key : List ℕ) (manifest : Result Manifest ManifestFault) → Follows (added_by manifest key) (install_read state key manifest)
@@ -95,7 +95,7 @@ module _ (state : State) (caller : ℕ) where
       (either_follows change (is_full state) (refused state (rules.OverLimit limits.Packages)) _ refl
       (ap (λ (l : List Owner). record (callers_of state) { owners = l }) (map-append owner_of state.board.packages (installed state manifest key ∷ []))))
     where
-      change : Change
+      change : CallerChange
       change = changes.Adds manifest.«package» key
 
   removed_follows : (name : List ℕ) (found : Option Package) → package_named state.board.packages name ≡ found

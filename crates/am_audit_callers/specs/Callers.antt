@@ -12,8 +12,8 @@ use Rattle.am_types.specs.declared.reply.Reply.TheVariants as replies
 use Rattle.am_model.specs.Texts.{is_same}
 use Rattle.am_manifest.specs.Manifests.{manifest_of}
 use Rattle.am_history.specs.State.{State, root_uid, system_uid}
-use Rattle.am_audit_callers.specs.declared.change.Change.{Change}
-use Rattle.am_audit_callers.specs.declared.change.Change.TheVariants as changes
+use Rattle.am_audit_callers.specs.declared.change.CallerChange.{CallerChange}
+use Rattle.am_audit_callers.specs.declared.change.CallerChange.TheVariants as changes
 use Rattle.am_audit_callers.specs.declared.callers.Owner.{Owner}
 
 -- the keys of the system and of the root, and the packages with theirs
@@ -46,12 +46,12 @@ key_in known uid =
     else key_among known.owners uid
 
 -- what an installation adds if it is accepted
-abbrev pub added_by : Result Manifest ManifestFault → List ℕ → Change
+abbrev pub added_by : Result Manifest ManifestFault → List ℕ → CallerChange
 added_by (Ok manifest) key = changes.Adds manifest.«package» key
 added_by (Err fault) key = changes.Nothing
 
 -- what an accepted request changes
-abbrev pub change_of : Request → Change
+abbrev pub change_of : Request → CallerChange
 change_of (asks.Install text key) = added_by (manifest_of text) key
 change_of (asks.Uninstall name) = changes.Removes name
 change_of _ = changes.Nothing
@@ -77,7 +77,7 @@ with_removed known name replies.Plain = record known { owners = without known.ow
 with_removed known name _ = known
 
 -- what is known once a request was answered
-abbrev pub followed : Known → Change → Reply → Known
+abbrev pub followed : Known → CallerChange → Reply → Known
 followed known changes.Nothing reply = known
 followed known (changes.Adds name key) reply = with_added known name key reply
 followed known (changes.Removes name) reply = with_removed known name reply

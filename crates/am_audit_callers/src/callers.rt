@@ -7,7 +7,7 @@ ghost use Rattle.am_model.specs.Texts.{is_same};
 ghost use Rattle.am_audit_callers.specs.declared.callers.Owner.{Owner as Known};
 ghost use Rattle.am_audit_callers.specs.Callers.{callers_of, followed, key_among, key_in, owner_named, owner_of, with_added, with_removed, without};
 
-use crate::change::Change;
+use crate::change::CallerChange;
 use am_types::{Device, NoMemory, Package, Reply, Text};
 use std::alloc::Global;
 use std::marker::Model;
@@ -170,13 +170,13 @@ impl Callers {
     }
 
     /// Follows a request that was answered, by what it changes if it is accepted.
-    pub fn follow(&mut self, change: Change, reply: &Reply) -> Result<(), NoMemory>
+    pub fn follow(&mut self, change: CallerChange, reply: &Reply) -> Result<(), NoMemory>
         ensures { OnOk result (self.new ≡ followed self.old change reply.now) }
     {
         match change {
-            Change::Nothing => {}
-            Change::Adds { name, key } => self.add(name, key, reply)?,
-            Change::Removes { name } => self.remove(&name, reply),
+            CallerChange::Nothing => {}
+            CallerChange::Adds { name, key } => self.add(name, key, reply)?,
+            CallerChange::Removes { name } => self.remove(&name, reply),
         }
         Ok(())
     }

@@ -9,7 +9,7 @@ use std::alloc::Global;
 
 /// What an accepted request changes of the callers.
 #[derive(Drop)]
-pub enum Change {
+pub enum CallerChange {
     /// Nothing.
     Nothing,
     /// There is one more package.
@@ -19,31 +19,31 @@ pub enum Change {
 }
 
 // What an installation changes.
-fn added_by(alloc: Global, text: &Text, key: &Text) -> Result<Change, NoMemory>
+fn added_by(alloc: Global, text: &Text, key: &Text) -> Result<CallerChange, NoMemory>
     ensures { IfOk result (λ change. change ≡ added_by (manifest_of text.now) key.now) }
 {
     match read_package(alloc, text) {
         Ok(manifest) => {
             let key = key.clone()?;
-            Ok(Change::Adds {
+            Ok(CallerChange::Adds {
                 name: manifest.package,
                 key,
             })
         }
-        Err(ReadFault::Manifest(_)) => Ok(Change::Nothing),
+        Err(ReadFault::Manifest(_)) => Ok(CallerChange::Nothing),
         Err(ReadFault::NoMemory) => Err(NoMemory),
     }
 }
 
 /// What the request changes of the callers if it is accepted.
-pub fn change_of(alloc: Global, request: &Request) -> Result<Change, NoMemory>
+pub fn change_of(alloc: Global, request: &Request) -> Result<CallerChange, NoMemory>
     ensures { IfOk result (λ change. change ≡ change_of request.now) }
 {
     match request {
         Request::Install { text, key } => added_by(alloc, text, key),
-        Request::Uninstall { package } => Ok(Change::Removes {
+        Request::Uninstall { package } => Ok(CallerChange::Removes {
             name: package.clone()?,
         }),
-        _ => Ok(Change::Nothing),
+        _ => Ok(CallerChange::Nothing),
     }
 }

@@ -6,5 +6,5 @@ mod change;
 mod laws;
 
 pub use callers::Callers;
-pub use change::{Change, change_of};
+pub use change::{CallerChange, change_of};
 pub use laws::{callers_follow, keys_are_exact};

@@ -7,14 +7,14 @@ use Rattle.am_history.specs.State.{State}
 use Rattle.am_history.specs.Steps.{Call}
 use Rattle.am_history.specs.History.{replay}
 use Rattle.am_history.specs.Desks.{Origin, opening_of}
-use Rattle.am_audit_callers.specs.declared.change.Change.{Change}
+use Rattle.am_audit_callers.specs.declared.change.CallerChange.{CallerChange}
 use Rattle.am_audit_callers.specs.Callers.{Known, callers_of, change_of, followed}
 use Rattle.am_audit_callers.specs.Laws.{CallersFollow}
 use Rattle.am_audit_calls.specs.Replays.{Replay, ShowsKept}
 use Rattle.am_audit_calls.proofs.Followed.{callers_behind}
 
 -- its device is still sound, and its callers are those of the state that the call leaves
-pub holds_behind : CallersFollow → (old new : Origin) (before after : List Entry) (call : Call) (shown : Shown) (known behind : Known) (change : Change)
+pub holds_behind : CallersFollow → (old new : Origin) (before after : List Entry) (call : Call) (shown : Shown) (known behind : Known) (change : CallerChange)
     → IsSound old.device × (known ≡ callers_of (replay (opening_of old) before)) → new ≡ old → change ≡ change_of call.request
     → ShowsKept (record { start = opening_of old; history = before }) call (record { start = opening_of old; history = after }) shown
     → behind ≡ cond shown.stored (followed known change shown.reply) known
@@ -24,7 +24,7 @@ holds_behind law old new before after call shown known behind change held same a
     let goes : behind ≡ callers_of (replay (opening_of old) after) =
     follows
     ∙ ap (λ (k : Known). cond shown.stored (followed k change shown.reply) k) held.1
-    ∙ ap (λ (c : Change). cond shown.stored (followed (callers_of state) c shown.reply) (callers_of state)) asks
+    ∙ ap (λ (c : CallerChange). cond shown.stored (followed (callers_of state) c shown.reply) (callers_of state)) asks
     ∙ sym (callers_behind law (record { start = opening_of old; history = before }) after call shown shows) in
     subst (λ (o : Origin). IsSound o.device × (behind ≡ callers_of (replay (opening_of o) after))) (sym same) (held.0, goes)
 

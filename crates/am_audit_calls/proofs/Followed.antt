@@ -10,7 +10,7 @@ use Rattle.am_history.specs.Steps.{Call, act, after_due, asks_keeper, step}
 use Rattle.am_history.specs.History.{replay, entry_of, has_room, is_stored, may_change, reply_to, IsEntryOf, MayBeNext}
 use Rattle.am_history.specs.Desks.{Follows}
 use Rattle.am_history.proofs.Places.{replay_more}
-use Rattle.am_history.proofs.Shows.{uid_has_caller}
+use Rattle.am_history.proofs.Callers.{uid_has_caller}
 use Rattle.am_audit_callers.specs.Callers.{callers_of, change_of, followed, key_in}
 use Rattle.am_audit_callers.specs.Laws.{CallersFollow, KeysAreKnown}
 use Rattle.am_audit_calls.specs.Replays.{Advances, GoesOnWith, Replay, ShowsKept, state_of}

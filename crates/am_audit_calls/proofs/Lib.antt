@@ -2,7 +2,6 @@ pub mod Kept
 pub mod Followed
 pub mod Taken
 pub mod Formed
-pub mod Beginning
 pub mod Lines
 pub mod Unique
 pub mod Called

@@ -1,4 +1,3 @@
-pub mod Beginnings
 pub mod Replays
 pub mod Histories
 pub mod Reading

@@ -1,7 +1,6 @@
 //! A history that is replayed, call by call.
-ghost use Rattle.std.specs.Prelude.{◌≡◌, [], true, false, IfOk, IfErr, IsTrue, MatchOption, OnOk, Ok, length, if◌then◌else◌};
+ghost use Rattle.std.specs.Prelude.{◌≡◌, [], true, false, IfOk, IsTrue, MatchOption, OnOk, length, if◌then◌else◌};
 ghost use Rattle.std.specs.Option.{option_copied};
-ghost use Rattle.am_keeper.specs.Rows.{IsInOrder, no_rows};
 ghost use Rattle.am_model.specs.Sound.{IsSound};
 ghost use Rattle.am_history.specs.Desks.{opening_of};
 ghost use Rattle.am_history.specs.History.{IsLegal};
@@ -9,14 +8,12 @@ ghost use Rattle.am_history.specs.State.{opening};
 ghost use Rattle.am_history.specs.Steps.{is_formed};
 ghost use Rattle.am_audit_callers.specs.Callers.{callers_of, followed, key_in};
 ghost use Rattle.am_audit_callers.specs.Laws.{KeysAreKnown};
-ghost use Rattle.am_audit_calls.specs.Beginnings.{BeginsWith, IsWant};
 ghost use Rattle.am_audit_calls.specs.Replays.{Advances, ShowsKept, state_of};
 
 use crate::keeper::NoKeeper;
-use am_audit_callers::{Callers, Change, callers_follow, change_of, keys_are_exact};
-use am_keeper::{Attached, Rows, RowsBuilder};
-use am_machine::{Manager, begin};
-use am_opening::OpenFault;
+use am_audit_callers::{CallerChange, Callers, callers_follow, change_of, keys_are_exact};
+use am_fresh::begin_fresh;
+use am_machine::Manager;
 use am_types::{Device, Entry, NoMemory, Request, Shown, Text};
 use std::alloc::Global;
 use std::marker::Model;
@@ -47,36 +44,6 @@ impl Model for Replayed {
         × (r.callers ≡ callers_of (replay (opening_of r.manager.origin) r.manager.history)) };
 }
 
-// No rows at all.
-fn no_rows(alloc: Global) -> Rows
-    ensures rows { result ≡ no_rows }
-    ensures order { IsInOrder result }
-{
-    RowsBuilder::new(alloc).finish()
-}
-
-// The manager that began, if memory sufficed.
-fn begun(manager: Result<Manager<NoKeeper>, OpenFault>) -> Result<Manager<NoKeeper>, NoMemory>
-    requires { IfErr manager IsWant }
-    ensures { IfOk result (λ begun. manager ≡ Ok begun) }
-{
-    match manager {
-        Ok(manager) => Ok(manager),
-        Err(OpenFault::NoMemory) => Err(NoMemory),
-        Err(OpenFault::Rows(_)) => unreachable!(),
-    }
-}
-
-// A manager of a sound device of which nothing was kept.
-fn manager_of(alloc: Global, device: Device) -> Result<Manager<NoKeeper>, NoMemory>
-    requires { IsSound device }
-    ensures { IfOk result (λ manager. BeginsWith device manager) }
-{
-    let rows = no_rows(alloc);
-    let keeper = NoKeeper;
-    begun(begin(alloc, device, Attached { keeper, rows }))
-}
-
 // One call of a manager whose keeper never fails: what is stored is kept.
 fn kept_call(
     manager: &mut Manager<NoKeeper>,
@@ -98,7 +65,7 @@ fn kept_call(
 }
 
 // Follows a call with that change, if it is stored.
-fn follow(callers: &mut Callers, change: Change, shown: &Shown) -> Result<(), NoMemory>
+fn follow(callers: &mut Callers, change: CallerChange, shown: &Shown) -> Result<(), NoMemory>
     ensures { OnOk result (callers.new ≡ (if shown.now.stored
         then followed callers.old change shown.now.reply else callers.old)) }
 {
@@ -137,7 +104,7 @@ impl Replayed {
                 return Err(error);
             }
         };
-        let manager = manager_of(alloc, device)?;
+        let manager = begin_fresh(alloc, device, NoKeeper)?;
         Ok(Replayed {
             alloc,
             manager,

@@ -66,6 +66,7 @@ fn next_frame<'t>(
         count,
     } = walk;
     let Framing::Whole(frame) = frame(input) else {
+        drop(bench);
         return Ok(Err(ended(count, may_end(input, left))));
     };
     let Some(accepted) = judge(alloc, routes, history, bench, &frame, left)? else {
@@ -74,6 +75,7 @@ fn next_frame<'t>(
     let input = &input[frame.length..];
     let left = &left[accepted.taken..];
     if frame.close {
+        drop(accepted.bench);
         return Ok(Err(ended(count + 1, left.is_empty())));
     }
     Ok(Ok(Walk {

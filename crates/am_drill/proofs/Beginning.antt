@@ -1,33 +1,16 @@
 -- How the manager of a drill begins, and what its calls come to.
-use Rattle.std.proofs.Common.{◌≡◌, ℕ, ◌*◌, List, [], length, Option, Some, None, Result, Ok, Err, sym, ap, ◌∙◌}
-use Rattle.std.specs.Prelude.{IfErr}
+use Rattle.std.proofs.Common.{◌≡◌, ℕ, ◌*◌, List, [], length, Option, Some, None, sym, ap, ◌∙◌}
 use Rattle.am_types.specs.declared.device.Device.{Device}
 use Rattle.am_types.specs.declared.history.Entry.{Entry}
 use Rattle.am_keeper.specs.Memory.{InMemory, fresh_keeper}
 use Rattle.am_keeper.specs.declared.rows.Rows.{Rows}
 use Rattle.am_keeper.specs.Rows.{no_rows}
-use Rattle.am_model.specs.Sound.{IsSound}
 use Rattle.am_history.specs.State.{State, opening}
-use Rattle.am_history.specs.Opening.{opening_with}
-use Rattle.am_history.proofs.OpeningLaws.{no_rows_open_the_device}
-use Rattle.am_opening.specs.declared.opened.OpenFault.{OpenFault}
-use Rattle.am_opening.specs.declared.opened.OpenFault.TheVariants as faults
-use Rattle.am_opening.specs.Openings.{Refuses}
 use Rattle.am_drill.specs.declared.tally.Tally.{Tally}
-use Rattle.am_drill.specs.Beginnings.{IsWant}
 use Rattle.am_drill.specs.Calls.{calls_of}
 use Rattle.am_drill.specs.Devices.{device_of}
 use Rattle.am_drill.specs.Draws.{after, seed}
 use Rattle.am_drill.specs.Drills.{drilled, history_of, statuses_of, tally_of}
-
--- without rows none is refused
-pub only_want : {X : Type 0} (begun : Result X OpenFault) (device : Device) (rows : Rows) → IsSound device → rows ≡ no_rows
-    → IfErr begun (λ fault. Refuses fault (opening_with device rows)) → IfErr begun IsWant
-only_want (Ok manager) device rows sound none refuses = tt
-only_want (Err (faults.Rows name)) device rows sound none refuses =
-    let opens : opening_with device rows ≡ Ok (opening device) = ap (opening_with device) none ∙ no_rows_open_the_device device sound in
-    absurd cc
-only_want (Err faults.NoMemory) device rows sound none refuses = tt
 
 -- what the calls come to
 pub drilled_so : (from packages requests : ℕ) (device : Device) (start : State) (seen after_all : List Entry) (draws : ℕ) (statuses : List ℕ)
@@ -44,11 +27,11 @@ drilled_so from packages requests device start seen after_all draws statuses ope
     ∙ ap (λ (d : ℕ). tally_of (opening (device_of packages (seed from))) (calls_of packages requests d)) drawn
 
 -- a keeper that kept nothing tells no rows
-pub tells_none : (keeper : InMemory) (rows kept told : Rows) (failing : List ℕ) → keeper ≡ fresh_keeper kept None failing
-    → rows ≡ no_rows → kept ≡ no_rows → ◌≡◌ {A = Option Rows} (Some keeper.told) (Some told) → rows ≡ told
-tells_none keeper rows kept told failing fresh none empty tells =
+pub tells_none : (keeper : InMemory) (kept told : Rows) (failing : List ℕ) → keeper ≡ fresh_keeper kept None failing
+    → kept ≡ no_rows → ◌≡◌ {A = Option Rows} (Some keeper.told) (Some told) → no_rows ≡ told
+tells_none keeper kept told failing fresh empty tells =
     let same : keeper.told ≡ told = some_is tells in
-    none ∙ sym empty ∙ sym (ap (λ (k : InMemory). k.told) fresh) ∙ same
+    sym empty ∙ sym (ap (λ (k : InMemory). k.told) fresh) ∙ same
   where
     some_is : {x y : Rows} → Some x ≡ Some y → x ≡ y
     some_is e = cc

@@ -8,4 +8,3 @@ pub mod OneCall
 pub mod CallsMade
 pub mod Running
 pub mod Beginning
-pub mod Managers

@@ -1,6 +1,6 @@
 -- The generated device is sound.
 use Rattle.std.proofs.Common.{◌≡◌, ℕ, zero, suc, ◌+◌, ◌*◌, ◌<◌, ◌≤◌, ◌==◌, Bool, true, false, not, nat_lt, List, [], ◌∷◌, ◌++◌, length, map, codes, decimal, get_or, refl, sym, ap, subst, ◌∙◌, arith, IsTrue}
-use Rattle.std.specs.Prelude.{if◌then◌else◌}
+use Rattle.std.specs.Prelude.{ℤ, if◌then◌else◌}
 use Rattle.std.specs.Cmp.Lexicographic.{same_text}
 use Rattle.std.specs.List.{All, IsDistinct, range_with_len}
 use Rattle.std.specs.List.Sorted.{IsStrictlyIncreasing, IsStrictlySortedBy}
@@ -14,7 +14,7 @@ use Rattle.am_types.specs.declared.manifest.Decl.{Decl}
 use Rattle.am_model.specs.Sound.{has_slash, AreDistinct, AreSoundPackages, AreSoundRights, IsSound, IsSoundDecl, IsSoundFilter, IsSoundPackage, is_access_key, is_package_name, is_visible, names_of, keys_of, uids_of}
 use Rattle.am_model.specs.Texts.{is_same}
 use Rattle.am_drill.specs.Draws.{after}
-use Rattle.am_drill.specs.Devices.{activity_of, device_of, key_of, name_of, package_of, packages_of, receiver_of}
+use Rattle.am_drill.specs.Devices.{activity_of, device_of, filter_of, key_of, name_of, package_of, packages_of, receiver_of}
 use Rattle.am_drill.proofs.Decimals.{apart_from, digits_are_visible, digits_have_no_slash, numbered_apart}
 
 -- a text with a first byte isn't empty
@@ -58,27 +58,25 @@ one_filter decl filter is sound = record {
   filters = subst (λ (filters : List Filter). All IsSoundFilter filters) (sym is) (All-cons IsSoundFilter filter [] sound (All-nil IsSoundFilter));
 }
 
-activity_is_sound : (i state : ℕ) → IsSoundDecl (activity_of i state)
-unfolding activity_of
-activity_is_sound i state = one_filter _ _ refl (record {
+-- a filter of one action and few categories
+filter_is_sound : (action : List ℕ) (categories : List (List ℕ)) (priority : ℤ) → length categories ≤ 1
+    → IsSoundFilter (filter_of action categories priority)
+filter_is_sound action categories priority few = record {
   actions = omega arith;
-  categories = omega arith;
+  categories = omega (arith, few);
   schemes = omega arith;
   authorities = omega arith;
   paths = omega arith;
   types = omega arith;
-})
+}
+
+activity_is_sound : (i state : ℕ) → IsSoundDecl (activity_of i state)
+unfolding activity_of
+activity_is_sound i state = one_filter _ _ refl (filter_is_sound _ _ _ (omega arith))
 
 receiver_is_sound : (i state : ℕ) → IsSoundDecl (receiver_of i state)
 unfolding receiver_of
-receiver_is_sound i state = one_filter _ _ refl (record {
-  actions = omega arith;
-  categories = omega arith;
-  schemes = omega arith;
-  authorities = omega arith;
-  paths = omega arith;
-  types = omega arith;
-})
+receiver_is_sound i state = one_filter _ _ refl (filter_is_sound _ _ _ (omega arith))
 
 -- a package
 package_is_sound : (i state : ℕ) → i < 256 → IsSoundPackage (package_of i state)

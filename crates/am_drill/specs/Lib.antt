@@ -5,5 +5,4 @@ pub mod Bodies
 pub mod Calls
 pub mod Desks
 pub mod Drills
-pub mod Beginnings
 pub mod Tallies

@@ -10,6 +10,7 @@ use Rattle.am_installed.specs.Installed.{AreInstalled}
 use Rattle.am_model.specs.Accounts.{Question, accounts, declared_accounts}
 use Rattle.am_explain.specs.Laws.{ActivitiesAreStarted, is_decided, is_tied, standing_at, started_activity, tied_activities}
 use Rattle.am_explain.proofs.Explicit.{explicit_decided, explicit_tied}
+use Rattle.am_explain.proofs.Rivals.{of_kind}
 use Rattle.am_explain.proofs.Started.{implicit_decided, implicit_tied}
 
 module _ (board : Board) (caller : ℕ) (intent : Intent) (required : Option (List ℕ)) where
@@ -29,10 +30,6 @@ module _ (board : Board) (caller : ℕ) (intent : Intent) (required : Option (Li
   tied (Some c) names installed =
       ap (standing_at is_tied) (append-nil (declared_accounts board asked None board.packages))
       ∙ explicit_tied board asked c names (λ r. refl)
-
--- the same question of a kind
-abbrev of_kind : Question → Kind → Question
-of_kind asked kind = record { caller = asked.caller; kind = kind; intent = asked.intent; required = asked.required }
 
 -- the law
 pub activities_are_started : ActivitiesAreStarted

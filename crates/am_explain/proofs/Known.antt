@@ -1,9 +1,8 @@
 -- Each component of installed packages is found by its name, and by its package's uid.
-use Rattle.std.proofs.Common.{◌≡◌, ℕ, ℤ, Bool, true, false, ◌&&◌, ◌||◌, cond, eqb, List, [], ◌∷◌, Some, refl, ap, ◌∙◌}
+use Rattle.std.proofs.Common.{◌≡◌, ℕ, ℤ, Bool, true, false, ◌&&◌, ◌||◌, cond, List, [], ◌∷◌, Some, refl, ap, ◌∙◌}
 use Rattle.std.specs.List.{AllByRecursion, IsDistinct, list_any}
 use Rattle.std.specs.Cmp.Lexicographic.{nat_list_eq_equiv}
 use Rattle.std.proofs.Math.Bool.{or-false}
-use Rattle.std.proofs.lemmas.Bool.{eq-eqb}
 use Rattle.std.proofs.lemmas.List.Elements.{recursion_from_All}
 use Rattle.am_types.specs.declared.intent.Intent.{Intent}
 use Rattle.am_types.specs.declared.manifest.Kind.{Kind}
@@ -16,10 +15,11 @@ use Rattle.am_model.specs.Sound.{AreDistinct, classes_of, names_of}
 use Rattle.am_model.specs.Targets.{is_general, takes_any_host}
 use Rattle.am_model.specs.Texts.{is_same}
 use Rattle.am_installed.specs.Installed.{AreInstalled, IsInstalled}
-use Rattle.am_installed.proofs.Rising.{Above, Rises, apart, rises}
+use Rattle.am_installed.proofs.Rising.{Rises, rises}
 use Rattle.am_index.proofs.Same.{is_same_itself}
 use Rattle.am_resolve.specs.Narrowing.{is_general_at, is_general_in}
 use Rattle.am_resolve.proofs.General.{general_at}
+use Rattle.am_resolve.proofs.Owners.{Found, each_found}
 use Rattle.am_model.specs.Accounts.{component_of}
 
 -- what holds of each component of each package
@@ -31,7 +31,7 @@ AllDecls Q (p ∷ ps) = AllByRecursion (Q p) p.decls × AllDecls Q ps
 abbrev NoneOf : List ℕ → List Decl → Type 0
 NoneOf class ds = AllByRecursion (λ y. is_same class y ≡ false) (classes_of ds)
 
-and_false : (a b : Bool) → b ≡ false → a && b ≡ false
+pub and_false : (a b : Bool) → b ≡ false → a && b ≡ false
 and_false true b e = e
 and_false false b e = refl
 
@@ -88,20 +88,6 @@ module _ (kind : Kind) where
   each_known [] names each = tt
   each_known (p ∷ ps) names each =
       (known_own p ps p.decls (each_first p.decls each.0.classes), known_behind p ps ps names.0 (each_known ps names.1 each.1))
-
--- each package is found by its uid
-abbrev Found : List Package → List Package → Type 0
-Found all ps = AllByRecursion (λ (p : Package). package_at all p.uid ≡ Some p) ps
-
-found_behind : (q : Package) (all ps : List Package) → Above q.uid ps → Found all ps → Found (q ∷ all) ps
-found_behind q all [] a f = tt
-found_behind q all (p ∷ ps) a f =
-    (ap (λ b. cond b (Some q) (package_at all p.uid)) (apart q.uid p.uid a.0 (eqb q.uid p.uid) refl) ∙ f.0, found_behind q all ps a.1 f.1)
-
-each_found : (ps : List Package) → Rises ps → Found ps ps
-each_found [] r = tt
-each_found (p ∷ ps) r =
-    (ap (λ b. cond b (Some p) (package_at ps p.uid)) (eq-eqb p.uid p.uid refl), found_behind p ps ps r.0 (each_found ps r.1))
 
 module _ (intent : Intent) where
   -- a filter of the component takes any host

@@ -15,11 +15,8 @@ use Rattle.am_installed.specs.Installed.{AreInstalled, IsInstalled}
 use Rattle.am_index.proofs.Same.{is_same-Decides}
 use Rattle.am_model.specs.Accounts.{component_of}
 use Rattle.am_types.specs.declared.account.Account.{Account}
+use Rattle.am_explain.proofs.Known.{and_false}
 use Rattle.am_explain.proofs.Rivals.{Rival, rival_of, rivals_from, rivals_in}
-
-and_no : (a b : Bool) → b ≡ false → a && b ≡ false
-and_no true b e = e
-and_no false b e = refl
 
 module _ (search : Search) (c : Component) (names : search.intent.component ≡ Some c) where
   -- the component, with its place
@@ -62,7 +59,7 @@ module _ (search : Search) (c : Component) (names : search.intent.component ≡ 
   other_class p place [] none = refl
   other_class p place (d ∷ ds) none =
       is_one_more p place d ds
-      ∙ ap (one_more p place d ds) (and_no (is_same c.«package» p.name) (is_same c.class d.class) none.0)
+      ∙ ap (one_more p place d ds) (and_false (is_same c.«package» p.name) (is_same c.class d.class) none.0)
       ∙ no_more p place d ds (other_class p (place + 1) ds none.1) (other_class p place ds none.1)
 
   module _ (to : Rival → Account) (out : Option (ℕ × Decl) → List Account) (nothing : out None ≡ [])

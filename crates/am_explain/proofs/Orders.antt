@@ -1,5 +1,5 @@
 -- What offers and hits give is the same in another order.
-use Rattle.std.proofs.Common.{◌≡◌, Bool, true, false, cond, List, [], ◌∷◌, ◌++◌, refl, sym, ap, ◌∙◌, subst, append_assoc}
+use Rattle.std.proofs.Common.{◌≡◌, ℤ, Bool, true, false, cond, List, [], ◌∷◌, ◌++◌, refl, sym, ap, ◌∙◌, subst, append_assoc}
 use Rattle.std.specs.Prelude.{int_lt}
 use Rattle.std.specs.List.{filter}
 use Rattle.std.specs.List.Sorted.{IsPermutation}
@@ -31,35 +31,33 @@ module _ {X Y : Type 0} (f : X → List Y) where
   behind x y xs placed p =
       IsPermutation-trans _ _ _ (turned x y xs) (IsPermutation-append_right (f y) _ _ p)
 
-module _ {Y : Type 0} (f : Offer → List Y) where
-  placed_offer : (o : Offer) (os : List Offer) → IsPermutation (f o ++ flat f os) (flat f (place_offer o os))
-  placed_offer o [] = IsPermutation-refl _
-  placed_offer o (x ∷ xs) = by (int_lt o.priority x.priority) (placed_offer o xs)
+-- what places an element behind those of greater priority, and what so places each in turn
+module _ {X Y : Type 0} (f : X → List Y) (priority : X → ℤ) (put : X → List X → List X) (order : List X → List X)
+    (alone : (x : X) → put x [] ≡ x ∷ [])
+    (among : (x first : X) (others : List X) → put x (first ∷ others) ≡ cond (int_lt (priority x) (priority first)) (first ∷ put x others) (x ∷ first ∷ others))
+    (none : order [] ≡ [])
+    (more : (first : X) (others : List X) → order (first ∷ others) ≡ put first (order others)) where
+  placed : (x : X) (xs : List X) → IsPermutation (f x ++ flat f xs) (flat f (put x xs))
+  placed x [] = subst (λ l. IsPermutation (f x ++ []) (flat f l)) (sym (alone x)) (IsPermutation-refl _)
+  placed x (y ∷ ys) =
+      subst (λ l. IsPermutation (f x ++ flat f (y ∷ ys)) (flat f l)) (sym (among x y ys)) (by (int_lt (priority x) (priority y)) (placed x ys))
     where
-      by : (b : Bool) → IsPermutation (f o ++ flat f xs) (flat f (place_offer o xs))
-          → IsPermutation (f o ++ flat f (x ∷ xs)) (flat f (cond b (x ∷ place_offer o xs) (o ∷ x ∷ xs)))
-      by true p = behind f o x xs (place_offer o xs) p
+      by : (b : Bool) → IsPermutation (f x ++ flat f ys) (flat f (put x ys))
+          → IsPermutation (f x ++ flat f (y ∷ ys)) (flat f (cond b (y ∷ put x ys) (x ∷ y ∷ ys)))
+      by true p = behind f x y ys (put x ys) p
       by false p = IsPermutation-refl _
 
-  pub ordered_offers : (os : List Offer) → IsPermutation (flat f os) (flat f (in_order os))
-  ordered_offers [] = IsPermutation-refl _
-  ordered_offers (o ∷ os) =
-      IsPermutation-trans _ _ _ (IsPermutation-append_right (f o) _ _ (ordered_offers os)) (placed_offer o (in_order os))
+  ordered : (xs : List X) → IsPermutation (flat f xs) (flat f (order xs))
+  ordered [] = subst (λ l. IsPermutation [] (flat f l)) (sym none) (IsPermutation-refl _)
+  ordered (x ∷ xs) =
+      subst (λ l. IsPermutation (flat f (x ∷ xs)) (flat f l)) (sym (more x xs))
+      (IsPermutation-trans _ _ _ (IsPermutation-append_right (f x) _ _ (ordered xs)) (placed x (order xs)))
 
-module _ {Y : Type 0} (f : Hit → List Y) where
-  placed_hit : (h : Hit) (hs : List Hit) → IsPermutation (f h ++ flat f hs) (flat f (place_hit h hs))
-  placed_hit h [] = IsPermutation-refl _
-  placed_hit h (x ∷ xs) = by (int_lt h.priority x.priority) (placed_hit h xs)
-    where
-      by : (b : Bool) → IsPermutation (f h ++ flat f xs) (flat f (place_hit h xs))
-          → IsPermutation (f h ++ flat f (x ∷ xs)) (flat f (cond b (x ∷ place_hit h xs) (h ∷ x ∷ xs)))
-      by true p = behind f h x xs (place_hit h xs) p
-      by false p = IsPermutation-refl _
+pub ordered_offers : {Y : Type 0} (f : Offer → List Y) (os : List Offer) → IsPermutation (flat f os) (flat f (in_order os))
+ordered_offers f = ordered f (λ (o : Offer). o.priority) place_offer in_order (λ o. refl) (λ o first others. refl) refl (λ first others. refl)
 
-  pub ordered_hits : (hs : List Hit) → IsPermutation (flat f hs) (flat f (by_priority hs))
-  ordered_hits [] = IsPermutation-refl _
-  ordered_hits (h ∷ hs) =
-      IsPermutation-trans _ _ _ (IsPermutation-append_right (f h) _ _ (ordered_hits hs)) (placed_hit h (by_priority hs))
+pub ordered_hits : {Y : Type 0} (f : Hit → List Y) (hs : List Hit) → IsPermutation (flat f hs) (flat f (by_priority hs))
+ordered_hits f = ordered f (λ (h : Hit). h.priority) place_hit by_priority (λ h. refl) (λ h first others. refl) refl (λ first others. refl)
 
 -- a filter gives its elements, one after the other
 flat_kept : {X : Type 0} (keeps : X → Bool) (xs : List X) → flat (λ x. cond (keeps x) (x ∷ []) []) xs ≡ filter keeps xs

@@ -6,6 +6,7 @@ use Rattle.std.proofs.lemmas.List.{map-append}
 use Rattle.std.proofs.lemmas.List.Elements.{filter-append}
 use Rattle.am_types.specs.declared.intent.Component.{Component}
 use Rattle.am_types.specs.declared.manifest.Decl.{Decl}
+use Rattle.am_types.specs.declared.manifest.Kind.{Kind}
 use Rattle.am_types.specs.declared.device.Package.{Package}
 use Rattle.am_types.specs.declared.resolve.Hit.{Hit}
 use Rattle.am_types.specs.declared.broadcast.Aim.TheVariants.{Declared}
@@ -95,6 +96,10 @@ module _ (search : Search) where
       ap (λ l. l ++ hits_in search ps) (as_hits_from p 0 p.decls)
       ∙ ap (λ l. map hit_of_rival (rivals_from search p 0 p.decls) ++ l) (as_hits ps)
       ∙ sym (map-append hit_of_rival (rivals_from search p 0 p.decls) (rivals_in search ps))
+
+-- the same question of a kind
+abbrev pub of_kind : Question → Kind → Question
+of_kind asked kind = record { caller = asked.caller; kind = kind; intent = asked.intent; required = asked.required }
 
 -- what is looked for where the question is asked
 abbrev pub search_of : Question → Search

@@ -31,7 +31,7 @@ use Rattle.am_types.specs.declared.account.Standing.{Standing}
 use Rattle.am_types.specs.declared.account.Standing.TheVariants.{OtherComponent, OtherPackage}
 use Rattle.am_explain.proofs.Orders.{flat, flat-append, ordered_hits, ordered_offers}
 use Rattle.am_explain.proofs.Known.{all_known}
-use Rattle.am_explain.proofs.Rivals.{HoldsOf, IsOfFound, Rival, all_rivals, as_hits, hit_of_rival, met_account, of_found_in, rivals_in, search_of}
+use Rattle.am_explain.proofs.Rivals.{HoldsOf, IsOfFound, Rival, all_rivals, as_hits, hit_of_rival, met_account, of_found_in, of_kind, rivals_in, search_of}
 
 -- tests that only components that are found may pass
 pub decided_found : IsOfFound is_decided
@@ -214,24 +214,20 @@ module _ (board : Board) (caller : ℕ) (intent : Intent) (required : Option (Li
       ∙ picked_registered is_reached reached_found board.registered
       ∙ none_reached (map registered_offer (filter (finds_registered board.packages intent) board.registered)) rule e
 
--- the same question of a receiver
-abbrev of_receivers : Question → Kind → Question
-of_receivers asked kind = record { caller = asked.caller; kind = kind; intent = asked.intent; required = asked.required }
-
 -- the law
 pub receivers_are_sent_to : ReceiversAreSentTo
 receivers_are_sent_to = record {
   offered = λ board asked installed e may.
-      subst (λ (kind : Kind). IsPermutation (standing_at is_decided (accounts board (of_receivers asked kind) None)) (map account_of (receivers board asked.intent asked.caller asked.required))) (sym e)
-      (subst (λ (l : List Account). IsPermutation (standing_at is_decided (accounts board (of_receivers asked Receiver) None)) l)
+      subst (λ (kind : Kind). IsPermutation (standing_at is_decided (accounts board (of_kind asked kind) None)) (map account_of (receivers board asked.intent asked.caller asked.required))) (sym e)
+      (subst (λ (l : List Account). IsPermutation (standing_at is_decided (accounts board (of_kind asked Receiver) None)) l)
       (decided_offers board asked.caller asked.intent asked.required (offers board asked.intent) may)
       (picked_offers board asked.caller asked.intent asked.required is_decided decided_found installed));
   admitted = λ board asked installed e may.
-      subst (λ (kind : Kind). IsPermutation (standing_at is_reached (accounts board (of_receivers asked kind) None)) (reached_spots (admitted (receivers board asked.intent asked.caller asked.required)))) (sym e)
-      (subst (λ (l : List Account). IsPermutation (standing_at is_reached (accounts board (of_receivers asked Receiver) None)) l)
+      subst (λ (kind : Kind). IsPermutation (standing_at is_reached (accounts board (of_kind asked kind) None)) (reached_spots (admitted (receivers board asked.intent asked.caller asked.required)))) (sym e)
+      (subst (λ (l : List Account). IsPermutation (standing_at is_reached (accounts board (of_kind asked Receiver) None)) l)
       (reached_offers board asked.caller asked.intent asked.required (offers board asked.intent) may)
       (picked_offers board asked.caller asked.intent asked.required is_reached reached_found installed));
   protected = λ board asked e barred.
-      subst (λ (kind : Kind). standing_at is_reached (accounts board (of_receivers asked kind) None) ≡ []) (sym e)
+      subst (λ (kind : Kind). standing_at is_reached (accounts board (of_kind asked kind) None) ≡ []) (sym e)
       (none_is_reached board asked.caller asked.intent asked.required rules.ProtectedAction barred);
 }

@@ -28,8 +28,8 @@ use Rattle.am_explain.specs.Laws.{ServicesAreStarted, implicit_services, is_deci
 use Rattle.am_types.specs.declared.account.Account.{Account}
 use Rattle.am_types.specs.declared.account.Standing.TheVariants.{Outranked, Refused}
 use Rattle.am_explain.proofs.Explicit.{decided_rule, explicit_decided}
-use Rattle.am_explain.proofs.Known.{AllDecls, all_known}
-use Rattle.am_explain.proofs.Rivals.{Holds, Rival, all_from, all_rivals, as_hits, hit_of_rival, met_account, of_found_in, rival_at, rival_of, rivals_from, rivals_in, search_of}
+use Rattle.am_explain.proofs.Known.{AllDecls, all_known, and_false}
+use Rattle.am_explain.proofs.Rivals.{Holds, Rival, all_from, all_rivals, as_hits, hit_of_rival, met_account, of_found_in, of_kind, rival_at, rival_of, rivals_from, rivals_in, search_of}
 use Rattle.am_explain.proofs.SentTo.{decided_found}
 
 -- the component of one that is found
@@ -40,10 +40,6 @@ name_of_rival r = component_of r.owner r.decl
 abbrev Distinct : List Rival → Type 0
 Distinct [] = Unit {0}
 Distinct (r ∷ rs) = AllByRecursion (λ (o : Rival). is_same_component (name_of_rival r) (name_of_rival o) ≡ false) rs × Distinct rs
-
-and_no : (a b : Bool) → b ≡ false → a && b ≡ false
-and_no true b e = e
-and_no false b e = refl
 
 module _ (search : Search) where
   one_more : (p : Package) (place : ℕ) (d : Decl) (rs : List Rival) (priority : Option ℤ) (is : Bool)
@@ -66,7 +62,7 @@ module _ (search : Search) where
       → AllByRecursion (Holds search (λ (q : Package) (e : Decl). is_same_component (component_of p d) (component_of q e) ≡ false) p) ds
   other_classes p d [] none = tt
   other_classes p d (e ∷ es) none =
-      ((λ _. and_no (is_same p.name p.name) (is_same d.class e.class) none.0), other_classes p d es none.1)
+      ((λ _. and_false (is_same p.name p.name) (is_same d.class e.class) none.0), other_classes p d es none.1)
 
   -- a package's are distinct
   within : (p : Package) (place : ℕ) (ds : List Decl) → AreDistinct (classes_of ds) → Distinct (rivals_from search p place ds)
@@ -276,10 +272,6 @@ module _ (board : Board) (caller : ℕ) (intent : Intent) (required : Option (Li
       ∙ first_is (hits board.packages Service intent false) (ap by_priority (sym (as_hits (search_of asked) board.packages))) installed
   decided None None names limits installed =
       said names ∙ decided_nowhere rivals limits ∙ ap implicit_services (sym (as_hits (search_of asked) board.packages))
-
--- the same question of a kind
-abbrev of_kind : Question → Kind → Question
-of_kind asked kind = record { caller = asked.caller; kind = kind; intent = asked.intent; required = asked.required }
 
 -- the law
 pub services_are_started : ServicesAreStarted

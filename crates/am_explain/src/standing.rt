@@ -3,7 +3,7 @@ ghost use Rattle.std.specs.Prelude.{◌≡◌, ◌+◌, ◌≤◌, ◌∷◌, []
 ghost use Rattle.std.specs.List.{list_any};
 ghost use Rattle.am_types.specs.declared.manifest.Kind.TheVariants.{Service};
 ghost use Rattle.am_model.specs.Candidates.{hits, is_in, is_named};
-ghost use Rattle.am_model.specs.Receivers.{is_protected, registered_offer};
+ghost use Rattle.am_model.specs.Receivers.{is_protected};
 ghost use Rattle.am_model.specs.Targets.{host_to_view, takes_any_host};
 ghost use Rattle.am_model.specs.Accounts.{by_kind, component_of, enabled, first_of, found, found_activity, found_service, is_other_component, is_other_package, is_that, left_out, left_out_for_browser, named, needs_default, offer_to, offered, registered_standing, sending_rule, standing, started, unless_kept};
 ghost use Rattle.am_resolve.specs.Ranking.{offer_of};
@@ -15,21 +15,15 @@ ghost use Rattle.am_explain.specs.Tests.{takes_all_hosts};
 use crate::asking::Question;
 use crate::contest::{Contest, Leaders};
 use crate::tested::{Tested, ask_filters, test};
-use am_gates::{Ruling, verdict};
+use am_gates::{Ruling, is_privileged, verdict};
 use am_installed::Installed;
-use am_resolve::{Offer, approves, host_to_view, is_for, skip_of};
+use am_resolve::{Offer, approves, host_to_view, is_for, registered_offer, skip_of};
 use am_types::{
     Aim, Component, Decl, Intent, Kind, List, Narrowing, NoMemory, Package, Registration, Rule,
     Standing, Steps, Text, Why,
 };
 use std::alloc::{AllocError, Global};
 use std::sync::ledger::Ledger;
-
-/// The uid of the root.
-const ROOT: u32 = 0;
-
-/// The uid of the system.
-const SYSTEM: u32 = 1000;
 
 /// The intent names a component, and not this one.
 fn is_other_component(component: &Option<Component>, owner: &Package, decl: &Decl) -> bool
@@ -125,8 +119,7 @@ fn sending_rule(installed: &Installed, question: &Question) -> Option<Rule>
     ensures { result ≡ sending_rule installed.now (question_of question.now) }
 {
     if is_protected(installed.protected(), &question.intent.action)
-        && question.caller != ROOT
-        && question.caller != SYSTEM
+        && !is_privileged(question.caller)
     {
         Some(Rule::ProtectedAction)
     } else {
@@ -402,19 +395,6 @@ pub(crate) fn standing_of<L: Ledger>(
     match &question.intent.component {
         Some(_) => named(installed, question, owner, decl),
         None => found(alloc, installed, contest, question, owner, decl, steps),
-    }
-}
-
-/// The offer to a registered receiver, which counts as exported.
-fn registered_offer(registration: &Registration) -> Offer<'_>
-    ensures { offer_of result ≡ registered_offer registration.now }
-{
-    Offer {
-        uid: registration.uid,
-        aim: Aim::Registered(registration.number),
-        priority: registration.filter.priority,
-        exported: true,
-        permission: registration.permission.as_ref(),
     }
 }
 

@@ -1,12 +1,13 @@
 //! What the filters of a component say of an intent.
 ghost use Rattle.std.specs.Prelude.{◌≡◌, ◌+◌, ◌≤◌, ◌++◌, ◌&&◌, ◌||◌, IfOk, OnOk, is_none, length};
-ghost use Rattle.am_model.specs.Candidates.{counted_priority, greatest};
+ghost use Rattle.am_model.specs.Candidates.{counted_priority};
 ghost use Rattle.am_model.specs.Filters.{is_empty, why};
 ghost use Rattle.am_filter.specs.Answers.{answer_of};
 ghost use Rattle.am_model.specs.Accounts.{listed};
 ghost use Rattle.am_explain.specs.Tests.{tested_of, with_priority};
 
 use am_filter::passes;
+use am_index::{counted_priority, greatest};
 use am_types::{Filter, Intent, Kind, List, NoMemory, Steps, Why};
 use std::alloc::Global;
 use std::sync::ledger::Ledger;
@@ -72,17 +73,6 @@ fn reason_of(answer: Result<(), Why>) -> Option<Why>
     }
 }
 
-/// The priority with which a filter counts: no package is privileged, so an activity's never
-/// counts above 0.
-fn counted_priority(kind: Kind, priority: i32) -> i32
-    ensures { result ≡ counted_priority kind priority }
-{
-    match kind {
-        Kind::Activity => priority.min(0),
-        Kind::Service | Kind::Receiver => priority,
-    }
-}
-
 /// The best priority so far, or that of the filter, if it is passed and counts more.
 fn with_priority(kind: Kind, filter: &Filter, reason: Option<Why>, best: Option<i32>) -> Option<i32>
     ensures { result ≡ with_priority reason (counted_priority kind filter.now.priority) best }
@@ -108,14 +98,4 @@ fn add_reason(reasons: &mut Vec<Why>, reason: Option<Why>) -> Result<(), NoMemor
         reasons.push(reason)?;
     }
     Ok(())
-}
-
-/// The greater of a priority and of another, if there is one.
-fn greatest(priority: i32, other: Option<i32>) -> i32
-    ensures { result ≡ greatest priority other }
-{
-    match other {
-        None => priority,
-        Some(other) => priority.max(other),
-    }
 }

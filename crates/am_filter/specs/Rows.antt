@@ -4,8 +4,8 @@ use Rattle.am_types.specs.declared.filter.PathRule.{PathRule}
 use Rattle.am_types.specs.declared.filter.PathRule.TheVariants.{Literal, Prefix, Suffix, Pattern}
 use Rattle.am_filter.specs.declared.rows.Merging.{Merging}
 use Rattle.am_filter.specs.declared.rows.Paths.{Paths}
-use Rattle.am_filter.specs.declared.rows.Row.{Row}
-use Rattle.am_filter.specs.declared.rows.Rows.{Rows}
+use Rattle.am_filter.specs.declared.rows.DataRow.{DataRow}
+use Rattle.am_filter.specs.declared.rows.DataRows.{DataRows}
 use Rattle.am_uri.specs.Texts.{with_optional}
 
 -- an option as a list
@@ -19,14 +19,14 @@ with_paths rules paths =
     (((rules ++ listed (option_map Literal paths.literal)) ++ listed (option_map Prefix paths.prefix)) ++ listed (option_map Suffix paths.suffix)) ++ listed (option_map Pattern paths.pattern)
 
 -- one more row: schemes stand sorted, each once, all else in the order read
-abbrev pub with_row : Rows → Row → Rows
+abbrev pub with_row : DataRows → DataRow → DataRows
 with_row rows row =
     record { schemes = with_optional rows.schemes row.scheme; authorities = rows.authorities ++ listed row.authority; paths = with_paths rows.paths row.paths; types = rows.types ++ listed row.mime }
 
 -- no rows
-abbrev pub no_rows : Rows
+abbrev pub no_rows : DataRows
 no_rows = record { schemes = []; authorities = []; paths = []; types = [] }
 
 -- rows that are being merged, as the rows that they are
-abbrev pub merged : Merging → Rows
+abbrev pub merged : Merging → DataRows
 merged rows = record { schemes = rows.schemes.keys; authorities = rows.authorities.items; paths = rows.paths.items; types = rows.types.items }

@@ -181,8 +181,8 @@ fn shares_main(mime: &Mime, other: &Mime) -> bool
     mime.main == other.main && (mime.sub == other.sub || is_any(&mime.sub) || is_any(&other.sub))
 }
 
-/// The type that stands for every other.
-fn is_any_type(mime: &Mime) -> bool
+/// Whether the type stands for every other. Takes no memory.
+pub fn is_any_type(mime: &Mime) -> bool
     ensures { result ≡ is_any_type mime.now }
 {
     is_any(&mime.main) && is_any(&mime.sub)

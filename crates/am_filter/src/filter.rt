@@ -51,8 +51,8 @@ pub(crate) fn lists_all(texts: &List<Text>, wanted: &List<Text>) -> bool
     wanted.as_slice().iter().all(|text| lists(texts, text))
 }
 
-/// The text is listed.
-pub(crate) fn lists(texts: &List<Text>, text: &Text) -> bool
+/// Whether the text is listed. Takes no memory.
+pub fn lists(texts: &List<Text>, text: &Text) -> bool
     ensures { result ≡ lists texts.now text.now }
 {
     texts.as_slice().contains(text)

@@ -8,7 +8,8 @@ mod fill;
 mod filter;
 mod rows;
 
+pub use data::is_any_type;
 pub use equal::filter_equals;
 pub use fill::fill_in;
-pub use filter::passes;
-pub use rows::{Paths, Row, Rows, merge_rows};
+pub use filter::{lists, passes};
+pub use rows::{DataRow, DataRows, Paths, merge_rows};

@@ -22,7 +22,7 @@ pub struct Paths {
 
 /// A data row of a filter.
 #[derive(Drop)]
-pub struct Row {
+pub struct DataRow {
     /// The scheme, if the row has one.
     pub scheme: Option<Text>,
     /// The host with its port, if the row has a host.
@@ -35,7 +35,7 @@ pub struct Row {
 
 /// The data rows of a filter, merged.
 #[derive(Drop)]
-pub struct Rows {
+pub struct DataRows {
     /// Sorted by bytes, each once.
     pub schemes: List<Text>,
     /// In the order of the rows, repeats included.
@@ -77,7 +77,7 @@ pub struct Merging {
 }
 
 /// The rows, with one more.
-fn with_row(rows: Merging, row: Row) -> Result<Merging, AllocError>
+fn with_row(rows: Merging, row: DataRow) -> Result<Merging, AllocError>
     ensures { IfOk result (λ all. merged all ≡ with_row (merged rows) row) }
 {
     Ok(Merging {
@@ -94,7 +94,7 @@ fn with_row(rows: Merging, row: Row) -> Result<Merging, AllocError>
 /// # Errors
 ///
 /// Only want of memory.
-pub fn merge_rows(alloc: Global, rows: Vec<Row>) -> Result<Rows, AllocError>
+pub fn merge_rows(alloc: Global, rows: Vec<DataRow>) -> Result<DataRows, AllocError>
     ensures { IfOk result (λ all. all ≡ fold with_row no_rows rows.items) }
 {
     let mut all = Merging {
@@ -106,7 +106,7 @@ pub fn merge_rows(alloc: Global, rows: Vec<Row>) -> Result<Rows, AllocError>
     for row in rows {
         all = with_row(all, row)?;
     }
-    Ok(Rows {
+    Ok(DataRows {
         schemes: List::new(all.schemes.into_iter().collect(alloc)?),
         authorities: List::new(all.authorities),
         paths: List::new(all.paths),

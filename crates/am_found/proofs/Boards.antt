@@ -11,39 +11,30 @@ use Rattle.am_keeper.specs.declared.rows.GrantRow.{GrantRow}
 use Rattle.am_keeper.specs.declared.rows.LinkRow.{LinkRow}
 use Rattle.am_keeper.specs.declared.rows.Rows.{Rows}
 use Rattle.am_keeper.specs.Rows.{by_permission, by_host, put_in, rises}
-use Rattle.am_model.specs.Boards.{Board, is_package_uid, is_granted, is_linked, place_grant, place_link, stands_before, with_grant, with_link, grants_without, links_without, without_package}
+use Rattle.am_model.specs.Rights.{Right, before_right, of_grant, of_link}
+use Rattle.am_model.specs.Boards.{Board, is_package_uid, with_grant, with_link, grants_without, links_without, without_package}
 use Rattle.am_model.specs.Sound.{right_cmp, rights_approved, rights_granted}
 use Rattle.am_model.specs.Texts.{is_same, lowered}
 use Rattle.am_installed.proofs.Orders.{fewer_grants, fewer_links, grants_in_order, links_in_order}
 use Rattle.am_history.specs.Opening.{after_grant, after_link, with_rights}
-use Rattle.am_laws_state.proofs.Inserted.{inserted}
-use Rattle.am_laws_state.proofs.SoundRights.{of_grant, of_link}
 use Rattle.am_found.proofs.Placed.{all_weaker, any_left, any_out}
-use Rattle.am_found.proofs.Rights.{Right, given}
+use Rattle.am_found.proofs.Rights.{given}
 use Rattle.am_found.proofs.RightRows.{after_right, made_with_put, made_without, same_after}
 
 -- the order of grants, and of links
 abbrev before_grant : Grant → Grant → Bool
-before_grant first second = stands_before first.uid first.permission second.uid second.permission
+before_grant = before_right of_grant
 
 abbrev before_link : Link → Link → Bool
-before_link first second = stands_before first.uid first.host second.uid second.host
-
-grant_inserted : (g : Grant) (gs : List Grant) → inserted before_grant g gs ≡ place_grant g gs
-grant_inserted g [] = refl
-grant_inserted g (first ∷ others) = ap (λ l. cond (before_grant g first) (g ∷ first ∷ others) (first ∷ l)) (grant_inserted g others)
-
-link_inserted : (l : Link) (ls : List Link) → inserted before_link l ls ≡ place_link l ls
-link_inserted l [] = refl
-link_inserted l (first ∷ others) = ap (λ rest. cond (before_link l first) (l ∷ first ∷ others) (first ∷ rest)) (link_inserted l others)
+before_link = before_right of_link
 
 -- a grant given or taken
 given_grant : (g : Grant) (held : Bool) (gs : List Grant) → given of_grant before_grant g held gs ≡ with_grant gs g.uid g.permission held
-given_grant g true gs = ap (λ l. cond (is_granted gs g.uid g.permission) gs l) (grant_inserted g gs)
+given_grant g true gs = refl
 given_grant g false gs = refl
 
 given_link : (l : Link) (held : Bool) (ls : List Link) → given of_link before_link l held ls ≡ with_link ls l.uid l.host held
-given_link l true ls = ap (λ m. cond (is_linked ls l.uid l.host) ls m) (link_inserted l ls)
+given_link l true ls = refl
 given_link l false ls = refl
 
 -- the grant and the link of a row

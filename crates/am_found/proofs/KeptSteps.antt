@@ -23,10 +23,10 @@ use Rattle.am_model.specs.Texts.{is_same, lowered}
 use Rattle.am_manifest.specs.Manifests.{manifest_of}
 use Rattle.am_history.specs.State.{State, opening, with_packages}
 use Rattle.am_history.specs.Packages.{installed, is_full, is_key_used, is_name_used, is_root_key, no_uid, too_many_grants, too_many_links, without}
-use Rattle.am_history.specs.Opening.{is_row_good, kept_package, place_package}
+use Rattle.am_history.specs.Opening.{before_package, is_row_good, kept_package, place_package}
 use Rattle.am_laws.proofs.Requests.{Steps}
 use Rattle.am_laws_state.specs.Sound.{IsSoundState}
-use Rattle.am_laws_state.proofs.SoundPackages.{by_uid, inserted_last, last_is_new}
+use Rattle.am_laws_state.proofs.SoundPackages.{inserted_last, last_is_new}
 use Rattle.am_laws_state.proofs.SoundSteps.{sound_after}
 use Rattle.am_found.specs.Found.{Kept, OpensAs, as_stopped, kept_of}
 use Rattle.am_found.proofs.Alike.{all_alike, any_alike, length_alike, live_has, stopped_more, stopped_without}
@@ -34,8 +34,9 @@ use Rattle.am_found.proofs.Boards.{approved_same, approved_with_put, approved_wi
 use Rattle.am_found.proofs.NextUids.{below_next, next_after, next_with_grant, next_with_link, next_with_next, next_with_package}
 use Rattle.am_found.proofs.Openings.{ReadsAs, device_is_read, opening_reads, reading_opens}
 use Rattle.am_found.proofs.PackagePuts.{gone_is_put, last_is_read}
-use Rattle.am_found.proofs.PackageRows.{IsRead, good_from, package_inserted, package_row_read, rows_are_read, with_row_package, without_uid}
-use Rattle.am_found.proofs.Placed.{all_weaker, any_inserted}
+use Rattle.am_found.proofs.PackageRows.{IsRead, good_from, package_row_read, rows_are_read, with_row_package, without_uid}
+use Rattle.am_model.proofs.Lists.{any_inserted}
+use Rattle.am_found.proofs.Placed.{all_weaker}
 
 -- what is kept is the same where its parts are
 same_parts : (system_key : List ℕ) (root_key : Option (List ℕ)) {ps qs : List Package} {gs hs : List Grant} {ls ms : List Link} {n m : ℕ}
@@ -145,7 +146,7 @@ module _ (device : Device) (kept : Rows) (state : State) (sound : IsSound device
           read = with_row_package read row manifest;
           reads = last_is_read (opening device) read row kept.packages rows_below reading.reads ∙ package_row_read read row manifest greatest refl written good;
           same = same_parts read.system_key read.root_key
-              (ap as_stopped (sym (package_inserted new read.board.packages) ∙ inserted_last new read.board.packages read_below) ∙ stopped_more read.board.packages new)
+              (ap as_stopped (inserted_last new read.board.packages read_below) ∙ stopped_more read.board.packages new)
               (sym (granted_same read.board.packages (place_package new read.board.packages) read.board.grants kept.grants grants_same))
               (sym (approved_same read.board.packages (place_package new read.board.packages) read.board.links kept.links links_same))
               (next_with_next device kept row (sym next))
@@ -191,8 +192,7 @@ module _ (device : Device) (kept : Rows) (state : State) (sound : IsSound device
         other : (uid : ℕ) → (not (uid == no_uid) ≡ true → uid < next_after device kept) → is_package_uid read.board.packages uid ≡ is_package_uid (place_package new read.board.packages) uid
         other uid below =
             ap (λ b. b || is_package_uid read.board.packages uid) (sym (differs (cases_Bool (eqb uid no_uid))))
-            ∙ sym (any_inserted by_uid (λ (p : Package). p.uid == uid) new read.board.packages)
-            ∙ ap (λ (ps : List Package). is_package_uid ps uid) (package_inserted new read.board.packages)
+            ∙ sym (any_inserted before_package (λ (p : Package). p.uid == uid) new read.board.packages)
           where
             differs : (eqb uid no_uid ≡ true) ⊎ (eqb uid no_uid ≡ false) → eqb state.next_uid uid ≡ false
             differs (inl is) = subst (λ (u : ℕ). eqb state.next_uid u ≡ false) (sym (eqb-true uid no_uid is)) greatest

@@ -17,33 +17,17 @@ use Rattle.am_keeper.specs.Rows.{beside, put_in, by_uid, by_permission, by_host,
 use Rattle.am_history.specs.State.{uid_after, uids_of}
 use Rattle.am_history.specs.Packages.{no_uid}
 use Rattle.am_history.specs.Opening.{row_uids}
+use Rattle.am_history.proofs.Uids.{below_max, max_is_above, of_first, of_last}
 
--- the greatest of some is above each of them
-max_is_above : (low : ℕ) (uids : List ℕ) → low ≤ fold max low uids
-max_is_above low [] = omega arith
-max_is_above low (uid ∷ uids) = let rest = max_is_above (max low uid) uids in omega arith
-
-below_max : (low : ℕ) (uids : List ℕ) → AllByRecursion (λ uid. uid < fold max low uids + 1) uids
-below_max low [] = tt
-below_max low (uid ∷ uids) = (let rest = max_is_above (max low uid) uids in omega arith, below_max (max low uid) uids)
-
--- and below what is above all of them
+-- the greatest of some is below what is above all of them
 max_is_least : (low n : ℕ) (uids : List ℕ) → low < n → AllByRecursion (λ uid. uid < n) uids → fold max low uids + 1 ≤ n
 max_is_least low n [] less all = omega arith
 max_is_least low n (uid ∷ uids) less all = let first : uid < n = all.0 in max_is_least (max low uid) n uids (omega arith) all.1
 
--- what holds of the first ones and of the last ones holds of all, and the other way round
+-- what holds of the first ones and of the last ones holds of all
 all_append : (P : ℕ → Type 0) (xs ys : List ℕ) → AllByRecursion P xs → AllByRecursion P ys → AllByRecursion P (xs ++ ys)
 all_append P [] ys first last = last
 all_append P (x ∷ xs) ys first last = (first.0, all_append P xs ys first.1 last)
-
-of_first : (P : ℕ → Type 0) (xs ys : List ℕ) → AllByRecursion P (xs ++ ys) → AllByRecursion P xs
-of_first P [] ys all = tt
-of_first P (x ∷ xs) ys all = (all.0, of_first P xs ys all.1)
-
-of_last : (P : ℕ → Type 0) (xs ys : List ℕ) → AllByRecursion P (xs ++ ys) → AllByRecursion P ys
-of_last P [] ys all = all
-of_last P (x ∷ xs) ys all = of_last P xs ys all.1
 
 module _ {X : Type 0} (f : X → ℕ) (P : ℕ → Type 0) where
   -- and so for what is read of them

@@ -15,10 +15,10 @@ use Rattle.am_model.specs.Sound.{IsSound, IsSoundPackage, rights_approved, right
 use Rattle.am_installed.proofs.Rising.{Above, Rises, rises}
 use Rattle.am_history.specs.State.{State, opening, uid_after, uids_of}
 use Rattle.am_history.specs.Packages.{no_uid}
-use Rattle.am_history.specs.Opening.{after_rows, and_then_row, completed, has_too_many, opened, opening_with, row_uids, unless_too_many}
+use Rattle.am_history.specs.Opening.{after_rows, and_then_row, before_package, completed, has_too_many, opened, opening_with, row_uids, unless_too_many}
 use Rattle.am_laws_state.specs.Sound.{IsSoundState}
-use Rattle.am_laws_state.proofs.SoundPackages.{by_uid}
-use Rattle.am_laws_state.proofs.SoundRights.{AreFew, counted, of_grant, of_link}
+use Rattle.am_laws_state.proofs.SoundRights.{AreFew, counted}
+use Rattle.am_model.specs.Rights.{of_grant, of_link}
 use Rattle.am_found.specs.Found.{Kept, OpensAs, as_stopped, kept_of}
 use Rattle.am_found.proofs.Boards.{approved_after, granted_after, rights_after}
 use Rattle.am_found.proofs.NextUids.{next_after}
@@ -102,12 +102,12 @@ reading_opens device rows state sound reading = record {
         ∙ few_links found.board owner.uid (subst (λ (ls : List Link). AreFew (rights_approved ls)) (sym (ap (λ (k : Kept). k.links) kept)) sound.links.few)
 
 -- packages in rising order of their uids
-all_above : (uid : ℕ) (owner : Package) (ps : List Package) → owner.uid ≡ uid → Above uid ps → AllByRecursion (λ p. by_uid owner p ≡ true) ps
+all_above : (uid : ℕ) (owner : Package) (ps : List Package) → owner.uid ≡ uid → Above uid ps → AllByRecursion (λ p. before_package owner p ≡ true) ps
 all_above uid owner [] same above = tt
 all_above uid owner (p ∷ ps) same above =
     (let less : uid < p.uid = above.0 in lt-ltb owner.uid p.uid (omega arith), all_above uid owner ps same above.1)
 
-ascends_from : (ps : List Package) → Rises ps → Ascends by_uid ps
+ascends_from : (ps : List Package) → Rises ps → Ascends before_package ps
 ascends_from [] rise = tt
 ascends_from (p ∷ ps) rise = (all_above p.uid p ps refl rise.0, ascends_from ps rise.1)
 

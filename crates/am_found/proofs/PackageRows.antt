@@ -3,7 +3,7 @@ use Rattle.std.proofs.Common.{◌≡◌, ℕ, ◌<◌, ◌≤◌, Bool, true, fa
 use Rattle.std.specs.Prelude.{filter, Result, Ok, Err, ◌==◌, nat_le, nat_lt}
 use Rattle.std.specs.List.{AllByRecursion, fold, list_any}
 use Rattle.std.specs.List.Sorted.{IsStrictlySortedBy}
-use Rattle.std.proofs.lemmas.Bool.{ltb-true, ltb-false, lt-ltb, eqb-true, eqb-false, and_parts, and_from, or_parts, or_from, not-true, not_from_false, not_from_true}
+use Rattle.std.proofs.lemmas.Bool.{ltb-true, ltb-false, lt-ltb, eqb-true, eqb-false, and_from, or_parts, or_from, not_from_false, not_from_true}
 use Rattle.am_types.specs.declared.device.Package.{Package}
 use Rattle.am_types.specs.declared.device.Grant.{Grant}
 use Rattle.am_types.specs.declared.device.Link.{Link}
@@ -17,10 +17,10 @@ use Rattle.am_installed.proofs.Orders.{fewer_grants, fewer_links}
 use Rattle.am_manifest.specs.Manifests.{manifest_of}
 use Rattle.am_history.specs.State.{State, with_packages}
 use Rattle.am_history.specs.Packages.{no_uid, is_key_used, is_name_used, is_root_key, removed}
-use Rattle.am_history.specs.Opening.{place_package, kept_package, is_row_good, with_read, after_row, and_then_row}
-use Rattle.am_laws_state.proofs.Inserted.{inserted, all_inserted, length_left}
-use Rattle.am_laws_state.proofs.SoundPackages.{by_uid}
-use Rattle.am_found.proofs.Placed.{Ascends, all_left, ascends_left, ascends_inserted, inserted_left, inserted_out, left_either, left_twice}
+use Rattle.am_history.proofs.OpeningLaws.{good_parts}
+use Rattle.am_history.specs.Opening.{before_package, place_package, kept_package, is_row_good, with_read, after_row, and_then_row}
+use Rattle.am_model.proofs.Lists.{all_inserted, all_left, left_twice, length_left}
+use Rattle.am_found.proofs.Placed.{Ascends, ascends_left, ascends_inserted, inserted_left, inserted_out, left_either}
 
 -- the state without a package, its grants and its links
 abbrev pub without_uid : State → ℕ → State
@@ -32,7 +32,7 @@ with_row_package state row manifest = with_packages state (place_package (kept_p
 
 -- while package rows are read: packages, grants and links are in order, and no package has the greatest uid
 pub record IsRead (state : State) : Type 0 where
-  pub packages : Ascends by_uid state.board.packages
+  pub packages : Ascends before_package state.board.packages
   pub below : AllByRecursion (λ (p : Package). eqb p.uid no_uid ≡ false) state.board.packages
   pub grants : IsStrictlySortedBy right_cmp (rights_granted state.board.grants)
   pub links : IsStrictlySortedBy right_cmp (rights_approved state.board.links)
@@ -76,26 +76,21 @@ package_row_read state row manifest is stays written good =
     ∙ ap (with_read state row) written
     ∙ ap (λ b. cond b (Ok (with_row_package state row manifest)) (Err row.name)) good
 
--- a package in its place
-pub package_inserted : (p : Package) (ps : List Package) → inserted by_uid p ps ≡ place_package p ps
-package_inserted p [] = refl
-package_inserted p (first ∷ others) = ap (λ l. cond (nat_lt p.uid first.uid) (p ∷ first ∷ others) (first ∷ l)) (package_inserted p others)
-
 -- one uid below another, which is below a third
-by_uid_through : (x y z : Package) → by_uid x y ≡ true → by_uid y z ≡ true → by_uid x z ≡ true
-by_uid_through x y z less more =
+before_package_through : (x y z : Package) → before_package x y ≡ true → before_package y z ≡ true → before_package x z ≡ true
+before_package_through x y z less more =
     let first : x.uid < y.uid = ltb-true x.uid y.uid less in
     let second : y.uid < z.uid = ltb-true y.uid z.uid more in
     lt-ltb x.uid z.uid (omega arith)
 
 -- packages of other uids stand before or behind
-all_apart : (p : Package) (ps : List Package) → is_package_uid ps p.uid ≡ false → AllByRecursion (λ q. by_uid p q ≡ false → by_uid q p ≡ true) ps
+all_apart : (p : Package) (ps : List Package) → is_package_uid ps p.uid ≡ false → AllByRecursion (λ q. before_package p q ≡ false → before_package q p ≡ true) ps
 all_apart p [] new = tt
 all_apart p (q ∷ qs) new =
     let parts = or_parts (eqb q.uid p.uid) (is_package_uid qs p.uid) new in
     (λ is. behind is parts.0, all_apart p qs parts.1)
   where
-    behind : ltb p.uid q.uid ≡ false → eqb q.uid p.uid ≡ false → by_uid q p ≡ true
+    behind : ltb p.uid q.uid ≡ false → eqb q.uid p.uid ≡ false → before_package q p ≡ true
     behind is also =
         let low : q.uid ≤ p.uid = ltb-false p.uid q.uid is in
         let other : q.uid ≡ p.uid → ⊥ = eqb-false q.uid p.uid also in
@@ -104,39 +99,11 @@ all_apart p (q ∷ qs) new =
 -- a package goes with its rights
 pub gone_is_read : (state : State) (uid : ℕ) → IsRead state → IsRead (without_uid state uid)
 gone_is_read state uid read = record {
-  packages = ascends_left by_uid (λ (p : Package). not (p.uid == uid)) state.board.packages read.packages;
+  packages = ascends_left before_package (λ (p : Package). not (p.uid == uid)) state.board.packages read.packages;
   below = all_left (λ (p : Package). eqb p.uid no_uid ≡ false) (λ (p : Package). not (p.uid == uid)) state.board.packages read.below;
   grants = fewer_grants (λ (g : Grant). not (g.uid == uid)) state.board.grants read.grants;
   links = fewer_links (λ (l : Link). not (l.uid == uid)) state.board.links read.links;
 }
-
--- what is asked of a package row
-record IsGoodRow (state : State) (row : PackageRow) (manifest : Manifest) : Type 0 where
-  pub same : is_same manifest.«package» row.name ≡ true
-  pub lowest : nat_le 10000 row.uid ≡ true
-  pub new : is_package_uid state.board.packages row.uid ≡ false
-  pub key : is_access_key row.key ≡ true
-  pub name_unused : is_name_used state.board.packages row.name ≡ false
-  pub key_unused : is_key_used state row.key ≡ false
-  pub room : nat_lt (length state.board.packages) 256 ≡ true
-
-good_parts : (state : State) (row : PackageRow) (manifest : Manifest) → is_row_good state row manifest ≡ true → IsGoodRow state row manifest
-good_parts state row manifest good =
-    let first = and_parts _ _ good in
-    let second = and_parts _ _ first.0 in
-    let third = and_parts _ _ second.0 in
-    let fourth = and_parts _ _ third.0 in
-    let fifth = and_parts _ _ fourth.0 in
-    let sixth = and_parts _ _ fifth.0 in
-    record {
-      same = sixth.0;
-      lowest = sixth.1;
-      new = not-true _ fifth.1;
-      key = fourth.1;
-      name_unused = not-true _ third.1;
-      key_unused = not-true _ second.1;
-      room = first.1;
-    }
 
 pub good_from : (state : State) (row : PackageRow) (manifest : Manifest) → is_same manifest.«package» row.name ≡ true → nat_le 10000 row.uid ≡ true
     → is_package_uid state.board.packages row.uid ≡ false → is_access_key row.key ≡ true → is_name_used state.board.packages row.name ≡ false
@@ -155,10 +122,8 @@ row_is_read state after row reads read = row_cases state after row reads IsRead 
         let p = kept_package row manifest in
         let parts = good_parts state row manifest good in
         record {
-          packages = subst (Ascends by_uid) (package_inserted p state.board.packages)
-              (ascends_inserted by_uid by_uid_through p state.board.packages (all_apart p state.board.packages parts.new) read.packages);
-          below = subst (AllByRecursion (λ (p : Package). eqb p.uid no_uid ≡ false)) (package_inserted p state.board.packages)
-              (all_inserted by_uid (λ (p : Package). eqb p.uid no_uid ≡ false) p state.board.packages is read.below);
+          packages = ascends_inserted before_package before_package_through p state.board.packages (all_apart p state.board.packages parts.new) read.packages;
+          below = all_inserted before_package (λ (p : Package). eqb p.uid no_uid ≡ false) p state.board.packages is read.below;
           grants = read.grants;
           links = read.links;
         }
@@ -226,9 +191,7 @@ row_without state after row uid other read reads =
     placed is stays manifest written good =
         let p = kept_package row manifest in
         let same : place_package p (filter keeps state.board.packages) ≡ filter keeps (place_package p state.board.packages) =
-        sym (package_inserted p (filter keeps state.board.packages))
-        ∙ sym (inserted_left by_uid by_uid_through keeps p state.board.packages (not_from_false (eqb row.uid uid) other) read.packages)
-        ∙ ap (filter keeps) (package_inserted p state.board.packages) in
+        sym (inserted_left before_package before_package_through keeps p state.board.packages (not_from_false (eqb row.uid uid) other) read.packages) in
         package_row_read (without_uid state uid) row manifest is stays written (good_without state row manifest uid good)
         ∙ ap (λ (ps : List Package). Ok (with_lists state ps (grants_without state.board.grants uid) (links_without state.board.links uid))) same
 
@@ -246,7 +209,7 @@ row_undone state after row uid same reads =
     placed manifest =
         let p = kept_package row manifest in
         let left : filter keeps (place_package p state.board.packages) ≡ filter keeps state.board.packages =
-        ap (filter keeps) (sym (package_inserted p state.board.packages)) ∙ inserted_out by_uid keeps p state.board.packages (not_from_true (eqb row.uid uid) same) in
+        inserted_out before_package keeps p state.board.packages (not_from_true (eqb row.uid uid) same) in
         ap (λ (ps : List Package). with_lists state ps (grants_without state.board.grants uid) (links_without state.board.links uid)) left
 
 -- one row is read, then the others

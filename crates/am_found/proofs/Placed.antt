@@ -3,31 +3,13 @@ use Rattle.std.proofs.Common.{◌≡◌, Bool, true, false, ◌||◌, cond, List
 use Rattle.std.specs.Prelude.{filter}
 use Rattle.std.specs.List.{AllByRecursion, list_any}
 use Rattle.std.proofs.lemmas.Bool.{false≢true}
-use Rattle.am_laws_state.proofs.Inserted.{inserted}
-
--- what holds of all holds of those that are left
-pub all_left : {X : Type 0} (P : X → Type 0) (keeps : X → Bool) (xs : List X) → AllByRecursion P xs → AllByRecursion P (filter keeps xs)
-all_left P keeps [] all = tt
-all_left P keeps (x ∷ xs) all = by (keeps x) (all_left P keeps xs all.1)
-  where
-    by : (b : Bool) → AllByRecursion P (filter keeps xs) → AllByRecursion P (cond b (x ∷ filter keeps xs) (filter keeps xs))
-    by true rest = (all.0, rest)
-    by false rest = rest
+use Rattle.am_model.specs.Lists.{inserted}
+use Rattle.am_model.proofs.Lists.{all_left}
 
 -- what follows from what holds of each holds of all
 pub all_weaker : {X : Type 0} (P Q : X → Type 0) → ((x : X) → P x → Q x) → (xs : List X) → AllByRecursion P xs → AllByRecursion Q xs
 all_weaker P Q weaker [] all = tt
 all_weaker P Q weaker (x ∷ xs) all = (weaker x all.0, all_weaker P Q weaker xs all.1)
-
--- what is left out once is left out twice
-pub left_twice : {X : Type 0} (keeps : X → Bool) (xs : List X) → filter keeps (filter keeps xs) ≡ filter keeps xs
-left_twice keeps [] = refl
-left_twice keeps (x ∷ xs) = by (keeps x) refl (left_twice keeps xs)
-  where
-    by : (b : Bool) → keeps x ≡ b → filter keeps (filter keeps xs) ≡ filter keeps xs
-        → filter keeps (cond b (x ∷ filter keeps xs) (filter keeps xs)) ≡ cond b (x ∷ filter keeps xs) (filter keeps xs)
-    by true is rest = ap (λ b. cond b (x ∷ filter keeps (filter keeps xs)) (filter keeps (filter keeps xs))) is ∙ ap (λ l. x ∷ l) rest
-    by false is rest = rest
 
 -- in which order two are left out doesn't count
 pub left_either : {X : Type 0} (one other : X → Bool) (xs : List X) → filter one (filter other xs) ≡ filter other (filter one xs)
@@ -97,21 +79,6 @@ module _ {X : Type 0} (before : X → X → Bool) where
       by : (b : Bool) → filter keeps (inserted before x ys) ≡ filter keeps ys → filter keeps (cond b (x ∷ y ∷ ys) (y ∷ inserted before x ys)) ≡ filter keeps (y ∷ ys)
       by true rest = ap (λ b. cond b (x ∷ filter keeps (y ∷ ys)) (filter keeps (y ∷ ys))) out
       by false rest = ap (λ l. cond (keeps y) (y ∷ l) l) rest
-
-  -- a test of one of them, with one more
-  pub any_inserted : (test : X → Bool) (x : X) (xs : List X) → list_any test (inserted before x xs) ≡ test x || list_any test xs
-  any_inserted test x [] = refl
-  any_inserted test x (y ∷ ys) = by (before x y) (any_inserted test x ys)
-    where
-      turn : (a b c : Bool) → a || (b || c) ≡ b || (a || c)
-      turn true true c = refl
-      turn true false c = refl
-      turn false b c = refl
-
-      by : (b : Bool) → list_any test (inserted before x ys) ≡ test x || list_any test ys
-          → list_any test (cond b (x ∷ y ∷ ys) (y ∷ inserted before x ys)) ≡ test x || list_any test (y ∷ ys)
-      by true rest = refl
-      by false rest = ap (λ b. test y || b) rest ∙ turn (test y) (test x) (list_any test ys)
 
   module _ (through : (x y z : X) → before x y ≡ true → before y z ≡ true → before x z ≡ true) where
     -- what stands before one stands before those behind it

@@ -7,10 +7,12 @@ use Rattle.std.specs.Ordering.{ordering_reverse, is_lt}
 use Rattle.std.specs.declared.cmp.Ordering.{Ordering}
 use Rattle.std.specs.declared.cmp.Ordering.TheVariants.{Less, Equal, Greater}
 use Rattle.am_model.specs.Sound.{right_cmp}
+use Rattle.am_model.specs.Rights.{Right}
+use Rattle.am_model.proofs.Rights.{right_total}
 use Rattle.am_keeper.specs.Rows.{beside, put_in, leads, rises}
 use Rattle.am_keeper.proofs.Puts.{left_of_and, right_of_and}
 use Rattle.am_found.proofs.Placed.{all_weaker}
-use Rattle.am_found.proofs.Rights.{Right, given, has, has_given, has_map, has_without, is_right, right_apart, right_is, right_ties, right_total, same_rights}
+use Rattle.am_found.proofs.Rights.{given, has, has_given, has_map, has_without, is_right, right_apart, right_is, right_ties, same_rights}
 
 -- only `Less` is below
 less_from_lt : (o : Ordering) → IsTrue (is_lt o) → o ≡ Less

@@ -1,29 +1,25 @@
 -- Rights, which are a uid and a text each: a list of them in order is what it has.
-use Rattle.std.proofs.Common.{◌≡◌, ℕ, Bool, true, false, not, ◌&&◌, ◌||◌, cond, eqb, List, [], ◌∷◌, map, refl, sym, ap, ◌∙◌, subst}
+use Rattle.std.proofs.Common.{◌≡◌, ℕ, Bool, true, false, not, ◌||◌, cond, eqb, List, [], ◌∷◌, map, refl, sym, ap, ◌∙◌, subst}
 use Rattle.std.specs.Prelude.{filter, ◌==◌}
-use Rattle.std.specs.Cmp.{IsTotalOrder, nat_cmp_total, on_total, then_total}
-use Rattle.std.specs.Cmp.Lexicographic.{bytes_decides, nat_list_cmp_total, nat_list_eq_equiv, slice_cmp}
-use Rattle.std.specs.List.{AllByRecursion, list_any}
+use Rattle.std.specs.Cmp.Lexicographic.{bytes_decides, nat_list_eq_equiv, slice_cmp}
+use Rattle.std.specs.List.{AllByRecursion}
 use Rattle.std.specs.List.Sorted.{IsStrictlySortedBy}
-use Rattle.std.specs.Ordering.{nat_cmp, ordering_reverse, ordering_then}
+use Rattle.std.specs.Ordering.{nat_cmp, ordering_reverse}
 use Rattle.std.specs.declared.cmp.Ordering.{Ordering}
 use Rattle.std.specs.declared.cmp.Ordering.TheVariants.{Less, Equal, Greater}
 use Rattle.std.proofs.lemmas.Bool.{false≢true, and_parts, and_from, eq-eqb, eqb-true, not_from_true, not_from_false, or_left}
 use Rattle.std.proofs.lemmas.Map.Lookups.{exact_bytes, exact_unsigned}
 use Rattle.am_model.specs.Sound.{right_cmp}
 use Rattle.am_model.specs.Texts.{is_same}
-use Rattle.am_laws_state.proofs.Inserted.{inserted}
-use Rattle.am_found.proofs.Placed.{all_weaker, any_inserted, any_left, any_out, none_is}
-
-abbrev pub Right : Type 0
-Right = ℕ × List ℕ
-
-pub right_total : IsTotalOrder right_cmp
-right_total = then_total (on_total (λ (r : Right). r.0) nat_cmp_total) (on_total (λ (r : Right). r.1) nat_list_cmp_total)
+use Rattle.am_model.specs.Lists.{inserted}
+use Rattle.am_model.specs.Rights.{Right, has_right as has_right_of, is_right as is_right_of}
+use Rattle.am_model.proofs.Lists.{any_inserted}
+use Rattle.am_model.proofs.Rights.{all_less, right_total, then_equal}
+use Rattle.am_found.proofs.Placed.{all_weaker, any_left, any_out, none_is}
 
 -- the right is that of a uid and a text
 abbrev pub is_right : ℕ → List ℕ → Right → Bool
-is_right uid text right = (right.0 == uid) && is_same right.1 text
+is_right uid text right = is_right_of (λ (r : Right). r) uid text right
 
 -- then it is these
 pub right_is : (uid : ℕ) (text : List ℕ) (r : Right) → is_right uid text r ≡ true → (uid, text) ≡ r
@@ -53,12 +49,6 @@ right_apart uid text r s less is = by (is_right uid text s) refl
         let same : s ≡ r = sym (right_is uid text s also) ∙ right_is uid text r is in
         absurd (not_before_itself (right_cmp r r) (right_total.antisymm r r) (subst (λ (x : Right). right_cmp r x ≡ Less) same less))
 
--- both comparisons of rights that tie do
-then_equal : (o p : Ordering) → ordering_then o p ≡ Equal → (o ≡ Equal) × (p ≡ Equal)
-then_equal Less p e = cc
-then_equal Equal p e = (refl, e)
-then_equal Greater p e = cc
-
 -- rights that tie are the same
 pub right_ties : (r s : Right) → right_cmp r s ≡ Equal → r ≡ s
 right_ties r s tie =
@@ -69,17 +59,12 @@ right_ties r s tie =
 
 -- the rights have that of a uid and a text
 abbrev has_right : List Right → ℕ → List ℕ → Bool
-has_right rights uid text = list_any (is_right uid text) rights
+has_right rights uid text = has_right_of (λ (r : Right). r) rights uid text
 
 -- rights that all stand behind one don't have it
 behind_all : (uid : ℕ) (text : List ℕ) (r : Right) (rights : List Right) → is_right uid text r ≡ true → AllByRecursion (λ s. right_cmp r s ≡ Less) rights → has_right rights uid text ≡ false
 behind_all uid text r rights is all =
     none_is (is_right uid text) rights (all_weaker (λ s. right_cmp r s ≡ Less) (λ s. is_right uid text s ≡ false) (λ s less. right_apart uid text r s less is) rights all)
-
--- all that stand behind one stand behind what stands before it
-pub all_behind : (r s : Right) (rights : List Right) → right_cmp r s ≡ Less → AllByRecursion (λ t. right_cmp s t ≡ Less) rights → AllByRecursion (λ t. right_cmp r t ≡ Less) rights
-all_behind r s rights less all =
-    all_weaker (λ t. right_cmp s t ≡ Less) (λ t. right_cmp r t ≡ Less) (λ t more. right_total.trans r s t less more) rights all
 
 -- rights in order are the same where each of them has what the other has
 pub same_rights : (xs ys : List Right) → IsStrictlySortedBy right_cmp xs → IsStrictlySortedBy right_cmp ys
@@ -108,22 +93,22 @@ same_rights (x ∷ xs) (y ∷ ys) up down same = by (right_cmp x y) refl (λ res
 
     by : (o : Ordering) → right_cmp x y ≡ o → (((uid : ℕ) (text : List ℕ) → has_right xs uid text ≡ has_right ys uid text) → xs ≡ ys) → x ∷ xs ≡ y ∷ ys
     by Less less rest =
-        absurd (false≢true (sym (behind_all x.0 x.1 x (y ∷ ys) (right_itself x) (less, all_behind x y ys less down.0)) ∙ sym (same x.0 x.1) ∙ first))
+        absurd (false≢true (sym (behind_all x.0 x.1 x (y ∷ ys) (right_itself x) (less, all_less x y ys less down.0)) ∙ sym (same x.0 x.1) ∙ first))
     by Equal tie rest =
         let it : x ≡ y = right_ties x y tie in
         ap (λ (r : Right). r ∷ xs) it ∙ ap (λ (l : List Right). y ∷ l) (rest (λ uid text. left it uid text (is_right uid text x) refl))
     by Greater more rest =
         let less : right_cmp y x ≡ Less = right_total.antisymm y x ∙ ap ordering_reverse more in
-        absurd (false≢true (sym (behind_all y.0 y.1 y (x ∷ xs) (right_itself y) (less, all_behind y x xs less up.0)) ∙ same y.0 y.1 ∙ second))
+        absurd (false≢true (sym (behind_all y.0 y.1 y (x ∷ xs) (right_itself y) (less, all_less y x xs less up.0)) ∙ same y.0 y.1 ∙ second))
 
 module _ {X : Type 0} (as_right : X → Right) (before : X → X → Bool) where
   -- it is the right of a uid and a text
   abbrev pub is_at : ℕ → List ℕ → X → Bool
-  is_at uid text x = is_right uid text (as_right x)
+  is_at uid text x = is_right_of as_right uid text x
 
   -- one of them is the right of a uid and a text
   abbrev pub has : List X → ℕ → List ℕ → Bool
-  has xs uid text = list_any (is_at uid text) xs
+  has xs uid text = has_right_of as_right xs uid text
 
   -- and so has the list of rights
   pub has_map : (xs : List X) (uid : ℕ) (text : List ℕ) → has_right (map as_right xs) uid text ≡ has xs uid text

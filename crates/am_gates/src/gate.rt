@@ -69,8 +69,8 @@ fn is_granted(grants: &List<Grant>, uid: u32, permission: &Text) -> bool
         .any(|grant| is_grant(grant, uid, permission))
 }
 
-/// The uid is the system's or the root's.
-fn is_privileged(uid: u32) -> bool
+/// Whether the uid is the system's or the root's. Takes no memory.
+pub fn is_privileged(uid: u32) -> bool
     ensures { result ≡ is_privileged uid }
 {
     uid == ROOT || uid == SYSTEM

@@ -3,4 +3,4 @@
 
 mod gate;
 
-pub use gate::{Ruling, holds, verdict};
+pub use gate::{Ruling, holds, is_privileged, verdict};

@@ -1,8 +1,9 @@
 pub mod Acts
+pub mod Callers
 pub mod KeptExamples
 pub mod OpeningExamples
 pub mod OpeningLaws
 pub mod Places
 pub mod Samples
-pub mod Shows
 pub mod StepExamples
+pub mod Uids

@@ -1,5 +1,5 @@
 -- A small device, and calls on it, for the worked examples.
-use Rattle.std.specs.Prelude.{ℕ, ℤ, true, false, codes, List, [], ◌∷◌, ◌++◌, Option, Some, None}
+use Rattle.std.specs.Prelude.{ℕ, ℤ, true, false, codes, List, [], ◌∷◌, ◌++◌, Option, None}
 use Rattle.am_types.specs.declared.device.Device.{Device}
 use Rattle.am_types.specs.declared.device.Package.{Package}
 use Rattle.am_types.specs.declared.intent.Intent.{Intent}
@@ -7,43 +7,28 @@ use Rattle.am_types.specs.declared.intent.Flags.{Flags}
 use Rattle.am_types.specs.declared.filter.Filter.{Filter}
 use Rattle.am_types.specs.declared.manifest.Decl.{Decl}
 use Rattle.am_types.specs.declared.manifest.Kind.{Kind}
-use Rattle.am_types.specs.declared.manifest.Mode.TheVariants.{Standard}
 use Rattle.am_types.specs.declared.history.Entry.{Entry}
 use Rattle.am_types.specs.declared.request.Request.{Request}
 use Rattle.am_types.specs.declared.reply.Reply.{Reply}
 use Rattle.am_types.specs.declared.broadcast.Outcome.{Outcome}
 use Rattle.am_types.specs.declared.broadcast.Answer.{Answer}
+use Rattle.am_model.specs.Filters.{default_category}
+use Rattle.am_model.proofs.Samples.{asking, filter_for, open_decl, package_with}
 use Rattle.am_history.specs.State.{State, opening}
 use Rattle.am_history.specs.Steps.{step}
 
 -- a filter that lists an action and the default category
 abbrev pub listing : List ℕ → ℤ → Filter
-listing action priority = record {
-  actions = action ∷ [];
-  categories = codes "android.intent.category.DEFAULT" ∷ [];
-  schemes = [];
-  authorities = [];
-  paths = [];
-  types = [];
-  priority = priority;
-}
+listing action priority = filter_for action (default_category ∷ []) priority
 
 -- an exported component with one filter
 abbrev pub component : Kind → List ℕ → Option (List ℕ) → Filter → Decl
-component kind class permission filter = record {
-  kind = kind;
-  class = class;
-  exported = true;
-  enabled = true;
-  permission = permission;
-  mode = Standard;
-  affinity = codes "t";
-  filters = filter ∷ [];
-}
+component kind class permission filter =
+    record (open_decl kind class (filter ∷ [])) { permission = permission; affinity = codes "t" }
 
 -- a package that isn't stopped
 abbrev pub app : ℕ → List ℕ → List ℕ → List Decl → Package
-app uid name key decls = record { uid = uid; name = name; key = key; stopped = false; decls = decls }
+app uid name key decls = record (package_with uid name decls) { key = key }
 
 -- a device with those packages, whose system has the key `sys`, and on which `x.O` is exempt and `x.Z` protected
 abbrev pub device : List Package → Device
@@ -58,34 +43,9 @@ device packages = record {
   links = [];
 }
 
--- no flag
-abbrev pub no_flags : Flags
-no_flags = record {
-  new_task = false;
-  multiple_task = false;
-  clear_task = false;
-  clear_top = false;
-  single_top = false;
-  reorder_to_front = false;
-  registered_only = false;
-  foreground = false;
-  no_abort = false;
-  include_stopped = false;
-}
-
--- an intent with an action alone
+-- an intent with an action and flags alone
 abbrev pub act_on : List ℕ → Flags → Intent
-act_on action flags = record {
-  action = Some action;
-  uri = None;
-  mime = None;
-  identifier = None;
-  categories = [];
-  «package» = None;
-  component = None;
-  flags = flags;
-  extras = [];
-}
+act_on action flags = record (asking action) { flags = flags }
 
 -- a call that was kept
 abbrev pub entry : ℕ → ℕ → Request → Entry

@@ -26,7 +26,8 @@ use Rattle.am_history.specs.PendingCalls.{pending_get, pending_send, pending_giv
 use Rattle.am_history.specs.Packages.{grant, force_stop}
 use Rattle.am_history.specs.Explaining.{explain}
 use Rattle.am_history.specs.Steps.{act}
-use Rattle.am_history.proofs.Samples.{listing, component, app, device, no_flags, act_on, entry, replies_of, outcome, plainly}
+use Rattle.am_model.proofs.Samples.{no_flags}
+use Rattle.am_history.proofs.Samples.{listing, component, app, device, act_on, entry, replies_of, outcome, plainly}
 
 -- two apps with an activity each for the same action, of priorities 0 and -5
 abbrev two_apps : List Package

@@ -1,5 +1,5 @@
 -- The state in which a manager begins: a device, and the rows that were kept.
-use Rattle.std.specs.Prelude.{ℕ, Bool, true, not, ◌&&◌, ◌||◌, ◌==◌, nat_lt, nat_le, List, [], ◌∷◌, ◌++◌, length, map, filter, if◌then◌else◌, Option, Some, None, Result, Ok, Err}
+use Rattle.std.specs.Prelude.{ℕ, Bool, true, not, ◌&&◌, ◌||◌, ◌==◌, nat_lt, nat_le, List, ◌++◌, length, map, filter, if◌then◌else◌, Option, Some, None, Result, Ok, Err}
 use Rattle.std.specs.List.{count_by, fold, find}
 use Rattle.am_types.specs.declared.device.Device.{Device}
 use Rattle.am_types.specs.declared.device.Package.{Package}
@@ -11,6 +11,7 @@ use Rattle.am_keeper.specs.declared.rows.PackageRow.{PackageRow}
 use Rattle.am_keeper.specs.declared.rows.GrantRow.{GrantRow}
 use Rattle.am_keeper.specs.declared.rows.LinkRow.{LinkRow}
 use Rattle.am_keeper.specs.declared.rows.Rows.{Rows}
+use Rattle.am_model.specs.Lists.{inserted}
 use Rattle.am_model.specs.Texts.{is_same, lowered}
 use Rattle.am_model.specs.Sound.{is_access_key}
 use Rattle.am_model.specs.Boards.{Board, is_package_uid, with_grant, with_link}
@@ -18,11 +19,13 @@ use Rattle.am_manifest.specs.Manifests.{manifest_of}
 use Rattle.am_history.specs.State.{State, opening, uid_after, uids_of, with_packages}
 use Rattle.am_history.specs.Packages.{no_uid, is_name_used, is_key_used, removed}
 
+-- a package stands before another
+abbrev pub before_package : Package → Package → Bool
+before_package owner other = nat_lt owner.uid other.uid
+
 -- the package in its place by uid
 abbrev pub place_package : Package → List Package → List Package
-place_package owner [] = owner ∷ []
-place_package owner (first ∷ others) =
-    if nat_lt owner.uid first.uid then owner ∷ first ∷ others else first ∷ place_package owner others
+place_package owner packages = inserted before_package owner packages
 
 -- a package as it is kept: it is stopped
 abbrev pub kept_package : PackageRow → Manifest → Package

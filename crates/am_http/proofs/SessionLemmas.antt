@@ -15,7 +15,7 @@ use Rattle.am_http.specs.Framing.{IsFraming}
 use Rattle.am_http.specs.Frames.{Splits, Leaves, Drops}
 use Rattle.am_http.specs.Exchanges.{Exchange, AreAnswered, frames_of, bytes_of, moments_of}
 use Rattle.am_http.specs.Links.{Link, Midway, Server, Moments, Gives, rest_of, GoesOn, IsSameLink}
-use Rattle.am_http.specs.Sessions.{most_frames, most_bytes, GivesAtMost, StayOpen, MayGoOn, defect_text, Session, Going, Serves, Replies, Stops}
+use Rattle.am_http.specs.Sessions.{most_frames, most_bytes, GivesAtMost, MayGoOn, defect_text, EndsBy, Writes, Session, Going, Serves, IsUnasked, Replies, Stops}
 use Rattle.am_http.specs.Sending.{WritesPart}
 use Rattle.am_http.proofs.SendLemmas.{appends_trans, appends_none, appends_self}
 use Rattle.am_http.proofs.ExchangeLemmas.{stands, one_more, none_yet, all_more}
@@ -172,10 +172,7 @@ session_limit first link window gives so_far =
           so_far.output;
     }
 
--- what is kept after the exchanges so far
-kept_output : (old half now : Option (List ℕ)) (bs : List ℕ) → Appends old half bs → Keeps half now → Appends old now (bs ++ [])
-kept_output old half now bs so_far keeps = appends_trans old half now bs [] so_far (appends_none half now keeps)
-
+-- a part of what was written last, behind the exchanges so far
 part_more : (old half now : Option (List ℕ)) (bs text : List ℕ) → Appends old half bs → WritesPart half now text → WritesPart old now (bs ++ text)
 part_more old half now bs text so_far part = (
   bs ++ part.0,
@@ -208,72 +205,58 @@ same_answers first mid new es same so_far =
       alone = so_far.alone;
     })
 
--- fewer frames were answered than a connection may have
-may_go_on : (es : List Exchange) (count : ℕ) → length es ≡ count → count < most_frames → StayOpen es → MayGoOn es
-may_go_on es count counted below stays = record { stays = stays; below = omega (arith, counted, below) }
+-- a connection that ends with what was written last, after nothing more was asked of the desk
+ended : (first : Link) (mid new : Midway) (count : ℕ) (end : End) (last : List ℕ) → count < most_frames
+    → GivesAtMost most_bytes first.source.left new.link.source.left
+    → (so_far : Going first mid count) → IsUnasked mid.link.server new.link.server
+    → EndsBy end count so_far.exchanges (record { rest = rest_of mid; left = new.link.source.left; last = last })
+    → Writes end first.sink.taken new.link.sink.taken (bytes_of so_far.exchanges ++ last)
+    → Session first new.link (record { end = end; answered = count })
+ended first mid new count end last below gives so_far unasked ends output =
+    let es = so_far.exchanges in
+    record {
+      exchanges = es;
+      rest = rest_of mid;
+      last = last;
+      answers = same_answers first.server.desk mid.link.server.desk new.link.server.desk es unasked.seen so_far.answers;
+      moments = unasked_moments first.server.clock mid.link.server.clock new.link.server.clock (moments_of es) so_far.moments unasked.clock;
+      frames = so_far.frames;
+      most = omega (arith, below, so_far.counted);
+      taken = gives;
+      end = ends;
+      output = output;
+    }
+
+-- a connection that goes on, whose sink took no more
+kept : (first : Link) (mid new : Midway) (count : ℕ) (so_far : Going first mid count)
+    → Keeps mid.link.sink.taken new.link.sink.taken → Appends first.sink.taken new.link.sink.taken (bytes_of so_far.exchanges ++ [])
+kept first mid new count so_far keeps =
+    appends_trans first.sink.taken mid.link.sink.taken new.link.sink.taken (bytes_of so_far.exchanges) [] so_far.output
+    (appends_none mid.link.sink.taken new.link.sink.taken keeps)
+
+-- a connection that goes on may have a further frame
+may_more : (first : Link) (mid : Midway) (count : ℕ) (so_far : Going first mid count) → count < most_frames → MayGoOn so_far.exchanges
+may_more first mid count so_far below = record { stays = so_far.stays; below = omega (arith, so_far.counted, below) }
 
 -- a connection that ends before a further frame is answered
 stopped : (first : Link) (mid new : Midway) (count : ℕ) (end : End) → count < most_frames
     → GivesAtMost most_bytes first.source.left new.link.source.left → IsSameDesk first.server.desk mid.link.server.desk
     → Going first mid count → Stops end mid new → Session first new.link (record { end = end; answered = count })
 stopped first mid new count Input below gives same so_far stop =
-    let es = so_far.exchanges in
-    record {
-      exchanges = es;
-      rest = rest_of mid;
-      last = [];
-      answers = same_answers first.server.desk mid.link.server.desk new.link.server.desk es stop.1.unasked.seen so_far.answers;
-      moments = unasked_moments first.server.clock mid.link.server.clock new.link.server.clock (moments_of es) so_far.moments stop.1.unasked.clock;
-      frames = so_far.frames;
-      most = omega (arith, below, so_far.counted);
-      taken = gives;
-      end = (sym so_far.counted, may_go_on es count so_far.counted below so_far.stays, stop.0, refl);
-      output = kept_output first.sink.taken mid.link.sink.taken new.link.sink.taken (bytes_of es) so_far.output stop.1.output;
-    }
+    ended first mid new count Input [] below gives so_far stop.1.unasked
+    (sym so_far.counted, may_more first mid count so_far below, stop.0, refl) (kept first mid new count so_far stop.1.output)
 stopped first mid new count Close below gives same so_far stop = absurd stop
 stopped first mid new count Refused below gives same so_far stop =
-    let es = so_far.exchanges in
-    record {
-      exchanges = es;
-      rest = rest_of mid;
-      last = defect_text stop.0;
-      answers = same_answers first.server.desk mid.link.server.desk new.link.server.desk es stop.2.unasked.seen so_far.answers;
-      moments = unasked_moments first.server.clock mid.link.server.clock new.link.server.clock (moments_of es) so_far.moments stop.2.unasked.clock;
-      frames = so_far.frames;
-      most = omega (arith, below, so_far.counted);
-      taken = gives;
-      end = (sym so_far.counted, (may_go_on es count so_far.counted below so_far.stays, (stop.0, stop.1, refl)));
-      output = appends_trans first.sink.taken mid.link.sink.taken new.link.sink.taken (bytes_of es) (defect_text stop.0) so_far.output stop.2.output;
-    }
+    ended first mid new count Refused (defect_text stop.0) below gives so_far stop.2.unasked
+    (sym so_far.counted, (may_more first mid count so_far below, (stop.0, stop.1, refl)))
+    (appends_trans first.sink.taken mid.link.sink.taken new.link.sink.taken (bytes_of so_far.exchanges) (defect_text stop.0) so_far.output stop.2.output)
 stopped first mid new count Cut below gives same so_far stop =
-    let es = so_far.exchanges in
-    record {
-      exchanges = es;
-      rest = rest_of mid;
-      last = [];
-      answers = same_answers first.server.desk mid.link.server.desk new.link.server.desk es stop.1.unasked.seen so_far.answers;
-      moments = unasked_moments first.server.clock mid.link.server.clock new.link.server.clock (moments_of es) so_far.moments stop.1.unasked.clock;
-      frames = so_far.frames;
-      most = omega (arith, below, so_far.counted);
-      taken = gives;
-      end = (sym so_far.counted, may_go_on es count so_far.counted below so_far.stays, stop.0, refl);
-      output = kept_output first.sink.taken mid.link.sink.taken new.link.sink.taken (bytes_of es) so_far.output stop.1.output;
-    }
+    ended first mid new count Cut [] below gives so_far stop.1.unasked
+    (sym so_far.counted, may_more first mid count so_far below, stop.0, refl) (kept first mid new count so_far stop.1.output)
 stopped first mid new count Limit below gives same so_far stop = absurd stop
 stopped first mid new count ReadFault below gives same so_far stop =
-    let es = so_far.exchanges in
-    record {
-      exchanges = es;
-      rest = rest_of mid;
-      last = [];
-      answers = same_answers first.server.desk mid.link.server.desk new.link.server.desk es stop.2.unasked.seen so_far.answers;
-      moments = unasked_moments first.server.clock mid.link.server.clock new.link.server.clock (moments_of es) so_far.moments stop.2.unasked.clock;
-      frames = so_far.frames;
-      most = omega (arith, below, so_far.counted);
-      taken = gives;
-      end = (sym so_far.counted, may_go_on es count so_far.counted below so_far.stays, (new.window, stop.0, stop.1), refl);
-      output = kept_output first.sink.taken mid.link.sink.taken new.link.sink.taken (bytes_of es) so_far.output stop.2.output;
-    }
+    ended first mid new count ReadFault [] below gives so_far stop.2.unasked
+    (sym so_far.counted, may_more first mid count so_far below, (new.window, stop.0, stop.1), refl) (kept first mid new count so_far stop.2.output)
 stopped first mid new count WriteFault below gives same so_far (inl next) =
     let es = so_far.exchanges in
     let e = next.exchange in
@@ -295,19 +278,9 @@ stopped first mid new count WriteFault below gives same so_far (inl next) =
           (sym (append-nil (bytes_of (es ++ e ∷ [])) ∙ bytes_more es e)) text;
     }
 stopped first mid new count WriteFault below gives same so_far (inr stop) =
-    let es = so_far.exchanges in
-    record {
-      exchanges = es;
-      rest = rest_of mid;
-      last = defect_text stop.0;
-      answers = same_answers first.server.desk mid.link.server.desk new.link.server.desk es stop.2.unasked.seen so_far.answers;
-      moments = unasked_moments first.server.clock mid.link.server.clock new.link.server.clock (moments_of es) so_far.moments stop.2.unasked.clock;
-      frames = so_far.frames;
-      most = omega (arith, below, so_far.counted);
-      taken = gives;
-      end = inr (sym so_far.counted, (may_go_on es count so_far.counted below so_far.stays, (stop.0, stop.1, refl)));
-      output = part_more first.sink.taken mid.link.sink.taken new.link.sink.taken (bytes_of es) (defect_text stop.0) so_far.output stop.2.output;
-    }
+    ended first mid new count WriteFault (defect_text stop.0) below gives so_far stop.2.unasked
+    (inr (sym so_far.counted, (may_more first mid count so_far below, (stop.0, stop.1, refl))))
+    (part_more first.sink.taken mid.link.sink.taken new.link.sink.taken (bytes_of so_far.exchanges) (defect_text stop.0) so_far.output stop.2.output)
 
 pub session_stop : (first : Link) (mid : Midway) (link : Link) (window : List ℕ) (count : ℕ) (end : End) → count < most_frames
     → GivesAtMost most_bytes first.source.left link.source.left → IsSameDesk first.server.desk mid.link.server.desk

@@ -4,6 +4,7 @@ use Rattle.std.specs.Io.KnownBytes.{prepend_known}
 use Rattle.am_outside.specs.Clock.{IsTold}
 use Rattle.am_outside.specs.declared.outside.Source.{Ghosts as SourceGhosts}
 use Rattle.am_outside.specs.declared.outside.Sink.{Ghosts as SinkGhosts}
+use Rattle.am_outside.specs.declared.clock.Clock.{Ghosts as ClockGhosts}
 use Rattle.am_history.specs.Desks.{DeskView, IsSameDesk, start_of}
 use Rattle.am_history.specs.History.{IsLegal}
 
@@ -40,6 +41,24 @@ pub record Link : Type 0 where
   pub server : Server
   pub source : SourceView
   pub sink : SinkView
+
+-- what a connection is served over: the input, the output, and the moments that the clock tells
+pub record Streams : Type 0 where
+  pub input : SourceView
+  pub output : SinkView
+  pub clock : Moments
+
+abbrev pub streams_of : {S W C : Type 0} → SourceGhosts S → SinkGhosts W → ClockGhosts C → S → W → C → Streams
+streams_of s w c input output clock =
+    record { input = source_of s input; output = sink_of w output; clock = c.moments clock }
+
+-- a desk with the clock, the input and the output
+abbrev pub link_of : DeskView → Streams → Link
+link_of desk streams = record {
+  server = record { desk = desk; clock = streams.clock };
+  source = streams.input;
+  sink = streams.output;
+}
 
 -- a connection between two frames: what it is served with, and the bytes that were read and not used yet
 pub record Midway : Type 0 where

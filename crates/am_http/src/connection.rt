@@ -1,6 +1,6 @@
 //! One connection, from its first frame to its end.
 ghost use Rattle.std.specs.Prelude.{◌≡◌, ◌≤◌, vec_capacity};
-ghost use Rattle.am_http.specs.Links.{IsSameLink, source_of, sink_of};
+ghost use Rattle.am_http.specs.Links.{IsSameLink, link_of, streams_of};
 ghost use Rattle.am_http.specs.Sessions.{Session, HasFault, GivesAtMost};
 ghost use Rattle.am_http.specs.Turns.{Turns, HasFaultAt};
 
@@ -44,44 +44,20 @@ fn serve_frame<D: Desk, S: Source, W: Sink, C: Clock>(
     requires { 192 ≤ vec_capacity room.old }
     ensures turn { Turns result
         (record {
-          link = record {
-            server = record { desk = D.view desk.old; clock = C.moments clock.old };
-            source = source_of S.Source source.old;
-            sink = sink_of W.Sink sink.old;
-          };
+          link = link_of (D.view desk.old) (streams_of S.Source W.Sink C.Clock source.old sink.old clock.old);
           window = window.old;
         })
         (record {
-          link = record {
-            server = record { desk = D.view desk.new; clock = C.moments clock.new };
-            source = source_of S.Source source.new;
-            sink = sink_of W.Sink sink.new;
-          };
+          link = link_of (D.view desk.new) (streams_of S.Source W.Sink C.Clock source.new sink.new clock.new);
           window = window.new;
         }) }
     ensures gives { GivesAtMost 73728 (S.left source.old) (S.left source.new) }
     ensures fault { HasFaultAt result
-        (record {
-          server = record { desk = D.view desk.old; clock = C.moments clock.old };
-          source = source_of S.Source source.old;
-          sink = sink_of W.Sink sink.old;
-        })
-        (record {
-          server = record { desk = D.view desk.new; clock = C.moments clock.new };
-          source = source_of S.Source source.new;
-          sink = sink_of W.Sink sink.new;
-        }) }
+        (link_of (D.view desk.old) (streams_of S.Source W.Sink C.Clock source.old sink.old clock.old))
+        (link_of (D.view desk.new) (streams_of S.Source W.Sink C.Clock source.new sink.new clock.new)) }
     ensures same { IsSameLink
-        (record {
-          server = record { desk = D.view desk.old; clock = C.moments clock.old };
-          source = source_of S.Source source.old;
-          sink = sink_of W.Sink sink.old;
-        })
-        (record {
-          server = record { desk = D.view desk.new; clock = C.moments clock.new };
-          source = source_of S.Source source.new;
-          sink = sink_of W.Sink sink.new;
-        }) }
+        (link_of (D.view desk.old) (streams_of S.Source W.Sink C.Clock source.old sink.old clock.old))
+        (link_of (D.view desk.new) (streams_of S.Source W.Sink C.Clock source.new sink.new clock.new)) }
     ensures capacity { vec_capacity room.new ≡ vec_capacity room.old }
 {
     let Ok(found) = next_frame(source, window) else {
@@ -125,39 +101,15 @@ fn serve<D: Desk, S: Source, W: Sink, C: Clock>(
 ) -> Served
     requires { 192 ≤ vec_capacity room.old }
     ensures session { Session
-        (record {
-          server = record { desk = D.view desk.old; clock = C.moments clock.old };
-          source = source_of S.Source source.old;
-          sink = sink_of W.Sink sink.old;
-        })
-        (record {
-          server = record { desk = D.view desk.new; clock = C.moments clock.new };
-          source = source_of S.Source source.new;
-          sink = sink_of W.Sink sink.new;
-        })
+        (link_of (D.view desk.old) (streams_of S.Source W.Sink C.Clock source.old sink.old clock.old))
+        (link_of (D.view desk.new) (streams_of S.Source W.Sink C.Clock source.new sink.new clock.new))
         result }
     ensures fault { HasFault result.end
-        (record {
-          server = record { desk = D.view desk.old; clock = C.moments clock.old };
-          source = source_of S.Source source.old;
-          sink = sink_of W.Sink sink.old;
-        })
-        (record {
-          server = record { desk = D.view desk.new; clock = C.moments clock.new };
-          source = source_of S.Source source.new;
-          sink = sink_of W.Sink sink.new;
-        }) }
+        (link_of (D.view desk.old) (streams_of S.Source W.Sink C.Clock source.old sink.old clock.old))
+        (link_of (D.view desk.new) (streams_of S.Source W.Sink C.Clock source.new sink.new clock.new)) }
     ensures same { IsSameLink
-        (record {
-          server = record { desk = D.view desk.old; clock = C.moments clock.old };
-          source = source_of S.Source source.old;
-          sink = sink_of W.Sink sink.old;
-        })
-        (record {
-          server = record { desk = D.view desk.new; clock = C.moments clock.new };
-          source = source_of S.Source source.new;
-          sink = sink_of W.Sink sink.new;
-        }) }
+        (link_of (D.view desk.old) (streams_of S.Source W.Sink C.Clock source.old sink.old clock.old))
+        (link_of (D.view desk.new) (streams_of S.Source W.Sink C.Clock source.new sink.new clock.new)) }
     ensures capacity { vec_capacity room.new ≡ vec_capacity room.old }
 {
     window.clear();
@@ -195,39 +147,15 @@ pub fn serve_connection<D: Desk, S: Source, W: Sink, C: Clock>(
     buffers: &mut Buffers,
 ) -> Served
     ensures session { Session
-        (record {
-          server = record { desk = D.view desk.old; clock = C.moments clock.old };
-          source = source_of S.Source source.old;
-          sink = sink_of W.Sink sink.old;
-        })
-        (record {
-          server = record { desk = D.view desk.new; clock = C.moments clock.new };
-          source = source_of S.Source source.new;
-          sink = sink_of W.Sink sink.new;
-        })
+        (link_of (D.view desk.old) (streams_of S.Source W.Sink C.Clock source.old sink.old clock.old))
+        (link_of (D.view desk.new) (streams_of S.Source W.Sink C.Clock source.new sink.new clock.new))
         result }
     ensures fault { HasFault result.end
-        (record {
-          server = record { desk = D.view desk.old; clock = C.moments clock.old };
-          source = source_of S.Source source.old;
-          sink = sink_of W.Sink sink.old;
-        })
-        (record {
-          server = record { desk = D.view desk.new; clock = C.moments clock.new };
-          source = source_of S.Source source.new;
-          sink = sink_of W.Sink sink.new;
-        }) }
+        (link_of (D.view desk.old) (streams_of S.Source W.Sink C.Clock source.old sink.old clock.old))
+        (link_of (D.view desk.new) (streams_of S.Source W.Sink C.Clock source.new sink.new clock.new)) }
     ensures same { IsSameLink
-        (record {
-          server = record { desk = D.view desk.old; clock = C.moments clock.old };
-          source = source_of S.Source source.old;
-          sink = sink_of W.Sink sink.old;
-        })
-        (record {
-          server = record { desk = D.view desk.new; clock = C.moments clock.new };
-          source = source_of S.Source source.new;
-          sink = sink_of W.Sink sink.new;
-        }) }
+        (link_of (D.view desk.old) (streams_of S.Source W.Sink C.Clock source.old sink.old clock.old))
+        (link_of (D.view desk.new) (streams_of S.Source W.Sink C.Clock source.new sink.new clock.new)) }
 {
     serve(
         alloc,

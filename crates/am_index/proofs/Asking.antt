@@ -376,10 +376,10 @@ module _ (kind : Kind) (intent : Intent) (need_default : Bool) where
         ∙ walked packages (members kind packages) (members_located kind packages (rises packages stands.rising))
         ∙ sym (candidates_found packages)
 
-    -- within as many tests as the group has filters
-    pub within_group : cost_of_spots packages intent (spots_for index.lists kind intent) ≤ group_size packages kind intent
-    within_group =
-        subst (λ (l : List Spot). cost_of_spots packages intent l ≤ group_size packages kind intent) (sym listed)
+    -- what is looked up is within as many tests as the group has filters
+    pub within_group : (spots : List Spot) → spots ≡ spots_for index.lists kind intent → cost_of_spots packages intent spots ≤ group_size packages kind intent
+    within_group spots found =
+        subst (λ (l : List Spot). cost_of_spots packages intent l ≤ group_size packages kind intent) (sym (found ∙ listed))
         (cost_within packages (members kind packages) (members_located kind packages (rises packages stands.rising)))
 
 -- an intent that names a component takes no test

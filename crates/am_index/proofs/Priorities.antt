@@ -1,5 +1,5 @@
 -- Priorities: the greatest, gathered from the front, and the order of the hits.
-use Rattle.std.proofs.Common.{◌≡◌, ℤ, Bool, true, false, cond, List, [], ◌∷◌, Option, Some, None, refl, ap, ◌∙◌, arith}
+use Rattle.std.proofs.Common.{◌≡◌, ℤ, Bool, true, false, cond, List, [], ◌∷◌, Option, Some, None, refl, sym, ap, ◌∙◌, arith}
 use Rattle.std.specs.Prelude.{int_lt}
 use Rattle.std.specs.Int.{int_max}
 use Rattle.std.specs.Ordering.{is_lt, int_cmp}
@@ -33,17 +33,13 @@ joined-greatest priority None rest = refl
 joined-greatest priority (Some best) None = ap Some (int_max_comm priority best)
 joined-greatest priority (Some best) (Some rest) = ap Some (int_max_turn priority best rest)
 
--- what the hits are sorted by
-abbrev pub sort_key : Hit → Reverse ℤ
-sort_key hit = record { 0 = hit.priority }
-
--- a hit of greater priority goes before
-abbrev pub before : Hit → Hit → Bool
-before x y = is_lt (int_cmp y.priority x.priority)
+-- what has the greater priority goes before
+abbrev pub before : {X : Type 0} → (X → ℤ) → X → X → Bool
+before priority x y = is_lt (int_cmp (priority y) (priority x))
 
 -- which is an order
-before_order : IsStrictWeakOrder before
-before_order = ranks_by (back_total int_cmp_total) (λ (hit : Hit). hit.priority)
+before_order : {X : Type 0} (priority : X → ℤ) → IsStrictWeakOrder (before priority)
+before_order priority = ranks_by (back_total int_cmp_total) priority
 
 -- comparing two numbers answers less just where the first is less
 less_by_cases : (a b : Bool) → is_lt (cond a Less (cond b Greater Equal)) ≡ a
@@ -51,20 +47,35 @@ less_by_cases true b = refl
 less_by_cases false true = refl
 less_by_cases false false = refl
 
--- placing by that order is placing a hit
-place-place_hit : (hit : Hit) (others : List Hit) → place before before_order hit others ≡ place_hit hit others
-place-place_hit hit [] = refl
-place-place_hit hit (first ∷ others) =
-    ap (λ b. cond b (first ∷ place before before_order hit others) (hit ∷ first ∷ others)) (less_by_cases (int_lt hit.priority first.priority) (int_lt first.priority hit.priority))
-    ∙ ap (λ l. cond (int_lt hit.priority first.priority) (first ∷ l) (hit ∷ first ∷ others)) (place-place_hit hit others)
+-- what places an element behind those of greater priority, and what so places each in turn
+module _ {X : Type 0} (priority : X → ℤ) (put : X → List X → List X) (order : List X → List X)
+    (alone : (x : X) → put x [] ≡ x ∷ [])
+    (among : (x first : X) (others : List X) → put x (first ∷ others) ≡ cond (int_lt (priority x) (priority first)) (first ∷ put x others) (x ∷ first ∷ others))
+    (none : order [] ≡ [])
+    (more : (first : X) (others : List X) → order (first ∷ others) ≡ put first (order others)) where
+  -- placing by the order of priorities is what it places
+  place-put : (x : X) (others : List X) → place (before priority) (before_order priority) x others ≡ put x others
+  place-put x [] = sym (alone x)
+  place-put x (first ∷ others) =
+      ap (λ b. cond b (first ∷ place (before priority) (before_order priority) x others) (x ∷ first ∷ others)) (less_by_cases (int_lt (priority x) (priority first)) (int_lt (priority first) (priority x)))
+      ∙ ap (λ l. cond (int_lt (priority x) (priority first)) (first ∷ l) (x ∷ first ∷ others)) (place-put x others)
+      ∙ sym (among x first others)
 
--- and so is the whole insertion
-insertion-by_priority : (found : List Hit) → insertion before before_order found ≡ by_priority found
-insertion-by_priority [] = refl
-insertion-by_priority (first ∷ others) =
-    place-place_hit first (insertion before before_order others) ∙ ap (place_hit first) (insertion-by_priority others)
+  -- and so is the whole insertion
+  insertion-order : (found : List X) → insertion (before priority) (before_order priority) found ≡ order found
+  insertion-order [] = sym none
+  insertion-order (first ∷ others) =
+      place-put first (insertion (before priority) (before_order priority) others) ∙ ap (put first) (insertion-order others) ∙ sym (more first others)
+
+  -- what a stable sort by falling priority gives is that order
+  pub sorted_is_order : (found sorted : List X) → IsSortedBy (before priority) sorted → IsStableBy (before priority) found sorted → sorted ≡ order found
+  sorted_is_order found sorted up stable =
+      sorted_is_insertion (before priority) (before_order priority) found sorted up stable ∙ insertion-order found
+
+-- what the hits are sorted by
+abbrev pub sort_key : Hit → Reverse ℤ
+sort_key hit = record { 0 = hit.priority }
 
 -- what a stable sort by falling priority gives is the order of the hits
-pub sorted_is_by_priority : (found sorted : List Hit) → IsSortedBy before sorted → IsStableBy before found sorted → sorted ≡ by_priority found
-sorted_is_by_priority found sorted up stable =
-    sorted_is_insertion before before_order found sorted up stable ∙ insertion-by_priority found
+pub sorted_is_by_priority : (found sorted : List Hit) → IsSortedBy (before (λ (hit : Hit). hit.priority)) sorted → IsStableBy (before (λ (hit : Hit). hit.priority)) found sorted → sorted ≡ by_priority found
+sorted_is_by_priority = sorted_is_order (λ (hit : Hit). hit.priority) place_hit by_priority (λ hit. refl) (λ hit first others. refl) refl (λ first others. refl)

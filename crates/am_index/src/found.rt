@@ -5,15 +5,14 @@ ghost use Rattle.std.specs.List.Sorted.{IsStrictlyIncreasing};
 ghost use Rattle.am_model.specs.Candidates.{by_priority, counted_priority, greatest, hit_at, priority_of};
 ghost use Rattle.am_model.specs.Filters.{passes};
 ghost use Rattle.am_model.specs.Sound.{uids_of};
-ghost use Rattle.am_model.specs.Texts.{lists};
 ghost use Rattle.am_index.specs.Groups.{in_data_group, in_group};
 ghost use Rattle.am_index.specs.Keys.{is_bare, is_typed};
 ghost use Rattle.am_index.specs.Lookups.{cost_found, cost_of_spot, cost_of_spots, hit_of_spot, hits_of_spots, priority_found};
 
 use crate::key::Spot;
-use am_filter::passes;
+use am_filter::{lists, passes};
 use am_installed::package_at;
-use am_types::{Component, Decl, Filter, Hit, Intent, Kind, List, NoMemory, Package, Steps, Text};
+use am_types::{Component, Decl, Filter, Hit, Intent, Kind, List, NoMemory, Package, Steps};
 use std::alloc::Global;
 use std::cmp::Reverse;
 use std::sync::ledger::Ledger;
@@ -159,8 +158,8 @@ pub fn is_passed<L: Ledger>(
     in_group(intent, filter) && is_passed_by_test(filter, intent, need_default, steps)
 }
 
-/// The one place that tests a filter. Each call is counted.
-fn is_passed_by_test<L: Ledger>(
+/// Whether the intent passes the filter: a step. Takes no memory.
+pub fn is_passed_by_test<L: Ledger>(
     filter: &Filter,
     intent: &Intent,
     need_default: bool,
@@ -209,16 +208,9 @@ fn is_typed(filter: &Filter) -> bool
     filter.schemes.as_slice().is_empty() && !filter.types.as_slice().is_empty()
 }
 
-/// The text is listed.
-fn lists(texts: &List<Text>, text: &Text) -> bool
-    ensures { result ≡ lists texts.now text.now }
-{
-    texts.as_slice().contains(text)
-}
-
 /// The priority with which a filter counts: no package is privileged, so an activity's never
 /// counts above 0.
-fn counted_priority(kind: Kind, priority: i32) -> i32
+pub fn counted_priority(kind: Kind, priority: i32) -> i32
     ensures { result ≡ counted_priority kind priority }
 {
     match kind {
@@ -228,7 +220,7 @@ fn counted_priority(kind: Kind, priority: i32) -> i32
 }
 
 /// The greater of a priority and of another, if there is one.
-fn greatest(priority: i32, other: Option<i32>) -> i32
+pub fn greatest(priority: i32, other: Option<i32>) -> i32
     ensures { result ≡ greatest priority other }
 {
     match other {

@@ -1,12 +1,12 @@
 //! Which keys an intent asks for, and what is listed there.
 ghost use Rattle.std.specs.Prelude.{◌≡◌, ◌++◌, codes, IfOk, OnOk};
-ghost use Rattle.am_model.specs.MimeTypes.{is_any, is_any_type};
 ghost use Rattle.am_index.specs.Lists.{spots_at};
 ghost use Rattle.am_index.specs.Lookups.{data_groups_for, groups_for, key_of, keys_of, owner_of, spots_for, type_groups};
 
 use crate::key::{Group, Key, Spot};
 use crate::lists::Lists;
 use crate::merge::merged;
+use am_filter::is_any_type;
 use am_types::{Component, Intent, Kind, Mime, NoMemory, Text, Uri};
 use std::alloc::{AllocError, Global};
 
@@ -121,18 +121,4 @@ fn add_type(alloc: Global, groups: &mut Vec<Group>, mime: &Mime) -> Result<(), N
         groups.push(Group::Main(any))?;
     }
     Ok(())
-}
-
-/// The type stands for every other.
-fn is_any_type(mime: &Mime) -> bool
-    ensures { result ≡ is_any_type mime.now }
-{
-    is_any(&mime.main) && is_any(&mime.sub)
-}
-
-/// The part stands for every other.
-fn is_any(part: &Text) -> bool
-    ensures { result ≡ is_any part.now }
-{
-    part.as_str() == "*"
 }

@@ -190,7 +190,7 @@ impl Installed {
         ensures taken { held ≡ false → IsOk result }
     {
         let mut grants = take(&mut self.grants, self.alloc);
-        let set = rights::set_grant(&mut grants, uid, permission, held);
+        let set = rights::set_right(&mut grants, uid, permission, held);
         self.grants = List::new(grants);
         set
     }
@@ -203,7 +203,7 @@ impl Installed {
         ensures taken { approved ≡ false → IsOk result }
     {
         let mut links = take(&mut self.links, self.alloc);
-        let set = rights::set_link(&mut links, uid, host, approved);
+        let set = rights::set_right(&mut links, uid, host, approved);
         self.links = List::new(links);
         set
     }
@@ -214,8 +214,8 @@ impl Installed {
     {
         let mut grants = take(&mut self.grants, self.alloc);
         let mut links = take(&mut self.links, self.alloc);
-        rights::drop_grants_of(&mut grants, uid);
-        rights::drop_links_of(&mut links, uid);
+        rights::drop_rights_of(&mut grants, uid);
+        rights::drop_rights_of(&mut links, uid);
         self.grants = List::new(grants);
         self.links = List::new(links);
     }

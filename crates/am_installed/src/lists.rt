@@ -1,7 +1,8 @@
 //! Packages and registered receivers as they come and go.
 ghost use Rattle.std.specs.Prelude.{◌≡◌, ◌∷◌, ◌++◌, [], not, ◌==◌, if◌then◌else◌, OnOk, OnErr, filter};
 ghost use Rattle.am_model.specs.Boards.{registered_without, with_stopped, without_package};
-ghost use Rattle.am_installed.specs.Places.{place_of_number, place_registered};
+ghost use Rattle.am_model.specs.Lists.{place_of};
+ghost use Rattle.am_installed.specs.Places.{before_registered, place_registered};
 ghost use Rattle.am_types.specs.declared.resolve.Registration.{Registration};
 
 use am_types::{NoMemory, Package, Registration};
@@ -47,11 +48,11 @@ pub(crate) fn set_stopped(packages: &mut Vec<Package>, uid: u32, stopped: bool)
 }
 
 /// How many registered receivers stand before the first of a greater number.
-fn place_of_number(registered: &[Registration], number: u64) -> usize
-    ensures { result ≡ place_of_number number registered.now }
+fn place_of(registered: &[Registration], registration: &Registration) -> usize
+    ensures { result ≡ place_of before_registered registration.now registered.now }
 {
     for (place, other) in registered.iter().enumerate() {
-        if number < other.number {
+        if registration.number < other.number {
             return place;
         }
     }
@@ -66,7 +67,7 @@ pub(crate) fn put_registered(
     ensures put { OnOk result (registered.new.items ≡ place_registered registration registered.old.items) }
     ensures same { OnErr result (registered.new.items ≡ registered.old.items) }
 {
-    let place = place_of_number(registered, registration.number);
+    let place = place_of(registered, &registration);
     match registered.insert(place, registration) {
         Ok(()) => Ok(()),
         Err(failed) => {

@@ -1,14 +1,14 @@
 -- The next number of a broadcast, whatever is done with broadcasts.
-use Rattle.std.proofs.Common.{◌≡◌, ℕ, ◌+◌, Bool, true, false, not, cond, List, [], ◌∷◌, ◌++◌, map, refl, ◌∙◌}
-use Rattle.std.specs.Prelude.{Option, Some, None, filter, ◌==◌}
+use Rattle.std.proofs.Common.{◌≡◌, ℕ, ◌+◌, Bool, true, false, cond, List, [], ◌∷◌, ◌++◌, refl, ◌∙◌}
+use Rattle.std.specs.Prelude.{Option, Some, None, ◌==◌}
 use Rattle.am_types.specs.declared.broadcast.Answer.{Answer}
 use Rattle.am_types.specs.declared.broadcast.Ordered.{Ordered}
 use Rattle.am_types.specs.declared.broadcast.Sending.{Sending}
 use Rattle.am_types.specs.declared.broadcast.Spot.{Spot}
 use Rattle.am_model.specs.Broadcasts as broadcasts
-use Rattle.am_model.specs.Broadcasts.{Broadcasts, InTurn, Delivery, Answered, queue_of, with_queue, settle, settle_both, late_head, is_head_due, expired_queue, expired, normals_keeping}
+use Rattle.am_model.specs.Broadcasts.{Broadcasts, InTurn, queue_of, with_queue, settle, settle_both, late_head, is_head_due, expired_queue, expired}
 use Rattle.am_model.specs.Sending as sending
-use Rattle.am_model.specs.Sending.{in_turn, with_sent, finished, answered_head, strike, unwanted}
+use Rattle.am_model.specs.Sending.{in_turn, with_sent, finished, with_answered, with_unwanted, without_struck}
 
 -- a queue is put in the place of another
 queue_keeps : (foreground : Bool) (queue : List InTurn) (all : Broadcasts) → (with_queue foreground queue all).next_broadcast ≡ all.next_broadcast
@@ -40,37 +40,15 @@ expired_keeps all now = expired_queue_keeps false now (expired_queue true now al
 
 -- receivers that are forgotten
 pub forget_keeps : (all : Broadcasts) (struck : Spot → Bool) (now : ℕ) → (sending.forget all struck now).next_broadcast ≡ all.next_broadcast
-forget_keeps all struck now = both_keep now left
-  where
-    left : Broadcasts
-    left = record all {
-      normal = normals_keeping (λ (delivery : Delivery). not (struck delivery.spot)) all.normal;
-      foreground = map (strike struck) all.foreground;
-      background = map (strike struck) all.background;
-    }
+forget_keeps all struck now = both_keep now (without_struck all struck)
 
 -- an app that is forgotten
 pub forget_uid_keeps : (all : Broadcasts) (uid now : ℕ) → (sending.forget_uid all uid now).next_broadcast ≡ all.next_broadcast
-forget_uid_keeps all uid now = forget_keeps without (λ (spot : Spot). spot.uid == uid) now
-  where
-    without : Broadcasts
-    without = record all {
-      foreground = map (unwanted uid) all.foreground;
-      background = map (unwanted uid) all.background;
-      results = filter (λ (r : broadcasts.Result). not (r.sender == uid)) all.results;
-    }
+forget_uid_keeps all uid now = forget_keeps (with_unwanted all uid) (λ (spot : Spot). spot.uid == uid) now
 
 -- a delivery that is finished
 pub finished_keeps : (all : Broadcasts) (number : ℕ) (answer : Answer) (now : ℕ) → (finished all number answer now).next_broadcast ≡ all.next_broadcast
-finished_keeps all number answer now = both_keep now answered
-  where
-    answered : Broadcasts
-    answered = record all {
-      normal = normals_keeping (λ (delivery : Delivery). not (delivery.number == number)) all.normal;
-      foreground = answered_head number (Answered answer) all.foreground;
-      background = answered_head number (Answered answer) all.background;
-      results = filter (λ (r : broadcasts.Result). not (r.delivery == number)) all.results;
-    }
+finished_keeps all number answer now = both_keep now (with_answered all number answer)
 
 -- one more broadcast
 pub sent_gives_one : (all : Broadcasts) (sent : Sending) (ordered : Option Ordered) → (with_sent all sent ordered).next_broadcast ≡ all.next_broadcast + 1

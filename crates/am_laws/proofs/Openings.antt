@@ -1,21 +1,19 @@
 -- What holds of a device's own state, whatever is installed and given, holds of the state in which a manager begins.
-use Rattle.std.proofs.Common.{◌≡◌, ℕ, Bool, true, false, ◌&&◌, cond, List, [], ◌∷◌, ◌++◌, ◌==◌, refl, ◌∙◌}
+use Rattle.std.proofs.Common.{◌≡◌, ℕ, Bool, true, false, ◌&&◌, cond, List, [], ◌∷◌, ◌++◌, refl, ◌∙◌}
 use Rattle.std.specs.Prelude.{Option, Some, None, Result, Ok, Err}
 use Rattle.std.specs.List.{fold, find}
 use Rattle.am_types.specs.declared.device.Device.{Device}
 use Rattle.am_types.specs.declared.device.Package.{Package}
-use Rattle.am_types.specs.declared.manifest.Manifest.{Manifest}
-use Rattle.am_types.specs.declared.manifest.ManifestFault.{ManifestFault}
 use Rattle.am_keeper.specs.declared.rows.PackageRow.{PackageRow}
 use Rattle.am_keeper.specs.declared.rows.GrantRow.{GrantRow}
 use Rattle.am_keeper.specs.declared.rows.LinkRow.{LinkRow}
 use Rattle.am_keeper.specs.declared.rows.Rows.{Rows}
 use Rattle.am_model.specs.Boards.{Board, is_package_uid, with_grant, with_link}
 use Rattle.am_model.specs.Texts.{is_same, lowered}
-use Rattle.am_manifest.specs.Manifests.{manifest_of}
 use Rattle.am_history.specs.State.{State, opening, uid_after, uids_of}
-use Rattle.am_history.specs.Packages.{no_uid, removed}
-use Rattle.am_history.specs.Opening.{place_package, kept_package, is_row_good, with_read, after_row, and_then_row, after_rows, after_grant, after_link, with_rights, has_too_many, unless_too_many, row_uids, completed, opened, opening_with}
+use Rattle.am_history.specs.Packages.{removed}
+use Rattle.am_history.specs.Opening.{place_package, kept_package, and_then_row, after_rows, after_grant, after_link, with_rights, has_too_many, unless_too_many, row_uids, completed, opened, opening_with}
+use Rattle.am_history.proofs.OpeningLaws.{IfOpened, nothing_asked, rows_leave}
 use Rattle.am_history.specs.Desks.{Origin, state_or, opening_of}
 
 -- no row of a grant or of a link changes packages or registered receivers
@@ -54,52 +52,24 @@ rights_else board rows =
 
 module _ (P : State → Type 0)
     (stays : (state : State) (board : Board) (uid : ℕ) → board.registered ≡ state.board.registered → P state → P (record state { board = board; next_uid = uid })) where
-  -- a state that isn't refused
-  abbrev IfOpened : Result State (List ℕ) → Type 0
-  IfOpened (Ok state) = P state
-  IfOpened (Err name) = Unit {0}
-
-  -- a package row with its manifest
-  read_opened : (state : State) (row : PackageRow) (manifest : Result Manifest ManifestFault) → P state → IfOpened (with_read state row manifest)
-  read_opened state row (Err fault) here = tt
-  read_opened state row (Ok manifest) here = by (is_row_good state row manifest)
-    where
-      board : Board
-      board = record (state.board) { packages = place_package (kept_package row manifest) state.board.packages }
-
-      by : (good : Bool) → IfOpened (cond good (Ok (record state { board = board })) (Err row.name))
-      by true = stays state board state.next_uid refl here
-      by false = tt
-
-  -- a package row
-  row_opened : (state : State) (row : PackageRow) → P state → IfOpened (after_row state row)
-  row_opened state row here = by (row.uid == no_uid) row.gone
-    where
-      by : (none gone : Bool) → IfOpened (cond none (Err row.name) (cond gone (Ok (record state { board = removed state.board row.uid })) (with_read state row (manifest_of row.text))))
-      by true gone = tt
-      by false true = stays state (removed state.board row.uid) state.next_uid refl here
-      by false false = read_opened state row (manifest_of row.text) here
-
   -- package rows, one after the other
-  rows_opened : (before : Result State (List ℕ)) (rows : List PackageRow) → IfOpened before → IfOpened (fold and_then_row before rows)
-  rows_opened before [] here = here
-  rows_opened before (row ∷ rows) here = rows_opened (and_then_row before row) rows (by before here)
-    where
-      by : (state : Result State (List ℕ)) → IfOpened state → IfOpened (and_then_row state row)
-      by (Err name) one = tt
-      by (Ok state) one = row_opened state row one
+  rows_opened : (before : Result State (List ℕ)) (rows : List PackageRow) → IfOpened P before → IfOpened P (fold and_then_row before rows)
+  rows_opened before rows here =
+      rows_leave P (λ (row : PackageRow). Unit {0}) (λ state row one. stays state (removed state.board row.uid) state.next_uid refl one)
+      (λ state row manifest asked is good one. stays state (record (state.board) { packages = place_package (kept_package row manifest) state.board.packages }) state.next_uid refl one)
+      before rows (nothing_asked rows) here
 
   -- the packages were opened
-  all_opened : (device : Device) (rows : Rows) (state : Result State (List ℕ)) → IfOpened state → IfOpened (opened device rows state)
+  all_opened : (device : Device) (rows : Rows) (state : Result State (List ℕ)) → IfOpened P state → IfOpened P (opened device rows state)
   all_opened device rows (Err name) here = tt
   all_opened device rows (Ok state) here = by (find (has_too_many (with_rights state.board rows)) (with_rights state.board rows).packages)
     where
-      by : (found : Option Package) → IfOpened (unless_too_many (completed device rows state) found)
+      by : (found : Option Package) → IfOpened P (unless_too_many (completed device rows state) found)
       by None = stays state (with_rights state.board rows) (uid_after (uids_of device.packages ++ row_uids rows)) (rights_else state.board rows).registered here
       by (Some owner) = tt
 
   -- a device is opened with rows
-  opened_with : (device : Device) (rows : Rows) → P (opening device) → IfOpened (opening_with device rows)
+  opened_with : (device : Device) (rows : Rows) → P (opening device) → IfOpened P (opening_with device rows)
   unfolding opening_with
   opened_with device rows here = all_opened device rows (after_rows (opening device) rows.packages) (rows_opened (Ok (opening device)) rows.packages here)
 
@@ -107,6 +77,6 @@ module _ (P : State → Type 0)
   pub opening_leaves : (origin : Origin) → P (opening origin.device) → P (opening_of origin)
   opening_leaves origin here = by (opening_with origin.device origin.rows) (opened_with origin.device origin.rows here)
     where
-      by : (state : Result State (List ℕ)) → IfOpened state → P (state_or (opening origin.device) state)
+      by : (state : Result State (List ℕ)) → IfOpened P state → P (state_or (opening origin.device) state)
       by (Ok state) one = one
       by (Err name) one = here

@@ -1,6 +1,6 @@
 -- What holds of each receiver of each broadcast holds of it whatever is done with broadcasts.
 use Rattle.std.proofs.Common.{ℕ, ◌+◌, Bool, true, false, not, cond, List, [], ◌∷◌, ◌++◌, map}
-use Rattle.std.specs.Prelude.{All, Option, Some, None, filter, ◌==◌, length}
+use Rattle.std.specs.Prelude.{All, Option, Some, None, ◌==◌, length}
 use Rattle.std.proofs.lemmas.List.Elements.{All-nil, All-cons, All-head, All-tail, All-push, All-map, All-filter, All-weaker}
 use Rattle.am_types.specs.declared.intent.Intent.{Intent}
 use Rattle.am_types.specs.declared.broadcast.Spot.{Spot}
@@ -11,7 +11,7 @@ use Rattle.am_model.specs.Filters.{is_empty}
 use Rattle.am_model.specs.Broadcasts as broadcasts
 use Rattle.am_model.specs.Broadcasts.{Broadcasts, InTurn, Normal, Delivery, Current, Past, Doing, Late, Gone, Answered, no_broadcasts, span, result_of, dispatched, with_results, settled, queue_of, with_queue, settle, settle_both, is_over, turned, turn, is_late, late_head, is_head_due, expired_queue, is_delivery_due, keeping, normals_keeping, expired}
 use Rattle.am_model.specs.Sending as sending
-use Rattle.am_model.specs.Sending.{deliveries_from, at_once, in_turn, with_sent, answered_head, is_current, finished, strike_rest, strike_from, strike, unwanted, is_registered}
+use Rattle.am_model.specs.Sending.{deliveries_from, at_once, in_turn, with_sent, answered_head, is_current, finished, strike_rest, strike_from, strike, unwanted, with_answered, with_unwanted, without_struck}
 use Rattle.am_laws.specs.Access.{OfTurn, OfNormal, OfEach}
 
 module _ (B : ℕ → Intent → Spot → Type 0) where
@@ -102,19 +102,11 @@ module _ (B : ℕ → Intent → Spot → Type 0) where
   -- a delivery that is finished
   pub finished_of : (all : Broadcasts) (number : ℕ) (answer : Answer) (now : ℕ) → OfEach B all → OfEach B (finished all number answer now)
   finished_of all number answer now of =
-      both_of now answered (record {
+      both_of now (with_answered all number answer) (record {
         normal = normals_of (λ (d : Delivery). not (d.number == number)) all.normal of.normal;
         foreground = answered_of number (Answered answer) all.foreground of.foreground;
         background = answered_of number (Answered answer) all.background of.background;
       })
-    where
-      answered : Broadcasts
-      answered = record all {
-        normal = normals_keeping (λ (d : Delivery). not (d.number == number)) all.normal;
-        foreground = answered_head number (Answered answer) all.foreground;
-        background = answered_head number (Answered answer) all.background;
-        results = filter (λ (r : broadcasts.Result). not (r.delivery == number)) all.results;
-      }
 
   -- receivers that are struck
   strike_rest_of : (struck : Spot → Bool) (b : InTurn) → OfTurn B b → OfTurn B (strike_rest struck b)
@@ -136,18 +128,11 @@ module _ (B : ℕ → Intent → Spot → Type 0) where
 
   pub forget_of : (all : Broadcasts) (struck : Spot → Bool) (now : ℕ) → OfEach B all → OfEach B (sending.forget all struck now)
   forget_of all struck now of =
-      both_of now left (record {
+      both_of now (without_struck all struck) (record {
         normal = normals_of (λ (d : Delivery). not (struck d.spot)) all.normal of.normal;
         foreground = strikes_of struck all.foreground of.foreground;
         background = strikes_of struck all.background of.background;
       })
-    where
-      left : Broadcasts
-      left = record all {
-        normal = normals_keeping (λ (d : Delivery). not (struck d.spot)) all.normal;
-        foreground = map (strike struck) all.foreground;
-        background = map (strike struck) all.background;
-      }
 
   -- a sender that wants no result any more
   unwanted_of : (uid : ℕ) (b : InTurn) → OfTurn B b → OfTurn B (unwanted uid b)
@@ -162,18 +147,11 @@ module _ (B : ℕ → Intent → Spot → Type 0) where
 
   pub forget_uid_of : (all : Broadcasts) (uid now : ℕ) → OfEach B all → OfEach B (sending.forget_uid all uid now)
   forget_uid_of all uid now of =
-      forget_of without (λ (spot : Spot). spot.uid == uid) now (record {
+      forget_of (with_unwanted all uid) (λ (spot : Spot). spot.uid == uid) now (record {
         normal = of.normal;
         foreground = all_unwanted_of uid all.foreground of.foreground;
         background = all_unwanted_of uid all.background of.background;
       })
-    where
-      without : Broadcasts
-      without = record all {
-        foreground = map (unwanted uid) all.foreground;
-        background = map (unwanted uid) all.background;
-        results = filter (λ (r : broadcasts.Result). not (r.sender == uid)) all.results;
-      }
 
   -- the deliveries of a normal broadcast
   deliveries_of : (sender : ℕ) (intent : Intent) (number deadline : ℕ) (to : List Spot) → All (λ (spot : Spot). B sender intent spot) to

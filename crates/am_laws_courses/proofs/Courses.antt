@@ -1,17 +1,17 @@
 -- What holds of each ordered broadcast and of each result holds when queues settle, and what follows a change of each holds
 -- when time passes, when a delivery is finished, when receivers are forgotten and when a broadcast is sent.
 use Rattle.std.proofs.Common.{◌≡◌, ℕ, ◌+◌, Bool, true, false, not, cond, List, [], ◌∷◌, ◌++◌, length, map, refl, sym, ap, subst}
-use Rattle.std.specs.Prelude.{All, Option, Some, None, filter, ◌==◌}
+use Rattle.std.specs.Prelude.{All, Option, Some, None, ◌==◌}
 use Rattle.std.proofs.lemmas.List.Elements.{All-nil, All-cons, All-head, All-tail, All-push, All-append, All-map, All-filter, All-weaker}
 use Rattle.am_types.specs.declared.broadcast.Spot.{Spot}
 use Rattle.am_types.specs.declared.broadcast.Answer.{Answer}
 use Rattle.am_types.specs.declared.broadcast.Ordered.{Ordered}
 use Rattle.am_types.specs.declared.broadcast.Sending.{Sending}
-use Rattle.am_model.specs.Broadcasts.{Broadcasts, InTurn, Delivery, Current, Result, Late, Answered, span, outcome_of, result_of, dispatched, with_results, Settled, settled, queue_of, with_queue, settle, settle_both, is_over, turn, is_late, late_head, is_head_due, expired_queue, normals_keeping, expired}
+use Rattle.am_model.specs.Broadcasts.{Broadcasts, InTurn, Current, Result, Late, Answered, span, outcome_of, result_of, dispatched, with_results, Settled, settled, queue_of, with_queue, settle, settle_both, is_over, turn, is_late, late_head, is_head_due, expired_queue, expired}
 use Rattle.am_model.specs.Sending as sending
-use Rattle.am_model.specs.Sending.{in_turn, with_sent, is_current, answered_head, finished, strike, unwanted}
+use Rattle.am_model.specs.Sending.{in_turn, with_sent, is_current, finished, strike, unwanted, with_answered, with_unwanted, without_struck}
 use Rattle.am_laws_courses.specs.Fold.{OfCourses}
-use Rattle.am_laws_courses.proofs.Order.{OnlyHead, AreInOrder, turning, late_turns, answer_turns, unwanted_of}
+use Rattle.am_laws_courses.proofs.Order.{OnlyHead, AreInOrder, turning, late_turns, answer_turns}
 
 -- what follows
 pub courses_follow : (C D : InTurn → Type 0) (R S : Result → Type 0) (all : Broadcasts) → ((b : InTurn) → C b → D b) → ((r : Result) → R r → S r)
@@ -158,42 +158,27 @@ module _ (C D : InTurn → Type 0) (R : Result → Type 0) (settling : Settling 
   -- a delivery that is finished
   pub finished_courses : (all : Broadcasts) (number : ℕ) (answer : Answer) (now : ℕ) → AreInOrder all
       → ((b : InTurn) → C b → D (turning (is_current number) (Answered answer) b)) → OfCourses C R all → OfCourses D R (finished all number answer now)
-  finished_courses all number answer now order answers of = both_courses D R settling now left (record {
-    foreground = changed C D (turning (is_current number) (Answered answer)) all.foreground left.foreground (answer_turns number (Answered answer) all.foreground order.foreground)
+  finished_courses all number answer now order answers of = both_courses D R settling now (with_answered all number answer) (record {
+    foreground = changed C D (turning (is_current number) (Answered answer)) all.foreground (with_answered all number answer).foreground (answer_turns number (Answered answer) all.foreground order.foreground)
         answers of.foreground;
-    background = changed C D (turning (is_current number) (Answered answer)) all.background left.background (answer_turns number (Answered answer) all.background order.background)
+    background = changed C D (turning (is_current number) (Answered answer)) all.background (with_answered all number answer).background (answer_turns number (Answered answer) all.background order.background)
         answers of.background;
     results = All-filter (λ (r : Result). not (r.delivery == number)) R all.results of.results;
   })
-    where
-      left : Broadcasts
-      left = record all {
-        normal = normals_keeping (λ (d : Delivery). not (d.number == number)) all.normal;
-        foreground = answered_head number (Answered answer) all.foreground;
-        background = answered_head number (Answered answer) all.background;
-        results = filter (λ (r : Result). not (r.delivery == number)) all.results;
-      }
 
   -- receivers that are forgotten
   pub forget_courses : (all : Broadcasts) (struck : Spot → Bool) (now : ℕ) → ((b : InTurn) → C b → D (strike struck b)) → OfCourses C R all
       → OfCourses D R (sending.forget all struck now)
-  forget_courses all struck now strikes of = both_courses D R settling now left (record {
-    foreground = changed C D (strike struck) all.foreground left.foreground refl strikes of.foreground;
-    background = changed C D (strike struck) all.background left.background refl strikes of.background;
+  forget_courses all struck now strikes of = both_courses D R settling now (without_struck all struck) (record {
+    foreground = changed C D (strike struck) all.foreground (without_struck all struck).foreground refl strikes of.foreground;
+    background = changed C D (strike struck) all.background (without_struck all struck).background refl strikes of.background;
     results = of.results;
   })
-    where
-      left : Broadcasts
-      left = record all {
-        normal = normals_keeping (λ (d : Delivery). not (struck d.spot)) all.normal;
-        foreground = map (strike struck) all.foreground;
-        background = map (strike struck) all.background;
-      }
 
   -- an app that is forgotten
   pub forget_uid_courses : (all : Broadcasts) (uid now : ℕ) → ((b : InTurn) → C b → C (unwanted uid b)) → ((b : InTurn) → C b → D (strike (λ (spot : Spot). spot.uid == uid) b))
       → OfCourses C R all → OfCourses D R (sending.forget_uid all uid now)
-  forget_uid_courses all uid now unwants strikes of = forget_courses (unwanted_of all uid) (λ (spot : Spot). spot.uid == uid) now strikes (record {
+  forget_uid_courses all uid now unwants strikes of = forget_courses (with_unwanted all uid) (λ (spot : Spot). spot.uid == uid) now strikes (record {
     foreground = changed C C (unwanted uid) all.foreground (map (unwanted uid) all.foreground) refl unwants of.foreground;
     background = changed C C (unwanted uid) all.background (map (unwanted uid) all.background) refl unwants of.background;
     results = All-filter (λ (r : Result). not (r.sender == uid)) R all.results of.results;

@@ -10,7 +10,7 @@ use Rattle.am_types.specs.declared.broadcast.Sending.{Sending}
 use Rattle.am_model.specs.Filters.{is_empty}
 use Rattle.am_model.specs.Broadcasts.{Broadcasts, InTurn, Normal, Delivery, Current, Result, Doing, Late, Gone, Answered, span, queue_of, with_queue, settle, turned, turn, is_late, late_head, is_head_due, expired_queue, is_delivery_due, keeping, normals_keeping, expired}
 use Rattle.am_model.specs.Sending as sending
-use Rattle.am_model.specs.Sending.{deliveries_from, at_once, in_turn, with_sent, answered_head, is_current, finished, strike_rest, strike_from, strike, unwanted, Held, or_held, held_in_deliveries, held_in_normals, held_by, held_at_head, held_in_results, held}
+use Rattle.am_model.specs.Sending.{deliveries_from, at_once, in_turn, with_sent, answered_head, is_current, finished, strike_rest, strike_from, strike, unwanted, with_answered, with_unwanted, without_struck, held}
 use Rattle.am_laws_courses.proofs.Holders.{IsFor, CurrentFor, TurnFor, NormalFor, ResultFor, HasHolders, Raises, raise_for, raise_queue, raise_normal, raise_results, raises_through, with_holder, raises_one, new_for, settle_held, both_held}
 
 module _ (f : ℕ → ℕ) (next : ℕ) where
@@ -114,7 +114,7 @@ expired_held all now has =
 -- a delivery that is finished
 pub finished_held : (all : Broadcasts) (number : ℕ) (answer : Answer) (now : ℕ) → HasHolders all → HasHolders (finished all number answer now)
 finished_held all number answer now has =
-    both_held now answered (record {
+    both_held now (with_answered all number answer) (record {
       holder = has.holder;
       held = record {
         normal = normals_for has.holder all.next_delivery (λ (d : Delivery). not (d.number == number)) all.normal has.held.normal;
@@ -123,19 +123,11 @@ finished_held all number answer now has =
         results = All-filter (λ (r : Result). not (r.delivery == number)) (ResultFor has.holder all.next_delivery) all.results has.held.results;
       };
     })
-  where
-    answered : Broadcasts
-    answered = record all {
-      normal = normals_keeping (λ (d : Delivery). not (d.number == number)) all.normal;
-      foreground = answered_head number (Answered answer) all.foreground;
-      background = answered_head number (Answered answer) all.background;
-      results = filter (λ (r : Result). not (r.delivery == number)) all.results;
-    }
 
 -- receivers that are forgotten
 pub forget_held : (all : Broadcasts) (struck : Spot → Bool) (now : ℕ) → HasHolders all → HasHolders (sending.forget all struck now)
 forget_held all struck now has =
-    both_held now left (record {
+    both_held now (without_struck all struck) (record {
       holder = has.holder;
       held = record {
         normal = normals_for has.holder all.next_delivery (λ (d : Delivery). not (struck d.spot)) all.normal has.held.normal;
@@ -144,18 +136,11 @@ forget_held all struck now has =
         results = has.held.results;
       };
     })
-  where
-    left : Broadcasts
-    left = record all {
-      normal = normals_keeping (λ (d : Delivery). not (struck d.spot)) all.normal;
-      foreground = map (strike struck) all.foreground;
-      background = map (strike struck) all.background;
-    }
 
 -- an app that is forgotten
 pub forget_uid_held : (all : Broadcasts) (uid now : ℕ) → HasHolders all → HasHolders (sending.forget_uid all uid now)
 forget_uid_held all uid now has =
-    forget_held without (λ (spot : Spot). spot.uid == uid) now (record {
+    forget_held (with_unwanted all uid) (λ (spot : Spot). spot.uid == uid) now (record {
       holder = has.holder;
       held = record {
         normal = has.held.normal;
@@ -164,13 +149,6 @@ forget_uid_held all uid now has =
         results = All-filter (λ (r : Result). not (r.sender == uid)) (ResultFor has.holder all.next_delivery) all.results has.held.results;
       };
     })
-  where
-    without : Broadcasts
-    without = record all {
-      foreground = map (unwanted uid) all.foreground;
-      background = map (unwanted uid) all.background;
-      results = filter (λ (r : Result). not (r.sender == uid)) all.results;
-    }
 
 -- deliveries with rising numbers
 record DeliversFor (f : ℕ → ℕ) (next : ℕ) (to : List Spot) (deadline : ℕ) : Type 0 where

@@ -1,6 +1,6 @@
 -- Only the head of a queue has a delivery, and the numbers of broadcasts are apart, whatever is done with broadcasts.
 use Rattle.std.proofs.Common.{◌≡◌, ℕ, ◌+◌, Bool, true, false, not, cond, List, [], ◌∷◌, ◌++◌, length, map, refl, sym, ap, ◌∙◌, subst, append_assoc}
-use Rattle.std.specs.Prelude.{All, Option, Some, None, filter, ◌==◌}
+use Rattle.std.specs.Prelude.{All, Option, Some, None, ◌==◌}
 use Rattle.std.proofs.lemmas.List.{map-append, append-nil}
 use Rattle.std.proofs.lemmas.List.Elements.{All-nil, All-head, All-tail, All-push, All-map, All-weaker}
 use Rattle.am_types.specs.declared.broadcast.Spot.{Spot}
@@ -8,9 +8,9 @@ use Rattle.am_types.specs.declared.broadcast.Answer.{Answer}
 use Rattle.am_types.specs.declared.broadcast.Ordered.{Ordered}
 use Rattle.am_types.specs.declared.broadcast.Sending.{Sending}
 use Rattle.am_model.proofs.Parts.{IsPart, leave, IsPart-whole}
-use Rattle.am_model.specs.Broadcasts.{Broadcasts, InTurn, Delivery, Current, Result, Doing, Late, Gone, Answered, no_broadcasts, span, outcome_of, result_of, dispatched, with_results, Settled, settled, queue_of, with_queue, settle, settle_both, is_over, turned, turn, is_late, late_head, is_head_due, expired_queue, normals_keeping, expired}
+use Rattle.am_model.specs.Broadcasts.{Broadcasts, InTurn, Current, Result, Doing, Late, Gone, Answered, no_broadcasts, span, outcome_of, result_of, dispatched, with_results, Settled, settled, queue_of, with_queue, settle, settle_both, is_over, turned, turn, is_late, late_head, is_head_due, expired_queue, expired}
 use Rattle.am_model.specs.Sending as sending
-use Rattle.am_model.specs.Sending.{in_turn, with_sent, is_current, answered_head, finished, strike_rest, strike_from, strike, unwanted}
+use Rattle.am_model.specs.Sending.{in_turn, with_sent, is_current, answered_head, finished, strike_rest, strike_from, strike, unwanted, with_answered, with_unwanted, without_struck}
 use Rattle.am_laws_courses.proofs.Apart.{part_made, Apart, apart_part, apart_turned, apart_ended, apart_more, apart_raised}
 
 -- the numbers of a queue, and of the broadcasts of results
@@ -235,19 +235,11 @@ expired_order all now order =
 
 -- a delivery that is finished
 pub finished_order : (all : Broadcasts) (number : ℕ) (answer : Answer) (now : ℕ) → AreInOrder all → AreInOrder (finished all number answer now)
-finished_order all number answer now order = both_order now left
+finished_order all number answer now order = both_order now (with_answered all number answer)
     (kept_order (turning (is_current number) (Answered answer)) (turning (is_current number) (Answered answer)) (keeps_turning (is_current number) (Answered answer))
-    (keeps_turning (is_current number) (Answered answer)) all left (answer_turns number (Answered answer) all.foreground order.foreground)
+    (keeps_turning (is_current number) (Answered answer)) all (with_answered all number answer) (answer_turns number (Answered answer) all.foreground order.foreground)
     (answer_turns number (Answered answer) all.background order.background)
     (part_made (λ (r : Result). r.broadcast) (λ (r : Result). not (r.delivery == number)) all.results) refl order)
-  where
-    left : Broadcasts
-    left = record all {
-      normal = normals_keeping (λ (d : Delivery). not (d.number == number)) all.normal;
-      foreground = answered_head number (Answered answer) all.foreground;
-      background = answered_head number (Answered answer) all.background;
-      results = filter (λ (r : Result). not (r.delivery == number)) all.results;
-    }
 
 -- receivers that are struck
 keeps_strike : (struck : Spot → Bool) → Keeps (strike struck)
@@ -267,15 +259,8 @@ keeps_strike struck = record { number = λ b. number b b.rest b.current; none = 
         by false = refl
 
 pub forget_order : (all : Broadcasts) (struck : Spot → Bool) (now : ℕ) → AreInOrder all → AreInOrder (sending.forget all struck now)
-forget_order all struck now order = both_order now left
-    (kept_order (strike struck) (strike struck) (keeps_strike struck) (keeps_strike struck) all left refl refl (IsPart-whole (results_of all.results)) refl order)
-  where
-    left : Broadcasts
-    left = record all {
-      normal = normals_keeping (λ (d : Delivery). not (struck d.spot)) all.normal;
-      foreground = map (strike struck) all.foreground;
-      background = map (strike struck) all.background;
-    }
+forget_order all struck now order = both_order now (without_struck all struck)
+    (kept_order (strike struck) (strike struck) (keeps_strike struck) (keeps_strike struck) all (without_struck all struck) refl refl (IsPart-whole (results_of all.results)) refl order)
 
 -- a sender that wants no result any more
 keeps_unwanted : (uid : ℕ) → Keeps (unwanted uid)
@@ -289,17 +274,9 @@ keeps_unwanted uid = record { number = λ b. number b (b.sender == uid); none = 
     none b is true = is
     none b is false = is
 
--- the broadcasts of which a uid wants no result any more
-abbrev pub unwanted_of : Broadcasts → ℕ → Broadcasts
-unwanted_of all uid = record all {
-  foreground = map (unwanted uid) all.foreground;
-  background = map (unwanted uid) all.background;
-  results = filter (λ (r : Result). not (r.sender == uid)) all.results;
-}
-
 pub forget_uid_order : (all : Broadcasts) (uid now : ℕ) → AreInOrder all → AreInOrder (sending.forget_uid all uid now)
-forget_uid_order all uid now order = forget_order (unwanted_of all uid) (λ (spot : Spot). spot.uid == uid) now
-    (kept_order (unwanted uid) (unwanted uid) (keeps_unwanted uid) (keeps_unwanted uid) all (unwanted_of all uid) refl refl
+forget_uid_order all uid now order = forget_order (with_unwanted all uid) (λ (spot : Spot). spot.uid == uid) now
+    (kept_order (unwanted uid) (unwanted uid) (keeps_unwanted uid) (keeps_unwanted uid) all (with_unwanted all uid) refl refl
     (part_made (λ (r : Result). r.broadcast) (λ (r : Result). not (r.sender == uid)) all.results) refl order)
 
 -- one more broadcast

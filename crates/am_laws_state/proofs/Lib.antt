@@ -1,4 +1,3 @@
-pub mod Inserted
 pub mod FreeNames
 pub mod SoundPackages
 pub mod SoundRights

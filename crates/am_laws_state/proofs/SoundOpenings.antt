@@ -1,5 +1,5 @@
 -- The state in which a manager of a sound device begins is sound.
-use Rattle.std.proofs.Common.{◌≡◌, ℕ, ◌+◌, ◌<◌, ◌≤◌, Bool, true, false, not, ◌&&◌, ◌||◌, cond, eqb, List, [], ◌∷◌, ◌++◌, length, map, max, refl, sym, ap, ◌∙◌, subst, arith}
+use Rattle.std.proofs.Common.{◌≡◌, ℕ, ◌+◌, ◌<◌, ◌≤◌, Bool, true, false, not, ◌&&◌, ◌||◌, cond, eqb, List, [], ◌∷◌, ◌++◌, length, map, refl, sym, ◌∙◌, subst, arith}
 use Rattle.std.specs.Prelude.{All, codes, filter, IsTrue, Option, Some, None, Result, Ok, Err, ◌==◌, nat_lt}
 use Rattle.std.specs.List.{AllByRecursion, count_by, fold, find}
 use Rattle.std.specs.List.Sorted.{IsStrictlySortedBy}
@@ -13,7 +13,6 @@ use Rattle.am_types.specs.declared.device.Grant.{Grant}
 use Rattle.am_types.specs.declared.device.Link.{Link}
 use Rattle.am_types.specs.declared.resolve.Registration.{Registration}
 use Rattle.am_types.specs.declared.manifest.Manifest.{Manifest}
-use Rattle.am_types.specs.declared.manifest.ManifestFault.{ManifestFault}
 use Rattle.am_keeper.specs.declared.rows.PackageRow.{PackageRow}
 use Rattle.am_keeper.specs.declared.rows.GrantRow.{GrantRow}
 use Rattle.am_keeper.specs.declared.rows.LinkRow.{LinkRow}
@@ -21,20 +20,22 @@ use Rattle.am_keeper.specs.declared.rows.Rows.{Rows}
 use Rattle.am_model.specs.Texts.{is_same, lowered}
 use Rattle.am_model.specs.Sound.{IsSound, IsSoundPackage, is_package_name, owner_keys, rights_granted, rights_approved, right_cmp}
 use Rattle.am_model.specs.Boards.{Board, is_package_uid, with_grant, with_link}
+use Rattle.am_model.specs.Rights.{of_grant, of_link}
 use Rattle.am_installed.proofs.Orders.{fewer_grants, fewer_links, grants_in_order, links_in_order}
-use Rattle.am_manifest.specs.Manifests.{manifest_of, IsAppManifest}
+use Rattle.am_manifest.specs.Manifests.{IsAppManifest}
 use Rattle.am_manifest.proofs.Soundness.{manifest_sound}
 use Rattle.am_history.specs.State.{State, opening, uid_after, uids_of}
-use Rattle.am_history.specs.Packages.{no_uid, is_key_used, is_name_used, removed}
-use Rattle.am_history.specs.Opening.{place_package, kept_package, is_row_good, with_read, after_row, and_then_row, after_rows, after_grant, after_link, with_rights, has_too_many, unless_too_many, row_uids, completed, opened, opening_with}
+use Rattle.am_history.specs.Packages.{removed}
+use Rattle.am_history.specs.Opening.{place_package, kept_package, and_then_row, after_rows, after_grant, after_link, with_rights, has_too_many, unless_too_many, row_uids, completed, opened, opening_with}
 use Rattle.am_history.specs.Desks.{Origin, state_or, opening_of}
+use Rattle.am_history.proofs.OpeningLaws.{IfOpened, IsGoodRow, good_parts, rows_leave}
+use Rattle.am_history.proofs.Uids.{below_max, max_is_above, of_first, of_last}
 use Rattle.am_laws_state.specs.Sound.{IsSoundApp, AreSoundApps, AreSoundReceivers, IsSoundState}
-use Rattle.am_laws_state.proofs.Inserted.{inserted}
 use Rattle.am_laws.proofs.Openings.{IsSameElse, grant_rows_else, link_rows_else}
-use Rattle.am_laws.proofs.Tests.{both, neither, unless_true}
+use Rattle.am_laws.proofs.Tests.{neither}
 use Rattle.am_laws_state.proofs.FreeNames.{name_is_free, key_is_free}
-use Rattle.am_laws_state.proofs.SoundPackages.{IsNew, by_uid, apps_inserted, apps_without}
-use Rattle.am_laws_state.proofs.SoundRights.{IsHeld, AreFew, counted, of_grant, of_link, held_through, inserted_stays, grants_held, links_held, grants_held_without, links_held_without}
+use Rattle.am_laws_state.proofs.SoundPackages.{apps_inserted, apps_without}
+use Rattle.am_laws_state.proofs.SoundRights.{IsHeld, AreFew, counted, held_through, inserted_stays, grants_held, links_held, rights_held_without}
 
 -- grants and links in order, of installed packages
 record IsHeldBoard (board : Board) : Type 0 where
@@ -81,28 +82,10 @@ link_rows_held : (board : Board) (rows : List LinkRow) → IsHeldBoard board →
 link_rows_held board [] held = held
 link_rows_held board (row ∷ rows) held = link_rows_held (after_link board row) rows (after_link_held board row held)
 
--- all of these are below the uid that comes after them
-max_is_above : (low : ℕ) (uids : List ℕ) → low ≤ fold max low uids
-max_is_above low [] = omega arith
-max_is_above low (uid ∷ uids) = let rest = max_is_above (max low uid) uids in omega arith
-
-below_max : (low : ℕ) (uids : List ℕ) → AllByRecursion (λ uid. uid < fold max low uids + 1) uids
-below_max low [] = tt
-below_max low (uid ∷ uids) = (let rest = max_is_above (max low uid) uids in omega arith, below_max (max low uid) uids)
-
 next_is_above : (uids : List ℕ) → 10000 ≤ uid_after uids
 next_is_above uids = let low = max_is_above 9999 uids in omega arith
 
--- what holds of all holds of the first ones and of the last ones
-of_first : (P : ℕ → Type 0) (xs ys : List ℕ) → AllByRecursion P (xs ++ ys) → AllByRecursion P xs
-of_first P [] ys all = tt
-of_first P (x ∷ xs) ys all = (all.0, of_first P xs ys all.1)
-
-of_last : (P : ℕ → Type 0) (xs ys : List ℕ) → AllByRecursion P (xs ++ ys) → AllByRecursion P ys
-of_last P [] ys all = all
-of_last P (x ∷ xs) ys all = of_last P xs ys all.1
-
--- of each package's uid
+-- what holds of uids holds of each package's
 of_packages : (bound : ℕ) (packages : List Package) → AllByRecursion (λ uid. uid < bound) (uids_of packages) → AllByRecursion (λ (p : Package). p.uid < bound) packages
 of_packages bound [] all = tt
 of_packages bound (p ∷ ps) all = (all.0, of_packages bound ps all.1)
@@ -150,37 +133,6 @@ record IsOpening (bound : ℕ) (state : State) : Type 0 where
   pub registered : state.board.registered ≡ []
   pub next : state.next_registration ≡ 1
 
--- what is asked of a package row
-record IsGoodRow (state : State) (row : PackageRow) (manifest : Manifest) : Type 0 where
-  pub same : is_same manifest.«package» row.name ≡ true
-  pub lowest : 10000 ≤ row.uid
-  pub new : IsNew row.uid state.board.packages
-  pub name : is_name_used state.board.packages row.name ≡ false
-  pub key : is_key_used state row.key ≡ false
-  pub room : length state.board.packages < 256
-
-good_row : (state : State) (row : PackageRow) (manifest : Manifest) → is_row_good state row manifest ≡ true → IsGoodRow state row manifest
-good_row state row manifest good =
-    let first = both _ _ good in
-    let second = both _ _ first.0 in
-    let third = both _ _ second.0 in
-    let fourth = both _ _ third.0 in
-    let fifth = both _ _ fourth.0 in
-    let sixth = both _ _ fifth.0 in
-    record {
-      same = sixth.0;
-      lowest = leb-true 10000 row.uid sixth.1;
-      new = unless_true _ fifth.1;
-      name = unless_true _ third.1;
-      key = unless_true _ second.1;
-      room = ltb-true (length state.board.packages) 256 first.1;
-    }
-
--- a package in its place
-package_inserted : (p : Package) (ps : List Package) → inserted by_uid p ps ≡ place_package p ps
-package_inserted p [] = refl
-package_inserted p (first ∷ others) = ap (λ l. cond (nat_lt p.uid first.uid) (p ∷ first ∷ others) (first ∷ l)) (package_inserted p others)
-
 -- a package row with its manifest
 row_opens : (bound : ℕ) (state : State) (row : PackageRow) (manifest : Manifest) → row.uid < bound → IsAppManifest manifest → IsGoodRow state row manifest
     → IsOpening bound state → IsOpening bound (record state { board = record (state.board) { packages = place_package (kept_package row manifest) state.board.packages } })
@@ -188,50 +140,33 @@ row_opens bound state row manifest below app good opens =
     let named : manifest.«package» ≡ row.name = (bytes_decides manifest.«package» row.name).0 good.same in
     let apps = apps_inserted (owner_keys state.system_key state.root_key) state.board.packages bound p opens.packages (record {
       sound = record {
-        lowest = good.lowest;
+        lowest = leb-true 10000 row.uid good.lowest;
         name = subst (λ (name : List ℕ). IsTrue (is_package_name name)) named app.sound.name;
         few = app.sound.few;
         classes = app.sound.classes;
         decls = app.sound.decls;
       };
-      room = good.room;
+      room = ltb-true (length state.board.packages) 256 good.room;
       new = good.new;
       below = below;
-      name = (subst (λ (name : List ℕ). is_same (codes "android") name ≡ false) named app.other, name_is_free row.name state.board.packages good.name);
-      key = key_is_free state.system_key state.root_key row.key state.board.packages good.key;
+      name = (subst (λ (name : List ℕ). is_same (codes "android") name ≡ false) named app.other, name_is_free row.name state.board.packages good.name_unused);
+      key = key_is_free state.system_key state.root_key row.key state.board.packages good.key_unused;
     }) in
     let stays = inserted_stays p state.board.packages in
-    let placed : IsOpening bound (record state { board = record (state.board) { packages = inserted by_uid p state.board.packages } }) = record {
+    record {
       packages = apps;
       held = record {
         grants = opens.held.grants;
         links = opens.held.links;
-        granted = held_through state.board.packages (inserted by_uid p state.board.packages) _ stays opens.held.granted;
-        approved = held_through state.board.packages (inserted by_uid p state.board.packages) _ stays opens.held.approved;
+        granted = held_through state.board.packages (place_package p state.board.packages) _ stays opens.held.granted;
+        approved = held_through state.board.packages (place_package p state.board.packages) _ stays opens.held.approved;
       };
       registered = opens.registered;
       next = opens.next;
-    } in
-    subst (λ (ps : List Package). IsOpening bound (record state { board = record (state.board) { packages = ps } })) (package_inserted p state.board.packages) placed
+    }
   where
     p : Package
     p = kept_package row manifest
-
--- a state that isn't refused
-abbrev Opens : ℕ → Result State (List ℕ) → Type 0
-Opens bound (Ok state) = IsOpening bound state
-Opens bound (Err name) = Unit {0}
-
--- a package row that isn't gone
-read_opens : (bound : ℕ) (state : State) (row : PackageRow) (manifest : Result Manifest ManifestFault) → manifest_of row.text ≡ manifest → row.uid < bound
-    → IsOpening bound state → Opens bound (with_read state row manifest)
-read_opens bound state row (Err fault) is below opens = tt
-read_opens bound state row (Ok manifest) is below opens = by (is_row_good state row manifest) refl
-  where
-    by : (b : Bool) → is_row_good state row manifest ≡ b
-        → Opens bound (cond b (Ok (record state { board = record (state.board) { packages = place_package (kept_package row manifest) state.board.packages } })) (Err row.name))
-    by true good = row_opens bound state row manifest below (manifest_sound row.text manifest is) (good_row state row manifest good) opens
-    by false good = tt
 
 -- a package that is gone
 gone_opens : (bound uid : ℕ) (state : State) → IsOpening bound state → IsOpening bound (record state { board = removed state.board uid })
@@ -240,31 +175,20 @@ gone_opens bound uid state opens = record {
   held = record {
     grants = fewer_grants (λ (g : Grant). not (g.uid == uid)) state.board.grants opens.held.grants;
     links = fewer_links (λ (l : Link). not (l.uid == uid)) state.board.links opens.held.links;
-    granted = grants_held_without state.board.packages state.board.grants uid opens.held.granted;
-    approved = links_held_without state.board.packages state.board.links uid opens.held.approved;
+    granted = rights_held_without of_grant state.board.packages state.board.grants uid opens.held.granted;
+    approved = rights_held_without of_link state.board.packages state.board.links uid opens.held.approved;
   };
   registered = opens.registered;
   next = opens.next;
 }
 
--- a package row
-after_row_opens : (bound : ℕ) (state : State) (row : PackageRow) → row.uid < bound → IsOpening bound state → Opens bound (after_row state row)
-after_row_opens bound state row below opens = by (row.uid == no_uid) row.gone
-  where
-    by : (b c : Bool) → Opens bound (cond b (Err row.name) (cond c (Ok (record state { board = removed state.board row.uid })) (with_read state row (manifest_of row.text))))
-    by true c = tt
-    by false true = gone_opens bound row.uid state opens
-    by false false = read_opens bound state row (manifest_of row.text) refl below opens
-
 -- package rows, one after the other
-rows_open : (bound : ℕ) (before : Result State (List ℕ)) (rows : List PackageRow) → AllByRecursion (λ (row : PackageRow). row.uid < bound) rows → Opens bound before
-    → Opens bound (fold and_then_row before rows)
-rows_open bound before [] below opens = opens
-rows_open bound before (row ∷ rows) below opens = rows_open bound (and_then_row before row) rows below.1 (by before opens)
-  where
-    by : (state : Result State (List ℕ)) → Opens bound state → Opens bound (and_then_row state row)
-    by (Err name) one = tt
-    by (Ok state) one = after_row_opens bound state row below.0 one
+rows_open : (bound : ℕ) (before : Result State (List ℕ)) (rows : List PackageRow) → AllByRecursion (λ (row : PackageRow). row.uid < bound) rows
+    → IfOpened (IsOpening bound) before → IfOpened (IsOpening bound) (fold and_then_row before rows)
+rows_open bound =
+    rows_leave (IsOpening bound) (λ (row : PackageRow). row.uid < bound) (λ state row opens. gone_opens bound row.uid state opens)
+    (λ state row manifest below is good opens.
+    row_opens bound state row manifest below (manifest_sound row.text manifest is) (good_parts state row manifest good) opens)
 
 -- nothing that is found passes the test
 none_passes : {X : Type 0} (test : X → Bool) (xs : List X) → find test xs ≡ None → AllByRecursion (λ x. test x ≡ false) xs
@@ -385,11 +309,10 @@ completed_sound device rows state opens none = record {
 
 -- a state that isn't refused is sound
 abbrev IsSoundIfOk : Result State (List ℕ) → Type 0
-IsSoundIfOk (Ok state) = IsSoundState state
-IsSoundIfOk (Err name) = Unit {0}
+IsSoundIfOk = IfOpened IsSoundState
 
 -- the packages were opened
-opened_sound : (device : Device) (rows : Rows) (state : Result State (List ℕ)) → Opens (uid_after (uids_of device.packages ++ row_uids rows)) state
+opened_sound : (device : Device) (rows : Rows) (state : Result State (List ℕ)) → IfOpened (IsOpening (uid_after (uids_of device.packages ++ row_uids rows))) state
     → IsSoundIfOk (opened device rows state)
 opened_sound device rows (Err name) opens = tt
 opened_sound device rows (Ok state) opens = by (find (has_too_many board) board.packages) refl

@@ -12,16 +12,14 @@ use Rattle.std.proofs.lemmas.List.Elements.{All-filter, All-from_recursion, recu
 use Rattle.std.proofs.lemmas.Map.Keys.{IsStrictlyIncreasing-from_sorted}
 use Rattle.am_types.specs.declared.device.Package.{Package}
 use Rattle.am_model.specs.Boards.{is_package_uid, with_stopped, without_package}
+use Rattle.am_model.specs.Lists.{inserted}
+use Rattle.am_model.proofs.Lists.{all_inserted, all_map_inserted, all_map_filter, length_inserted, length_left}
 use Rattle.am_model.specs.Sound.{AreDistinct, keys_of, names_of, uids_of}
 use Rattle.am_model.specs.Texts.{is_same}
 use Rattle.am_installed.proofs.Changed.{uids_stopped}
 use Rattle.am_installed.proofs.Rising.{Above, Rises, rises, increasing_without}
+use Rattle.am_history.specs.Opening.{before_package}
 use Rattle.am_laws_state.specs.Sound.{IsSoundApp, AreSoundApps}
-use Rattle.am_laws_state.proofs.Inserted.{inserted, all_inserted, all_map_inserted, all_map_filter, length_inserted, length_left}
-
--- packages stand by uid
-abbrev pub by_uid : Package → Package → Bool
-by_uid first second = nat_lt first.uid second.uid
 
 -- a text differs from each of others
 abbrev pub IsFree : List ℕ → List (List ℕ) → Type 0
@@ -34,14 +32,14 @@ turned text (first ∷ others) free = (nat_list_eq_equiv.symm text first ∙ fre
 
 module _ (f : Package → List ℕ) where
   -- what is read of packages is distinct with one more
-  distinct_inserted : (p : Package) (ps : List Package) → IsFree (f p) (map f ps) → AreDistinct (map f ps) → AreDistinct (map f (inserted by_uid p ps))
+  distinct_inserted : (p : Package) (ps : List Package) → IsFree (f p) (map f ps) → AreDistinct (map f ps) → AreDistinct (map f (inserted before_package p ps))
   unfolding IsDistinct
   distinct_inserted p [] free distinct = (tt, tt)
   distinct_inserted p (first ∷ others) free distinct = by (nat_lt p.uid first.uid) (distinct_inserted p others free.1 distinct.1)
     where
-      by : (b : Bool) → AreDistinct (map f (inserted by_uid p others)) → AreDistinct (map f (cond b (p ∷ first ∷ others) (first ∷ inserted by_uid p others)))
+      by : (b : Bool) → AreDistinct (map f (inserted before_package p others)) → AreDistinct (map f (cond b (p ∷ first ∷ others) (first ∷ inserted before_package p others)))
       by true rest = (turned (f p) (map f (first ∷ others)) free, distinct)
-      by false rest = (all_map_inserted by_uid f (λ other. is_same (f first) other ≡ false) p others free.0 distinct.0, rest)
+      by false rest = (all_map_inserted before_package f (λ other. is_same (f first) other ≡ false) p others free.0 distinct.0, rest)
 
   -- and of fewer packages
   distinct_left : (keeps : Package → Bool) (ps : List Package) → AreDistinct (map f ps) → AreDistinct (map f (filter keeps ps))
@@ -55,8 +53,8 @@ module _ (f : Package → List ℕ) where
 
   -- behind other texts
   all_behind_inserted : (P : List ℕ → Type 0) (front : List (List ℕ)) (p : Package) (ps : List Package) → P (f p) → AllByRecursion P (front ++ map f ps)
-      → AllByRecursion P (front ++ map f (inserted by_uid p ps))
-  all_behind_inserted P [] p ps one all = all_map_inserted by_uid f P p ps one all
+      → AllByRecursion P (front ++ map f (inserted before_package p ps))
+  all_behind_inserted P [] p ps one all = all_map_inserted before_package f P p ps one all
   all_behind_inserted P (text ∷ front) p ps one all = (all.0, all_behind_inserted P front p ps one all.1)
 
   all_behind_left : (P : List ℕ → Type 0) (front : List (List ℕ)) (keeps : Package → Bool) (ps : List Package) → AllByRecursion P (front ++ map f ps)
@@ -66,7 +64,7 @@ module _ (f : Package → List ℕ) where
 
   -- what stands before, and what is read of packages, is distinct with one more
   pub front_inserted : (front : List (List ℕ)) (p : Package) (ps : List Package) → IsFree (f p) (front ++ map f ps) → AreDistinct (front ++ map f ps)
-      → AreDistinct (front ++ map f (inserted by_uid p ps))
+      → AreDistinct (front ++ map f (inserted before_package p ps))
   unfolding IsDistinct
   front_inserted [] p ps free distinct = distinct_inserted p ps free distinct
   front_inserted (text ∷ front) p ps free distinct =
@@ -117,11 +115,11 @@ above_through : (low uid : ℕ) (ps : List Package) → low < uid → Above uid 
 above_through low uid [] less above = tt
 above_through low uid (p ∷ ps) less above = (let first : uid < p.uid = above.0 in omega arith, above_through low uid ps less above.1)
 
-above_inserted : (uid : ℕ) (p : Package) (ps : List Package) → uid < p.uid → Above uid ps → Above uid (inserted by_uid p ps)
+above_inserted : (uid : ℕ) (p : Package) (ps : List Package) → uid < p.uid → Above uid ps → Above uid (inserted before_package p ps)
 above_inserted uid p [] less above = (less, tt)
 above_inserted uid p (first ∷ others) less above = by (nat_lt p.uid first.uid) (above_inserted uid p others less above.1)
   where
-    by : (b : Bool) → Above uid (inserted by_uid p others) → Above uid (cond b (p ∷ first ∷ others) (first ∷ inserted by_uid p others))
+    by : (b : Bool) → Above uid (inserted before_package p others) → Above uid (cond b (p ∷ first ∷ others) (first ∷ inserted before_package p others))
     by true rest = (less, above)
     by false rest = (above.0, rest)
 
@@ -130,7 +128,7 @@ abbrev pub IsNew : ℕ → List Package → Type 0
 IsNew uid ps = is_package_uid ps uid ≡ false
 
 -- one of another uid comes into its place
-rises_inserted : (p : Package) (ps : List Package) → IsNew p.uid ps → Rises ps → Rises (inserted by_uid p ps)
+rises_inserted : (p : Package) (ps : List Package) → IsNew p.uid ps → Rises ps → Rises (inserted before_package p ps)
 rises_inserted p [] new rise = (tt, tt)
 rises_inserted p (first ∷ others) new rise = by (ltb p.uid first.uid) refl (rises_inserted p others (apart (eqb first.uid p.uid) new) rise.1)
   where
@@ -142,7 +140,7 @@ rises_inserted p (first ∷ others) new rise = by (ltb p.uid first.uid) refl (ri
     differs true is e same = cc
     differs false is e same = let tested : eqb first.uid p.uid ≡ true = eq-eqb first.uid p.uid same in cc
 
-    by : (b : Bool) → ltb p.uid first.uid ≡ b → Rises (inserted by_uid p others) → Rises (cond b (p ∷ first ∷ others) (first ∷ inserted by_uid p others))
+    by : (b : Bool) → ltb p.uid first.uid ≡ b → Rises (inserted before_package p others) → Rises (cond b (p ∷ first ∷ others) (first ∷ inserted before_package p others))
     by true is rest =
         let less : p.uid < first.uid = ltb-true p.uid first.uid is in
         ((less, above_through p.uid first.uid others less rise.0), rise)
@@ -153,10 +151,10 @@ rises_inserted p (first ∷ others) new rise = by (ltb p.uid first.uid) refl (ri
         (above_inserted first.uid p others less rise.0, rest)
 
 -- a package that is above all others stands behind them
-pub inserted_last : (p : Package) (ps : List Package) → AllByRecursion (λ (q : Package). q.uid < p.uid) ps → inserted by_uid p ps ≡ ps ++ p ∷ []
+pub inserted_last : (p : Package) (ps : List Package) → AllByRecursion (λ (q : Package). q.uid < p.uid) ps → inserted before_package p ps ≡ ps ++ p ∷ []
 inserted_last p [] below = refl
 inserted_last p (first ∷ others) below =
-    ap (λ b. cond b (p ∷ first ∷ others) (first ∷ inserted by_uid p others)) (by (ltb p.uid first.uid) refl) ∙ ap (λ l. first ∷ l) (inserted_last p others below.1)
+    ap (λ b. cond b (p ∷ first ∷ others) (first ∷ inserted before_package p others)) (by (ltb p.uid first.uid) refl) ∙ ap (λ l. first ∷ l) (inserted_last p others below.1)
   where
     by : (b : Bool) → ltb p.uid first.uid ≡ b → b ≡ false
     by true is = absurd (let less : p.uid < first.uid = ltb-true p.uid first.uid is in let more : first.uid < p.uid = below.0 in omega arith)
@@ -182,13 +180,13 @@ pub record IsFreeApp (owners : List (List ℕ)) (packages : List Package) (next_
 
 -- a package comes into its place
 pub apps_inserted : (owners : List (List ℕ)) (packages : List Package) (next_uid : ℕ) (p : Package) → AreSoundApps owners packages next_uid
-    → IsFreeApp owners packages next_uid p → AreSoundApps owners (inserted by_uid p packages) next_uid
+    → IsFreeApp owners packages next_uid p → AreSoundApps owners (inserted before_package p packages) next_uid
 apps_inserted owners packages next_uid p sound free = record {
-  few = let fits : length packages < 256 = free.room in let one = length_inserted by_uid p packages in omega arith;
-  each = All-from_recursion IsSoundApp (inserted by_uid p packages) (all_inserted by_uid IsSoundApp p packages free.sound (recursion_from_All IsSoundApp packages sound.each));
-  rising = IsStrictlyIncreasing-from_sorted (uids_of (inserted by_uid p packages)) (sorted (inserted by_uid p packages) (rises_inserted p packages free.new (rises packages sound.rising)));
-  below = All-from_recursion (λ (q : Package). q.uid < next_uid) (inserted by_uid p packages)
-      (all_inserted by_uid (λ (q : Package). q.uid < next_uid) p packages free.below (recursion_from_All (λ (q : Package). q.uid < next_uid) packages sound.below));
+  few = let fits : length packages < 256 = free.room in let one = length_inserted before_package p packages in omega arith;
+  each = All-from_recursion IsSoundApp (inserted before_package p packages) (all_inserted before_package IsSoundApp p packages free.sound (recursion_from_All IsSoundApp packages sound.each));
+  rising = IsStrictlyIncreasing-from_sorted (uids_of (inserted before_package p packages)) (sorted (inserted before_package p packages) (rises_inserted p packages free.new (rises packages sound.rising)));
+  below = All-from_recursion (λ (q : Package). q.uid < next_uid) (inserted before_package p packages)
+      (all_inserted before_package (λ (q : Package). q.uid < next_uid) p packages free.below (recursion_from_All (λ (q : Package). q.uid < next_uid) packages sound.below));
   next = sound.next;
   names = front_inserted (λ (q : Package). q.name) (codes "android" ∷ []) p packages free.name sound.names;
   keys = front_inserted (λ (q : Package). q.key) owners p packages free.key sound.keys;

@@ -8,12 +8,14 @@ use Rattle.std.proofs.lemmas.List.Sums.{length-filter}
 use Rattle.am_types.specs.declared.device.Package.{Package}
 use Rattle.am_types.specs.declared.device.Grant.{Grant}
 use Rattle.am_types.specs.declared.device.Link.{Link}
-use Rattle.am_model.specs.Boards.{is_package_uid, with_stopped, without_package, is_grant, is_granted, place_grant, with_grant, grants_without, is_link, is_linked, place_link, with_link, links_without, stands_before}
+use Rattle.am_model.specs.Boards.{is_package_uid, with_stopped, without_package, with_grant, grants_without, with_link, links_without}
+use Rattle.am_model.specs.Lists.{inserted}
+use Rattle.am_model.specs.Rights.{Right, before_right, grant_of, has_right, is_right, link_of, of_grant, of_link, rights_without, with_right}
 use Rattle.am_model.specs.Sound.{AreSoundRights, rights_granted, rights_approved}
-use Rattle.am_installed.proofs.Orders.{fewer_grants, fewer_links, grants_in_order, links_in_order}
+use Rattle.am_model.proofs.Lists.{all_map_inserted, all_map_filter, filter_inserted, filter_left}
+use Rattle.am_model.proofs.Rights.{fewer_in_order, with_in_order}
+use Rattle.am_history.specs.Opening.{before_package}
 use Rattle.am_history.specs.Packages.{too_many_grants, too_many_links}
-use Rattle.am_laws_state.proofs.Inserted.{inserted, all_map_inserted, all_map_filter, filter_inserted, filter_left}
-use Rattle.am_laws_state.proofs.SoundPackages.{by_uid}
 
 -- a right is of an installed package
 abbrev pub IsHeld : List Package → ℕ × List ℕ → Type 0
@@ -47,7 +49,7 @@ stopped_stays (p ∷ ps) uid stopped other live = by (eqb p.uid uid) (one_or (p.
     by false rest = rest
 
 -- a package that comes leaves all installed
-pub inserted_stays : (p : Package) (packages : List Package) (other : ℕ) → is_package_uid packages other ≡ true → is_package_uid (inserted by_uid p packages) other ≡ true
+pub inserted_stays : (p : Package) (packages : List Package) (other : ℕ) → is_package_uid packages other ≡ true → is_package_uid (inserted before_package p packages) other ≡ true
 inserted_stays p [] other live = absurd cc
 inserted_stays p (first ∷ others) other live = by (nat_lt p.uid first.uid) (inserted_stays p others other)
   where
@@ -55,10 +57,10 @@ inserted_stays p (first ∷ others) other live = by (nat_lt p.uid first.uid) (in
     after true b e = refl
     after false b e = e
 
-    by : (b : Bool) → (is_package_uid others other ≡ true → is_package_uid (inserted by_uid p others) other ≡ true)
-        → is_package_uid (cond b (p ∷ first ∷ others) (first ∷ inserted by_uid p others)) other ≡ true
+    by : (b : Bool) → (is_package_uid others other ≡ true → is_package_uid (inserted before_package p others) other ≡ true)
+        → is_package_uid (cond b (p ∷ first ∷ others) (first ∷ inserted before_package p others)) other ≡ true
     by true rest = after (p.uid == other) (is_package_uid (first ∷ others) other) live
-    by false rest = one_or (first.uid == other) (is_package_uid others other) (is_package_uid (inserted by_uid p others) other) rest live
+    by false rest = one_or (first.uid == other) (is_package_uid others other) (is_package_uid (inserted before_package p others) other) rest live
 
 -- a package that goes leaves the others installed
 without_stays : (packages : List Package) (uid other : ℕ) → eqb other uid ≡ false → is_package_uid packages other ≡ true → is_package_uid (without_package packages uid) other ≡ true
@@ -130,148 +132,99 @@ module _ {X : Type 0} (as_right : X → ℕ × List ℕ) where
       by true is rest = rest
       by false is rest = (without_stays packages uid (as_right x).0 is held.0, rest)
 
--- the order of grants, and of links
-abbrev before_grant : Grant → Grant → Bool
-before_grant first second = stands_before first.uid first.permission second.uid second.permission
+  -- the rights of an installed package when one is given or taken
+  module _ (made : ℕ → List ℕ → X) (made_is : (uid : ℕ) (text : List ℕ) → as_right (made uid text) ≡ (uid, text)) where
+    pub rights_held : (packages : List Package) (xs : List X) (uid : ℕ) (text : List ℕ) (held : Bool) → is_package_uid packages uid ≡ true
+        → All (IsHeld packages) (map as_right xs) → All (IsHeld packages) (map as_right (with_right as_right made xs uid text held))
+    rights_held packages xs uid text held live all =
+        All-from_recursion (IsHeld packages) (map as_right (with_right as_right made xs uid text held)) (by held (recursion_from_All (IsHeld packages) (map as_right xs) all))
+      where
+        more : (b : Bool) → AllByRecursion (IsHeld packages) (map as_right xs)
+            → AllByRecursion (IsHeld packages) (map as_right (cond b xs (inserted (before_right as_right) (made uid text) xs)))
+        more true each = each
+        more false each =
+            all_map_inserted (before_right as_right) as_right (IsHeld packages) (made uid text) xs
+            (subst (IsHeld packages) (sym (made_is uid text)) live) each
 
-abbrev before_link : Link → Link → Bool
-before_link first second = stands_before first.uid first.host second.uid second.host
+        by : (b : Bool) → AllByRecursion (IsHeld packages) (map as_right xs) → AllByRecursion (IsHeld packages) (map as_right (with_right as_right made xs uid text b))
+        by true each = more (has_right as_right xs uid text) each
+        by false each = all_map_filter (λ (x : X). not (is_right as_right uid text x)) as_right (IsHeld packages) xs each
 
-grant_inserted : (g : Grant) (gs : List Grant) → inserted before_grant g gs ≡ place_grant g gs
-grant_inserted g [] = refl
-grant_inserted g (first ∷ others) = ap (λ l. cond (before_grant g first) (g ∷ first ∷ others) (first ∷ l)) (grant_inserted g others)
+    -- one more where there is room
+    rights_few : (xs : List X) (uid : ℕ) (text : List ℕ) (held : Bool)
+        → (held && not (has_right as_right xs uid text)) && nat_le 256 (count_by (λ (x : X). (as_right x).0 == uid) xs) ≡ false
+        → AreFew (map as_right xs) → AreFew (map as_right (with_right as_right made xs uid text held))
+    rights_few xs uid text false room few = few_left (λ (x : X). not (is_right as_right uid text x)) xs few
+    rights_few xs uid text true room few = by (has_right as_right xs uid text) room
+      where
+        test : X → Bool
+        test x = (as_right x).0 == uid
 
-link_inserted : (l : Link) (ls : List Link) → inserted before_link l ls ≡ place_link l ls
-link_inserted l [] = refl
-link_inserted l (first ∷ others) = ap (λ rest. cond (before_link l first) (l ∷ first ∷ others) (first ∷ rest)) (link_inserted l others)
+        by : (b : Bool) → (true && not b) && nat_le 256 (count_by test xs) ≡ false
+            → AreFew (map as_right (cond b xs (inserted (before_right as_right) (made uid text) xs)))
+        by true e = few
+        by false e =
+            let fits : length (filter test xs) < 256 = subst (λ n. n < 256) (sym (length-filter test xs)) (leb-false 256 (count_by test xs) e) in
+            few_inserted (before_right as_right) (made uid text) xs
+            (subst (λ (r : Right). length (filter (λ (x : X). (as_right x).0 == r.0) xs) < 256) (sym (made_is uid text)) fits) few
 
-abbrev pub of_grant : Grant → ℕ × List ℕ
-of_grant grant = (grant.uid, grant.permission)
+    -- rights stay sound when one is given or taken
+    rights_given : (packages : List Package) (xs : List X) (uid : ℕ) (text : List ℕ) (held : Bool) → is_package_uid packages uid ≡ true
+        → (held && not (has_right as_right xs uid text)) && nat_le 256 (count_by (λ (x : X). (as_right x).0 == uid) xs) ≡ false
+        → AreSoundRights packages (map as_right xs) → AreSoundRights packages (map as_right (with_right as_right made xs uid text held))
+    rights_given packages xs uid text held live room sound = record {
+      order = with_in_order as_right made made_is xs uid text held sound.order;
+      holders = rights_held packages xs uid text held live sound.holders;
+      few = rights_few xs uid text held room sound.few;
+    }
 
-abbrev pub of_link : Link → ℕ × List ℕ
-of_link link = (link.uid, link.host)
+  -- who has a right is installed still when a package goes with its own
+  pub rights_held_without : (packages : List Package) (xs : List X) (uid : ℕ) → All (IsHeld packages) (map as_right xs)
+      → All (IsHeld (without_package packages uid)) (map as_right (rights_without as_right xs uid))
+  rights_held_without packages xs uid held =
+      All-from_recursion (IsHeld (without_package packages uid)) (map as_right (rights_without as_right xs uid))
+      (left_held packages uid xs (recursion_from_All (IsHeld packages) (map as_right xs) held))
 
--- fewer than 256
-below_limit : (n : ℕ) → nat_le 256 n ≡ false → n < 256
-below_limit n is = leb-false 256 n is
+  -- a package goes with its rights
+  rights_gone : (packages : List Package) (xs : List X) (uid : ℕ) → AreSoundRights packages (map as_right xs)
+      → AreSoundRights (without_package packages uid) (map as_right (rights_without as_right xs uid))
+  rights_gone packages xs uid sound = record {
+    order = fewer_in_order as_right (λ (x : X). not ((as_right x).0 == uid)) xs sound.order;
+    holders = rights_held_without packages xs uid sound.holders;
+    few = few_left (λ (x : X). not ((as_right x).0 == uid)) xs sound.few;
+  }
 
-module _ (packages : List Package) where
-  -- an installed package is given a permission, or loses one
-  pub grants_held : (grants : List Grant) (uid : ℕ) (permission : List ℕ) (held : Bool) → is_package_uid packages uid ≡ true
-      → All (IsHeld packages) (rights_granted grants) → All (IsHeld packages) (rights_granted (with_grant grants uid permission held))
-  grants_held grants uid permission held live all =
-      All-from_recursion (IsHeld packages) (rights_granted (with_grant grants uid permission held)) (by held (recursion_from_All (IsHeld packages) (rights_granted grants) all))
-    where
-      more : (b : Bool) → AllByRecursion (IsHeld packages) (rights_granted grants)
-          → AllByRecursion (IsHeld packages) (rights_granted (cond b grants (place_grant (record { uid = uid; permission = permission }) grants)))
-      more true each = each
-      more false each =
-          subst (λ (l : List Grant). AllByRecursion (IsHeld packages) (rights_granted l)) (grant_inserted (record { uid = uid; permission = permission }) grants)
-          (all_map_inserted before_grant of_grant (IsHeld packages) (record { uid = uid; permission = permission }) grants live each)
+-- an installed package is given a permission, or loses one
+pub grants_held : (packages : List Package) (grants : List Grant) (uid : ℕ) (permission : List ℕ) (held : Bool) → is_package_uid packages uid ≡ true
+    → All (IsHeld packages) (rights_granted grants) → All (IsHeld packages) (rights_granted (with_grant grants uid permission held))
+grants_held packages grants uid permission held live all = rights_held of_grant grant_of (λ u t. refl) packages grants uid permission held live all
 
-      by : (b : Bool) → AllByRecursion (IsHeld packages) (rights_granted grants) → AllByRecursion (IsHeld packages) (rights_granted (with_grant grants uid permission b))
-      by true each = more (is_granted grants uid permission) each
-      by false each = all_map_filter (λ (g : Grant). not (is_grant uid permission g)) of_grant (IsHeld packages) grants each
-
-  -- or is approved for a host, or not any more
-  pub links_held : (links : List Link) (uid : ℕ) (host : List ℕ) (approved : Bool) → is_package_uid packages uid ≡ true
-      → All (IsHeld packages) (rights_approved links) → All (IsHeld packages) (rights_approved (with_link links uid host approved))
-  links_held links uid host approved live all =
-      All-from_recursion (IsHeld packages) (rights_approved (with_link links uid host approved)) (by approved (recursion_from_All (IsHeld packages) (rights_approved links) all))
-    where
-      more : (b : Bool) → AllByRecursion (IsHeld packages) (rights_approved links)
-          → AllByRecursion (IsHeld packages) (rights_approved (cond b links (place_link (record { uid = uid; host = host }) links)))
-      more true each = each
-      more false each =
-          subst (λ (l : List Link). AllByRecursion (IsHeld packages) (rights_approved l)) (link_inserted (record { uid = uid; host = host }) links)
-          (all_map_inserted before_link of_link (IsHeld packages) (record { uid = uid; host = host }) links live each)
-
-      by : (b : Bool) → AllByRecursion (IsHeld packages) (rights_approved links) → AllByRecursion (IsHeld packages) (rights_approved (with_link links uid host b))
-      by true each = more (is_linked links uid host) each
-      by false each = all_map_filter (λ (l : Link). not (is_link uid host l)) of_link (IsHeld packages) links each
-
--- a permission more where there is room
-grants_few : (grants : List Grant) (uid : ℕ) (permission : List ℕ) (held : Bool) → too_many_grants grants uid permission held ≡ false
-    → AreFew (rights_granted grants) → AreFew (rights_granted (with_grant grants uid permission held))
-grants_few grants uid permission false room few = few_left of_grant (λ (g : Grant). not (is_grant uid permission g)) grants few
-grants_few grants uid permission true room few = by (is_granted grants uid permission) room
-  where
-    right : Grant
-    right = record { uid = uid; permission = permission }
-
-    by : (b : Bool) → (true && not b) && nat_le 256 (count_by (λ (g : Grant). g.uid == uid) grants) ≡ false
-        → AreFew (rights_granted (cond b grants (place_grant right grants)))
-    by true e = few
-    by false e =
-        let fits : length (filter (λ (g : Grant). g.uid == uid) grants) < 256 = subst (λ n. n < 256) (sym (length-filter (λ (g : Grant). g.uid == uid) grants)) (below_limit _ e) in
-        subst (λ (l : List Grant). AreFew (rights_granted l)) (grant_inserted right grants) (few_inserted of_grant before_grant right grants fits few)
-
--- a host more where there is room
-links_few : (links : List Link) (uid : ℕ) (host : List ℕ) (approved : Bool) → too_many_links links uid host approved ≡ false
-    → AreFew (rights_approved links) → AreFew (rights_approved (with_link links uid host approved))
-links_few links uid host false room few = few_left of_link (λ (l : Link). not (is_link uid host l)) links few
-links_few links uid host true room few = by (is_linked links uid host) room
-  where
-    right : Link
-    right = record { uid = uid; host = host }
-
-    by : (b : Bool) → (true && not b) && nat_le 256 (count_by (λ (l : Link). l.uid == uid) links) ≡ false
-        → AreFew (rights_approved (cond b links (place_link right links)))
-    by true e = few
-    by false e =
-        let fits : length (filter (λ (l : Link). l.uid == uid) links) < 256 = subst (λ n. n < 256) (sym (length-filter (λ (l : Link). l.uid == uid) links)) (below_limit _ e) in
-        subst (λ (l : List Link). AreFew (rights_approved l)) (link_inserted right links) (few_inserted of_link before_link right links fits few)
+-- or is approved for a host, or not any more
+pub links_held : (packages : List Package) (links : List Link) (uid : ℕ) (host : List ℕ) (approved : Bool) → is_package_uid packages uid ≡ true
+    → All (IsHeld packages) (rights_approved links) → All (IsHeld packages) (rights_approved (with_link links uid host approved))
+links_held packages links uid host approved live all = rights_held of_link link_of (λ u t. refl) packages links uid host approved live all
 
 -- grants stay sound when one is given or taken
 pub grants_given : (packages : List Package) (grants : List Grant) (uid : ℕ) (permission : List ℕ) (held : Bool) → is_package_uid packages uid ≡ true
     → too_many_grants grants uid permission held ≡ false → AreSoundRights packages (rights_granted grants) → AreSoundRights packages (rights_granted (with_grant grants uid permission held))
-grants_given packages grants uid permission held live room sound = record {
-  order = grants_in_order grants uid permission held sound.order;
-  holders = grants_held packages grants uid permission held live sound.holders;
-  few = grants_few grants uid permission held room sound.few;
-}
+grants_given packages grants uid permission held live room sound = rights_given of_grant grant_of (λ u t. refl) packages grants uid permission held live room sound
 
 -- and so do links
 pub links_given : (packages : List Package) (links : List Link) (uid : ℕ) (host : List ℕ) (approved : Bool) → is_package_uid packages uid ≡ true
     → too_many_links links uid host approved ≡ false → AreSoundRights packages (rights_approved links) → AreSoundRights packages (rights_approved (with_link links uid host approved))
-links_given packages links uid host approved live room sound = record {
-  order = links_in_order links uid host approved sound.order;
-  holders = links_held packages links uid host approved live sound.holders;
-  few = links_few links uid host approved room sound.few;
-}
+links_given packages links uid host approved live room sound = rights_given of_link link_of (λ u t. refl) packages links uid host approved live room sound
+
+-- a package goes with its grants
+pub grants_gone : (packages : List Package) (grants : List Grant) (uid : ℕ) → AreSoundRights packages (rights_granted grants)
+    → AreSoundRights (without_package packages uid) (rights_granted (grants_without grants uid))
+grants_gone packages grants uid sound = rights_gone of_grant packages grants uid sound
+
+-- and with its links
+pub links_gone : (packages : List Package) (links : List Link) (uid : ℕ) → AreSoundRights packages (rights_approved links)
+    → AreSoundRights (without_package packages uid) (rights_approved (links_without links uid))
+links_gone packages links uid sound = rights_gone of_link packages links uid sound
 
 -- where others are installed too
 pub rights_through : (packages others : List Package) (rights : List (ℕ × List ℕ)) → ((uid : ℕ) → is_package_uid packages uid ≡ true → is_package_uid others uid ≡ true)
     → AreSoundRights packages rights → AreSoundRights others rights
 rights_through packages others rights stays sound = record { order = sound.order; holders = held_through packages others rights stays sound.holders; few = sound.few }
-
--- who has a grant is installed still when a package goes with its grants
-pub grants_held_without : (packages : List Package) (grants : List Grant) (uid : ℕ) → All (IsHeld packages) (rights_granted grants)
-    → All (IsHeld (without_package packages uid)) (rights_granted (grants_without grants uid))
-grants_held_without packages grants uid held =
-    All-from_recursion (IsHeld (without_package packages uid)) (rights_granted (grants_without grants uid))
-    (left_held of_grant packages uid grants (recursion_from_All (IsHeld packages) (rights_granted grants) held))
-
-pub links_held_without : (packages : List Package) (links : List Link) (uid : ℕ) → All (IsHeld packages) (rights_approved links)
-    → All (IsHeld (without_package packages uid)) (rights_approved (links_without links uid))
-links_held_without packages links uid held =
-    All-from_recursion (IsHeld (without_package packages uid)) (rights_approved (links_without links uid))
-    (left_held of_link packages uid links (recursion_from_All (IsHeld packages) (rights_approved links) held))
-
--- a package goes with its grants
-pub grants_gone : (packages : List Package) (grants : List Grant) (uid : ℕ) → AreSoundRights packages (rights_granted grants)
-    → AreSoundRights (without_package packages uid) (rights_granted (grants_without grants uid))
-grants_gone packages grants uid sound = record {
-  order = fewer_grants (λ (g : Grant). not (g.uid == uid)) grants sound.order;
-  holders = grants_held_without packages grants uid sound.holders;
-  few = few_left of_grant (λ (g : Grant). not (g.uid == uid)) grants sound.few;
-}
-
--- and with its links
-pub links_gone : (packages : List Package) (links : List Link) (uid : ℕ) → AreSoundRights packages (rights_approved links)
-    → AreSoundRights (without_package packages uid) (rights_approved (links_without links uid))
-links_gone packages links uid sound = record {
-  order = fewer_links (λ (l : Link). not (l.uid == uid)) links sound.order;
-  holders = links_held_without packages links uid sound.holders;
-  few = few_left of_link (λ (l : Link). not (l.uid == uid)) links sound.few;
-}

@@ -12,13 +12,14 @@ use Rattle.am_model.specs.Sound.{owner_keys}
 use Rattle.am_manifest.specs.Manifests.{IsAppManifest}
 use Rattle.am_manifest.proofs.Soundness.{manifest_sound}
 use Rattle.am_history.specs.State.{State, with_packages}
+use Rattle.am_history.specs.Opening.{before_package}
 use Rattle.am_history.specs.Packages.{no_uid, forget, is_key_used, is_name_used, installed, is_full}
 use Rattle.am_laws_state.specs.Sound.{AreSoundReceivers, IsSoundBoard, IsSoundState}
 use Rattle.am_laws_state.proofs.FreeNames.{name_is_free, key_is_free}
-use Rattle.am_laws_state.proofs.Inserted.{inserted}
+use Rattle.am_model.specs.Lists.{inserted}
 use Rattle.am_laws.proofs.Requests.{Steps}
 use Rattle.am_laws_state.proofs.SoundBoards.{board_stopped, board_without, board_receivers}
-use Rattle.am_laws_state.proofs.SoundPackages.{by_uid, apps_inserted, apps_raised, inserted_last, last_is_new}
+use Rattle.am_laws_state.proofs.SoundPackages.{apps_inserted, apps_raised, inserted_last, last_is_new}
 use Rattle.am_laws_state.proofs.SoundReceivers.{receivers_left, receivers_more}
 use Rattle.am_laws_state.proofs.SoundRights.{rights_through, inserted_stays, grants_given, links_given}
 use Rattle.am_laws.proofs.Tests.{neither}
@@ -42,10 +43,10 @@ module _ (state : State) (sound : IsSoundState state) where
         name = (app.other, name_is_free manifest.«package» state.board.packages name_unused);
         key = key_is_free state.system_key state.root_key key state.board.packages key_unused;
       }) in
-      let placed : IsSoundBoard owners (record (state.board) { packages = inserted by_uid new state.board.packages }) (state.next_uid + 1) state.next_registration = record {
+      let placed : IsSoundBoard owners (record (state.board) { packages = inserted before_package new state.board.packages }) (state.next_uid + 1) state.next_registration = record {
         packages = apps;
-        grants = rights_through state.board.packages (inserted by_uid new state.board.packages) _ (inserted_stays new state.board.packages) sound.grants;
-        links = rights_through state.board.packages (inserted by_uid new state.board.packages) _ (inserted_stays new state.board.packages) sound.links;
+        grants = rights_through state.board.packages (inserted before_package new state.board.packages) _ (inserted_stays new state.board.packages) sound.grants;
+        links = rights_through state.board.packages (inserted before_package new state.board.packages) _ (inserted_stays new state.board.packages) sound.links;
         registered = sound.registered;
       } in
       subst (λ (ps : List Package). IsSoundBoard owners (record (state.board) { packages = ps }) (state.next_uid + 1) state.next_registration)

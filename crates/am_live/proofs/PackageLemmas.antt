@@ -22,7 +22,10 @@ use Rattle.am_types.specs.declared.rule.Rule.TheVariants as rules
 use Rattle.am_keeper.specs.declared.rows.Row.{Row}
 use Rattle.am_keeper.specs.declared.rows.Row.TheVariants as rows
 use Rattle.am_manifest.specs.Manifests.{manifest_of}
-use Rattle.am_model.specs.Boards.{Board, grants_without, links_without, registered_without, with_stopped, is_grant, is_granted, is_link, is_linked, is_package_uid, package_named, place_grant, place_link, stands_before, with_grant, with_link, without_package}
+use Rattle.am_model.specs.Boards.{Board, grants_without, links_without, registered_without, with_stopped, is_granted, is_linked, is_package_uid, package_named, with_grant, with_link, without_package}
+use Rattle.am_model.specs.Lists.{inserted}
+use Rattle.am_model.specs.Rights.{Right, before_right, grant_of, has_right, is_right, link_of, of_grant, of_link, with_right}
+use Rattle.am_model.proofs.Lists.{length_left}
 use Rattle.am_model.specs.Broadcasts.{Broadcasts}
 use Rattle.am_model.specs.Gates.{is_privileged}
 use Rattle.am_model.specs.Pendings.{Pendings, forget_uid as forget_pendings}
@@ -37,7 +40,6 @@ use Rattle.am_history.specs.Packages.{force_stop, forget, grant, grant_to, insta
 use Rattle.am_history.specs.State.{Service, State, with_packages}
 use Rattle.am_history.specs.Steps.{act, at_moment, keeps_row}
 use Rattle.am_laws.proofs.Tests.{both, neither, unless_true}
-use Rattle.am_laws_state.proofs.Inserted.{inserted, length_left}
 use Rattle.am_laws_state.proofs.SoundPackages.{last_is_new}
 use Rattle.am_laws_state.proofs.SoundSteps.{sound_after}
 use Rattle.am_laws_state.specs.Sound.{IsSoundState}
@@ -287,17 +289,6 @@ module _ {X : Type 0} (test : X → Bool) where
           ap (λ (b : Bool). cond (not b) (y ∷ filter (λ (z : X). not (test z)) (inserted before x ys)) (filter (λ (z : X). not (test z)) (inserted before x ys))) both.0
           ∙ ap (λ (l : List X). y ∷ l) (rest both.1)
 
--- a grant and a link in their places
-grant_inserted : (g : Grant) (gs : List Grant) → inserted (λ (first second : Grant). stands_before first.uid first.permission second.uid second.permission) g gs ≡ place_grant g gs
-grant_inserted g [] = refl
-grant_inserted g (first ∷ others) =
-    ap (λ (l : List Grant). cond (stands_before g.uid g.permission first.uid first.permission) (g ∷ first ∷ others) (first ∷ l)) (grant_inserted g others)
-
-link_inserted : (l : Link) (ls : List Link) → inserted (λ (first second : Link). stands_before first.uid first.host second.uid second.host) l ls ≡ place_link l ls
-link_inserted l [] = refl
-link_inserted l (first ∷ others) =
-    ap (λ (rest : List Link). cond (stands_before l.uid l.host first.uid first.host) (l ∷ first ∷ others) (first ∷ rest)) (link_inserted l others)
-
 -- a uid and a text are those of themselves
 itself : (uid : ℕ) (text : List ℕ) → (uid == uid) && is_same text text ≡ true
 itself uid text = ap (λ (b : Bool). b && is_same text text) (nat_eq_equiv.refl uid) ∙ nat_list_eq_equiv.refl text
@@ -306,23 +297,22 @@ itself uid text = ap (λ (b : Bool). b && is_same text text) (nat_eq_equiv.refl 
 pub package_back : (packages : List Package) (new : Package) → is_package_uid packages new.uid ≡ false → without_package (packages ++ new ∷ []) new.uid ≡ packages
 package_back packages new none = last_goes (λ (p : Package). p.uid == new.uid) new packages (nat_eq_equiv.refl new.uid) none
 
--- a grant that wasn't there is taken back
+-- a right that wasn't there is taken back
+right_back : {R : Type 0} (right_of : R → Right) (made : ℕ → List ℕ → R) → ((uid : ℕ) (text : List ℕ) → right_of (made uid text) ≡ (uid, text)) → (rights : List R) (uid : ℕ) (text : List ℕ)
+    → has_right right_of rights uid text ≡ false → with_right right_of made (with_right right_of made rights uid text true) uid text false ≡ rights
+right_back {R} right_of made made_is rights uid text none =
+    ap (λ (b : Bool). with_right right_of made (cond b rights (inserted (before_right right_of) (made uid text) rights)) uid text false) none
+    ∙ placed_goes (is_right right_of uid text) (before_right right_of) (made uid text) rights
+    (subst (λ (r : Right). (r.0 == uid) && is_same r.1 text ≡ true) (sym (made_is uid text)) (itself uid text)) none
+
+-- so is a grant, and a link
 pub grant_back : (grants : List Grant) (uid : ℕ) (permission : List ℕ) → is_granted grants uid permission ≡ false
     → with_grant (with_grant grants uid permission true) uid permission false ≡ grants
-grant_back grants uid permission none =
-    let g : Grant = record { uid = uid; permission = permission } in
-    ap (λ (b : Bool). with_grant (cond b grants (place_grant g grants)) uid permission false) none
-    ∙ ap (λ (gs : List Grant). with_grant gs uid permission false) (sym (grant_inserted g grants))
-    ∙ placed_goes (is_grant uid permission) (λ (first second : Grant). stands_before first.uid first.permission second.uid second.permission) g grants (itself uid permission) none
+grant_back grants uid permission none = right_back of_grant grant_of (λ u t. refl) grants uid permission none
 
--- a link that wasn't there is taken back
 pub link_back : (links : List Link) (uid : ℕ) (host : List ℕ) → is_linked links uid host ≡ false
     → with_link (with_link links uid host true) uid host false ≡ links
-link_back links uid host none =
-    let l : Link = record { uid = uid; host = host } in
-    ap (λ (b : Bool). with_link (cond b links (place_link l links)) uid host false) none
-    ∙ ap (λ (ls : List Link). with_link ls uid host false) (sym (link_inserted l links))
-    ∙ placed_goes (is_link uid host) (λ (first second : Link). stands_before first.uid first.host second.uid second.host) l links (itself uid host) none
+link_back links uid host none = right_back of_link link_of (λ u t. refl) links uid host none
 
 -- what is left of the parts is what is left of the state
 pub forgotten : (old before : State) (uid : ℕ) (board : Board) (queues : Broadcasts) (pending : Pendings) (tasks : Tasks) (services : List Service)

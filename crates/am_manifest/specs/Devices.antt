@@ -11,7 +11,7 @@ use Rattle.am_types.specs.declared.manifest.ManifestFault.TheVariants.{NotToml, 
 use Rattle.am_manifest.specs.declared.device.Owners.{Owners}
 use Rattle.am_manifest.specs.declared.device.Actions.{Actions}
 use Rattle.am_manifest.specs.declared.rights.Rights.{Rights}
-use Rattle.am_uri.specs.declared.text.Form.TheVariants.{AccessKey, PackageName}
+use Rattle.am_uri.specs.declared.text.Form.TheVariants.{AccessKey, Filled, PackageName}
 use Rattle.am_manifest_filters.specs.Reading.{◌>>=◌}
 use Rattle.am_uri.specs.Texts.{is_among, with_text, with_optional}
 use Rattle.am_manifest_filters.specs.Texts.{key_place, within_key}
@@ -96,8 +96,8 @@ owners_in value = do
 -- the actions that are protected, and those that are exempt
 unfoldable pub actions_in : Data → Result Actions ManifestFault
 actions_in value = do
-  «protected» ← texts_at [] (codes "protected") 1024 value
-  exempt ← texts_at [] (codes "exempt") 1024 value
+  «protected» ← texts_at Filled [] (codes "protected") 1024 value
+  exempt ← texts_at Filled [] (codes "exempt") 1024 value
   Ok (record { «protected» = «protected»; exempt = exempt })
 
 -- a device of these parts

@@ -7,8 +7,8 @@ ghost use Rattle.am_manifest_filters.specs.Tables.{each};
 ghost use Rattle.am_manifest.specs.Components.{has_dot, full_class, heading_of, is_activity, mode_named, mode_at, activity_launch, launch_of, exported_of, declared, component_of, component_entry, components_at};
 
 use am_manifest_filters::{
-    Filters, ReadFault, Spot, entry_table, filters_at, optional_text, optional_truth,
-    optional_values, required_text, wrong_kind,
+    Filters, Position, ReadFault, entry_table, filters_at, optional_text, optional_truth,
+    optional_values, read_each, required_text, wrong_kind,
 };
 use am_types::{Decl, Kind, ManifestFault, Mode, Text};
 use am_uri::{Form, starts_with_dot};
@@ -108,13 +108,13 @@ fn mode_at(alloc: Global, at: &str, table: &Value) -> Result<Mode, ReadFault>
     let Some(value) = table.get("launchMode") else {
         return Ok(Mode::Standard);
     };
-    let spot = Spot {
+    let position = Position {
         at,
         key: "launchMode",
         index: None,
     };
     match mode_of(value) {
-        None => Err(wrong_kind(alloc, &spot)),
+        None => Err(wrong_kind(alloc, &position)),
         Some(mode) => Ok(mode),
     }
 }
@@ -255,12 +255,9 @@ fn each_component(
 ) -> Result<Vec<Decl>, ReadFault>
     ensures { GivesBy (λ decls. decls.items) result (each (component_entry kind «package».now at.now key.now) 0 (map view values.now)) }
 {
-    let mut decls = Vec::new(alloc);
-    for (i, value) in values.iter().enumerate() {
-        let decl = component_entry(alloc, kind, package, at, key, i, value)?;
-        decls.push(decl)?;
-    }
-    Ok(decls)
+    read_each(alloc, values, |i, value| {
+        component_entry(alloc, kind, package, at, key, i, value)
+    })
 }
 
 /// The components at a key.

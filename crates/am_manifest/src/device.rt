@@ -10,8 +10,8 @@ ghost use Rattle.am_manifest.specs.Devices.{actions_in, apart, device_in, device
 use crate::manifest::{manifest_in, root_of};
 use crate::rights::rights_in;
 use am_manifest_filters::{
-    ReadFault, Spot, at_most, entry_table, missing, optional_text, optional_values, required_text,
-    texts_at, within_key, wrong_kind,
+    Position, ReadFault, at_most, entry_table, missing, optional_text, optional_values, read_each,
+    required_text, texts_at, within_key, wrong_kind,
 };
 use am_types::{Device, List, Manifest, ManifestFault, Package, Text};
 use am_uri::Form;
@@ -39,16 +39,16 @@ pub struct Actions {
 fn manifest_at(alloc: Global, at: &str, table: &Value) -> Result<Manifest, ReadFault>
     ensures { Gives result (manifest_at at.now (view table.now)) }
 {
-    let spot = Spot {
+    let position = Position {
         at,
         key: "manifest",
         index: None,
     };
     let Some(value) = table.get("manifest") else {
-        return Err(missing(alloc, &spot));
+        return Err(missing(alloc, &position));
     };
     if !value.is_table() {
-        return Err(wrong_kind(alloc, &spot));
+        return Err(wrong_kind(alloc, &position));
     }
     let within = within_key(alloc, at, "manifest")?;
     manifest_in(alloc, within.as_str(), value)
@@ -85,12 +85,7 @@ fn each_package(alloc: Global, values: &[Value]) -> Result<Vec<Package>, ReadFau
     requires { length values.now ≤ 256 }
     ensures { GivesBy (λ packages. packages.items) result (each package_entry 0 (map view values.now)) }
 {
-    let mut packages = Vec::new(alloc);
-    for (i, value) in values.iter().enumerate() {
-        let package = package_entry(alloc, i, value)?;
-        packages.push(package)?;
-    }
-    Ok(packages)
+    read_each(alloc, values, |i, value| package_entry(alloc, i, value))
 }
 
 /// The packages of a device.
@@ -220,8 +215,8 @@ fn owners_in(alloc: Global, table: &Value) -> Result<Owners, ReadFault>
 fn actions_in(alloc: Global, table: &Value) -> Result<Actions, ReadFault>
     ensures { Gives result (actions_in (view table.now)) }
 {
-    let protected = texts_at(alloc, "", "protected", 1024, table)?;
-    let exempt = texts_at(alloc, "", "exempt", 1024, table)?;
+    let protected = texts_at(alloc, Form::Filled, "", "protected", 1024, table)?;
+    let exempt = texts_at(alloc, Form::Filled, "", "exempt", 1024, table)?;
     Ok(Actions {
         protected: List::new(protected),
         exempt: List::new(exempt),
@@ -249,9 +244,13 @@ fn device_in(alloc: Global, table: &Value) -> Result<Device, ReadFault>
     })
 }
 
-/// The bytes as a text, if they are UTF-8.
+/// The bytes as a text.
+///
+/// # Errors
+///
+/// Where they are no UTF-8.
 #[tactic(auto, unfolding(crate::specs::Devices::text_of))]
-fn text_of(bytes: &[u8]) -> Result<&str, ReadFault>
+pub fn text_of(bytes: &[u8]) -> Result<&str, ReadFault>
     ensures { GivesBy (λ text. text.now) result (text_of bytes.now) }
 {
     match std::str::from_utf8(bytes) {

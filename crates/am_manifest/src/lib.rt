@@ -8,6 +8,6 @@ mod print;
 mod rights;
 
 pub use am_manifest_filters::ReadFault;
-pub use device::read_device;
-pub use manifest::read_package;
+pub use device::{read_device, text_of};
+pub use manifest::{read_package, root_of};
 pub use print::print_fault;

@@ -100,6 +100,10 @@ fn manifest_alone(alloc: Global, table: &Value) -> Result<Manifest, ReadFault>
 }
 
 /// The table that a text is, as a TOML document.
+///
+/// # Errors
+///
+/// Where the text is none, and where memory runs out.
 #[tactic(auto, unfolding(crate::specs::Manifests::root_of))]
 pub fn root_of(alloc: Global, text: &str) -> Result<Value, ReadFault>
     ensures { GivesBy (λ root. view root) result (root_of (parse_document text.now)) }

@@ -7,7 +7,8 @@ ghost use Rattle.am_manifest.specs.Rights.{array_key, holder_at, limit_name, mor
 ghost use Rattle.am_manifest.specs.RightsHeld.{place_in, texts_in};
 
 use am_manifest_filters::{
-    ReadFault, Spot, entry_table, missing, optional_values, over_limit, required_text, wrong_kind,
+    Position, ReadFault, entry_table, missing, optional_values, over_limit, required_text,
+    wrong_kind,
 };
 use am_types::{Grant, Link, List, Package, Text};
 use am_uri::Form;
@@ -106,16 +107,16 @@ fn holder_at(
 ) -> Result<usize, ReadFault>
     ensures { Gives result (holder_at (place_in places.now) at.now (view table.now)) }
 {
-    let spot = Spot {
+    let position = Position {
         at,
         key: "package",
         index: None,
     };
     let Some(value) = table.get("package") else {
-        return Err(missing(alloc, &spot));
+        return Err(missing(alloc, &position));
     };
     match place_named(places, value) {
-        None => Err(wrong_kind(alloc, &spot)),
+        None => Err(wrong_kind(alloc, &position)),
         Some(holder) => Ok(holder),
     }
 }

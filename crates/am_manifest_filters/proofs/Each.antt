@@ -23,6 +23,11 @@ regroup : {A : Type 0} (front : List A) (x : A) (read : Result (List A) Manifest
 regroup front x (Ok xs) = ap (λ (ys : List _). Ok ys) (simp append_assoc)
 regroup front x (Err f) = refl
 
+-- nothing was read before
+pub begins : {A : Type 0} (read : Result (List A) ManifestFault) → front_then [] read ≡ read
+begins (Ok xs) = refl
+begins (Err f) = refl
+
 -- the values that are left begin with this one
 left : (i : ℕ) (v : Value) (values : List Value) → i < length values → v ≡ get_or values i v → drop i values ≡ v ∷ drop (i + 1) values
 left i v values lt is = drop_more values i v lt ∙ ap (λ (w : Value). w ∷ drop (i + 1) values) (sym is)

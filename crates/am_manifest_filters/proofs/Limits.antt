@@ -11,8 +11,9 @@ use Rattle.am_types.specs.declared.filter.PathRule.{PathRule}
 use Rattle.am_types.specs.declared.filter.PathRule.TheVariants.{Literal, Prefix, Suffix, Pattern}
 use Rattle.am_model.specs.Sound.{IsSoundFilter}
 use Rattle.am_filter.specs.declared.rows.Paths.{Paths}
-use Rattle.am_filter.specs.declared.rows.Row.{Row}
-use Rattle.am_filter.specs.declared.rows.Rows.{Rows}
+use Rattle.am_filter.specs.declared.rows.DataRow.{DataRow}
+use Rattle.am_filter.specs.declared.rows.DataRows.{DataRows}
+use Rattle.am_uri.specs.declared.text.Form.TheVariants.{Filled}
 use Rattle.am_manifest_filters.specs.declared.filters.Filters.{Filters}
 use Rattle.am_uri.specs.Texts.{sorted_texts, with_optional}
 use Rattle.am_manifest_filters.specs.Tables.{at_most, each, entry_table, entry_text, optional_values, texts_at}
@@ -23,7 +24,7 @@ use Rattle.am_uri.proofs.Order.{length_put, length_sorted}
 use Rattle.am_manifest_filters.proofs.StepsRead.{steps, same, within, each_all, each_length}
 
 -- rows that were merged from so many
-record AreMerged (rows : Rows) (count : ℕ) : Type 0 where
+record AreMerged (rows : DataRows) (count : ℕ) : Type 0 where
   pub schemes : length rows.schemes ≤ count
   pub authorities : length rows.authorities ≤ count
   pub paths : length rows.paths ≤ 4 * count
@@ -47,7 +48,7 @@ length_paths rules paths =
     let three = two ++ listed (option_map Suffix paths.suffix) in
     omega (arith, length_more rules (option_map Literal paths.literal), length_more one (option_map Prefix paths.prefix), length_more two (option_map Suffix paths.suffix), length_more three (option_map Pattern paths.pattern))
 
-merged_from : (rows : Rows) (count : ℕ) (more : List Row) → AreMerged rows count → AreMerged (fold with_row rows more) (count + length more)
+merged_from : (rows : DataRows) (count : ℕ) (more : List DataRow) → AreMerged rows count → AreMerged (fold with_row rows more) (count + length more)
 merged_from rows count [] m = record { schemes = omega (arith, m.schemes); authorities = omega (arith, m.authorities); paths = omega (arith, m.paths); types = omega (arith, m.types) }
 merged_from rows count (row ∷ more) m =
     let next : AreMerged (with_row rows row) (count + 1) = record {
@@ -59,7 +60,7 @@ merged_from rows count (row ∷ more) m =
     let all = merged_from (with_row rows row) (count + 1) more next in
     record { schemes = omega (arith, all.schemes); authorities = omega (arith, all.authorities); paths = omega (arith, all.paths); types = omega (arith, all.types) }
 
-rows_within : (at : List ℕ) (value : Data) (rows : Rows) → rows_at at value ≡ Ok rows → AreMerged rows 64
+rows_within : (at : List ℕ) (value : Data) (rows : DataRows) → rows_at at value ≡ Ok rows → AreMerged rows 64
 unfolding rows_at
 rows_within at value rows h =
     let values = steps (optional_values at (codes "data") value) _ rows h in
@@ -69,7 +70,7 @@ rows_within at value rows h =
     let long = each_length (row_entry at) 0 values.value read.value read.is in
     let none : AreMerged no_rows 0 = record { schemes = omega arith; authorities = omega arith; paths = omega arith; types = omega arith } in
     let all = merged_from no_rows 0 read.value none in
-    subst (λ (r : Rows). AreMerged r 64) (same (fold with_row no_rows read.value) rows read.then) (record {
+    subst (λ (r : DataRows). AreMerged r 64) (same (fold with_row no_rows read.value) rows read.then) (record {
       schemes = omega (arith, all.schemes, many, long);
       authorities = omega (arith, all.authorities, many, long);
       paths = omega (arith, all.paths, many, long);
@@ -79,11 +80,11 @@ rows_within at value rows h =
 texts_within : (at key : List ℕ) (value : Data) (texts : List (List ℕ)) → sorted_at at key value ≡ Ok texts → length texts ≤ 64
 unfolding sorted_at texts_at
 texts_within at key value texts h =
-    let read = steps (texts_at at key 64 value) _ texts h in
+    let read = steps (texts_at Filled at key 64 value) _ texts h in
     let values = steps (optional_values at key value) _ read.value read.is in
     let few = steps (at_most 64 (codes "list") (length values.value)) _ read.value values.then in
     let many = within 64 (codes "list") (length values.value) few.value few.is in
-    let long = each_length (entry_text at key) 0 values.value read.value few.then in
+    let long = each_length (entry_text Filled at key) 0 values.value read.value few.then in
     let put = length_sorted [] read.value in
     subst (λ (ts : List (List ℕ)). length ts ≤ 64) (same (sorted_texts read.value) texts read.then) (omega (arith, many, long, put))
 

@@ -4,6 +4,7 @@ use Rattle.toml.specs.Data.{Data, get, as_integer}
 use Rattle.am_types.specs.declared.filter.Filter.{Filter}
 use Rattle.am_types.specs.declared.manifest.ManifestFault.{ManifestFault}
 use Rattle.am_types.specs.declared.manifest.ManifestFault.TheVariants.{WrongKind, BadPriority}
+use Rattle.am_uri.specs.declared.text.Form.TheVariants.{Filled}
 use Rattle.am_manifest_filters.specs.declared.filters.Filters.{Filters}
 use Rattle.am_manifest_filters.specs.Reading.{◌>>=◌}
 use Rattle.am_uri.specs.Texts.{sorted_texts}
@@ -31,7 +32,7 @@ priority_at at value = optional_priority_in (key_place at (codes "priority")) (g
 -- the texts of a list of a filter, of which there are at most 64, sorted
 unfoldable pub sorted_at : List ℕ → List ℕ → Data → Result (List (List ℕ)) ManifestFault
 sorted_at at key value = do
-  texts ← texts_at at key 64 value
+  texts ← texts_at Filled at key 64 value
   Ok (sorted_texts texts)
 
 -- a filter

@@ -1,23 +1,23 @@
 -- The data rows of a filter.
-use Rattle.std.specs.Prelude.{ℕ, ℤ, pos, negsuc, Bool, not, nat_lt, codes, List, [], ◌∷◌, ◌++◌, length, fold, if◌then◌else◌, Option, Some, None, option_map, option_and_then, Result, Ok, Err}
-use Rattle.std.specs.List.{list_any, find}
+use Rattle.std.specs.Prelude.{ℕ, ℤ, pos, negsuc, Bool, nat_lt, codes, List, [], ◌∷◌, length, fold, if◌then◌else◌, Option, Some, None, option_map, Result, Ok, Err}
+use Rattle.std.specs.List.{list_any}
 use Rattle.std.specs.Str.{bytes_eq}
-use Rattle.toml.specs.Data.{Data, Members, no_members, member, get, as_integer, as_table}
+use Rattle.toml.specs.Data.{Data, get, as_integer}
 use Rattle.am_types.specs.declared.filter.Authority.{Authority}
 use Rattle.am_types.specs.declared.uri.Mime.{Mime}
 use Rattle.am_types.specs.declared.uri.MimeFault.{MimeFault}
 use Rattle.am_types.specs.declared.manifest.ManifestFault.{ManifestFault}
-use Rattle.am_types.specs.declared.manifest.ManifestFault.TheVariants.{WrongKind, BadUri, BadMime, OverLimit, LeftOut}
+use Rattle.am_types.specs.declared.manifest.ManifestFault.TheVariants.{WrongKind, BadUri, BadMime, OverLimit}
 use Rattle.am_filter.specs.declared.rows.Paths.{Paths}
-use Rattle.am_filter.specs.declared.rows.Row.{Row}
-use Rattle.am_filter.specs.declared.rows.Rows.{Rows}
+use Rattle.am_filter.specs.declared.rows.DataRow.{DataRow}
+use Rattle.am_filter.specs.declared.rows.DataRows.{DataRows}
 use Rattle.am_uri.specs.declared.text.Form.TheVariants.{Filled}
 use Rattle.am_manifest_filters.specs.Reading.{◌>>=◌}
 use Rattle.am_model.specs.Uris.{is_scheme}
 use Rattle.am_model.specs.MimeTypes.{mime_of}
 use Rattle.am_manifest_filters.specs.Texts.{key_place}
 use Rattle.am_filter.specs.Rows.{with_row, no_rows}
-use Rattle.am_manifest_filters.specs.Tables.{optional_text, optional_values, at_most, each, entry_table}
+use Rattle.am_manifest_filters.specs.Tables.{optional_text, optional_values, at_most, each, entry_table, only_keys}
 
 -- a scheme, unless it is none
 unfoldable pub scheme_in : List ℕ → Option (List ℕ) → Result (Option (List ℕ)) ManifestFault
@@ -89,7 +89,7 @@ paths_at at value = do
   Ok (record { literal = literal; prefix = prefix; suffix = suffix; pattern = pattern })
 
 -- a data row
-unfoldable pub row_of : List ℕ → Data → Result Row ManifestFault
+unfoldable pub row_of : List ℕ → Data → Result DataRow ManifestFault
 row_of at value = do
   scheme ← scheme_at at value
   authority ← authority_at at value
@@ -102,33 +102,15 @@ abbrev pub is_row_key : List ℕ → Bool
 is_row_key key =
     list_any (bytes_eq key) (codes "scheme" ∷ codes "host" ∷ codes "port" ∷ codes "path" ∷ codes "pathPrefix" ∷ codes "pathSuffix" ∷ codes "pathPattern" ∷ codes "mimeType" ∷ [])
 
--- the keys of a table, which ascend by bytes
-abbrev pub keys_in : Members → List (List ℕ)
-keys_in no_members = []
-keys_in (member key value members) = key ∷ keys_in members
-
--- the least key that a row may not have
-abbrev pub unlisted : Members → Option (List ℕ)
-unlisted members = find (λ key. not (is_row_key key)) (keys_in members)
-
--- no key, unless there is one that a row may not have
-unfoldable pub none_left_out : List ℕ → Option (List ℕ) → Result (Unit {0}) ManifestFault
-none_left_out at None = Ok tt
-none_left_out at (Some key) = Err (LeftOut (key_place at key))
-
--- a row has no key but its own
-unfoldable pub only_row_keys : List ℕ → Data → Result (Unit {0}) ManifestFault
-only_row_keys at value = none_left_out at (option_and_then unlisted (as_table value))
-
 -- an entry of the data rows of a filter
-unfoldable pub row_entry : List ℕ → ℕ → Data → Result Row ManifestFault
+unfoldable pub row_entry : List ℕ → ℕ → Data → Result DataRow ManifestFault
 row_entry at i value = do
   within ← entry_table at (codes "data") i value
-  known ← only_row_keys within value
+  known ← only_keys is_row_key within value
   row_of within value
 
 -- the data rows of a filter, of which there are at most 64, merged
-unfoldable pub rows_at : List ℕ → Data → Result Rows ManifestFault
+unfoldable pub rows_at : List ℕ → Data → Result DataRows ManifestFault
 rows_at at value = do
   values ← optional_values at (codes "data") value
   few ← at_most 64 (codes "list") (length values)

@@ -1,10 +1,10 @@
 -- What stands at the keys of a TOML table. The places of its keys begin with `at`.
-use Rattle.std.specs.Prelude.{ℕ, ◌+◌, Bool, codes, List, [], ◌∷◌, length, nat_lt, is_some, if◌then◌else◌, Option, Some, None, Result, Ok, Err}
-use Rattle.toml.specs.Data.{Data, Items, no_items, item, get, as_str, as_bool, as_array, as_table}
+use Rattle.std.specs.Prelude.{ℕ, ◌+◌, Bool, not, codes, List, [], ◌∷◌, length, nat_lt, is_some, if◌then◌else◌, Option, Some, None, option_and_then, Result, Ok, Err}
+use Rattle.std.specs.List.{find}
+use Rattle.toml.specs.Data.{Data, Items, no_items, item, Members, no_members, member, get, as_str, as_bool, as_array, as_table}
 use Rattle.am_types.specs.declared.manifest.ManifestFault.{ManifestFault}
-use Rattle.am_types.specs.declared.manifest.ManifestFault.TheVariants.{Missing, WrongKind, OverLimit}
+use Rattle.am_types.specs.declared.manifest.ManifestFault.TheVariants.{Missing, WrongKind, OverLimit, LeftOut}
 use Rattle.am_uri.specs.declared.text.Form.{Form}
-use Rattle.am_uri.specs.declared.text.Form.TheVariants.{Filled}
 use Rattle.am_manifest_filters.specs.Reading.{◌>>=◌}
 use Rattle.am_manifest_filters.specs.Texts.{text_in, key_place, entry_place, within_entry}
 
@@ -73,18 +73,36 @@ each read i (value ∷ values) = do
   others ← each read (i + 1) values
   Ok (first ∷ others)
 
+-- the keys of a table, which ascend by bytes
+abbrev pub keys_in : Members → List (List ℕ)
+keys_in no_members = []
+keys_in (member key value members) = key ∷ keys_in members
+
+-- the least key that isn't known
+abbrev pub unlisted : (List ℕ → Bool) → Members → Option (List ℕ)
+unlisted is_known members = find (λ key. not (is_known key)) (keys_in members)
+
+-- no key, unless there is one that is left out
+unfoldable pub none_left_out : List ℕ → Option (List ℕ) → Result (Unit {0}) ManifestFault
+none_left_out at None = Ok tt
+none_left_out at (Some key) = Err (LeftOut (key_place at key))
+
+-- a table has no key but those that are known
+unfoldable pub only_keys : (List ℕ → Bool) → List ℕ → Data → Result (Unit {0}) ManifestFault
+only_keys is_known at value = none_left_out at (option_and_then (unlisted is_known) (as_table value))
+
 -- what the places begin with in an entry, which must be a table
 unfoldable pub entry_table : List ℕ → List ℕ → ℕ → Data → Result (List ℕ) ManifestFault
 entry_table at key i value =
     if is_some (as_table value) then Ok (within_entry at key i) else Err (WrongKind (entry_place at key i))
 
--- an entry that is a text
-unfoldable pub entry_text : List ℕ → List ℕ → ℕ → Data → Result (List ℕ) ManifestFault
-entry_text at key i value = text_in Filled (entry_place at key i) (as_str value)
+-- an entry that is a text of the form
+unfoldable pub entry_text : Form → List ℕ → List ℕ → ℕ → Data → Result (List ℕ) ManifestFault
+entry_text form at key i value = text_in form (entry_place at key i) (as_str value)
 
 -- the texts of the array at a key, which has at most so many
-unfoldable pub texts_at : List ℕ → List ℕ → ℕ → Data → Result (List (List ℕ)) ManifestFault
-texts_at at key limit value = do
+unfoldable pub texts_at : Form → List ℕ → List ℕ → ℕ → Data → Result (List (List ℕ)) ManifestFault
+texts_at form at key limit value = do
   values ← optional_values at key value
   few ← at_most limit (codes "list") (length values)
-  each (entry_text at key) 0 values
+  each (entry_text form at key) 0 values

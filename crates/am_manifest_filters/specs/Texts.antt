@@ -5,7 +5,7 @@ use Rattle.am_types.specs.declared.manifest.ManifestFault.{ManifestFault}
 use Rattle.am_types.specs.declared.manifest.ManifestFault.TheVariants.{WrongKind, OverLimit}
 use Rattle.am_uri.specs.declared.text.Form.{Form}
 use Rattle.am_uri.specs.Texts.{fits}
-use Rattle.am_manifest_filters.specs.declared.place.Spot.{Spot}
+use Rattle.am_manifest_filters.specs.declared.place.Position.{Position}
 
 -- a text of the form, of at most 1,024 bytes; none stands for a value that is no text
 unfoldable pub text_in : Form → List ℕ → Option (List ℕ) → Result (List ℕ) ManifestFault
@@ -30,10 +30,10 @@ within_entry at key i = at ++ key ++ codes "[" ++ decimal i ++ codes "]."
 abbrev pub within_key : List ℕ → List ℕ → List ℕ
 within_key at key = at ++ key ++ codes "."
 
--- the place that a spot names
+-- the place that a position names
 abbrev pub place_at : List ℕ → List ℕ → Option ℕ → List ℕ
 place_at at key None = key_place at key
 place_at at key (Some i) = entry_place at key i
 
-abbrev pub place_of : Spot → List ℕ
-place_of spot = place_at spot.at.now spot.key.now spot.index
+abbrev pub place_of : Position → List ℕ
+place_of position = place_at position.at.now position.key.now position.index

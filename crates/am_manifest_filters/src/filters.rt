@@ -6,11 +6,11 @@ ghost use Rattle.am_manifest_filters.specs.Tables.{each};
 ghost use Rattle.am_manifest_filters.specs.Filters.{priority_at, sorted_at, filter_of, filter_entry, has_action, filters_at};
 
 use crate::ReadFault;
-use crate::place::{Spot, wrong_kind};
+use crate::place::{Position, wrong_kind};
 use crate::rows::rows_at;
-use crate::tables::{at_most, entry_table, optional_values, texts_at};
+use crate::tables::{at_most, entry_table, optional_values, read_each, texts_at};
 use am_types::{Filter, List, ManifestFault, Text};
-use am_uri::sorted;
+use am_uri::{Form, sorted};
 use std::alloc::{AllocError, Global};
 use toml::Value;
 
@@ -32,12 +32,12 @@ fn priority_at(alloc: Global, at: &str, table: &Value) -> Result<i32, ReadFault>
         return Ok(0);
     };
     let Some(number) = value.as_integer() else {
-        let spot = Spot {
+        let position = Position {
             at,
             key: "priority",
             index: None,
         };
-        return Err(wrong_kind(alloc, &spot));
+        return Err(wrong_kind(alloc, &position));
     };
     if number < -2_147_483_648 {
         return Err(ReadFault::Manifest(ManifestFault::BadPriority));
@@ -53,7 +53,7 @@ fn priority_at(alloc: Global, at: &str, table: &Value) -> Result<i32, ReadFault>
 fn sorted_at(alloc: Global, at: &str, key: &str, table: &Value) -> Result<List<Text>, ReadFault>
     ensures { Gives result (sorted_at at.now key.now (view table.now)) }
 {
-    let texts = texts_at(alloc, at, key, 64, table)?;
+    let texts = texts_at(alloc, Form::Filled, at, key, 64, table)?;
     Ok(sorted(alloc, texts)?)
 }
 
@@ -90,12 +90,7 @@ fn filter_entry(alloc: Global, at: &str, i: usize, value: &Value) -> Result<Filt
 fn each_filter(alloc: Global, at: &str, values: &[Value]) -> Result<Vec<Filter>, ReadFault>
     ensures { GivesBy (λ filters. filters.items) result (each (filter_entry at.now) 0 (map view values.now)) }
 {
-    let mut filters = Vec::new(alloc);
-    for (i, value) in values.iter().enumerate() {
-        let filter = filter_entry(alloc, at, i, value)?;
-        filters.push(filter)?;
-    }
-    Ok(filters)
+    read_each(alloc, values, |i, value| filter_entry(alloc, at, i, value))
 }
 
 fn has_action(filter: &Filter) -> bool

@@ -11,7 +11,9 @@ mod tables;
 
 pub use fault::ReadFault;
 pub use filters::{Filters, filters_at};
-pub use place::{Spot, missing, over_limit, within_key, wrong_kind};
+pub use place::{Position, missing, over_limit, within_key, wrong_kind};
+pub use rows::{mime_at, scheme_at};
 pub use tables::{
-    at_most, entry_table, optional_text, optional_truth, optional_values, required_text, texts_at,
+    at_most, entry_table, only_keys, optional_text, optional_truth, optional_values, read_each,
+    required_text, texts_at,
 };

@@ -10,7 +10,7 @@ use std::alloc::{AllocError, Global};
 
 /// A key of a table, or an entry of the array at that key: what a fault's place names.
 #[derive(Clone, Copy)]
-pub struct Spot<'a> {
+pub struct Position<'a> {
     /// What the places of the table's keys begin with.
     pub at: &'a str,
     /// The key, as it is written.
@@ -20,12 +20,12 @@ pub struct Spot<'a> {
 }
 
 /// The place as it is printed, as `activity[0].name`.
-fn place(alloc: Global, spot: &Spot) -> Result<Text, AllocError>
-    ensures { IfOk result (λ place. place ≡ place_of spot.now) }
+fn place(alloc: Global, position: &Position) -> Result<Text, AllocError>
+    ensures { IfOk result (λ place. place ≡ place_of position.now) }
 {
-    match spot.index {
-        None => key_place(alloc, spot.at, spot.key),
-        Some(i) => entry_place(alloc, spot.at, spot.key, i),
+    match position.index {
+        None => key_place(alloc, position.at, position.key),
+        Some(i) => entry_place(alloc, position.at, position.key, i),
     }
 }
 
@@ -60,50 +60,50 @@ pub fn within_key(alloc: Global, at: &str, key: &str) -> Result<Text, AllocError
 }
 
 /// That a key must be there and isn't, or that memory ran out while its place was written.
-pub fn missing(alloc: Global, spot: &Spot) -> ReadFault
-    ensures { IsFault result (Missing (place_of spot.now)) }
+pub fn missing(alloc: Global, position: &Position) -> ReadFault
+    ensures { IsFault result (Missing (place_of position.now)) }
 {
-    match place(alloc, spot) {
+    match place(alloc, position) {
         Ok(place) => ReadFault::Manifest(ManifestFault::Missing(place)),
         Err(_) => ReadFault::NoMemory,
     }
 }
 
 /// That a value is of another kind or out of its range, or that memory ran out while its place was written.
-pub fn wrong_kind(alloc: Global, spot: &Spot) -> ReadFault
-    ensures { IsFault result (WrongKind (place_of spot.now)) }
+pub fn wrong_kind(alloc: Global, position: &Position) -> ReadFault
+    ensures { IsFault result (WrongKind (place_of position.now)) }
 {
-    match place(alloc, spot) {
+    match place(alloc, position) {
         Ok(place) => ReadFault::Manifest(ManifestFault::WrongKind(place)),
         Err(_) => ReadFault::NoMemory,
     }
 }
 
 /// That a text is no scheme.
-pub fn bad_uri(alloc: Global, spot: &Spot) -> ReadFault
-    ensures { IsFault result (BadUri (place_of spot.now)) }
+pub fn bad_uri(alloc: Global, position: &Position) -> ReadFault
+    ensures { IsFault result (BadUri (place_of position.now)) }
 {
-    match place(alloc, spot) {
+    match place(alloc, position) {
         Ok(place) => ReadFault::Manifest(ManifestFault::BadUri(place)),
         Err(_) => ReadFault::NoMemory,
     }
 }
 
 /// That a text is no MIME type.
-pub fn bad_mime(alloc: Global, spot: &Spot) -> ReadFault
-    ensures { IsFault result (BadMime (place_of spot.now)) }
+pub fn bad_mime(alloc: Global, position: &Position) -> ReadFault
+    ensures { IsFault result (BadMime (place_of position.now)) }
 {
-    match place(alloc, spot) {
+    match place(alloc, position) {
         Ok(place) => ReadFault::Manifest(ManifestFault::BadMime(place)),
         Err(_) => ReadFault::NoMemory,
     }
 }
 
 /// That a key is none that is read.
-pub fn left_out(alloc: Global, spot: &Spot) -> ReadFault
-    ensures { IsFault result (LeftOut (place_of spot.now)) }
+pub fn left_out(alloc: Global, position: &Position) -> ReadFault
+    ensures { IsFault result (LeftOut (place_of position.now)) }
 {
-    match place(alloc, spot) {
+    match place(alloc, position) {
         Ok(place) => ReadFault::Manifest(ManifestFault::LeftOut(place)),
         Err(_) => ReadFault::NoMemory,
     }

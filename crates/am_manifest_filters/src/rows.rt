@@ -1,19 +1,19 @@
 //! The data rows of a filter.
-ghost use Rattle.std.specs.Prelude.{◌≡◌, IfOk, codes, map};
-ghost use Rattle.toml.specs.View.{table_view, view};
+ghost use Rattle.std.specs.Prelude.{◌≡◌, codes, map};
+ghost use Rattle.toml.specs.View.{view};
 ghost use Rattle.am_manifest_filters.specs.Reading.{Gives, GivesBy};
 ghost use Rattle.am_manifest_filters.specs.Texts.{key_place};
-ghost use Rattle.am_manifest_filters.specs.Tables.{each};
-ghost use Rattle.am_manifest_filters.specs.Rows.{authority_at, is_row_key, mime_at, mime_in, only_row_keys, paths_at, pattern_at, pattern_in, port_at, row_entry, row_of, rows_at, scheme_at, scheme_in, unlisted};
+ghost use Rattle.am_manifest_filters.specs.Tables.{each, only_keys};
+ghost use Rattle.am_manifest_filters.specs.Rows.{authority_at, is_row_key, mime_at, mime_in, paths_at, pattern_at, pattern_in, port_at, row_entry, row_of, rows_at, scheme_at, scheme_in};
 
 use crate::ReadFault;
-use crate::place::{Spot, bad_mime, bad_uri, left_out, over_limit, wrong_kind};
-use crate::tables::{at_most, entry_table, optional_text, optional_values};
-use am_filter::{Paths, Row, Rows, merge_rows};
+use crate::place::{Position, bad_mime, bad_uri, over_limit, wrong_kind};
+use crate::tables::{at_most, entry_table, only_keys, optional_text, optional_values, read_each};
+use am_filter::{DataRow, DataRows, Paths, merge_rows};
 use am_types::{Authority, Glob, Mime, MimeFault, Text};
 use am_uri::{Form, is_scheme, parse_mime};
-use std::alloc::{AllocError, Global};
-use toml::{Table, Value};
+use std::alloc::Global;
+use toml::Value;
 
 /// The scheme, unless it is none.
 #[tactic(auto, unfolding(crate::specs::Rows::scheme_in))]
@@ -24,19 +24,23 @@ fn scheme_in(alloc: Global, at: &str, text: Option<Text>) -> Result<Option<Text>
         return Ok(None);
     };
     if !is_scheme(text.as_str()) {
-        let spot = Spot {
+        let position = Position {
             at,
             key: "scheme",
             index: None,
         };
-        return Err(bad_uri(alloc, &spot));
+        return Err(bad_uri(alloc, &position));
     }
     Ok(Some(text))
 }
 
 /// The scheme of a row.
+///
+/// # Errors
+///
+/// Where the value is no text or an empty one, where it is too long, and then where it is no scheme.
 #[tactic(auto, unfolding(crate::specs::Rows::scheme_at))]
-fn scheme_at(alloc: Global, at: &str, table: &Value) -> Result<Option<Text>, ReadFault>
+pub fn scheme_at(alloc: Global, at: &str, table: &Value) -> Result<Option<Text>, ReadFault>
     ensures { Gives result (scheme_at at.now (view table.now)) }
 {
     let text = optional_text(alloc, Form::Filled, at, "scheme", table)?;
@@ -55,19 +59,23 @@ fn mime_in(alloc: Global, at: &str, text: Option<Text>) -> Result<Option<Mime>, 
         Ok(mime) => Ok(Some(mime)),
         Err(MimeFault::NoMemory) => Err(ReadFault::NoMemory),
         Err(MimeFault::NoSlash | MimeFault::EmptyPart | MimeFault::BadCharacter) => {
-            let spot = Spot {
+            let position = Position {
                 at,
                 key: "mimeType",
                 index: None,
             };
-            Err(bad_mime(alloc, &spot))
+            Err(bad_mime(alloc, &position))
         }
     }
 }
 
 /// The type of a row.
+///
+/// # Errors
+///
+/// Where the value is no text or an empty one, where it is too long, and then where it is no type.
 #[tactic(auto, unfolding(crate::specs::Rows::mime_at))]
-fn mime_at(alloc: Global, at: &str, table: &Value) -> Result<Option<Mime>, ReadFault>
+pub fn mime_at(alloc: Global, at: &str, table: &Value) -> Result<Option<Mime>, ReadFault>
     ensures { Gives result (mime_at at.now (view table.now)) }
 {
     let text = optional_text(alloc, Form::Filled, at, "mimeType", table)?;
@@ -82,19 +90,19 @@ fn port_at(alloc: Global, at: &str, table: &Value) -> Result<Option<u32>, ReadFa
     let Some(value) = table.get("port") else {
         return Ok(None);
     };
-    let spot = Spot {
+    let position = Position {
         at,
         key: "port",
         index: None,
     };
     let Some(number) = value.as_integer() else {
-        return Err(wrong_kind(alloc, &spot));
+        return Err(wrong_kind(alloc, &position));
     };
     if number < 0 {
-        return Err(wrong_kind(alloc, &spot));
+        return Err(wrong_kind(alloc, &position));
     }
     if number > 99_999 {
-        return Err(wrong_kind(alloc, &spot));
+        return Err(wrong_kind(alloc, &position));
     }
     Ok(Some(number as u32))
 }
@@ -154,14 +162,14 @@ fn paths_at(alloc: Global, at: &str, table: &Value) -> Result<Paths, ReadFault>
 
 /// The data row in a table.
 #[tactic(auto, unfolding(crate::specs::Rows::row_of))]
-fn row_of(alloc: Global, at: &str, table: &Value) -> Result<Row, ReadFault>
+fn row_of(alloc: Global, at: &str, table: &Value) -> Result<DataRow, ReadFault>
     ensures { Gives result (row_of at.now (view table.now)) }
 {
     let scheme = scheme_at(alloc, at, table)?;
     let authority = authority_at(alloc, at, table)?;
     let paths = paths_at(alloc, at, table)?;
     let mime = mime_at(alloc, at, table)?;
-    Ok(Row {
+    Ok(DataRow {
         scheme,
         authority,
         paths,
@@ -186,41 +194,16 @@ fn is_row_key(key: &str) -> bool
     )
 }
 
-/// The least key that a row may not have.
-fn unlisted(alloc: Global, table: &Table) -> Result<Option<Text>, AllocError>
-    ensures { IfOk result (λ key. key ≡ unlisted (table_view table.now)) }
-{
-    for key in table.keys() {
-        let key = key.as_str();
-        if !is_row_key(key) {
-            return Ok(Some(Text::of(alloc, key)?));
-        }
-    }
-    Ok(None)
-}
-
 /// Refuses a key that a row may not have.
-#[tactic(auto, unfolding(crate::specs::Rows::only_row_keys, crate::specs::Rows::none_left_out))]
 fn only_row_keys(alloc: Global, at: &str, value: &Value) -> Result<(), ReadFault>
-    ensures { Gives result (only_row_keys at.now (view value.now)) }
+    ensures { Gives result (only_keys is_row_key at.now (view value.now)) }
 {
-    let Some(table) = value.as_table() else {
-        return Ok(());
-    };
-    let Some(key) = unlisted(alloc, table)? else {
-        return Ok(());
-    };
-    let spot = Spot {
-        at,
-        key: key.as_str(),
-        index: None,
-    };
-    Err(left_out(alloc, &spot))
+    only_keys(alloc, at, value, |key| is_row_key(key))
 }
 
 /// An entry of the data rows of a filter.
 #[tactic(auto, unfolding(crate::specs::Rows::row_entry))]
-fn row_entry(alloc: Global, at: &str, i: usize, value: &Value) -> Result<Row, ReadFault>
+fn row_entry(alloc: Global, at: &str, i: usize, value: &Value) -> Result<DataRow, ReadFault>
     ensures { Gives result (row_entry at.now i (view value.now)) }
 {
     let within = entry_table(alloc, at, "data", i, value)?;
@@ -229,20 +212,15 @@ fn row_entry(alloc: Global, at: &str, i: usize, value: &Value) -> Result<Row, Re
 }
 
 /// Each value as a data row.
-fn each_row(alloc: Global, at: &str, values: &[Value]) -> Result<Vec<Row>, ReadFault>
+fn each_row(alloc: Global, at: &str, values: &[Value]) -> Result<Vec<DataRow>, ReadFault>
     ensures { GivesBy (λ rows. rows.items) result (each (row_entry at.now) 0 (map view values.now)) }
 {
-    let mut rows = Vec::new(alloc);
-    for (i, value) in values.iter().enumerate() {
-        let row = row_entry(alloc, at, i, value)?;
-        rows.push(row)?;
-    }
-    Ok(rows)
+    read_each(alloc, values, |i, value| row_entry(alloc, at, i, value))
 }
 
 /// The data rows of a filter, merged.
 #[tactic(auto, unfolding(crate::specs::Rows::rows_at))]
-pub fn rows_at(alloc: Global, at: &str, table: &Value) -> Result<Rows, ReadFault>
+pub fn rows_at(alloc: Global, at: &str, table: &Value) -> Result<DataRows, ReadFault>
     ensures { Gives result (rows_at at.now (view table.now)) }
 {
     let values = optional_values(alloc, at, "data", table)?;

@@ -1,17 +1,18 @@
 //! What stands at the keys of a table. The places of its keys begin with `at`.
-ghost use Rattle.std.specs.Prelude.{◌≡◌, Some, map};
-ghost use Rattle.toml.specs.Data.{as_str};
-ghost use Rattle.toml.specs.View.{view};
+ghost use Rattle.std.specs.Prelude.{◌≡◌, ◌<◌, ℕ, Bool, IfOk, List, Result, Some, length, map};
+ghost use Rattle.am_types.specs.declared.manifest.ManifestFault.{ManifestFault};
+ghost use Rattle.toml.specs.Data.{Data, as_str};
+ghost use Rattle.toml.specs.View.{table_view, view};
 ghost use Rattle.am_manifest_filters.specs.Reading.{Gives, GivesBy};
 ghost use Rattle.am_manifest_filters.specs.Texts.{place_of, text_in};
-ghost use Rattle.am_manifest_filters.specs.Tables.{required_text, optional_text, optional_truth, optional_values, at_most, each, entry_table, entry_text, texts_at};
+ghost use Rattle.am_manifest_filters.specs.Tables.{required_text, optional_text, optional_truth, optional_values, at_most, each, entry_table, entry_text, only_keys, texts_at, unlisted};
 
 use crate::ReadFault;
-use crate::place::{Spot, missing, over_limit, within, wrong_kind};
+use crate::place::{Position, left_out, missing, over_limit, within, wrong_kind};
 use am_types::Text;
 use am_uri::Form;
-use std::alloc::Global;
-use toml::Value;
+use std::alloc::{AllocError, Global};
+use toml::{Table, Value};
 
 /// The text of this form at a key that must be there, of at most 1,024 bytes.
 ///
@@ -28,14 +29,14 @@ pub fn required_text(
 ) -> Result<Text, ReadFault>
     ensures { Gives result (required_text form at.now key.now (view table.now)) }
 {
-    let spot = Spot {
+    let position = Position {
         at,
         key,
         index: None,
     };
     match table.get(key) {
-        None => Err(missing(alloc, &spot)),
-        Some(value) => text_in(alloc, form, &spot, value),
+        None => Err(missing(alloc, &position)),
+        Some(value) => text_in(alloc, form, &position, value),
     }
 }
 
@@ -57,33 +58,33 @@ pub fn optional_text(
     let Some(value) = table.get(key) else {
         return Ok(None);
     };
-    let spot = Spot {
+    let position = Position {
         at,
         key,
         index: None,
     };
-    let text = text_in(alloc, form, &spot, value)?;
+    let text = text_in(alloc, form, &position, value)?;
     Ok(Some(text))
 }
 
 /// The text that a value is.
 #[tactic(auto, unfolding(crate::specs::Texts::text_in))]
-fn text_in(alloc: Global, form: Form, spot: &Spot, value: &Value) -> Result<Text, ReadFault>
-    ensures { Gives result (text_in form (place_of spot.now) (as_str (view value.now))) }
+fn text_in(alloc: Global, form: Form, position: &Position, value: &Value) -> Result<Text, ReadFault>
+    ensures { Gives result (text_in form (place_of position.now) (as_str (view value.now))) }
 {
     match value.as_str() {
-        None => Err(wrong_kind(alloc, spot)),
-        Some(text) => fitting(alloc, form, spot, text),
+        None => Err(wrong_kind(alloc, position)),
+        Some(text) => fitting(alloc, form, position, text),
     }
 }
 
 /// The text, if it may stand there.
 #[tactic(auto, unfolding(crate::specs::Texts::text_in))]
-fn fitting(alloc: Global, form: Form, spot: &Spot, text: &str) -> Result<Text, ReadFault>
-    ensures { Gives result (text_in form (place_of spot.now) (Some text.now)) }
+fn fitting(alloc: Global, form: Form, position: &Position, text: &str) -> Result<Text, ReadFault>
+    ensures { Gives result (text_in form (place_of position.now) (Some text.now)) }
 {
     if !form.fits(text) {
-        return Err(wrong_kind(alloc, spot));
+        return Err(wrong_kind(alloc, position));
     }
     if text.len() > 1024 {
         return Err(over_limit(alloc, "text"));
@@ -108,13 +109,13 @@ pub fn optional_truth(
     let Some(value) = table.get(key) else {
         return Ok(None);
     };
-    let spot = Spot {
+    let position = Position {
         at,
         key,
         index: None,
     };
     match value.as_bool() {
-        None => Err(wrong_kind(alloc, &spot)),
+        None => Err(wrong_kind(alloc, &position)),
         Some(truth) => Ok(Some(truth)),
     }
 }
@@ -136,13 +137,13 @@ pub fn optional_values<'a>(
     let Some(value) = table.get(key) else {
         return Ok(&[]);
     };
-    let spot = Spot {
+    let position = Position {
         at,
         key,
         index: None,
     };
     match value.as_array() {
-        None => Err(wrong_kind(alloc, &spot)),
+        None => Err(wrong_kind(alloc, &position)),
         Some(array) => Ok(array.as_slice()),
     }
 }
@@ -162,6 +163,80 @@ pub fn at_most(alloc: Global, limit: usize, name: &str, count: usize) -> Result<
     Ok(())
 }
 
+/// The least key that `is_known` doesn't know.
+fn unlisted<F: Fn(&str) -> bool>(
+    alloc: Global,
+    table: &Table,
+    is_known: F,
+) -> Result<Option<Text>, AllocError>
+    requires { F.IsAlwaysCallable is_known }
+    ensures { (known : List ℕ → Bool)
+        → ((key : _) (answer : _) → F.post is_known key answer → answer ≡ known key.now)
+        → IfOk result (λ key. key ≡ unlisted known (table_view table.now)) }
+{
+    for key in table.keys() {
+        let key = key.as_str();
+        if !is_known(key) {
+            return Ok(Some(Text::of(alloc, key)?));
+        }
+    }
+    Ok(None)
+}
+
+/// Refuses a table with a key that `is_known` doesn't know.
+///
+/// # Errors
+///
+/// `LeftOut` with the place of the least such key by bytes.
+#[tactic(auto, unfolding(crate::specs::Tables::only_keys, crate::specs::Tables::none_left_out))]
+pub fn only_keys<F: Fn(&str) -> bool>(
+    alloc: Global,
+    at: &str,
+    value: &Value,
+    is_known: F,
+) -> Result<(), ReadFault>
+    requires { F.IsAlwaysCallable is_known }
+    ensures { (known : List ℕ → Bool)
+        → ((key : _) (answer : _) → F.post is_known key answer → answer ≡ known key.now)
+        → Gives result (only_keys known at.now (view value.now)) }
+{
+    let Some(table) = value.as_table() else {
+        return Ok(());
+    };
+    let Some(key) = unlisted(alloc, table, is_known)? else {
+        return Ok(());
+    };
+    let position = Position {
+        at,
+        key: key.as_str(),
+        index: None,
+    };
+    Err(left_out(alloc, &position))
+}
+
+/// What `read` makes of each value, which it is given with the number of values before it.
+///
+/// # Errors
+///
+/// The first fault of the values in order.
+pub fn read_each<T: Drop, F: Fn(usize, &Value) -> Result<T, ReadFault>>(
+    alloc: Global,
+    values: &[Value],
+    read: F,
+) -> Result<Vec<T>, ReadFault>
+    requires { (i : ℕ) (value : _) → i < length values.now → F.pre read i value }
+    ensures { (what : ℕ → Data → Result T ManifestFault)
+        → ((i : ℕ) (value : _) (said : _) → F.post read i value said → Gives said (what i (view value.now)))
+        → GivesBy (λ items. items.items) result (each what 0 (map view values.now)) }
+{
+    let mut items = Vec::new(alloc);
+    for (i, value) in values.iter().enumerate() {
+        let item = read(i, value)?;
+        items.push(item)?;
+    }
+    Ok(items)
+}
+
 /// What the places begin with in an entry of an array, which must be a table. Entries count from 0.
 ///
 /// # Errors
@@ -178,48 +253,52 @@ pub fn entry_table(
     ensures { Gives result (entry_table at.now key.now i (view value.now)) }
 {
     if !value.is_table() {
-        let spot = Spot {
+        let position = Position {
             at,
             key,
             index: Some(i),
         };
-        return Err(wrong_kind(alloc, &spot));
+        return Err(wrong_kind(alloc, &position));
     }
     Ok(within(alloc, at, key, i)?)
 }
 
-/// An entry of an array that is a text.
+/// An entry of an array that is a text of the form.
 #[tactic(auto, unfolding(crate::specs::Tables::entry_text))]
 fn entry_text(
     alloc: Global,
+    form: Form,
     at: &str,
     key: &str,
     i: usize,
     value: &Value,
 ) -> Result<Text, ReadFault>
-    ensures { Gives result (entry_text at.now key.now i (view value.now)) }
+    ensures { Gives result (entry_text form at.now key.now i (view value.now)) }
 {
-    let spot = Spot {
+    let position = Position {
         at,
         key,
         index: Some(i),
     };
-    text_in(alloc, Form::Filled, &spot, value)
+    text_in(alloc, form, &position, value)
 }
 
-/// Each value as a text.
-fn each_text(alloc: Global, at: &str, key: &str, values: &[Value]) -> Result<Vec<Text>, ReadFault>
-    ensures { GivesBy (λ texts. texts.items) result (each (entry_text at.now key.now) 0 (map view values.now)) }
+/// Each value as a text of the form.
+fn each_text(
+    alloc: Global,
+    form: Form,
+    at: &str,
+    key: &str,
+    values: &[Value],
+) -> Result<Vec<Text>, ReadFault>
+    ensures { GivesBy (λ texts. texts.items) result (each (entry_text form at.now key.now) 0 (map view values.now)) }
 {
-    let mut texts = Vec::new(alloc);
-    for (i, value) in values.iter().enumerate() {
-        let text = entry_text(alloc, at, key, i, value)?;
-        texts.push(text)?;
-    }
-    Ok(texts)
+    read_each(alloc, values, |i, value| {
+        entry_text(alloc, form, at, key, i, value)
+    })
 }
 
-/// The texts of the array at a key, which has at most `limit`; each isn't empty and has at most 1,024 bytes.
+/// The texts of the array at a key, which has at most `limit`; each is of the form and has at most 1,024 bytes.
 ///
 /// # Errors
 ///
@@ -227,14 +306,15 @@ fn each_text(alloc: Global, at: &str, key: &str, values: &[Value]) -> Result<Vec
 #[tactic(auto, unfolding(crate::specs::Tables::texts_at))]
 pub fn texts_at(
     alloc: Global,
+    form: Form,
     at: &str,
     key: &str,
     limit: usize,
     table: &Value,
 ) -> Result<Vec<Text>, ReadFault>
-    ensures { GivesBy (λ texts. texts.items) result (texts_at at.now key.now limit (view table.now)) }
+    ensures { GivesBy (λ texts. texts.items) result (texts_at form at.now key.now limit (view table.now)) }
 {
     let values = optional_values(alloc, at, key, table)?;
     at_most(alloc, limit, "list", values.len())?;
-    each_text(alloc, at, key, values)
+    each_text(alloc, form, at, key, values)
 }

@@ -10,7 +10,7 @@ use Rattle.am_types.specs.declared.broadcast.Aim.TheVariants.{Declared, Register
 use Rattle.am_types.specs.declared.rule.Rule.TheVariants as rules
 use Rattle.am_model.specs.Filters.{default_category}
 use Rattle.am_model.specs.Boards.{Board, with_grant, with_link, with_stopped}
-use Rattle.am_model.proofs.Samples.{asking, to_component, component_of, uri_at, filter_for, open_decl, package_with, board_with, browsable}
+use Rattle.am_model.proofs.Samples.{asking, to_component, component_of, uri_at, filter_for, open_decl, package_with, board_with, web_pages}
 use Rattle.am_model.specs.Accounts.{Question, accounts}
 use Rattle.am_types.specs.declared.account.Account.{Account}
 use Rattle.am_types.specs.declared.account.Narrowing.TheVariants.{Approved, Browser, General}
@@ -72,15 +72,11 @@ pub named_package : said (both (activity (codes "A") (starts (pos 0)) ∷ []) (r
     ≡ OtherPackage ∷ Refused (rules.NeedsPermission (codes "p")) ∷ []
 named_package = refl
 
--- a filter of web pages
-abbrev shows : Filter
-shows = record (filter_for (codes "android.intent.action.VIEW") (browsable ∷ default_category ∷ []) (pos 0)) { schemes = codes "https" ∷ [] }
-
 -- com.one shows the pages of a.com, com.two those of every host
 abbrev web : Board
 web = both
-    (activity (codes "A") (record shows { authorities = record { host = codes "a.com"; port = None } ∷ [] } ∷ []) ∷ [])
-    (activity (codes "D") (shows ∷ []) ∷ [])
+    (activity (codes "A") (record web_pages { authorities = record { host = codes "a.com"; port = None } ∷ [] } ∷ []) ∷ [])
+    (activity (codes "D") (web_pages ∷ []) ∷ [])
 
 -- a start that views a page of a.com
 abbrev page : Question

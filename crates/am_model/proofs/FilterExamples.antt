@@ -6,7 +6,7 @@ use Rattle.am_types.specs.declared.filter.Filter.{Filter}
 use Rattle.am_types.specs.declared.filter.PathRule.TheVariants.{Literal}
 use Rattle.am_types.specs.declared.filter.Why.TheVariants.{Action, Scheme, Host, Path, Type_, Category}
 use Rattle.am_model.specs.Filters.{default_category, passes_authority, why}
-use Rattle.am_model.proofs.IntentLaws.{empty_intent}
+use Rattle.am_model.proofs.Samples.{no_intent}
 
 -- a host stands for itself whatever its case
 pub host_of_any_case : passes_authority (record { host = codes "a.com"; port = None }) (Some (codes "A.Com")) None ≡ true
@@ -49,7 +49,7 @@ abbrev pub image_filter : Filter
 image_filter = record view_filter { types = record { main = codes "image"; sub = codes "*" } ∷ [] }
 
 abbrev pub view_intent : Intent
-view_intent = record empty_intent { action = Some (codes "VIEW") }
+view_intent = record no_intent { action = Some (codes "VIEW") }
 
 abbrev pub uri_of_a : Uri
 uri_of_a = record { text = codes "https://a.com/x"; scheme = codes "https"; host = Some (codes "a.com"); port = None; path = codes "/x" }

@@ -2,12 +2,15 @@
 use Rattle.std.proofs.Common.{◌≡◌, ℕ, Bool, true, false, not, ◌&&◌, ◌||◌, cond, List, [], ◌∷◌, refl, ap, ◌∙◌}
 use Rattle.std.specs.Prelude.{◌==◌, Option, Some, None}
 use Rattle.std.specs.List.{list_any, filter}
-use Rattle.std.proofs.lemmas.Bool.{eq-eqb, and_from}
+use Rattle.std.proofs.lemmas.Bool.{eq-eqb, and_from, or_right}
 use Rattle.std.specs.Cmp.Lexicographic.{bytes_decides}
 use Rattle.am_types.specs.declared.device.Grant.{Grant}
 use Rattle.am_model.specs.Texts.{is_same}
-use Rattle.am_model.specs.Boards.{is_grant, is_granted, place_grant, stands_before, with_grant}
-use Rattle.am_model.specs.Gates.{Verdict, Admit, NotExported, NeedsPermission, is_privileged, holds, permission_verdict, verdict}
+use Rattle.am_model.specs.Boards.{is_grant, is_granted, with_grant}
+use Rattle.am_model.specs.Lists.{inserted}
+use Rattle.am_model.specs.Rights.{before_right, of_grant}
+use Rattle.am_model.proofs.Lists.{any_inserted}
+use Rattle.am_model.specs.Gates.{Verdict, Admit, NotExported, NeedsPermission, is_privileged, permission_verdict, verdict}
 
 -- admitted by one test, or by what follows
 admit_either : (test : Bool) (after : Verdict) → after ≡ Admit → cond test Admit after ≡ Admit
@@ -66,35 +69,15 @@ pub more_grants_admit : (grants more : List Grant) (caller owner : ℕ) (exporte
 more_grants_admit grants more caller owner exported permission keeps admitted =
     admit_behind (is_privileged caller) (caller == owner) exported _ _ (permission_still grants more caller permission keeps) admitted
 
--- of three truths the first two may be exchanged
-or_swap : (a b c : Bool) → a || (b || c) ≡ b || (a || c)
-or_swap true true c = refl
-or_swap true false c = refl
-or_swap false b c = refl
-
--- a grant in either place is found among the others
-either_place : (test : Grant → Bool) (in_front : Bool) (grant first : Grant) (others placed : List Grant) → list_any test placed ≡ (test grant || list_any test others)
-    → list_any test (cond in_front (grant ∷ first ∷ others) (first ∷ placed)) ≡ (test grant || (test first || list_any test others))
-either_place test true grant first others placed as_before = refl
-either_place test false grant first others placed as_before =
-    ap (λ b. test first || b) as_before ∙ or_swap (test first) (test grant) (list_any test others)
-
--- a grant that is placed stands beside those that were there
-any_placed : (test : Grant → Bool) (grant : Grant) (grants : List Grant) → list_any test (place_grant grant grants) ≡ (test grant || list_any test grants)
-any_placed test grant [] = refl
-any_placed test grant (first ∷ others) =
-    either_place test (stands_before grant.uid grant.permission first.uid first.permission) grant first others (place_grant grant others) (any_placed test grant others)
-
--- one of two holds where the second does
-or_true : (a b : Bool) → b ≡ true → a || b ≡ true
-or_true true b holds = refl
-or_true false b holds = holds
+-- a grant stands before another
+abbrev before : Grant → Grant → Bool
+before = before_right of_grant
 
 -- a grant that was there is there whether or not another is placed
 kept_either : (test : Grant → Bool) (there : Bool) (grant : Grant) (grants : List Grant) → list_any test grants ≡ true
-    → list_any test (cond there grants (place_grant grant grants)) ≡ true
+    → list_any test (cond there grants (inserted before grant grants)) ≡ true
 kept_either test true grant grants granted = granted
-kept_either test false grant grants granted = any_placed test grant grants ∙ or_true (test grant) _ granted
+kept_either test false grant grants granted = any_inserted before test grant grants ∙ or_right (test grant) _ granted
 
 -- what was granted is granted after one more grant
 pub grant_keeps : (grants : List Grant) (uid : ℕ) (permission : List ℕ) (caller : ℕ) (asked : List ℕ)
@@ -113,9 +96,9 @@ is_its_own uid permission = and_from (uid == uid) (is_same permission permission
 
 -- a grant that was there, or is placed, is there
 there_or_placed : (test : Grant → Bool) (there : Bool) (grant : Grant) (grants : List Grant) → list_any test grants ≡ there → test grant ≡ true
-    → list_any test (cond there grants (place_grant grant grants)) ≡ true
+    → list_any test (cond there grants (inserted before grant grants)) ≡ true
 there_or_placed test true grant grants is own = is
-there_or_placed test false grant grants is own = any_placed test grant grants ∙ ap (λ b. b || list_any test grants) own
+there_or_placed test false grant grants is own = any_inserted before test grant grants ∙ ap (λ b. b || list_any test grants) own
 
 -- who was granted a permission holds it
 pub grant_is_held : (grants : List Grant) (uid : ℕ) (permission : List ℕ) → is_granted (with_grant grants uid permission true) uid permission ≡ true

@@ -9,6 +9,7 @@ pub mod GateExamples
 pub mod GateLaws
 pub mod IntentExamples
 pub mod IntentLaws
+pub mod Lists
 pub mod MimeExamples
 pub mod Parts
 pub mod PathExamples
@@ -18,6 +19,7 @@ pub mod PlacementLaws
 pub mod PriorityLaws
 pub mod QueueLaws
 pub mod ReceiverExamples
+pub mod Rights
 pub mod RootLaws
 pub mod Samples
 pub mod TargetExamples

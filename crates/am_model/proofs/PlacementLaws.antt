@@ -12,6 +12,7 @@ use Rattle.am_types.specs.declared.task.Placed.TheVariants as how
 use Rattle.am_types.specs.declared.task.PlaceFault.{PlaceFault}
 use Rattle.am_types.specs.declared.task.PlaceFault.TheVariants.{NotYours, NeedsNewTask}
 use Rattle.am_model.specs.Tasks.{Instance, Task, Tasks, owner, may_end}
+use Rattle.am_model.proofs.Lists.{left_twice}
 use Rattle.am_model.specs.Placement.{Plan, NewTask, FreshOn, NewIntentTo, FrontOf, besides, in_front, with_intent, new_task, fresh, carried_out, too_full, placed, place_as, plan_of, placed_from, placed_by, source_task, place}
 
 -- the tasks but for the one of that number
@@ -20,13 +21,7 @@ other_tasks number tasks = filter (λ (task : Task). not (task.number == number)
 
 -- the other tasks of the other tasks are those
 same_again : (number : ℕ) (tasks : List Task) → other_tasks number (other_tasks number tasks) ≡ other_tasks number tasks
-same_again number [] = refl
-same_again number (first ∷ others) = by (first.number == number) refl (same_again number others)
-  where
-    by : (b : Bool) → (first.number == number) ≡ b → other_tasks number (other_tasks number others) ≡ other_tasks number others
-        → other_tasks number (cond (not b) (first ∷ other_tasks number others) (other_tasks number others)) ≡ cond (not b) (first ∷ other_tasks number others) (other_tasks number others)
-    by true is rest = rest
-    by false is rest = rw is (ap (λ l. first ∷ l) rest)
+same_again number tasks = left_twice (λ (task : Task). not (task.number == number)) tasks
 
 -- the task of that number isn't among the others
 without_itself : (task : Task) (tasks : List Task) → other_tasks task.number (task ∷ tasks) ≡ other_tasks task.number tasks
@@ -97,13 +92,7 @@ fronting_keeps_all all start task = refl
 
 -- leaving an instance out twice leaves it out once
 besides_again : (number : ℕ) (instances : List Instance) → besides number (besides number instances) ≡ besides number instances
-besides_again number [] = refl
-besides_again number (first ∷ others) = by (first.number == number) refl (besides_again number others)
-  where
-    by : (b : Bool) → (first.number == number) ≡ b → besides number (besides number others) ≡ besides number others
-        → besides number (cond (not b) (first ∷ besides number others) (besides number others)) ≡ cond (not b) (first ∷ besides number others) (besides number others)
-    by true is rest = rest
-    by false is rest = rw is (ap (λ l. first ∷ l) rest)
+besides_again number instances = left_twice (λ (i : Instance). not (i.number == number)) instances
 
 -- without the instance that was put on top what is left is what was left of the rest
 besides_moved : (instance : Instance) (instances : List Instance) → besides instance.number (instances ++ instance ∷ []) ≡ besides instance.number instances

@@ -15,9 +15,10 @@ use Rattle.am_types.specs.declared.device.Package.{Package}
 use Rattle.am_types.specs.declared.resolve.Hit.{Hit}
 use Rattle.am_types.specs.declared.resolve.Target.TheVariants.{One}
 use Rattle.am_model.specs.Boards.{Board}
-use Rattle.am_model.specs.Candidates.{candidates, place_hit, by_priority, hits}
+use Rattle.am_model.specs.Candidates.{candidates, hits}
 use Rattle.am_model.specs.Targets.{narrowed, top, choice, host_to_view, target}
-use Rattle.am_model.specs.Receivers.{Offer, registered_offer, finds_registered, declared_offers, place_offer, in_order, offers}
+use Rattle.am_model.specs.Receivers.{Offer, registered_offer, finds_registered, declared_offers, offers}
+use Rattle.am_model.specs.Lists.{falling_by, place_by}
 use Rattle.am_model.proofs.Parts.{IsPart, end, keep, leave}
 use Rattle.am_model.proofs.TargetLaws.{narrowing_leaves_a_part}
 
@@ -63,33 +64,33 @@ module _ {X : Type 0} (priority : X → ℤ) where
   IsFalling [] = Unit {0}
   IsFalling (x ∷ xs) = AreNotAbove (priority x) xs × IsFalling xs
 
-  -- an element in front of those of no greater priority, behind the others
-  abbrev pub place_by : X → List X → List X
-  place_by x [] = x ∷ []
-  place_by x (y ∷ ys) = cond (int_lt (priority x) (priority y)) (y ∷ place_by x ys) (x ∷ y ∷ ys)
-
   -- none is above a greater number
   not_above_greater : (limit lower : ℤ) (xs : List X) → int_lt limit lower ≡ false → AreNotAbove lower xs → AreNotAbove limit xs
   not_above_greater limit lower [] greater below = tt
   not_above_greater limit lower (x ∷ xs) greater below = (lt_chain limit lower (priority x) greater below.0, not_above_greater limit lower xs greater below.1)
 
   -- nor is one of them with one more that isn't
-  not_above_place : (limit : ℤ) (x : X) (ys : List X) → int_lt limit (priority x) ≡ false → AreNotAbove limit ys → AreNotAbove limit (place_by x ys)
+  not_above_place : (limit : ℤ) (x : X) (ys : List X) → int_lt limit (priority x) ≡ false → AreNotAbove limit ys → AreNotAbove limit (place_by priority x ys)
   not_above_place limit x [] is below = (is, tt)
   not_above_place limit x (y ∷ ys) is below = by (int_lt (priority x) (priority y)) (not_above_place limit x ys is below.1)
     where
-      by : (b : Bool) → AreNotAbove limit (place_by x ys) → AreNotAbove limit (cond b (y ∷ place_by x ys) (x ∷ y ∷ ys))
+      by : (b : Bool) → AreNotAbove limit (place_by priority x ys) → AreNotAbove limit (cond b (y ∷ place_by priority x ys) (x ∷ y ∷ ys))
       by true rest = (below.0, rest)
       by false rest = (is, below)
 
   -- placing keeps a list falling
-  pub falling_place : (x : X) (ys : List X) → IsFalling ys → IsFalling (place_by x ys)
+  pub falling_place : (x : X) (ys : List X) → IsFalling ys → IsFalling (place_by priority x ys)
   falling_place x [] falls = (tt, tt)
   falling_place x (y ∷ ys) falls = by (int_lt (priority x) (priority y)) refl (falling_place x ys falls.1)
     where
-      by : (b : Bool) → int_lt (priority x) (priority y) ≡ b → IsFalling (place_by x ys) → IsFalling (cond b (y ∷ place_by x ys) (x ∷ y ∷ ys))
+      by : (b : Bool) → int_lt (priority x) (priority y) ≡ b → IsFalling (place_by priority x ys) → IsFalling (cond b (y ∷ place_by priority x ys) (x ∷ y ∷ ys))
       by true less rest = (not_above_place (priority y) x ys (lt_one_way (priority x) (priority y) less) falls.0, rest)
       by false less rest = ((less, not_above_greater (priority x) (priority y) ys less falls.0), falls)
+
+  -- so what was placed falls
+  pub placed_fall : (xs : List X) → IsFalling (falling_by priority xs)
+  placed_fall [] = tt
+  placed_fall (x ∷ xs) = falling_place x (falling_by priority xs) (placed_fall xs)
 
   -- of what is left of a list none is above the number either
   not_above_part : (limit : ℤ) (xs ys : List X) → IsPart xs ys → AreNotAbove limit ys → AreNotAbove limit xs
@@ -131,36 +132,14 @@ of_hit hit = hit.priority
 abbrev pub of_offer : Offer → ℤ
 of_offer offer = offer.priority
 
--- placing a hit is placing by its priority
-place_hit_by : (hit : Hit) (others : List Hit) → place_hit hit others ≡ place_by of_hit hit others
-place_hit_by hit [] = refl
-place_hit_by hit (first ∷ others) = ap (λ l. cond (int_lt hit.priority first.priority) (first ∷ l) (hit ∷ first ∷ others)) (place_hit_by hit others)
-
--- placing an offer is placing by its priority
-place_offer_by : (offer : Offer) (others : List Offer) → place_offer offer others ≡ place_by of_offer offer others
-place_offer_by offer [] = refl
-place_offer_by offer (first ∷ others) = ap (λ l. cond (int_lt offer.priority first.priority) (first ∷ l) (offer ∷ first ∷ others)) (place_offer_by offer others)
-
--- hits that were placed fall
-by_priority_falls : (found : List Hit) → IsFalling of_hit (by_priority found)
-by_priority_falls [] = tt
-by_priority_falls (first ∷ others) =
-    subst (λ (l : List Hit). IsFalling of_hit l) (sym (place_hit_by first (by_priority others))) (falling_place of_hit first (by_priority others) (by_priority_falls others))
-
--- offers that were placed fall
-in_order_falls : (list : List Offer) → IsFalling of_offer (in_order list)
-in_order_falls [] = tt
-in_order_falls (first ∷ others) =
-    subst (λ (l : List Offer). IsFalling of_offer l) (sym (place_offer_by first (in_order others))) (falling_place of_offer first (in_order others) (in_order_falls others))
-
 -- the hits of an intent stand by falling priority
 pub hits_fall : (packages : List Package) (kind : Kind) (intent : Intent) (need_default : Bool) → IsFalling of_hit (hits packages kind intent need_default)
-hits_fall packages kind intent need_default = by_priority_falls (candidates packages kind intent need_default)
+hits_fall packages kind intent need_default = placed_fall of_hit (candidates packages kind intent need_default)
 
 -- and so do the offers of a broadcast
 pub offers_fall : (board : Board) (intent : Intent) → IsFalling of_offer (offers board intent)
 offers_fall board intent =
-    in_order_falls (map registered_offer (filter (finds_registered board.packages intent) board.registered) ++ declared_offers board.packages (hits board.packages Receiver intent false))
+    placed_fall of_offer (map registered_offer (filter (finds_registered board.packages intent) board.registered) ++ declared_offers board.packages (hits board.packages Receiver intent false))
 
 -- of hits that fall, all of the greatest priority are those that a start is for
 pub top_is_all_greatest : (first : Hit) (others : List Hit) → IsFalling of_hit (first ∷ others) → top (first ∷ others) ≡ filter (has_priority of_hit first.priority) (first ∷ others)

@@ -10,9 +10,8 @@ use Rattle.am_types.specs.declared.broadcast.Sending.{Sending}
 use Rattle.am_types.specs.declared.broadcast.SendFault.TheVariants.{Full, TooMany}
 use Rattle.am_types.specs.declared.broadcast.FinishFault.TheVariants.{NotYours, NotOrdered}
 use Rattle.am_model.specs.Filters.{is_empty}
-use Rattle.am_model.specs.Broadcasts as broadcasts
-use Rattle.am_model.specs.Broadcasts.{Broadcasts, Normal, Delivery, InTurn, no_broadcasts, span, Answered, settled, queue_of, with_queue, settle, settle_both, expired_queue, late_head, is_head_due, is_delivery_due, keeping, normals_keeping, expired}
-use Rattle.am_model.specs.Sending.{live, in_turn, at_once, deliveries_from, with_sent, send, held, Held, is_for_ordered, finished, finish_held, finish, answered_head, strike, unwanted, is_registered, forget, forget_registered, forget_uid}
+use Rattle.am_model.specs.Broadcasts.{Broadcasts, Normal, Delivery, InTurn, no_broadcasts, span, queue_of, with_queue, settle, settle_both, expired_queue, late_head, is_head_due, is_delivery_due, keeping, normals_keeping, expired}
+use Rattle.am_model.specs.Sending.{live, in_turn, at_once, deliveries_from, with_sent, send, held, Held, is_for_ordered, finished, finish_held, finish, with_answered, with_unwanted, without_struck, is_registered, forget, forget_registered, forget_uid}
 use Rattle.am_model.proofs.BroadcastLaws.{AreLive, IsSettled, settled_is_settled}
 
 -- each normal broadcast has a delivery left, and both queues are settled
@@ -109,20 +108,12 @@ pub finish_stands : (all after : Broadcasts) (number uid : ℕ) (answer : Answer
 unfolding finish
 finish_stands all after number uid answer now done = by (held all number) done
   where
-    answered : Broadcasts
-    answered = record all {
-      normal = normals_keeping (λ delivery. not (delivery.number == number)) all.normal;
-      foreground = answered_head number (Answered answer) all.foreground;
-      background = answered_head number (Answered answer) all.background;
-      results = filter (λ (r : broadcasts.Result). not (r.delivery == number)) all.results;
-    }
-
     tests : (other unfit : Bool) → cond other (Err NotYours) (cond unfit (Err NotOrdered) (Ok (finished all number answer now))) ≡ Ok after → IsStanding after
     tests true unfit done = absurd cc
     tests false true done = absurd cc
     tests false false done =
         let e : finished all number answer now ≡ after = cc in
-        subst IsStanding e (both_settle now answered (kept_live (λ delivery. not (delivery.number == number)) all.normal))
+        subst IsStanding e (both_settle now (with_answered all number answer) (kept_live (λ delivery. not (delivery.number == number)) all.normal))
 
     by : (found : Option Held) → finish_held all number uid answer now found ≡ Ok after → IsStanding after
     by None done = absurd cc
@@ -130,25 +121,11 @@ finish_stands all after number uid answer now done = by (held all number) done
 
 -- receivers that are forgotten
 pub forget_stands : (all : Broadcasts) (struck : Spot → Bool) (now : ℕ) → IsStanding (forget all struck now)
-forget_stands all struck now = both_settle now left (kept_live (λ delivery. not (struck delivery.spot)) all.normal)
-  where
-    left : Broadcasts
-    left = record all {
-      normal = normals_keeping (λ delivery. not (struck delivery.spot)) all.normal;
-      foreground = map (strike struck) all.foreground;
-      background = map (strike struck) all.background;
-    }
+forget_stands all struck now = both_settle now (without_struck all struck) (kept_live (λ delivery. not (struck delivery.spot)) all.normal)
 
 -- an app that is forgotten
 pub forget_uid_stands : (all : Broadcasts) (uid now : ℕ) → IsStanding (forget_uid all uid now)
-forget_uid_stands all uid now = forget_stands without (λ (spot : Spot). spot.uid == uid) now
-  where
-    without : Broadcasts
-    without = record all {
-      foreground = map (unwanted uid) all.foreground;
-      background = map (unwanted uid) all.background;
-      results = filter (λ (r : broadcasts.Result). not (r.sender == uid)) all.results;
-    }
+forget_uid_stands all uid now = forget_stands (with_unwanted all uid) (λ (spot : Spot). spot.uid == uid) now
 
 -- a registered receiver that is taken away
 pub forget_registered_stands : (all : Broadcasts) (number now : ℕ) → IsStanding (forget_registered all number now)

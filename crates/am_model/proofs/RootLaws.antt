@@ -1,7 +1,7 @@
 -- Laws of root activities: an activity of the mode singleInstancePerTask stands nowhere but at the root of a task.
 use Rattle.std.proofs.Common.{◌≡◌, ℕ, Bool, true, false, not, ◌&&◌, ◌||◌, cond, List, [], ◌∷◌, ◌++◌, map, refl, sym, ap, ◌∙◌, subst}
 use Rattle.std.specs.Prelude.{Option, Some, None, Ok, Err, ◌==◌, reverse}
-use Rattle.std.specs.List.{list_any, filter, find, prefix_len}
+use Rattle.std.specs.List.{AllByRecursion, list_any, filter, find, prefix_len}
 use Rattle.std.proofs.lemmas.Bool.{and_parts}
 use Rattle.std.specs.Cmp.Lexicographic.{bytes_decides}
 use Rattle.am_types.specs.declared.intent.Intent.{Intent}
@@ -15,6 +15,7 @@ use Rattle.am_model.specs.Intents.{is_same_component}
 use Rattle.am_model.specs.Tasks.{Instance, Task, Tasks, keeping, tasks_keeping, task_of, top_of, owner, may_end, without_instance, ended, finish, seen, back_from, back, forget_uid}
 use Rattle.am_model.specs.Placement.{Plan, NewTask, FreshOn, NewIntentTo, FrontOf, or_plan, plan_where, is_of, topmost, root_of, below, besides, with_intent, carried_out, plan_of, place, or_fresh, cleared_to, clearing_task, clearing_top, fronting, reordering, on_top, placed_in, placed_in_maybe, placed_single, placed_per_task, placed_ordinary, or_new_task, renewed, renewed_in, to_root, rooted, task_with, task_rooted, task_of_affinity, source_task, wants_new_task, is_multiple, is_single_instance, is_single_per_task, is_standard, is_single_task, is_single_top}
 use Rattle.am_model.proofs.Parts.{IsPart, end, keep, leave, IsPart-whole, IsPart-filter, IsPart-take, IsPart-part, none_of_part, none_of_more, found_passes}
+use Rattle.am_model.proofs.Lists.{all_left}
 use Rattle.am_model.proofs.PlacementLaws.{plan_for, place_carries_out}
 
 -- the instances above the root
@@ -28,8 +29,7 @@ IsRootOnly component instances = list_any (is_of component) (above_root instance
 
 -- in no task does one stand there
 abbrev pub AreRoots : Component → List Task → Type 0
-AreRoots component [] = Unit {0}
-AreRoots component (task ∷ others) = IsRootOnly component task.instances × AreRoots component others
+AreRoots component tasks = AllByRecursion (λ (task : Task). IsRootOnly component task.instances) tasks
 
 -- what stands above the root is a part
 part_above : (instances : List Instance) → IsPart (above_root instances) instances
@@ -68,12 +68,7 @@ roots_with_intent component number intent (root ∷ others) roots = any_with_int
 
 -- what is left of the tasks has it at the roots alone
 roots_of_tasks : (component : Component) (test : Task → Bool) (tasks : List Task) → AreRoots component tasks → AreRoots component (filter test tasks)
-roots_of_tasks component test [] roots = tt
-roots_of_tasks component test (first ∷ others) roots = by (test first) (roots_of_tasks component test others roots.1)
-  where
-    by : (b : Bool) → AreRoots component (filter test others) → AreRoots component (cond b (first ∷ filter test others) (filter test others))
-    by true rest = (roots.0, rest)
-    by false rest = rest
+roots_of_tasks component test tasks roots = all_left (λ (task : Task). IsRootOnly component task.instances) test tasks roots
 
 -- a task that is found has it at its root alone
 roots_of_found : (component : Component) (test : Task → Bool) (tasks : List Task) (task : Task) → AreRoots component tasks → find test tasks ≡ Some task → IsRootOnly component task.instances

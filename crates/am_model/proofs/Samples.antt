@@ -1,5 +1,5 @@
 -- Values of which examples are made: plain intents, filters, components and packages.
-use Rattle.std.specs.Prelude.{ℕ, ℤ, true, false, codes, List, [], ◌∷◌, Option, Some, None}
+use Rattle.std.specs.Prelude.{ℕ, ℤ, pos, true, false, codes, List, [], ◌∷◌, Option, Some, None}
 use Rattle.am_types.specs.declared.intent.Intent.{Intent}
 use Rattle.am_types.specs.declared.intent.Component.{Component}
 use Rattle.am_types.specs.declared.intent.Flags.{Flags}
@@ -11,6 +11,7 @@ use Rattle.am_types.specs.declared.manifest.Mode.TheVariants.{Standard}
 use Rattle.am_types.specs.declared.manifest.Decl.{Decl}
 use Rattle.am_types.specs.declared.device.Package.{Package}
 use Rattle.am_model.specs.Boards.{Board}
+use Rattle.am_model.specs.Filters.{default_category}
 
 -- no flag is set
 abbrev pub no_flags : Flags
@@ -105,3 +106,7 @@ board_with packages = record {
 -- the category of what a link in a page opens
 abbrev pub browsable : List ℕ
 browsable = codes "android.intent.category.BROWSABLE"
+
+-- a filter of web pages
+abbrev pub web_pages : Filter
+web_pages = record (filter_for (codes "android.intent.action.VIEW") (browsable ∷ default_category ∷ []) (pos 0)) { schemes = codes "https" ∷ [] }

@@ -9,7 +9,7 @@ use Rattle.am_model.specs.Filters.{default_category}
 use Rattle.am_model.specs.Boards.{Board, with_link}
 use Rattle.am_model.specs.Candidates.{hits}
 use Rattle.am_model.specs.Targets.{target}
-use Rattle.am_model.proofs.Samples.{asking, to_component, component_of, uri_at, mime_at, filter_for, open_decl, package_with, board_with, browsable}
+use Rattle.am_model.proofs.Samples.{asking, to_component, component_of, uri_at, mime_at, filter_for, open_decl, package_with, board_with, web_pages}
 
 -- com.one
 abbrev one : List ℕ
@@ -85,13 +85,9 @@ text_is_sent = refl
 pub no_picture : target mail (sending (codes "image") (codes "png")) ≡ Nothing
 no_picture = refl
 
--- a filter of web pages
-abbrev shows : Filter
-shows = record (filter_for (codes "android.intent.action.VIEW") (browsable ∷ default_category ∷ []) (pos 0)) { schemes = codes "https" ∷ [] }
-
 -- com.one shows the pages of a.com, com.two those of every host
 abbrev web : Board
-web = both (record shows { authorities = record { host = codes "a.com"; port = None } ∷ [] } ∷ []) (shows ∷ [])
+web = both (record web_pages { authorities = record { host = codes "a.com"; port = None } ∷ [] } ∷ []) (web_pages ∷ [])
 
 -- the intent to see a page of a.com
 abbrev page : Intent
@@ -130,5 +126,5 @@ abbrev tagged : Filter → Filter
 tagged filter = record filter { categories = codes "x.C" ∷ filter.categories }
 
 -- nor is one with a category that no web page asks for
-pub page_with_category : target (both (tagged shows ∷ []) (tagged (record shows { authorities = record { host = codes "a.com"; port = None } ∷ [] }) ∷ [])) (record page { categories = codes "x.C" ∷ [] }) ≡ Choose (hit_of_one (pos 0) ∷ hit_of_two (pos 0) ∷ [])
+pub page_with_category : target (both (tagged web_pages ∷ []) (tagged (record web_pages { authorities = record { host = codes "a.com"; port = None } ∷ [] }) ∷ [])) (record page { categories = codes "x.C" ∷ [] }) ≡ Choose (hit_of_one (pos 0) ∷ hit_of_two (pos 0) ∷ [])
 page_with_category = refl

@@ -1,12 +1,13 @@
 -- What is installed on a device and what was given to it: packages, grants, links and registered receivers.
-use Rattle.std.specs.Prelude.{ℕ, Bool, true, false, not, ◌&&◌, ◌||◌, ◌==◌, nat_lt, codes, List, [], ◌∷◌, map, filter, if◌then◌else◌, Option, Some, None}
+use Rattle.std.specs.Prelude.{ℕ, Bool, not, ◌&&◌, ◌==◌, codes, List, [], ◌∷◌, map, filter, if◌then◌else◌, Option, Some, None}
 use Rattle.std.specs.List.{list_any}
 use Rattle.am_types.specs.declared.device.Device.{Device}
 use Rattle.am_types.specs.declared.device.Package.{Package}
 use Rattle.am_types.specs.declared.device.Grant.{Grant}
 use Rattle.am_types.specs.declared.device.Link.{Link}
 use Rattle.am_types.specs.declared.resolve.Registration.{Registration}
-use Rattle.am_model.specs.Texts.{is_same, is_before}
+use Rattle.am_model.specs.Rights.{grant_of, link_of, of_grant, of_link, with_right}
+use Rattle.am_model.specs.Texts.{is_same}
 
 -- packages in the order of their uids, grants by uid and permission, links by uid and host, registered receivers
 -- by number; and the device's browser and its lists of protected and exempt actions
@@ -63,10 +64,6 @@ with_stopped packages uid stopped =
 abbrev pub without_package : List Package → ℕ → List Package
 without_package packages uid = filter (λ (p : Package). not (p.uid == uid)) packages
 
--- one uid and text stand before another: by uid, then by bytes
-abbrev pub stands_before : ℕ → List ℕ → ℕ → List ℕ → Bool
-stands_before uid text other_uid other = nat_lt uid other_uid || ((uid == other_uid) && is_before text other)
-
 -- the grant is of that uid and permission
 abbrev pub is_grant : ℕ → List ℕ → Grant → Bool
 is_grant uid permission grant = (grant.uid == uid) && is_same grant.permission permission
@@ -75,19 +72,9 @@ is_grant uid permission grant = (grant.uid == uid) && is_same grant.permission p
 abbrev pub is_granted : List Grant → ℕ → List ℕ → Bool
 is_granted grants uid permission = list_any (is_grant uid permission) grants
 
--- the grant in its place
-abbrev pub place_grant : Grant → List Grant → List Grant
-place_grant grant [] = grant ∷ []
-place_grant grant (first ∷ others) =
-    if stands_before grant.uid grant.permission first.uid first.permission
-    then grant ∷ first ∷ others
-    else first ∷ place_grant grant others
-
 -- the grants with that one held or not held
 abbrev pub with_grant : List Grant → ℕ → List ℕ → Bool → List Grant
-with_grant grants uid permission true =
-    if is_granted grants uid permission then grants else place_grant (record { uid = uid; permission = permission }) grants
-with_grant grants uid permission false = filter (λ grant. not (is_grant uid permission grant)) grants
+with_grant grants uid permission held = with_right of_grant grant_of grants uid permission held
 
 -- the link is of that uid and host
 abbrev pub is_link : ℕ → List ℕ → Link → Bool
@@ -97,19 +84,9 @@ is_link uid host link = (link.uid == uid) && is_same link.host host
 abbrev pub is_linked : List Link → ℕ → List ℕ → Bool
 is_linked links uid host = list_any (is_link uid host) links
 
--- the link in its place
-abbrev pub place_link : Link → List Link → List Link
-place_link link [] = link ∷ []
-place_link link (first ∷ others) =
-    if stands_before link.uid link.host first.uid first.host
-    then link ∷ first ∷ others
-    else first ∷ place_link link others
-
 -- the links with that one approved or not
 abbrev pub with_link : List Link → ℕ → List ℕ → Bool → List Link
-with_link links uid host true =
-    if is_linked links uid host then links else place_link (record { uid = uid; host = host }) links
-with_link links uid host false = filter (λ link. not (is_link uid host link)) links
+with_link links uid host approved = with_right of_link link_of links uid host approved
 
 -- what is left of the grants without those of a uid
 abbrev pub grants_without : List Grant → ℕ → List Grant

@@ -1,5 +1,5 @@
 -- Which components an intent finds, and in which order.
-use Rattle.std.specs.Prelude.{ℕ, ◌+◌, Bool, true, false, ◌&&◌, List, [], ◌∷◌, ◌++◌, Option, Some, None, if◌then◌else◌, ℤ, pos, int_lt}
+use Rattle.std.specs.Prelude.{ℕ, ◌+◌, Bool, true, false, ◌&&◌, List, [], ◌∷◌, ◌++◌, Option, Some, None, if◌then◌else◌, ℤ, pos}
 use Rattle.std.specs.Int.{int_min, int_max}
 use Rattle.am_types.specs.declared.intent.Intent.{Intent}
 use Rattle.am_types.specs.declared.intent.Component.{Component}
@@ -9,6 +9,7 @@ use Rattle.am_types.specs.declared.manifest.Kind.TheVariants.{Activity, Service,
 use Rattle.am_types.specs.declared.manifest.Decl.{Decl}
 use Rattle.am_types.specs.declared.device.Package.{Package}
 use Rattle.am_types.specs.declared.resolve.Hit.{Hit}
+use Rattle.am_model.specs.Lists.{falling_by, place_by}
 use Rattle.am_model.specs.Texts.{is_same}
 use Rattle.am_model.specs.Filters.{passes}
 
@@ -97,14 +98,11 @@ candidates packages kind intent need_default =
 
 -- a hit in front of those of no greater priority, behind the others
 abbrev pub place_hit : Hit → List Hit → List Hit
-place_hit hit [] = hit ∷ []
-place_hit hit (first ∷ others) =
-    if int_lt hit.priority first.priority then first ∷ place_hit hit others else hit ∷ first ∷ others
+place_hit hit others = place_by (λ (h : Hit). h.priority) hit others
 
 -- by falling priority; where it ties the order stays
 abbrev pub by_priority : List Hit → List Hit
-by_priority [] = []
-by_priority (first ∷ others) = place_hit first (by_priority others)
+by_priority found = falling_by (λ (h : Hit). h.priority) found
 
 -- the hits of an intent: its candidates by falling priority, then uid, then place
 abbrev pub hits : List Package → Kind → Intent → Bool → List Hit

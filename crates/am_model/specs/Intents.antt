@@ -1,6 +1,7 @@
 -- When two intents are the same for a filter, and what one fills in of another.
 use Rattle.std.specs.Prelude.{ℕ, Bool, true, false, ◌&&◌, ◌||◌, nat_lt, List, [], ◌∷◌, length, if◌then◌else◌, Option, Some, None, Result, Ok, Err}
 use Rattle.std.specs.List.{list_any, list_all, fold}
+use Rattle.std.specs.Option.{option_or}
 use Rattle.am_types.specs.declared.intent.Intent.{Intent}
 use Rattle.am_types.specs.declared.intent.Component.{Component}
 use Rattle.am_types.specs.declared.intent.Flags.{Flags}
@@ -48,8 +49,7 @@ filter_equals intent other =
 
 -- the first where it is there, else the second
 abbrev pub or_other : {X : Type 0} → Option X → Option X → Option X
-or_other (Some x) other = Some x
-or_other None other = other
+or_other option other = option_or option other
 
 -- the URI where the intent has neither URI nor type
 abbrev pub filled_uri : Option Uri → Option Mime → Option Uri → Option Uri

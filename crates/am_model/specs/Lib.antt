@@ -1,10 +1,12 @@
 pub mod Texts
+pub mod Lists
 pub mod Uris
 pub mod MimeTypes
 pub mod Paths
 pub mod Filters
 pub mod Intents
 pub mod Candidates
+pub mod Rights
 pub mod Boards
 pub mod Gates
 pub mod Targets

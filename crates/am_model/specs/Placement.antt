@@ -1,6 +1,8 @@
 -- In which task a started activity is placed.
 use Rattle.std.specs.Prelude.{ℕ, ◌+◌, Bool, true, false, not, ◌&&◌, ◌||◌, ◌==◌, nat_le, List, [], ◌∷◌, ◌++◌, length, map, filter, reverse, if◌then◌else◌, Option, Some, None, Result, Ok, Err}
+use Rattle.std.specs.Bool.{then_some}
 use Rattle.std.specs.List.{list_any, find, take_while}
+use Rattle.std.specs.Option.{option_or}
 use Rattle.am_types.specs.declared.intent.Intent.{Intent}
 use Rattle.am_types.specs.declared.intent.Component.{Component}
 use Rattle.am_types.specs.declared.manifest.Mode.{Mode}
@@ -25,13 +27,11 @@ pub data Plan : Type 0 where
 
 -- the first of two plans
 abbrev pub or_plan : Option Plan → Option Plan → Option Plan
-or_plan (Some plan) other = Some plan
-or_plan None other = other
+or_plan plan other = option_or plan other
 
 -- the plan where the condition holds
 abbrev pub plan_where : Bool → Plan → Option Plan
-plan_where true plan = Some plan
-plan_where false plan = None
+plan_where test plan = then_some test plan
 
 -- the instance is one of the component
 abbrev pub is_of : Component → Instance → Bool

@@ -1,6 +1,8 @@
 -- Who a broadcast is offered to, and who of them is admitted.
-use Rattle.std.specs.Prelude.{ℕ, ℤ, Bool, true, false, not, ◌&&◌, ◌==◌, codes, List, [], ◌∷◌, ◌++◌, map, filter, if◌then◌else◌, Option, Some, None, is_none, int_lt}
+use Rattle.std.specs.Prelude.{ℕ, ℤ, Bool, true, false, not, ◌&&◌, ◌==◌, codes, List, [], ◌∷◌, ◌++◌, map, filter, if◌then◌else◌, Option, Some, None, is_none}
+use Rattle.std.specs.Bool.{then_some}
 use Rattle.std.specs.List.{list_any}
+use Rattle.std.specs.Option.{option_or}
 use Rattle.am_types.specs.declared.intent.Intent.{Intent}
 use Rattle.am_types.specs.declared.intent.Component.{Component}
 use Rattle.am_types.specs.declared.manifest.Kind.{Kind}
@@ -15,6 +17,7 @@ use Rattle.am_types.specs.declared.broadcast.Receiving.{Receiving}
 use Rattle.am_types.specs.declared.broadcast.Spot.{Spot}
 use Rattle.am_types.specs.declared.rule.Rule.{Rule}
 use Rattle.am_types.specs.declared.rule.Rule.TheVariants as rules
+use Rattle.am_model.specs.Lists.{falling_by, place_by}
 use Rattle.am_model.specs.Texts.{is_same, lists}
 use Rattle.am_model.specs.Filters.{passes}
 use Rattle.am_model.specs.Boards.{Board, package_at}
@@ -91,14 +94,11 @@ registered_offer r =
 
 -- an offer in front of those of no greater priority, behind the others
 abbrev pub place_offer : Offer → List Offer → List Offer
-place_offer offer [] = offer ∷ []
-place_offer offer (first ∷ others) =
-    if int_lt offer.priority first.priority then first ∷ place_offer offer others else offer ∷ first ∷ others
+place_offer offer others = place_by (λ (o : Offer). o.priority) offer others
 
 -- by falling priority; where it ties the order stays
 abbrev pub in_order : List Offer → List Offer
-in_order [] = []
-in_order (first ∷ others) = place_offer first (in_order others)
+in_order found = falling_by (λ (o : Offer). o.priority) found
 
 -- who the broadcast is offered to, by falling priority; at a tie registered receivers by number, then the manifests'
 -- by uid and place
@@ -109,13 +109,11 @@ offers board intent =
 
 -- the first of two rules
 abbrev pub or_rule : Option Rule → Option Rule → Option Rule
-or_rule (Some rule) other = Some rule
-or_rule None other = other
+or_rule rule other = option_or rule other
 
 -- the rule where the condition holds
 abbrev pub rule_where : Bool → Rule → Option Rule
-rule_where true rule = Some rule
-rule_where false rule = None
+rule_where test rule = then_some test rule
 
 -- the receiver is one of a manifest
 abbrev pub is_declared : Aim → Bool

@@ -139,15 +139,18 @@ answered_head number doing [] = []
 answered_head number doing (head ∷ others) =
     if is_current number head.current then turn doing head ∷ others else head ∷ others
 
--- the broadcasts after that delivery or result was finished
+-- the broadcasts after that delivery or result was finished, before their queues settle
+abbrev pub with_answered : Broadcasts → ℕ → Answer → Broadcasts
+with_answered all number answer = record all {
+  normal = normals_keeping (λ delivery. not (delivery.number == number)) all.normal;
+  foreground = answered_head number (Answered answer) all.foreground;
+  background = answered_head number (Answered answer) all.background;
+  results = filter (λ (r : broadcasts.Result). not (r.delivery == number)) all.results;
+}
+
+-- and once they have settled
 abbrev pub finished : Broadcasts → ℕ → Answer → ℕ → Broadcasts
-finished all number answer now =
-    settle_both now (record all {
-      normal = normals_keeping (λ delivery. not (delivery.number == number)) all.normal;
-      foreground = answered_head number (Answered answer) all.foreground;
-      background = answered_head number (Answered answer) all.background;
-      results = filter (λ (r : broadcasts.Result). not (r.delivery == number)) all.results;
-    })
+finished all number answer now = settle_both now (with_answered all number answer)
 
 -- the answer sets an outcome or aborts, which only an ordered delivery takes
 abbrev pub is_for_ordered : Answer → Bool
@@ -180,14 +183,17 @@ strike_from struck broadcast (spot ∷ rest) (Some current) =
 abbrev pub strike : (Spot → Bool) → InTurn → InTurn
 strike struck broadcast = strike_from struck broadcast broadcast.rest broadcast.current
 
--- the broadcasts without the receivers that are struck; both queues settle
+-- the broadcasts without the receivers that are struck, before their queues settle
+abbrev pub without_struck : Broadcasts → (Spot → Bool) → Broadcasts
+without_struck all struck = record all {
+  normal = normals_keeping (λ delivery. not (struck delivery.spot)) all.normal;
+  foreground = map (strike struck) all.foreground;
+  background = map (strike struck) all.background;
+}
+
+-- and once they have settled
 abbrev pub forget : Broadcasts → (Spot → Bool) → ℕ → Broadcasts
-forget all struck now =
-    settle_both now (record all {
-      normal = normals_keeping (λ delivery. not (struck delivery.spot)) all.normal;
-      foreground = map (strike struck) all.foreground;
-      background = map (strike struck) all.background;
-    })
+forget all struck now = settle_both now (without_struck all struck)
 
 -- the spot is that registered receiver
 abbrev pub is_registered : ℕ → Aim → Bool
@@ -202,15 +208,17 @@ forget_registered all number now = forget all (λ (spot : Spot). is_registered n
 abbrev pub unwanted : ℕ → InTurn → InTurn
 unwanted uid broadcast = if broadcast.sender == uid then record broadcast { wanted = false } else broadcast
 
+-- the broadcasts of which a uid wants no result any more
+abbrev pub with_unwanted : Broadcasts → ℕ → Broadcasts
+with_unwanted all uid = record all {
+  foreground = map (unwanted uid) all.foreground;
+  background = map (unwanted uid) all.background;
+  results = filter (λ (r : broadcasts.Result). not (r.sender == uid)) all.results;
+}
+
 -- the broadcasts without the receivers of a uid, which wants no result any more
 abbrev pub forget_uid : Broadcasts → ℕ → ℕ → Broadcasts
-forget_uid all uid now =
-    forget (record all {
-      foreground = map (unwanted uid) all.foreground;
-      background = map (unwanted uid) all.background;
-      results = filter (λ (r : broadcasts.Result). not (r.sender == uid)) all.results;
-    })
-    (λ (spot : Spot). spot.uid == uid) now
+forget_uid all uid now = forget (with_unwanted all uid) (λ (spot : Spot). spot.uid == uid) now
 
 -- the deliveries of a normal broadcast to a uid, as items
 abbrev pub normal_items : ℕ → Normal → List Item

@@ -1,10 +1,10 @@
 -- Rows that are merged with rights, one after the other.
-use Rattle.std.proofs.Common.{◌≡◌, ℕ, ◌+◌, ◌<◌, ◌≤◌, Bool, true, false, not, ◌&&◌, ◌||◌, cond, List, [], ◌∷◌, ◌++◌, length, get_or, take, drop, map, filter, refl, sym, ap, ◌∙◌, subst}
+use Rattle.std.proofs.Common.{◌≡◌, ℕ, ◌+◌, ◌<◌, ◌≤◌, Bool, true, false, not, ◌||◌, cond, List, [], ◌∷◌, ◌++◌, length, get_or, take, drop, map, filter, refl, sym, ap, ◌∙◌, subst}
 use Rattle.std.specs.List.{fold, list_any}
 use Rattle.std.specs.List.Sorted.{IsStrictlySortedBy}
 use Rattle.std.specs.declared.cmp.Ordering.{Ordering}
 use Rattle.std.specs.declared.cmp.Ordering.TheVariants.{Less}
-use Rattle.std.proofs.lemmas.List.{at_drop_more, take_all}
+use Rattle.std.proofs.lemmas.List.{at_drop_more, map-id, take_all}
 use Rattle.std.proofs.lemmas.List.Sums.{fold_more}
 use Rattle.am_types.specs.declared.device.Package.{Package}
 use Rattle.am_types.specs.declared.device.Grant.{Grant}
@@ -12,111 +12,22 @@ use Rattle.am_types.specs.declared.device.Link.{Link}
 use Rattle.am_keeper.specs.declared.rows.GrantRow.{GrantRow}
 use Rattle.am_keeper.specs.declared.rows.LinkRow.{LinkRow}
 use Rattle.am_keeper.specs.Rows.{leads, rises}
-use Rattle.am_model.specs.Boards.{is_grant, is_granted, is_link, is_linked, is_package_uid, place_grant, place_link, with_grant, with_link}
+use Rattle.am_model.specs.Boards.{is_package_uid}
+use Rattle.am_model.specs.Lists.{inserted}
+use Rattle.am_model.specs.Rights.{Right, before_right, grant_of, has_right, link_of, of_grant, of_link, with_right as with_right_of}
 use Rattle.am_model.specs.Sound.{right_cmp, rights_approved, rights_granted}
-use Rattle.am_model.specs.Texts.{is_same, lowered}
-use Rattle.am_installed.proofs.Orders.{grants_in_order}
+use Rattle.am_model.proofs.Rights.{less_from, with_in_order}
 use Rattle.am_laws.proofs.Tests.{both}
-use Rattle.am_opening.specs.Merging.{Right, is_before, is_right, place_right, with_right, merge_one, merge_if, after_grant_right, after_link_right}
-use Rattle.am_opening.specs.Openings.{after_grant_row, after_link_row, grants_after, links_after}
-use Rattle.am_opening.proofs.Merged.{AllBefore, before_next, less_from, merged, merged_before}
-
--- grants as rights, when one is given or taken
-granted_placed : (g : Grant) (gs : List Grant) → rights_granted (place_grant g gs) ≡ place_right (g.uid, g.permission) (rights_granted gs)
-granted_placed g [] = refl
-granted_placed g (f ∷ gs) = by (is_before (g.uid, g.permission) (f.uid, f.permission)) (granted_placed g gs)
-  where
-    by : (b : Bool) → rights_granted (place_grant g gs) ≡ place_right (g.uid, g.permission) (rights_granted gs)
-        → rights_granted (cond b (g ∷ f ∷ gs) (f ∷ place_grant g gs))
-        ≡ cond b ((g.uid, g.permission) ∷ (f.uid, f.permission) ∷ rights_granted gs) ((f.uid, f.permission) ∷ place_right (g.uid, g.permission) (rights_granted gs))
-    by true e = refl
-    by false e = ap (λ (l : List Right). (f.uid, f.permission) ∷ l) e
-
-any_granted : (uid : ℕ) (permission : List ℕ) (gs : List Grant) → is_granted gs uid permission ≡ list_any (is_right (uid, permission)) (rights_granted gs)
-any_granted uid permission [] = refl
-any_granted uid permission (g ∷ gs) = ap (λ b. is_grant uid permission g || b) (any_granted uid permission gs)
-
-others_granted : (uid : ℕ) (permission : List ℕ) (gs : List Grant) → rights_granted (filter (λ g. not (is_grant uid permission g)) gs)
-    ≡ filter (λ other. not (is_right (uid, permission) other)) (rights_granted gs)
-others_granted uid permission [] = refl
-others_granted uid permission (g ∷ gs) = by (is_grant uid permission g) (others_granted uid permission gs)
-  where
-    left : List Grant
-    left = filter (λ g. not (is_grant uid permission g)) gs
-
-    others : List Right
-    others = filter (λ other. not (is_right (uid, permission) other)) (rights_granted gs)
-
-    by : (b : Bool) → rights_granted left ≡ others → rights_granted (cond (not b) (g ∷ left) left) ≡ cond (not b) ((g.uid, g.permission) ∷ others) others
-    by true e = e
-    by false e = ap (λ (l : List Right). (g.uid, g.permission) ∷ l) e
-
-granted_with : (gs : List Grant) (uid : ℕ) (permission : List ℕ) (held : Bool) → rights_granted (with_grant gs uid permission held) ≡ with_right (rights_granted gs) (uid, permission) held
-granted_with gs uid permission false = others_granted uid permission gs
-granted_with gs uid permission true =
-    by (is_granted gs uid permission)
-    ∙ ap (λ b. cond b (rights_granted gs) (place_right (uid, permission) (rights_granted gs))) (any_granted uid permission gs)
-  where
-    by : (b : Bool) → rights_granted (cond b gs (place_grant (record { uid = uid; permission = permission }) gs))
-        ≡ cond b (rights_granted gs) (place_right (uid, permission) (rights_granted gs))
-    by true = refl
-    by false = granted_placed (record { uid = uid; permission = permission }) gs
-
--- and links as rights
-approved_placed : (k : Link) (ks : List Link) → rights_approved (place_link k ks) ≡ place_right (k.uid, k.host) (rights_approved ks)
-approved_placed k [] = refl
-approved_placed k (f ∷ ks) = by (is_before (k.uid, k.host) (f.uid, f.host)) (approved_placed k ks)
-  where
-    by : (b : Bool) → rights_approved (place_link k ks) ≡ place_right (k.uid, k.host) (rights_approved ks)
-        → rights_approved (cond b (k ∷ f ∷ ks) (f ∷ place_link k ks))
-        ≡ cond b ((k.uid, k.host) ∷ (f.uid, f.host) ∷ rights_approved ks) ((f.uid, f.host) ∷ place_right (k.uid, k.host) (rights_approved ks))
-    by true e = refl
-    by false e = ap (λ (l : List Right). (f.uid, f.host) ∷ l) e
-
-any_approved : (uid : ℕ) (host : List ℕ) (ks : List Link) → is_linked ks uid host ≡ list_any (is_right (uid, host)) (rights_approved ks)
-any_approved uid host [] = refl
-any_approved uid host (k ∷ ks) = ap (λ b. is_link uid host k || b) (any_approved uid host ks)
-
-others_approved : (uid : ℕ) (host : List ℕ) (ks : List Link) → rights_approved (filter (λ k. not (is_link uid host k)) ks)
-    ≡ filter (λ other. not (is_right (uid, host) other)) (rights_approved ks)
-others_approved uid host [] = refl
-others_approved uid host (k ∷ ks) = by (is_link uid host k) (others_approved uid host ks)
-  where
-    left : List Link
-    left = filter (λ k. not (is_link uid host k)) ks
-
-    others : List Right
-    others = filter (λ other. not (is_right (uid, host) other)) (rights_approved ks)
-
-    by : (b : Bool) → rights_approved left ≡ others → rights_approved (cond (not b) (k ∷ left) left) ≡ cond (not b) ((k.uid, k.host) ∷ others) others
-    by true e = e
-    by false e = ap (λ (l : List Right). (k.uid, k.host) ∷ l) e
-
-approved_with : (ks : List Link) (uid : ℕ) (host : List ℕ) (held : Bool) → rights_approved (with_link ks uid host held) ≡ with_right (rights_approved ks) (uid, host) held
-approved_with ks uid host false = others_approved uid host ks
-approved_with ks uid host true =
-    by (is_linked ks uid host)
-    ∙ ap (λ b. cond b (rights_approved ks) (place_right (uid, host) (rights_approved ks))) (any_approved uid host ks)
-  where
-    by : (b : Bool) → rights_approved (cond b ks (place_link (record { uid = uid; host = host }) ks))
-        ≡ cond b (rights_approved ks) (place_right (uid, host) (rights_approved ks))
-    by true = refl
-    by false = approved_placed (record { uid = uid; host = host }) ks
+use Rattle.am_opening.specs.Merging.{is_live_link, is_right, place_right, with_right, merge_one, merge_if, after_grant_right, after_link_right}
+use Rattle.am_opening.specs.Openings.{grants_after, links_after}
+use Rattle.am_opening.proofs.Merged.{AllBefore, before_next, merged, merged_before}
 
 -- rights stay in order
-as_grants : List Right → List Grant
-as_grants rights = map (λ (r : Right). record { uid = r.0; permission = r.1 }) rights
-
-rights_of_grants : (rights : List Right) → rights_granted (as_grants rights) ≡ rights
-unfolding as_grants
-rights_of_grants [] = refl
-rights_of_grants (r ∷ rights) = ap (λ (l : List Right). r ∷ l) (rights_of_grants rights)
-
 sorted_with : (rights : List Right) (r : Right) (held : Bool) → IsStrictlySortedBy right_cmp rights → IsStrictlySortedBy right_cmp (with_right rights r held)
 sorted_with rights r held sorted =
-    subst (λ (l : List Right). IsStrictlySortedBy right_cmp l)
-    (granted_with (as_grants rights) r.0 r.1 held ∙ ap (λ (l : List Right). with_right l r held) (rights_of_grants rights))
-    (grants_in_order (as_grants rights) r.0 r.1 held (subst (λ (l : List Right). IsStrictlySortedBy right_cmp l) (sym (rights_of_grants rights)) sorted))
+    subst (λ (l : List Right). IsStrictlySortedBy right_cmp l) (map-id (with_right rights r held))
+    (with_in_order (λ (s : Right). s) (λ uid text. (uid, text)) (λ u t. refl) rights r.0 r.1 held
+    (subst (λ (l : List Right). IsStrictlySortedBy right_cmp l) (sym (map-id rights)) sorted))
 
 -- rows of some kind, of each of which it is known what its right is, whether it is held, and whether its package is there
 module _ {R : Type 0} (right : R → Right) (held live : R → Bool) where
@@ -218,50 +129,88 @@ module _ {R : Type 0} (right : R → Right) (held live : R → Bool) where
       → done ++ left ≡ fold follow rights rows
   all_merged rights rows i done left all merging = sym merging.follows ∙ ap (λ (l : List R). fold follow rights l) (take_all i rows all)
 
--- what grant rows make of grants, they make of them as rights
-pub grants_followed : (packages : List Package) (gs : List Grant) (rows : List GrantRow) → rights_granted (grants_after packages gs rows) ≡ fold (after_grant_right packages) (rights_granted gs) rows
-grants_followed packages gs [] = refl
-grants_followed packages gs (row ∷ rows) =
-    grants_followed packages (after_grant_row packages gs row) rows
-    ∙ ap (λ (l : List Right). fold (after_grant_right packages) l rows) (by (is_package_uid packages row.uid))
-  where
-    by : (b : Bool) → rights_granted (cond b (with_grant gs row.uid row.permission row.held) gs) ≡ cond b (with_right (rights_granted gs) (row.uid, row.permission) row.held) (rights_granted gs)
-    by true = granted_with gs row.uid row.permission row.held
-    by false = refl
+-- what is kept as rights, as a uid and a text each
+module _ {R : Type 0} (right_of : R → Right) where
+  of_placed : (r : R) (rs : List R) → map right_of (inserted (before_right right_of) r rs) ≡ place_right (right_of r) (map right_of rs)
+  of_placed r [] = refl
+  of_placed r (first ∷ rs) = by (before_right right_of r first) (of_placed r rs)
+    where
+      by : (b : Bool) → map right_of (inserted (before_right right_of) r rs) ≡ place_right (right_of r) (map right_of rs)
+          → map right_of (cond b (r ∷ first ∷ rs) (first ∷ inserted (before_right right_of) r rs))
+          ≡ cond b (right_of r ∷ right_of first ∷ map right_of rs) (right_of first ∷ place_right (right_of r) (map right_of rs))
+      by true e = refl
+      by false e = ap (λ (l : List Right). right_of first ∷ l) e
 
--- and link rows of links
-pub links_followed : (packages : List Package) (ks : List Link) (rows : List LinkRow) → rights_approved (links_after packages ks rows) ≡ fold (after_link_right packages) (rights_approved ks) rows
-links_followed packages ks [] = refl
-links_followed packages ks (row ∷ rows) =
-    links_followed packages (after_link_row packages ks row) rows
-    ∙ ap (λ (l : List Right). fold (after_link_right packages) l rows) (by (is_package_uid packages row.uid && is_same (lowered row.host) row.host))
-  where
-    by : (b : Bool) → rights_approved (cond b (with_link ks row.uid row.host row.approved) ks) ≡ cond b (with_right (rights_approved ks) (row.uid, row.host) row.approved) (rights_approved ks)
-    by true = approved_with ks row.uid row.host row.approved
-    by false = refl
+  of_any : (uid : ℕ) (text : List ℕ) (rs : List R) → has_right right_of rs uid text ≡ list_any (is_right (uid, text)) (map right_of rs)
+  of_any uid text [] = refl
+  of_any uid text (r ∷ rs) = ap (λ b. is_right (uid, text) (right_of r) || b) (of_any uid text rs)
+
+  of_others : (uid : ℕ) (text : List ℕ) (rs : List R) → map right_of (filter (λ r. not (is_right (uid, text) (right_of r))) rs)
+      ≡ filter (λ other. not (is_right (uid, text) other)) (map right_of rs)
+  of_others uid text [] = refl
+  of_others uid text (r ∷ rs) = by (is_right (uid, text) (right_of r)) (of_others uid text rs)
+    where
+      left : List R
+      left = filter (λ s. not (is_right (uid, text) (right_of s))) rs
+
+      others : List Right
+      others = filter (λ other. not (is_right (uid, text) other)) (map right_of rs)
+
+      by : (b : Bool) → map right_of left ≡ others → map right_of (cond (not b) (r ∷ left) left) ≡ cond (not b) (right_of r ∷ others) others
+      by true e = e
+      by false e = ap (λ (l : List Right). right_of r ∷ l) e
+
+  module _ (made : ℕ → List ℕ → R) (made_is : (uid : ℕ) (text : List ℕ) → right_of (made uid text) ≡ (uid, text)) where
+    -- when one is given or taken
+    of_with : (rs : List R) (r : Right) (held : Bool) → map right_of (with_right_of right_of made rs r.0 r.1 held) ≡ with_right (map right_of rs) r held
+    of_with rs r false = of_others r.0 r.1 rs
+    of_with rs r true =
+        by (has_right right_of rs r.0 r.1)
+        ∙ ap (λ b. cond b (map right_of rs) (place_right r (map right_of rs))) (of_any r.0 r.1 rs)
+      where
+        by : (b : Bool) → map right_of (cond b rs (inserted (before_right right_of) (made r.0 r.1) rs)) ≡ cond b (map right_of rs) (place_right r (map right_of rs))
+        by true = refl
+        by false = of_placed (made r.0 r.1) rs ∙ ap (λ (s : Right). place_right s (map right_of rs)) (made_is r.0 r.1)
+
+    -- when rows are followed
+    module _ {Row : Type 0} (row_right : Row → Right) (held live : Row → Bool) where
+      abbrev pub after_one : List R → Row → List R
+      after_one rs row = cond (live row) (with_right_of right_of made rs (row_right row).0 (row_right row).1 (held row)) rs
+
+      of_followed : (rs : List R) (rows : List Row) → map right_of (fold after_one rs rows) ≡ fold (follow row_right held live) (map right_of rs) rows
+      of_followed rs [] = refl
+      of_followed rs (row ∷ rows) =
+          of_followed (after_one rs row) rows
+          ∙ ap (λ (l : List Right). fold (follow row_right held live) l rows) (by (live row))
+        where
+          by : (b : Bool) → map right_of (cond b (with_right_of right_of made rs (row_right row).0 (row_right row).1 (held row)) rs)
+              ≡ cond b (with_right (map right_of rs) (row_right row) (held row)) (map right_of rs)
+          by true = of_with rs (row_right row) (held row)
+          by false = refl
+
+      -- and what is made of the rights that followed
+      pub made_of : ((r : R) → made (right_of r).0 (right_of r).1 ≡ r) → (rs : List R) (rows : List Row) (rights after : List Right) (all : List R) → rights ≡ map right_of rs
+          → after ≡ fold (follow row_right held live) rights rows → all ≡ map (λ (r : Right). made r.0 r.1) after → all ≡ fold after_one rs rows
+      made_of itself rs rows rights after all from follows is =
+          is
+          ∙ ap (map (λ (r : Right). made r.0 r.1))
+          (follows ∙ ap (λ (l : List Right). fold (follow row_right held live) l rows) from ∙ sym (of_followed rs rows))
+          ∙ back (fold after_one rs rows)
+        where
+          back : (rs : List R) → map (λ (r : Right). made r.0 r.1) (map right_of rs) ≡ rs
+          back [] = refl
+          back (r ∷ rs) = (λ i. itself r i ∷ back rs i)
 
 -- grants that are made of rights that followed grant rows
-grants_of_rights : (gs : List Grant) → map (λ (r : Right). record { uid = r.0; permission = r.1 }) (rights_granted gs) ≡ gs
-grants_of_rights [] = refl
-grants_of_rights (g ∷ gs) = ap (λ (l : List Grant). g ∷ l) (grants_of_rights gs)
-
 pub grants_made : (packages : List Package) (gs : List Grant) (rows : List GrantRow) (rights after : List Right) (made : List Grant) → rights ≡ rights_granted gs
     → after ≡ fold (after_grant_right packages) rights rows → made ≡ map (λ (r : Right). record { uid = r.0; permission = r.1 }) after → made ≡ grants_after packages gs rows
 grants_made packages gs rows rights after made from follows is =
-    is
-    ∙ ap (map (λ (r : Right). record { uid = r.0; permission = r.1 }))
-    (follows ∙ ap (λ (l : List Right). fold (after_grant_right packages) l rows) from ∙ sym (grants_followed packages gs rows))
-    ∙ grants_of_rights (grants_after packages gs rows)
+    made_of of_grant grant_of (λ u t. refl) (λ (row : GrantRow). (row.uid, row.permission)) (λ (row : GrantRow). row.held) (λ (row : GrantRow). is_package_uid packages row.uid)
+    (λ g. refl) gs rows rights after made from follows is
 
 -- and links of rights that followed link rows
-links_of_rights : (ks : List Link) → map (λ (r : Right). record { uid = r.0; host = r.1 }) (rights_approved ks) ≡ ks
-links_of_rights [] = refl
-links_of_rights (k ∷ ks) = ap (λ (l : List Link). k ∷ l) (links_of_rights ks)
-
 pub links_made : (packages : List Package) (ks : List Link) (rows : List LinkRow) (rights after : List Right) (made : List Link) → rights ≡ rights_approved ks
     → after ≡ fold (after_link_right packages) rights rows → made ≡ map (λ (r : Right). record { uid = r.0; host = r.1 }) after → made ≡ links_after packages ks rows
 links_made packages ks rows rights after made from follows is =
-    is
-    ∙ ap (map (λ (r : Right). record { uid = r.0; host = r.1 }))
-    (follows ∙ ap (λ (l : List Right). fold (after_link_right packages) l rows) from ∙ sym (links_followed packages ks rows))
-    ∙ links_of_rights (links_after packages ks rows)
+    made_of of_link link_of (λ u t. refl) (λ (row : LinkRow). (row.uid, row.host)) (λ (row : LinkRow). row.approved) (λ (row : LinkRow). is_live_link packages row)
+    (λ k. refl) ks rows rights after made from follows is

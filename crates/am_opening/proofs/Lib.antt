@@ -1,4 +1,3 @@
-pub mod Placing
 pub mod Refused
 pub mod Finding
 pub mod Greatest

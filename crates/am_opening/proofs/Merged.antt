@@ -1,49 +1,18 @@
 -- Rights in order that are merged with one more.
-use Rattle.std.proofs.Common.{◌≡◌, ℕ, Bool, true, false, not, ◌&&◌, ◌||◌, cond, ltb, eqb, List, [], ◌∷◌, ◌++◌, filter, refl, sym, ap, ◌∙◌, subst, append_assoc}
+use Rattle.std.proofs.Common.{◌≡◌, ℕ, Bool, true, false, not, ◌||◌, cond, eqb, List, [], ◌∷◌, ◌++◌, filter, refl, sym, ap, ◌∙◌, subst, append_assoc}
 use Rattle.std.specs.List.{AllByRecursion, list_any}
 use Rattle.std.specs.List.Sorted.{IsStrictlySortedBy}
-use Rattle.std.specs.Cmp.{IsTotalOrder, nat_cmp_total, on_total, then_total}
-use Rattle.std.specs.Cmp.Lexicographic.{bytes_decides, nat_list_cmp_total, nat_list_eq_equiv, slice_cmp}
-use Rattle.std.specs.Ordering.{nat_cmp, is_lt, ordering_reverse, ordering_then}
-use Rattle.std.specs.declared.cmp.Ordering.{Ordering}
+use Rattle.std.specs.Cmp.Lexicographic.{bytes_decides, nat_list_eq_equiv, slice_cmp}
+use Rattle.std.specs.Ordering.{nat_cmp, is_lt, ordering_reverse}
 use Rattle.std.specs.declared.cmp.Ordering.TheVariants.{Less, Equal, Greater}
-use Rattle.std.proofs.lemmas.Bool.{false≢true, eq-eqb, eqb-true}
+use Rattle.std.proofs.lemmas.Bool.{false≢true, and_from, eq-eqb, eqb-true}
 use Rattle.std.proofs.lemmas.Map.Lookups.{exact_bytes, exact_unsigned}
 use Rattle.am_model.specs.Sound.{right_cmp}
 use Rattle.am_model.specs.Texts.{is_same}
+use Rattle.am_model.proofs.Rights.{all_less, before_is_less, less_from, right_total, then_equal, turned_less}
 use Rattle.am_laws.proofs.Tests.{both}
-use Rattle.am_opening.specs.Merging.{Right, is_before, is_right, place_right, with_right, front, behind_front, unless_first, if_held}
-
-right_total : IsTotalOrder right_cmp
-right_total = then_total (on_total (λ (r : Right). r.0) nat_cmp_total) (on_total (λ (r : Right). r.1) nat_list_cmp_total)
-
--- a right stands before another where the order says so
-before_is_less : (r s : Right) → is_before r s ≡ is_lt (right_cmp r s)
-before_is_less r s = by (ltb r.0 s.0) (eqb r.0 s.0) (slice_cmp nat_cmp r.1 s.1)
-  where
-    by : (l e : Bool) (o : Ordering) → (l || (e && is_lt o)) ≡ is_lt (ordering_then (cond l Less (cond e Equal Greater)) o)
-    by true e o = refl
-    by false true o = refl
-    by false false o = refl
-
-pub less_from : (o : Ordering) → is_lt o ≡ true → o ≡ Less
-less_from Less e = refl
-less_from Equal e = absurd (false≢true e)
-less_from Greater e = absurd (false≢true e)
-
--- what neither stands before nor is the same stands behind
-turned_less : (o p : Ordering) → o ≡ ordering_reverse p → is_lt o ≡ false → (o ≡ Equal → ⊥) → p ≡ Less
-turned_less Less p e l n = absurd (false≢true (sym l))
-turned_less Equal p e l n = absurd (n refl)
-turned_less Greater Less e l n = refl
-turned_less Greater Equal e l n = cc
-turned_less Greater Greater e l n = cc
-
--- both comparisons of rights that tie do
-then_equal : (o p : Ordering) → ordering_then o p ≡ Equal → (o ≡ Equal) × (p ≡ Equal)
-then_equal Less p e = cc
-then_equal Equal p e = (refl, e)
-then_equal Greater p e = cc
+use Rattle.am_model.specs.Rights.{Right}
+use Rattle.am_opening.specs.Merging.{is_before, is_right, place_right, with_right, front, behind_front, unless_first, if_held}
 
 less : (r s : Right) → is_before r s ≡ true → right_cmp r s ≡ Less
 less r s e = less_from (right_cmp r s) (sym (before_is_less r s) ∙ e)
@@ -57,15 +26,11 @@ same_is r s e =
     let parts = both (eqb s.0 r.0) (is_same s.1 r.1) e in
     pair_is s r (eqb-true s.0 r.0 parts.0) ((bytes_decides s.1 r.1).0 parts.1)
 
-both_true : (a b : Bool) → a ≡ true → b ≡ true → a && b ≡ true
-both_true true b h k = k
-both_true false b h k = h
-
 -- rights that tie are the same
 tied_is : (r s : Right) → right_cmp s r ≡ Equal → is_right r s ≡ true
 tied_is r s e =
     let parts = then_equal (nat_cmp s.0 r.0) (slice_cmp nat_cmp s.1 r.1) e in
-    both_true (eqb s.0 r.0) (is_same s.1 r.1) (eq-eqb s.0 r.0 (exact_unsigned s.0 r.0 parts.0))
+    and_from (eqb s.0 r.0) (is_same s.1 r.1) (eq-eqb s.0 r.0 (exact_unsigned s.0 r.0 parts.0))
     (ap (λ (t : List ℕ). is_same t r.1) (exact_bytes s.1 r.1 parts.1) ∙ nat_list_eq_equiv.refl r.1)
 
 never_itself : (r : Right) → right_cmp r r ≡ Less → ⊥
@@ -147,10 +112,6 @@ abbrev NotFront : Right → List Right → Type 0
 NotFront r [] = Unit {0}
 NotFront r (s ∷ more) = is_before s r ≡ false
 
-all_behind : (r s : Right) (rest : List Right) → right_cmp r s ≡ Less → AllBehind rest s → AllBehind rest r
-all_behind r s [] l all = tt
-all_behind r s (t ∷ rest) l all = (right_total.trans r s t l all.0, all_behind r s rest l all.1)
-
 -- where none stands before, the right comes first
 here : (rest : List Right) (r : Right) (held : Bool) → IsStrictlySortedBy right_cmp rest → NotFront r rest
     → with_right rest r held ≡ if_held r held ++ unless_first r rest
@@ -171,11 +132,11 @@ here (s ∷ more) r held sorted front = by (is_right r s) refl held
         ∙ all_kept r more (subst (λ (x : Right). AllBehind more x) (same_is r s e) sorted.0)
     by false e true =
         let l : right_cmp r s ≡ Less = behind r s front e in
-        ap (λ b. cond b (s ∷ more) (cond (is_before r s) (r ∷ s ∷ more) (s ∷ place_right r more))) (none_same r (s ∷ more) (l, all_behind r s more l sorted.0))
+        ap (λ b. cond b (s ∷ more) (cond (is_before r s) (r ∷ s ∷ more) (s ∷ place_right r more))) (none_same r (s ∷ more) (l, all_less r s more l sorted.0))
         ∙ ap (λ b. cond b (r ∷ s ∷ more) (s ∷ place_right r more)) (before_is_less r s ∙ ap is_lt l)
     by false e false =
         let l : right_cmp r s ≡ Less = behind r s front e in
-        all_kept r (s ∷ more) (l, all_behind r s more l sorted.0)
+        all_kept r (s ∷ more) (l, all_less r s more l sorted.0)
 
 -- behind the front
 record IsBehind (r : Right) (rest : List Right) : Type 0 where

@@ -1,6 +1,7 @@
 -- Rights that are moved one by one.
 use Rattle.std.proofs.Common.{◌≡◌, ◌<◌, true, false, cond, List, [], ◌∷◌, ◌++◌, length, take, drop, refl, sym, ap, ◌∙◌, append_assoc, append-nil, arith}
-use Rattle.am_opening.specs.Merging.{Right, front, behind_front, unless_first, is_first_before, is_first}
+use Rattle.am_model.specs.Rights.{Right}
+use Rattle.am_opening.specs.Merging.{front, behind_front, unless_first, is_first_before, is_first}
 
 -- what was moved and what is still to be moved is what is to be moved in all
 pub record IsMoving (r : Right) (done' left' done left : List Right) : Type 0 where

@@ -1,23 +1,21 @@
 -- What a sound device opens as is sound.
-use Rattle.std.proofs.Common.{◌≡◌, ℕ, ◌≤◌, Bool, true, false, not, cond, List, [], ◌∷◌, refl, sym, ap, ◌∙◌, subst, arith}
-use Rattle.std.specs.Prelude.{All, IfOk, IsTrue, nat_lt, Option, Some, None, Result, Ok, Err, ◌==◌}
+use Rattle.std.proofs.Common.{◌≡◌, ℕ, ◌≤◌, not, List, refl, sym, ap, ◌∙◌, subst, arith}
+use Rattle.std.specs.Prelude.{All, IfOk, IsTrue, Option, Some, None, Result, Ok, Err, ◌==◌}
 use Rattle.std.specs.List.{AllByRecursion, fold, find}
 use Rattle.std.proofs.lemmas.List.Elements.{All-from_recursion, recursion_from_All, All-weaker}
 use Rattle.am_types.specs.declared.device.Device.{Device}
 use Rattle.am_types.specs.declared.device.Package.{Package}
-use Rattle.am_types.specs.declared.manifest.Manifest.{Manifest}
-use Rattle.am_types.specs.declared.manifest.ManifestFault.{ManifestFault}
 use Rattle.am_keeper.specs.declared.rows.PackageRow.{PackageRow}
 use Rattle.am_keeper.specs.declared.rows.Rows.{Rows}
-use Rattle.am_model.specs.Boards.{Board, without_package}
+use Rattle.am_model.specs.Boards.{Board}
 use Rattle.am_model.specs.Sound.{IsSound, IsSoundPackage, is_access_key, owner_keys}
-use Rattle.am_manifest.specs.Manifests.{manifest_of}
+use Rattle.am_model.proofs.Lists.{all_inserted, all_left}
 use Rattle.am_history.specs.State.{State, opening}
-use Rattle.am_history.specs.Packages.{no_uid, removed}
-use Rattle.am_history.specs.Opening.{place_package, kept_package, is_row_good, with_read, after_row, and_then_row, after_rows, has_too_many, unless_too_many, completed, opened, opening_with, with_rights}
+use Rattle.am_history.specs.Packages.{no_uid}
+use Rattle.am_history.specs.Opening.{before_package, kept_package, and_then_row, after_rows, has_too_many, unless_too_many, completed, opened, opening_with, with_rights}
 use Rattle.am_history.specs.Desks.{state_or, opening_of}
+use Rattle.am_history.proofs.OpeningLaws.{IfOpened, good_parts, nothing_asked, rows_leave}
 use Rattle.am_laws.proofs.Openings.{opening_leaves}
-use Rattle.am_laws.proofs.Tests.{both}
 use Rattle.am_laws_state.specs.Sound.{IsSoundApp, IsSoundState}
 use Rattle.am_laws_state.proofs.SoundOpenings.{opening_is_sound}
 use Rattle.am_opening.specs.declared.opened.Opened.{Opened}
@@ -29,64 +27,17 @@ use Rattle.am_opening.proofs.Completing.{rights_are}
 abbrev HasKey : Package → Type 0
 HasKey p = IsTrue (is_access_key p.key)
 
-placed_keys : (p : Package) (ps : List Package) → HasKey p → AllByRecursion HasKey ps → AllByRecursion HasKey (place_package p ps)
-placed_keys p [] one all = (one, tt)
-placed_keys p (first ∷ others) one all = by (nat_lt p.uid first.uid) (placed_keys p others one all.1)
-  where
-    by : (b : Bool) → AllByRecursion HasKey (place_package p others) → AllByRecursion HasKey (cond b (p ∷ first ∷ others) (first ∷ place_package p others))
-    by true rest = (one, all)
-    by false rest = (all.0, rest)
-
-left_keys : (uid : ℕ) (ps : List Package) → AllByRecursion HasKey ps → AllByRecursion HasKey (without_package ps uid)
-left_keys uid [] all = tt
-left_keys uid (p ∷ ps) all = by (p.uid == uid) (left_keys uid ps all.1)
-  where
-    by : (b : Bool) → AllByRecursion HasKey (without_package ps uid) → AllByRecursion HasKey (cond (not b) (p ∷ without_package ps uid) (without_package ps uid))
-    by true rest = rest
-    by false rest = (all.0, rest)
-
 -- the packages of a state have keys, if it isn't refused
 abbrev HaveKeys : Result State (List ℕ) → Type 0
-HaveKeys (Ok state) = AllByRecursion HasKey state.board.packages
-HaveKeys (Err name) = Unit {0}
-
--- a good row has a key of the right form
-good_key : (state : State) (row : PackageRow) (manifest : Manifest) → is_row_good state row manifest ≡ true → IsTrue (is_access_key row.key)
-good_key state row manifest good =
-    let first = both _ _ good in
-    let second = both _ _ first.0 in
-    let third = both _ _ second.0 in
-    let fourth = both _ _ third.0 in
-    fourth.1
-
-read_keys : (state : State) (row : PackageRow) (manifest : Result Manifest ManifestFault) → AllByRecursion HasKey state.board.packages
-    → HaveKeys (with_read state row manifest)
-read_keys state row (Err fault) all = tt
-read_keys state row (Ok manifest) all = by (is_row_good state row manifest) refl
-  where
-    more : List Package
-    more = place_package (kept_package row manifest) state.board.packages
-
-    by : (b : Bool) → is_row_good state row manifest ≡ b
-        → HaveKeys (cond b (Ok (record state { board = record (state.board) { packages = more } })) (Err row.name))
-    by true good = placed_keys (kept_package row manifest) state.board.packages (good_key state row manifest good) all
-    by false good = tt
-
-row_keys : (state : State) (row : PackageRow) → AllByRecursion HasKey state.board.packages → HaveKeys (after_row state row)
-row_keys state row all = by (row.uid == no_uid) row.gone
-  where
-    by : (b c : Bool) → HaveKeys (cond b (Err row.name) (cond c (Ok (record state { board = removed state.board row.uid })) (with_read state row (manifest_of row.text))))
-    by true c = tt
-    by false true = left_keys row.uid state.board.packages all
-    by false false = read_keys state row (manifest_of row.text) all
+HaveKeys = IfOpened (λ (state : State). AllByRecursion HasKey state.board.packages)
 
 rows_keys : (before : Result State (List ℕ)) (rows : List PackageRow) → HaveKeys before → HaveKeys (fold and_then_row before rows)
-rows_keys before [] all = all
-rows_keys before (row ∷ rows) all = rows_keys (and_then_row before row) rows (by before all)
-  where
-    by : (state : Result State (List ℕ)) → HaveKeys state → HaveKeys (and_then_row state row)
-    by (Err name) one = tt
-    by (Ok state) one = row_keys state row one
+rows_keys before rows all =
+    rows_leave (λ (state : State). AllByRecursion HasKey state.board.packages) (λ (row : PackageRow). Unit {0})
+    (λ state row one. all_left HasKey (λ (p : Package). not (p.uid == row.uid)) state.board.packages one)
+    (λ state row manifest asked is good one.
+    all_inserted before_package HasKey (kept_package row manifest) state.board.packages ((good_parts state row manifest good).key) one)
+    before rows (nothing_asked rows) all
 
 opened_keys : (device : Device) (rows : Rows) (state : Result State (List ℕ)) → HaveKeys state → HaveKeys (opened device rows state)
 opened_keys device rows (Err name) all = tt

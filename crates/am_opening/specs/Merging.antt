@@ -1,34 +1,28 @@
 -- Rights that are merged with rows, where both stand in order.
-use Rattle.std.specs.Prelude.{ℕ, Bool, true, false, not, ◌&&◌, ◌==◌, List, [], ◌∷◌, ◌++◌, filter, if◌then◌else◌}
-use Rattle.std.specs.List.{list_any}
+use Rattle.std.specs.Prelude.{Bool, false, ◌&&◌, List, [], ◌∷◌, ◌++◌, if◌then◌else◌}
 use Rattle.am_types.specs.declared.device.Package.{Package}
 use Rattle.am_keeper.specs.declared.rows.GrantRow.{GrantRow}
 use Rattle.am_keeper.specs.declared.rows.LinkRow.{LinkRow}
-use Rattle.am_model.specs.Boards.{is_package_uid, stands_before}
+use Rattle.am_model.specs.Boards.{is_package_uid}
+use Rattle.am_model.specs.Lists.{inserted}
+use Rattle.am_model.specs.Rights.{Right, before_right, is_right as is_right_of, with_right as with_right_of}
 use Rattle.am_model.specs.Texts.{is_same, lowered}
-
--- a uid, and a permission or a host
-abbrev pub Right : Type 0
-Right = ℕ × List ℕ
 
 -- a right stands before another one
 abbrev pub is_before : Right → Right → Bool
-is_before right other = stands_before right.0 right.1 other.0 other.1
+is_before right other = before_right (λ (r : Right). r) right other
 
 -- the other right is the same
 abbrev pub is_right : Right → Right → Bool
-is_right right other = (other.0 == right.0) && is_same other.1 right.1
+is_right right other = is_right_of (λ (r : Right). r) right.0 right.1 other
 
 -- the right in its place
 abbrev pub place_right : Right → List Right → List Right
-place_right right [] = right ∷ []
-place_right right (first ∷ others) =
-    if is_before right first then right ∷ first ∷ others else first ∷ place_right right others
+place_right right rights = inserted is_before right rights
 
 -- the rights with that one held or not held
 abbrev pub with_right : List Right → Right → Bool → List Right
-with_right rights right true = if list_any (is_right right) rights then rights else place_right right rights
-with_right rights right false = filter (λ other. not (is_right right other)) rights
+with_right rights right held = with_right_of (λ (r : Right). r) (λ uid text. (uid, text)) rights right.0 right.1 held
 
 -- those at the front that stand before a right
 abbrev pub front : Right → List Right → List Right

@@ -4,12 +4,12 @@ ghost use Rattle.std.specs.List.{list_any};
 ghost use Rattle.am_types.specs.declared.device.Package.{Package};
 ghost use Rattle.am_keeper.specs.declared.rows.PackageRow.{PackageRow};
 ghost use Rattle.am_model.specs.Boards.{grants_without, is_package_uid, links_without, without_package};
+ghost use Rattle.am_model.specs.Lists.{place_of};
 ghost use Rattle.am_model.specs.Texts.{is_same};
 ghost use Rattle.am_manifest.specs.Manifests.{manifest_of};
-ghost use Rattle.am_history.specs.Opening.{after_row, after_rows, is_row_good, kept_package, place_package, with_read};
+ghost use Rattle.am_history.specs.Opening.{after_row, after_rows, before_package, is_row_good, kept_package, place_package, with_read};
 ghost use Rattle.am_history.specs.Packages.{is_key_used, is_name_used, is_root_key, no_uid};
 ghost use Rattle.am_opening.specs.Openings.{Opens, Refuses, state_of};
-ghost use Rattle.am_opening.specs.Places.{place_of_uid};
 
 use crate::lists::take;
 use crate::opened::{OpenFault, Opened};
@@ -24,11 +24,11 @@ use std::alloc::{AllocError, Global};
 pub(crate) const NO_UID: u32 = 4_294_967_295;
 
 /// How many packages stand before the first of a greater uid.
-fn place_of_uid(packages: &[Package], uid: u32) -> usize
-    ensures { result ≡ place_of_uid uid packages.now }
+fn place_of(packages: &[Package], package: &Package) -> usize
+    ensures { result ≡ place_of before_package «package».now packages.now }
 {
     for (place, other) in packages.iter().enumerate() {
-        if uid < other.uid {
+        if package.uid < other.uid {
             return place;
         }
     }
@@ -39,7 +39,7 @@ fn place_of_uid(packages: &[Package], uid: u32) -> usize
 fn put_package(packages: &mut Vec<Package>, package: Package) -> Result<(), NoMemory>
     ensures { OnOk result (packages.new.items ≡ place_package «package» packages.old.items) }
 {
-    let place = place_of_uid(packages, package.uid);
+    let place = place_of(packages, &package);
     match packages.insert(place, package) {
         Ok(()) => Ok(()),
         Err(failed) => {

@@ -1,6 +1,7 @@
 //! Rights, which are a uid with a permission or a host each, in the order of uid and text.
 ghost use Rattle.std.specs.Prelude.{◌≡◌, ◌++◌, OnOk, take, drop};
-ghost use Rattle.am_model.specs.Boards.{grants_without, links_without, stands_before};
+ghost use Rattle.am_model.specs.Boards.{grants_without, links_without};
+ghost use Rattle.am_model.specs.Rights.{stands_before};
 ghost use Rattle.am_opening.specs.Merging.{behind_front, front, is_first, is_first_before, merge_one, unless_first};
 
 use crate::lists::take;

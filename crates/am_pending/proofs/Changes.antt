@@ -1,9 +1,7 @@
 -- What changes of the records by token are to the records as the definitions see them.
-use Rattle.std.proofs.Common.{◌≡◌, ℕ, ◌<◌, ◌==◌, Bool, true, false, not, ◌||◌, cond, List, [], ◌∷◌, ◌++◌, map, filter, All, Option, Some, None, Result, Ok, Err, option_map, refl, sym, ap, ◌∙◌, true≢false, arith}
+use Rattle.std.proofs.Common.{◌≡◌, ℕ, ◌<◌, ◌==◌, Bool, true, false, not, ◌||◌, cond, List, [], ◌∷◌, ◌++◌, map, filter, All, Option, Some, None, option_map, refl, sym, ap, ◌∙◌, arith}
 use Rattle.std.specs.List.{AllByRecursion, list_any}
 use Rattle.std.specs.List.Sorted.{IsStrictlySortedBy}
-use Rattle.std.specs.Prelude.{OnErr, OnOk}
-use Rattle.std.specs.Result.{is_err}
 use Rattle.std.specs.Map.{keys_of, lookup, remove_entry, set_value}
 use Rattle.std.specs.BTreeMap.{insert_entry, is_at}
 use Rattle.std.specs.Ordering.{nat_cmp, match_ordering}
@@ -33,14 +31,6 @@ lookup-records token [] = refl
 lookup-records token (e ∷ es) =
     ap (λ b. option_map (pending_of token) (cond b (Some e.1) (lookup (is_at (nat_cmp token)) es))) (at-token token e.0)
     ∙ read_step token e (lookup (is_at (nat_cmp token)) es) (record_in token (pendings_of es)) (e.0 == token) refl (lookup-records token es)
-
-pub from_ok : {T E P : Type 0} (r : Result T E) → OnOk r P → is_err r ≡ false → P
-from_ok (Ok x) h e = h
-from_ok (Err y) h e = absurd (true≢false e)
-
-pub from_err : {T E P : Type 0} (r : Result T E) → OnErr r P → is_err r ≡ true → P
-from_err (Ok x) h e = absurd (true≢false (sym e))
-from_err (Err y) h e = h
 
 -- of rising tokens no later one is the first
 later_apart : (x y t : ℕ) → (x == t) ≡ true → nat_cmp x y ≡ Less → (y == t) ≡ false

@@ -1,6 +1,6 @@
 -- What the packages of a device ask to see.
 use Rattle.std.specs.Prelude.{ℕ, codes, List, [], length, is_some, if◌then◌else◌, Option, Some, None, option_and_then, Result, Ok, Err}
-use Rattle.toml.specs.Data.{Data, get, as_str, as_table}
+use Rattle.toml.specs.Data.{Data, get, as_table}
 use Rattle.toml.specs.Parse.{parse_document}
 use Rattle.am_types.specs.declared.manifest.ManifestFault.{ManifestFault}
 use Rattle.am_types.specs.declared.manifest.ManifestFault.TheVariants.{WrongKind}
@@ -8,23 +8,12 @@ use Rattle.am_types.specs.declared.visible.Signature.{Signature}
 use Rattle.am_types.specs.declared.visible.Queries.{Queries}
 use Rattle.am_uri.specs.declared.text.Form.TheVariants.{PackageName}
 use Rattle.am_manifest_filters.specs.Reading.{◌>>=◌}
-use Rattle.am_manifest_filters.specs.Texts.{text_in, key_place, entry_place, within_key}
-use Rattle.am_manifest_filters.specs.Tables.{optional_values, at_most, each, entry_table}
+use Rattle.am_manifest_filters.specs.Texts.{key_place, within_key}
+use Rattle.am_manifest_filters.specs.Tables.{optional_values, at_most, each, entry_table, texts_at}
 use Rattle.am_manifest.specs.Manifests.{root_of}
 use Rattle.am_manifest.specs.Devices.{device_of, text_of}
 use Rattle.am_queries.specs.Signatures.{signature_of}
 use Rattle.am_queries.specs.declared.device.Described.{Described}
-
--- an entry of the packages that are asked for by their names, which need not be installed
-unfoldable pub name_entry : List ℕ → ℕ → Data → Result (List ℕ) ManifestFault
-name_entry at i value = text_in PackageName (entry_place at (codes "package") i) (as_str value)
-
--- the names of the packages that are asked for, of which there are at most 64
-unfoldable pub names_at : List ℕ → Data → Result (List (List ℕ)) ManifestFault
-names_at at value = do
-  values ← optional_values at (codes "package") value
-  few ← at_most 64 (codes "list") (length values)
-  each (name_entry at) 0 values
 
 -- an entry of the intents that are asked for
 unfoldable pub signature_entry : List ℕ → ℕ → Data → Result Signature ManifestFault
@@ -39,10 +28,10 @@ signatures_at at value = do
   few ← at_most 64 (codes "list") (length values)
   each (signature_entry at) 0 values
 
--- the queries in their table
+-- the queries in their table: at most 64 names of packages, which need not be installed, and the intents
 unfoldable pub queries_table : List ℕ → Data → Result Queries ManifestFault
 queries_table at value = do
-  names ← names_at at value
+  names ← texts_at PackageName at (codes "package") 64 value
   signatures ← signatures_at at value
   Ok (record { names = names; signatures = signatures })
 

@@ -1,14 +1,14 @@
 -- The intents that the queries of a manifest ask for. The places of a table's keys begin with `at`.
-use Rattle.std.specs.Prelude.{ℕ, Bool, not, codes, List, [], ◌∷◌, Option, option_and_then, Result, Ok}
-use Rattle.std.specs.List.{list_any, find}
+use Rattle.std.specs.Prelude.{ℕ, Bool, codes, List, [], ◌∷◌, Result, Ok}
+use Rattle.std.specs.List.{list_any}
 use Rattle.std.specs.Str.{bytes_eq}
-use Rattle.toml.specs.Data.{Data as TomlData, Members, as_table}
+use Rattle.toml.specs.Data.{Data as TomlData}
 use Rattle.am_types.specs.declared.manifest.ManifestFault.{ManifestFault}
 use Rattle.am_types.specs.declared.visible.Signature.{Signature}
 use Rattle.am_uri.specs.declared.text.Form.TheVariants.{Filled}
 use Rattle.am_manifest_filters.specs.Reading.{◌>>=◌}
-use Rattle.am_manifest_filters.specs.Rows.{keys_in, none_left_out, scheme_at, mime_at}
-use Rattle.am_manifest_filters.specs.Tables.{required_text, optional_text, texts_at}
+use Rattle.am_manifest_filters.specs.Rows.{scheme_at, mime_at}
+use Rattle.am_manifest_filters.specs.Tables.{required_text, optional_text, only_keys, texts_at}
 use Rattle.am_queries.specs.declared.signature.Names.{Names}
 use Rattle.am_queries.specs.declared.signature.Data.{Data}
 
@@ -18,19 +18,11 @@ is_signature_key key =
     list_any (bytes_eq key)
     (codes "action" ∷ codes "category" ∷ codes "scheme" ∷ codes "host" ∷ codes "mimeType" ∷ [])
 
--- the least key that an intent may not have
-abbrev pub unlisted : Members → Option (List ℕ)
-unlisted members = find (λ key. not (is_signature_key key)) (keys_in members)
-
--- an intent has no key but its own
-unfoldable pub only_signature_keys : List ℕ → TomlData → Result (Unit {0}) ManifestFault
-only_signature_keys at value = none_left_out at (option_and_then unlisted (as_table value))
-
 -- the action and the categories, of which there are at most 64
 unfoldable pub names_of : List ℕ → TomlData → Result Names ManifestFault
 names_of at value = do
   action ← required_text Filled at (codes "action") value
-  categories ← texts_at at (codes "category") 64 value
+  categories ← texts_at Filled at (codes "category") 64 value
   Ok (record { action = action; categories = categories })
 
 -- the scheme, the host and the type, each if it is there
@@ -44,7 +36,7 @@ data_of at value = do
 -- the intent that a table asks for
 unfoldable pub signature_of : List ℕ → TomlData → Result Signature ManifestFault
 signature_of at value = do
-  known ← only_signature_keys at value
+  known ← only_keys is_signature_key at value
   names ← names_of at value
   asked ← data_of at value
   Ok (record {

@@ -1,19 +1,16 @@
 //! A device with the queries of its packages.
 ghost use Rattle.std.specs.Prelude.{◌≡◌, IfOk, codes, length, map, option_and_then, option_map};
 ghost use Rattle.toml.specs.Data.{get};
-ghost use Rattle.toml.specs.Parse.{parse_document};
 ghost use Rattle.toml.specs.View.{view};
 ghost use Rattle.am_manifest_filters.specs.Reading.{Gives, GivesBy};
 ghost use Rattle.am_manifest_filters.specs.Tables.{each};
-ghost use Rattle.am_manifest.specs.Devices.{text_of};
-ghost use Rattle.am_manifest.specs.Manifests.{root_of};
 ghost use Rattle.am_model.specs.Sound.{IsSound};
 ghost use Rattle.am_queries.specs.Queries.{all_queries, described, package_queries, queries_of, text_queries};
 
 use crate::queries::queries_in;
-use am_manifest::read_device;
-use am_manifest_filters::{ReadFault, entry_table, optional_values, within_key};
-use am_types::{Device, List, ManifestFault, Queries};
+use am_manifest::{read_device, root_of, text_of};
+use am_manifest_filters::{ReadFault, entry_table, optional_values, read_each, within_key};
+use am_types::{Device, List, Queries};
 use std::alloc::Global;
 use toml::Value;
 
@@ -50,12 +47,11 @@ fn package_queries(alloc: Global, i: usize, package: &Value) -> Result<Queries, 
 fn each_package(alloc: Global, values: &[Value]) -> Result<Vec<Queries>, ReadFault>
     ensures { GivesBy (λ all. all.items) result (each package_queries 0 (map view values.now)) }
 {
-    let mut all = Vec::new(alloc);
-    for (i, value) in values.iter().enumerate() {
-        let queries = package_queries(alloc, i, value)?;
-        all.push(queries)?;
-    }
-    Ok(all)
+    read_each(
+        alloc,
+        values,
+        |i, package| package_queries(alloc, i, package),
+    )
 }
 
 /// The queries of the packages of a device.
@@ -65,29 +61,6 @@ fn all_queries(alloc: Global, root: &Value) -> Result<Vec<Queries>, ReadFault>
 {
     let values = optional_values(alloc, "", "package", root)?;
     each_package(alloc, values)
-}
-
-/// The bytes as a text, if they are UTF-8.
-#[tactic(auto, unfolding(am_manifest::specs::Devices::text_of))]
-fn text_of(bytes: &[u8]) -> Result<&str, ReadFault>
-    ensures { GivesBy (λ text. text.now) result (text_of bytes.now) }
-{
-    match std::str::from_utf8(bytes) {
-        Ok(text) => Ok(text),
-        Err(_) => Err(ReadFault::Manifest(ManifestFault::NotToml)),
-    }
-}
-
-/// The table that a text is, as a TOML document.
-#[tactic(auto, unfolding(am_manifest::specs::Manifests::root_of))]
-fn root_of(alloc: Global, text: &str) -> Result<Value, ReadFault>
-    ensures { GivesBy (λ root. view root) result (root_of (parse_document text.now)) }
-{
-    match toml::table_from_str(alloc, text) {
-        Ok(table) => Ok(Value::Table(table)),
-        Err(error) if error.is_memory() => Err(ReadFault::NoMemory),
-        Err(_) => Err(ReadFault::Manifest(ManifestFault::NotToml)),
-    }
 }
 
 /// The queries of a text.

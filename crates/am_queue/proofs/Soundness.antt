@@ -5,11 +5,11 @@ use Rattle.std.proofs.lemmas.List.Sums.{sum_by-cons}
 use Rattle.std.specs.Prelude.{Option, Some, None, ◌==◌}
 use Rattle.std.specs.List.{filter}
 use Rattle.am_types.specs.declared.broadcast.Spot.{Spot}
-use Rattle.am_model.specs.Broadcasts as broadcasts
 use Rattle.am_model.specs.Broadcasts.{InTurn, Current, Doing, Gone, Settled, turn, turned, settled, is_over, result_of, with_results, dispatched}
 use Rattle.am_model.specs.Filters.{is_empty}
 use Rattle.am_model.specs.Sending.{is_current, strike, strike_from, strike_rest, unwanted}
 use Rattle.am_queue_ordered.proofs.Counting.{count_by-cons}
+use Rattle.am_queue_ordered.proofs.Settling.{one_result}
 use Rattle.am_queue_ordered.specs.Heads.{head_turned}
 use Rattle.am_queue_ordered.specs.Counts.{queued_of}
 use Rattle.am_queue.specs.Sound.{undelivered, owed, owed_in, has_current}
@@ -149,13 +149,6 @@ settled_owes next deadline [] = omega arith
 settled_owes next deadline (head ∷ others) =
     by (is_over head) refl (settled_owes (next + length (result_of next head)) deadline others)
   where
-    one : broadcasts.Result
-    one = record { delivery = next; broadcast = head.number; sender = head.sender; outcome = broadcasts.outcome_of head }
-
-    at_most_one : (b : Bool) → length (cond b (one ∷ []) []) ≤ 1
-    at_most_one true = omega arith
-    at_most_one false = omega arith
-
     rest_first : (rest : List Spot) → is_empty rest ≡ false → 1 ≤ length rest
     rest_first [] some = cc
     rest_first (spot ∷ rest) some = omega arith
@@ -181,7 +174,7 @@ settled_owes next deadline (head ∷ others) =
         → (cond over (with_results (result_of next head) (settled (next + length (result_of next head)) deadline others)) (dispatched next deadline head others head.current)).next
         + owed_in (cond over (with_results (result_of next head) (settled (next + length (result_of next head)) deadline others)) (dispatched next deadline head others head.current)).queue
         ≤ next + owed_in (head ∷ others)
-    by true over rest = rw sum_by-cons (omega (arith, rest, at_most_one head.wanted))
+    by true over rest = rw sum_by-cons (omega (arith, rest, one_result next head))
     by false over rest = current head.current refl over
 
 -- its delivery numbers rise

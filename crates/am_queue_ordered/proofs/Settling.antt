@@ -31,16 +31,20 @@ not_begun deadline next queue results live counted = record {
 }
 
 -- a broadcast leaves one result at most
-at_most_one : (delivery : ℕ) (queue : List InTurn) → length (head_result delivery queue) ≤ 1
-at_most_one delivery [] = omega arith
-at_most_one delivery (head ∷ others) = by head.wanted
+pub one_result : (delivery : ℕ) (b : InTurn) → length (result_of delivery b) ≤ 1
+one_result delivery b = by b.wanted
   where
     one : broadcasts.Result
-    one = record { delivery = delivery; broadcast = head.number; sender = head.sender; outcome = broadcasts.outcome_of head }
+    one = record { delivery = delivery; broadcast = b.number; sender = b.sender; outcome = broadcasts.outcome_of b }
 
-    by : (b : Bool) → length (cond b (one ∷ []) []) ≤ 1
+    by : (wanted : Bool) → length (cond wanted (one ∷ []) []) ≤ 1
     by true = omega arith
     by false = omega arith
+
+-- and so does the head of a queue
+at_most_one : (delivery : ℕ) (queue : List InTurn) → length (head_result delivery queue) ≤ 1
+at_most_one delivery [] = omega arith
+at_most_one delivery (head ∷ others) = one_result delivery head
 
 -- the head that is over leaves, and the others settle
 settled-over : (next deadline : ℕ) (queue : List InTurn) → is_head_over queue ≡ true

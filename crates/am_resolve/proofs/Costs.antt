@@ -1,9 +1,9 @@
 -- Narrowing tests no filter outside the intent's group, and none twice: hits are components of distinct classes.
-use Rattle.std.proofs.Common.{◌≡◌, ℕ, ◌+◌, ◌≤◌, Bool, true, false, cond, eqb, List, [], ◌∷◌, ◌++◌, Option, Some, None, ℤ, count_by, refl, sym, ap, ◌∙◌, arith, zero-add}
+use Rattle.std.proofs.Common.{◌≡◌, ℕ, ◌+◌, ◌≤◌, Bool, true, false, cond, List, [], ◌∷◌, ◌++◌, Option, Some, None, ℤ, count_by, refl, sym, ap, ◌∙◌, arith, zero-add}
 use Rattle.std.specs.List.{AllByRecursion, IsDistinct}
 use Rattle.std.specs.Prelude.{int_lt, pos}
 use Rattle.std.proofs.lemmas.List.Elements.{recursion_from_All}
-use Rattle.std.proofs.lemmas.Bool.{false≢true, eq-eqb}
+use Rattle.std.proofs.lemmas.Bool.{false≢true}
 use Rattle.am_types.specs.declared.device.Package.{Package}
 use Rattle.am_types.specs.declared.intent.Component.{Component}
 use Rattle.am_types.specs.declared.intent.Intent.{Intent}
@@ -15,11 +15,12 @@ use Rattle.am_model.specs.Candidates.{Search, by_priority, hit_at, hit_of, hits,
 use Rattle.am_model.specs.Sound.{AreDistinct, classes_of}
 use Rattle.am_model.specs.Texts.{is_same}
 use Rattle.am_installed.specs.Installed.{AreInstalled, IsInstalled}
-use Rattle.am_installed.proofs.Rising.{Above, Rises, apart, rises}
+use Rattle.am_installed.proofs.Rising.{rises}
 use Rattle.am_index.specs.Groups.{group_size, in_group, size_of}
 use Rattle.am_index.specs.Members.{Member, members, members_from}
 use Rattle.am_index.proofs.Same.{is_same-Decides, is_same_itself}
 use Rattle.am_resolve.specs.Narrowing.{cost_at, cost_in, cost_of}
+use Rattle.am_resolve.proofs.Owners.{Found, each_found}
 
 -- what a component costs by itself
 abbrev own : Intent → Decl → ℕ
@@ -61,20 +62,6 @@ each_own intent (d ∷ ds) distinct = (
   where
     plus_zero : (n : ℕ) → n + 0 ≡ n
     plus_zero n = omega arith
-
--- each package is found by its uid
-abbrev Found : List Package → List Package → Type 0
-Found all ps = AllByRecursion (λ (p : Package). package_at all p.uid ≡ Some p) ps
-
-found_behind : (q : Package) (all ps : List Package) → Above q.uid ps → Found all ps → Found (q ∷ all) ps
-found_behind q all [] a f = tt
-found_behind q all (p ∷ ps) a f =
-    (ap (λ b. cond b (Some q) (package_at all p.uid)) (apart q.uid p.uid a.0 (eqb q.uid p.uid) refl) ∙ f.0, found_behind q all ps a.1 f.1)
-
-each_found : (ps : List Package) → Rises ps → Found ps ps
-each_found [] r = tt
-each_found (p ∷ ps) r =
-    (ap (λ b. cond b (Some p) (package_at ps p.uid)) (eq-eqb p.uid p.uid refl), found_behind p ps ps r.0 (each_found ps r.1))
 
 -- two numbers each at most another are together
 add_le : (a b c d : ℕ) → a ≤ b → c ≤ d → a + c ≤ b + d

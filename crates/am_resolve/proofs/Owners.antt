@@ -19,6 +19,20 @@ use Rattle.am_installed.proofs.Rising.{Above, Rises, apart, rises}
 use Rattle.am_installed.specs.Installed.{AreInstalled}
 use Rattle.am_resolve.specs.Ranking.{decl_at, receiver_in}
 
+-- each package is found by its uid
+abbrev pub Found : List Package → List Package → Type 0
+Found all ps = AllByRecursion (λ (p : Package). package_at all p.uid ≡ Some p) ps
+
+found_behind : (q : Package) (all ps : List Package) → Above q.uid ps → Found all ps → Found (q ∷ all) ps
+found_behind q all [] a f = tt
+found_behind q all (p ∷ ps) a f =
+    (ap (λ b. cond b (Some q) (package_at all p.uid)) (apart q.uid p.uid a.0 (eqb q.uid p.uid) refl) ∙ f.0, found_behind q all ps a.1 f.1)
+
+pub each_found : (ps : List Package) → Rises ps → Found ps ps
+each_found [] r = tt
+each_found (p ∷ ps) r =
+    (ap (λ b. cond b (Some p) (package_at ps p.uid)) (eq-eqb p.uid p.uid refl), found_behind p ps ps r.0 (each_found ps r.1))
+
 -- the component of a class of the package, as it is found by the package's name, is found by its uid
 abbrev IsOwn : List Package → Package → Type 0
 IsOwn packages p =

@@ -1,14 +1,9 @@
 -- What becomes of the offers, gathered and put in order, is the plain definition's.
 use Rattle.std.proofs.Common.{◌≡◌, ℕ, ℤ, Bool, true, false, cond, List, [], ◌∷◌, ◌++◌, map, filter, Option, refl, sym, ap, ◌∙◌}
 use Rattle.std.specs.Prelude.{int_lt}
-use Rattle.std.specs.Ordering.{is_lt, int_cmp}
-use Rattle.std.specs.declared.cmp.Ordering.TheVariants.{Less, Equal, Greater}
-use Rattle.std.specs.Cmp.{IsStrictWeakOrder}
 use Rattle.std.specs.List.{AllByRecursion}
 use Rattle.std.specs.List.Sorted.{IsSortedBy, IsStableBy}
 use Rattle.std.proofs.lemmas.List.{map-append}
-use Rattle.std.proofs.lemmas.Cmp.{back_total, int_cmp_total}
-use Rattle.std.proofs.lemmas.List.Sorted.{ranks_by}
 use Rattle.std.specs.declared.cmp.Reverse.{Reverse}
 use Rattle.am_types.specs.declared.intent.Intent.{Intent}
 use Rattle.am_types.specs.declared.manifest.Kind.TheVariants.{Receiver}
@@ -20,43 +15,15 @@ use Rattle.am_model.specs.Receivers.{Offer, declared, declared_offer, declared_o
 use Rattle.am_resolve.specs.declared.offers.Ranked.{Ranked}
 use Rattle.am_resolve.specs.Ranking.{in_rank, place_ranked, ranked_of, ranked_of_hits, ranked_of_registered, receiving_of}
 use Rattle.am_resolve.proofs.Owners.{IsFoundByUid}
-use Rattle.am_index.proofs.Order.{place, insertion, sorted_is_insertion}
+use Rattle.am_index.proofs.Priorities.{before, sorted_is_order}
 
 -- what the offers are sorted by
 abbrev pub sort_key : Ranked → Reverse ℤ
 sort_key one = record { 0 = one.priority }
 
--- one of greater priority goes before
-abbrev pub before : Ranked → Ranked → Bool
-before x y = is_lt (int_cmp y.priority x.priority)
-
--- which is an order
-before_order : IsStrictWeakOrder before
-before_order = ranks_by (back_total int_cmp_total) (λ (one : Ranked). one.priority)
-
--- comparing two numbers answers less just where the first is less
-less_by_cases : (a b : Bool) → is_lt (cond a Less (cond b Greater Equal)) ≡ a
-less_by_cases true b = refl
-less_by_cases false true = refl
-less_by_cases false false = refl
-
--- placing by that order is placing by priority
-place-place_ranked : (one : Ranked) (others : List Ranked) → place before before_order one others ≡ place_ranked one others
-place-place_ranked one [] = refl
-place-place_ranked one (first ∷ others) =
-    ap (λ b. cond b (first ∷ place before before_order one others) (one ∷ first ∷ others)) (less_by_cases (int_lt one.priority first.priority) (int_lt first.priority one.priority))
-    ∙ ap (λ l. cond (int_lt one.priority first.priority) (first ∷ l) (one ∷ first ∷ others)) (place-place_ranked one others)
-
--- and so is the whole insertion
-insertion-in_rank : (found : List Ranked) → insertion before before_order found ≡ in_rank found
-insertion-in_rank [] = refl
-insertion-in_rank (first ∷ others) =
-    place-place_ranked first (insertion before before_order others) ∙ ap (place_ranked first) (insertion-in_rank others)
-
 -- what a stable sort by falling priority gives is that order
-pub sorted_is_in_rank : (found sorted : List Ranked) → IsSortedBy before sorted → IsStableBy before found sorted → sorted ≡ in_rank found
-sorted_is_in_rank found sorted up stable =
-    sorted_is_insertion before before_order found sorted up stable ∙ insertion-in_rank found
+pub sorted_is_in_rank : (found sorted : List Ranked) → IsSortedBy (before (λ (one : Ranked). one.priority)) sorted → IsStableBy (before (λ (one : Ranked). one.priority)) found sorted → sorted ≡ in_rank found
+sorted_is_in_rank = sorted_is_order (λ (one : Ranked). one.priority) place_ranked in_rank (λ one. refl) (λ one first others. refl) refl (λ first others. refl)
 
 module _ (board : Board) (intent : Intent) (sender : ℕ) (required : Option (List ℕ)) where
   -- what becomes of the offer

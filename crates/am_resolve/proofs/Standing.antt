@@ -1,9 +1,7 @@
 -- An index stands for packages whether they are stopped or not, and after one that was added is taken out again.
-use Rattle.std.proofs.Common.{◌≡◌, ℕ, ◌+◌, Bool, true, false, not, cond, eqb, List, [], ◌∷◌, ◌++◌, refl, sym, ap, ◌∙◌, subst, Result, Ok, Err, arith, Some, None, length, ◌==◌, suc}
+use Rattle.std.proofs.Common.{◌≡◌, ℕ, ◌+◌, Bool, true, false, not, cond, eqb, List, [], ◌∷◌, ◌++◌, refl, sym, ap, ◌∙◌, subst, arith, Some, None, length, ◌==◌, suc}
 use Rattle.std.specs.List.{IsDistinct, slice_get}
 use Rattle.std.specs.List.Sorted.{IsStrictlyIncreasing}
-use Rattle.std.specs.Prelude.{OnOk, OnErr, is_err}
-use Rattle.std.proofs.lemmas.Bool.{true≢false}
 use Rattle.std.proofs.lemmas.Bool.{eq-eqb, eqb-true}
 use Rattle.std.proofs.lemmas.List.{append-nil}
 use Rattle.std.proofs.lemmas.List.Elements.{All-from_recursion, filter-append}
@@ -72,15 +70,6 @@ stands_stopped index ps uid stopped stands = record {
   rising = subst (λ (l : List ℕ). IsStrictlyIncreasing l) (sym (uids_stopped ps uid stopped)) stands.rising;
   lists = λ key. stands.lists key ∙ sym (under_stopped key ps uid stopped);
 }
-
--- what a call says of its success, where it succeeded, and of its failure, where it failed
-pub from_ok : {T E P : Type 0} (r : Result T E) → OnOk r P → is_err r ≡ false → P
-from_ok (Ok x) h e = h
-from_ok (Err y) h e = absurd (true≢false e)
-
-pub from_err : {T E P : Type 0} (r : Result T E) → OnErr r P → is_err r ≡ true → P
-from_err (Ok x) h e = absurd (true≢false (sym e))
-from_err (Err y) h e = h
 
 -- a package of a sound device may be the only one
 pub installed_alone : (p : Package) → IsSoundPackage p → AreInstalled (p ∷ [])

@@ -13,5 +13,5 @@ mod top;
 pub use board::Board;
 pub use names::is_for;
 pub use narrow::{approves, host_to_view};
-pub use offers::Offer;
+pub use offers::{Offer, registered_offer};
 pub use skips::skip_of;

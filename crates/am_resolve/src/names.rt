@@ -1,16 +1,10 @@
 //! What is known of the package of a uid.
 ghost use Rattle.std.specs.Prelude.{◌≡◌, option_copied};
-ghost use Rattle.am_model.specs.Gates.{is_privileged};
 ghost use Rattle.am_model.specs.Receivers.{is_for, is_stopped, is_text, name_of};
 
+use am_gates::is_privileged;
 use am_installed::{Installed, package_at};
 use am_types::{Intent, Text};
-
-/// The uid of the root.
-const ROOT: u32 = 0;
-
-/// The uid of the system.
-const SYSTEM: u32 = 1000;
 
 /// The name of the system's and the root's package.
 const SYSTEM_NAME: &str = "android";
@@ -46,13 +40,6 @@ fn name_of(installed: &Installed, uid: u32) -> Option<&str>
         None => None,
         Some(package) => Some(package.name.as_str()),
     }
-}
-
-/// The uid is the system's or the root's.
-fn is_privileged(uid: u32) -> bool
-    ensures { result ≡ is_privileged uid }
-{
-    uid == ROOT || uid == SYSTEM
 }
 
 /// The package of the uid is stopped.

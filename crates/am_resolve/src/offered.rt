@@ -3,20 +3,18 @@ ghost use Rattle.std.specs.Prelude.{◌≡◌, ◌++◌, ◌+◌, ◌≤◌, ◌
 ghost use Rattle.std.specs.List.Sorted.{IsStrictlyIncreasing};
 ghost use Rattle.am_types.specs.declared.manifest.Kind.TheVariants.{Receiver};
 ghost use Rattle.am_model.specs.Candidates.{hits};
-ghost use Rattle.am_model.specs.Filters.{passes};
-ghost use Rattle.am_model.specs.Receivers.{declared_offers, finds_registered, receivers, registered_offer};
+ghost use Rattle.am_model.specs.Receivers.{declared_offers, finds_registered, receivers};
 ghost use Rattle.am_model.specs.Sound.{uids_of};
 ghost use Rattle.am_resolve.specs.Ranking.{decl_at, offer_of, ranked_of, ranked_of_hit, ranked_of_registered, ranked_of_registration};
 
 use crate::names::is_for;
-use crate::offers::{Offer, Ranked};
+use crate::offers::{Offer, Ranked, registered_offer};
 use crate::order::in_order;
 use crate::skips::skip_of;
-use am_filter::passes;
+use am_index::is_passed_by_test;
 use am_installed::{Installed, decl_in, package_at};
 use am_types::{
-    Aim, Decl, Filter, Hit, Intent, Kind, List, NoMemory, Package, Receiving, Registration, Steps,
-    Text,
+    Aim, Decl, Hit, Intent, Kind, List, NoMemory, Package, Receiving, Registration, Steps, Text,
 };
 use std::alloc::Global;
 use std::sync::ledger::Ledger;
@@ -110,29 +108,7 @@ fn finds_registered<L: Ledger>(
 {
     intent.component.is_none()
         && is_for(installed, intent, registration.uid)
-        && is_passed_by_test(&registration.filter, intent, steps)
-}
-
-/// The one place that tests a filter. Each call is counted.
-fn is_passed_by_test<L: Ledger>(filter: &Filter, intent: &Intent, steps: &mut Steps<L>) -> bool
-    ensures passes { result ≡ passes filter.now intent.now false }
-    ensures tests { steps.new ≡ steps.old + 1 }
-{
-    steps.tick();
-    passes(filter, intent, false).is_ok()
-}
-
-/// The offer to a registered receiver, which counts as exported.
-fn registered_offer(registration: &Registration) -> Offer<'_>
-    ensures { offer_of result ≡ registered_offer registration.now }
-{
-    Offer {
-        uid: registration.uid,
-        aim: Aim::Registered(registration.number),
-        priority: registration.filter.priority,
-        exported: true,
-        permission: registration.permission.as_ref(),
-    }
+        && is_passed_by_test(&registration.filter, intent, false, steps)
 }
 
 /// Adds the manifests' receivers that were found, in their order.

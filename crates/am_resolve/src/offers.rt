@@ -1,5 +1,9 @@
 //! What a broadcast is offered to, and what becomes of it.
-use am_types::{Aim, Receiving, Text};
+ghost use Rattle.std.specs.Prelude.{◌≡◌};
+ghost use Rattle.am_model.specs.Receivers.{registered_offer};
+ghost use Rattle.am_resolve.specs.Ranking.{offer_of};
+
+use am_types::{Aim, Receiving, Registration, Text};
 
 /// A receiver that a broadcast is offered to.
 #[derive(Drop)]
@@ -18,4 +22,17 @@ pub struct Offer<'a> {
 pub(crate) struct Ranked {
     pub(crate) priority: i32,
     pub(crate) receiving: Receiving,
+}
+
+/// The offer to a registered receiver, which counts as exported. Takes no memory.
+pub fn registered_offer(registration: &Registration) -> Offer<'_>
+    ensures { offer_of result ≡ registered_offer registration.now }
+{
+    Offer {
+        uid: registration.uid,
+        aim: Aim::Registered(registration.number),
+        priority: registration.filter.priority,
+        exported: true,
+        permission: registration.permission.as_ref(),
+    }
 }

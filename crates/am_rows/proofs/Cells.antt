@@ -63,21 +63,26 @@ package_from-some uid truth t row h =
     let is : Package (record { uid = uid; name = t.name; key = t.access; text = t.manifest; gone = truth }) ≡ row = (let e = w.1 in cc) in
     rw (← is, empty_is t.word w.0)
 
+-- a word alone stands beside no other text
+word_alone : (t : Texts) → has_word_alone t ≡ true → (t.name ≡ []) × (t.access ≡ []) × (t.manifest ≡ [])
+word_alone t alone =
+    let name = both (is_empty t.name) _ alone in
+    let other = both (is_empty t.access) (is_empty t.manifest) name.1 in
+    (empty_is t.name name.0, empty_is t.access other.0, empty_is t.manifest other.1)
+
 grant_from-some : (uid : ℕ) (truth : Bool) (t : Texts) (row : Row) → grant_from uid truth t ≡ Some row → cells_of row ≡ laid (pos 1) uid truth t
 grant_from-some uid truth t row h =
     let w = passed (has_word_alone t) (Some (Grant (record { uid = uid; permission = t.word; held = truth }))) row h in
     let is : Grant (record { uid = uid; permission = t.word; held = truth }) ≡ row = (let e = w.1 in cc) in
-    let name = both (is_empty t.name) _ w.0 in
-    let other = both (is_empty t.access) (is_empty t.manifest) name.1 in
-    rw (← is, empty_is t.name name.0, empty_is t.access other.0, empty_is t.manifest other.1)
+    let empty = word_alone t w.0 in
+    rw (← is, empty.0, empty.1, empty.2)
 
 link_from-some : (uid : ℕ) (truth : Bool) (t : Texts) (row : Row) → link_from uid truth t ≡ Some row → cells_of row ≡ laid (pos 2) uid truth t
 link_from-some uid truth t row h =
     let w = passed (has_word_alone t) (Some (Link (record { uid = uid; host = t.word; approved = truth }))) row h in
     let is : Link (record { uid = uid; host = t.word; approved = truth }) ≡ row = (let e = w.1 in cc) in
-    let name = both (is_empty t.name) _ w.0 in
-    let other = both (is_empty t.access) (is_empty t.manifest) name.1 in
-    rw (← is, empty_is t.name name.0, empty_is t.access other.0, empty_is t.manifest other.1)
+    let empty = word_alone t w.0 in
+    rw (← is, empty.0, empty.1, empty.2)
 
 row_from-some : (k : ℤ) (uid : ℕ) (truth : Bool) (t : Texts) (row : Row) → row_from k uid truth t ≡ Some row → cells_of row ≡ laid k uid truth t
 row_from-some (negsuc n) uid truth t row h = absurd (let e = h in cc)

@@ -10,13 +10,14 @@ use Rattle.am_history.specs.Desks.{DeskView, Origin, opening_of}
 use Rattle.am_found.specs.Found.{OpensAs}
 use Rattle.am_found.specs.Laws.{KeptIsFound}
 use Rattle.am_http.specs.declared.end.End.{End}
+use Rattle.am_http.specs.Links.{Streams, link_of}
 use Rattle.am_machine.specs.Managed as machine
 use Rattle.am_words.specs.declared.command.StepWords.{StepWords}
 use Rattle.am_shell.specs.declared.session.Asked.{Asked}
 use Rattle.am_shell.specs.Clocks.{ServesOn}
 use Rattle.am_shell.specs.Kept.{IsOrigin, IsUnchanged, Leaves}
-use Rattle.am_shell.specs.Sessions.{sole_desk, link_of, Serves, Works}
-use Rattle.am_shell.specs.Outside.{StoreView, Streams, Workplace}
+use Rattle.am_shell.specs.Sessions.{sole_desk, Serves, Works}
+use Rattle.am_shell.specs.Outside.{StoreView, Workplace}
 use Rattle.am_workers.specs.Serving.{IsFormed}
 use Rattle.am_workers.proofs.FormedLemmas.{all_formed}
 use Rattle.am_shell.proofs.StoreLemmas.{leaves_asked}

@@ -50,12 +50,12 @@ pub works_serving : {K : Type 0} (asked : Serving) (device : Device) (before aft
     (count : ℕ) (manager out : machine.Managed K) → KeptIsFound → IsSound device → place ≡ asked.store → count ≡ asked.workers
     → IsOrigin manager.origin device place before.store → manager.history ≡ [] → IsUnchanged before.store now
     → mid.listening ≡ listening_at before.network.listening asked.port asked.workers → mid.gate_faults ≡ before.network.gate_faults
-    → ServesAll asked.connections count (record { origin = manager.origin; history = manager.history }) (record { history = out.history; tally = done.tally }) mid after.network
+    → ServesAll asked.connections count (record { origin = manager.origin; history = manager.history }) (record { history = out.history; totals = done.totals }) mid after.network
     → out.origin ≡ manager.origin → Leaves out.origin out.origin.place out.history now after.store → done.history ≡ length out.history → Works asked device before after done
 works_serving {K} asked device before after now mid done place count manager out law sound asks many begun fresh same told gate_faults served one left counted =
     let begins : IsOrigin manager.origin device asked.store before.store =
     subst (λ (p : Option (List ℕ)). IsOrigin manager.origin device p before.store) asks begun in
-    let ended : Ended = record { history = out.history; tally = done.tally } in
+    let ended : Ended = record { history = out.history; totals = done.totals } in
     let whole : ServesAll asked.connections asked.workers (record { origin = manager.origin; history = [] }) ended mid after.network =
     subst (λ (n : ℕ). ServesAll asked.connections n (record { origin = manager.origin; history = [] }) ended mid after.network) many
     (subst (λ (h : List Entry). ServesAll asked.connections count (record { origin = manager.origin; history = h }) ended mid after.network) fresh served) in
@@ -75,7 +75,7 @@ works_serving {K} asked device before after now mid done place count manager out
       found = found manager.origin device asked.store out.history before.store after.store law sound begins kept
           (subst (All IsFormed) (sym whole.numbered.1) whole.formed);
       length = counted;
-      tally = refl;
+      totals = refl;
     }
 
 -- the store has attached the place of the keeper that comes back

@@ -4,22 +4,13 @@ use Rattle.am_outside.specs.Files.{bytes_of}
 use Rattle.am_outside.specs.declared.files.FileBytes.{FileBytes}
 use Rattle.am_keeper.specs.declared.rows.Rows.{Rows}
 use Rattle.am_outside.specs.declared.files.Files.{Ghosts as FilesGhosts}
-use Rattle.am_outside.specs.declared.outside.Source.{Ghosts as SourceGhosts}
-use Rattle.am_outside.specs.declared.outside.Sink.{Ghosts as SinkGhosts}
-use Rattle.am_outside.specs.declared.clock.Clock.{Ghosts as ClockGhosts}
 use Rattle.am_keeper.specs.declared.keeper.Store.{Ghosts as StoreGhosts}
-use Rattle.am_http.specs.Links.{SourceView, SinkView, Moments, source_of, sink_of}
+use Rattle.am_http.specs.Links.{SinkView, Streams}
 
 -- of a reader of files the files, where it tells them, and its count of faults
 pub record Shelf : Type 0 where
   pub files : Option (List FileBytes)
   pub faults : ℕ
-
--- what a session is served over: the input, the output, and the moments that the clock tells
-pub record Streams : Type 0 where
-  pub input : SourceView
-  pub output : SinkView
-  pub clock : Moments
 
 -- a store of kept rows: whether it tells its rows, those at each place, and its counts of failed attaches and of the
 -- faults of its keepers
@@ -44,7 +35,7 @@ pub record Surroundings : Type 0 where
   pub outside : Outside
   pub errors : SinkView
 
--- the views of a reader of files, of a store, and of what a session is served over
+-- the views of a reader of files and of a store
 abbrev pub shelf_of : {F : Type 0} → FilesGhosts F → F → Shelf
 shelf_of g files = record { files = g.files files; faults = g.faults files }
 
@@ -55,10 +46,6 @@ store_of g store = record {
   failed = g.failed_attaches store;
   faults = g.keeper_faults store;
 }
-
-abbrev pub streams_of : {S W C : Type 0} → SourceGhosts S → SinkGhosts W → ClockGhosts C → S → W → C → Streams
-streams_of s w c input output clock =
-    record { input = source_of s input; output = sink_of w output; clock = c.moments clock }
 
 -- the file of that name has those bytes, where the files are told
 abbrev pub Holds : Option (List FileBytes) → List ℕ → List ℕ → Type 0

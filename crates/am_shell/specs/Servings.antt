@@ -59,7 +59,7 @@ pub record Works (asked : Serving) (device : Device) (before after : Site) (done
   pub found : IsTrue before.store.tells → (at : List ℕ) → asked.store ≡ Some at
       → OpensAs device (after.store.rows at) (replay (opening_of origin) ended.history)
   pub length : done.history ≡ length ended.history
-  pub tally : done.tally ≡ ended.tally
+  pub totals : done.totals ≡ ended.totals
 
 -- a manager began with the rows that were kept, and its keeper came back with these rows
 pub record IsLeft (asked : Serving) (device : Device) (before after : StoreView) : Type 0 where
@@ -104,7 +104,7 @@ Happens work asked before after = ServesFile work asked before after ⊎ LacksDe
 -- the line of a serving that ended: how long its history is, and how many links were served
 abbrev pub done_line : Done → List ℕ
 done_line done =
-    codes "history " ++ (decimal done.history ++ (codes " served " ++ (decimal done.tally.served ++ codes "\n")))
+    codes "history " ++ (decimal done.history ++ (codes " served " ++ (decimal done.totals.served ++ codes "\n")))
 
 -- the line of a network that failed
 abbrev pub network_line : List ℕ
@@ -122,7 +122,7 @@ TellsDone false done before after status = Prints (done_line done) before after 
 
 -- how a serving is told, on the output and the errors and by the status
 abbrev pub TellsServing : Result Done Unserved → Voices → Voices → ℕ → Type 0
-TellsServing (Ok done) before after status = TellsDone done.tally.failed done before after status
+TellsServing (Ok done) before after status = TellsDone done.totals.failed done before after status
 TellsServing (Err (unserved.Setback setback)) before after status =
     OnlyTold (line_of setback) (status_of setback) before after status
 TellsServing (Err unserved.NetworkFault) before after status = OnlyTold network_line 9 before after status

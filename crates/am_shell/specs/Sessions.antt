@@ -10,7 +10,7 @@ use Rattle.am_manifest.specs.Devices.{device_of}
 use Rattle.am_http.specs.declared.end.End.{End}
 use Rattle.am_http.specs.declared.end.Served.{Served}
 use Rattle.am_http.specs.Exchanges.{stored_entries}
-use Rattle.am_http.specs.Links.{Link, IsSameLink, Moments}
+use Rattle.am_http.specs.Links.{IsSameLink, Moments, Streams, link_of}
 use Rattle.am_http.specs.Sessions.{Session, HasFault}
 use Rattle.am_words.specs.declared.command.StepWords.{StepWords}
 use Rattle.am_shell.specs.declared.session.Asked.{Asked}
@@ -19,7 +19,7 @@ use Rattle.am_shell.specs.declared.setback.Setback.TheVariants.{DeviceRefused, F
 use Rattle.am_shell.specs.Clocks.{left_of, timed, with_clock}
 use Rattle.am_shell.specs.Devices.{Describes, IsRefused, IsUnread}
 use Rattle.am_shell.specs.Kept.{IsOrigin, IsUnchanged, Leaves, RefusesRows}
-use Rattle.am_shell.specs.Outside.{Outside, Streams, Workplace}
+use Rattle.am_shell.specs.Outside.{Outside, Workplace}
 
 -- the only desk of a manager of that origin, which has seen that history
 abbrev pub sole_desk : Origin → List Entry → DeskView
@@ -28,14 +28,6 @@ sole_desk origin seen = record {
   number = 0;
   sharing = record { id = []; desks = 1; handed = [] };
   seen = seen;
-}
-
--- a session's desk with the clock, the input and the output
-abbrev pub link_of : DeskView → Streams → Link
-link_of desk streams = record {
-  server = record { desk = desk; clock = streams.clock };
-  source = streams.input;
-  sink = streams.output;
 }
 
 -- the session of a manager of that origin over the clock of the session, from an empty history, with its end. The

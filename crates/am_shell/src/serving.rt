@@ -18,7 +18,7 @@ use am_keeper::Store;
 use am_network::{Acceptor, ListenFail, Network};
 use am_outside::{Clock, Failed, Files, Sink};
 use am_types::{Device, NoMemory, Text};
-use am_workers::{Tally, serve};
+use am_workers::{Totals, serve};
 use itoa::Buffer;
 use std::alloc::Global;
 use std::sync::Wait;
@@ -45,7 +45,7 @@ pub struct Done {
     /// How many entries the history has.
     pub history: u64,
     /// What the workers did.
-    pub tally: Tally,
+    pub totals: Totals,
 }
 
 /// Why a serving didn't begin.
@@ -203,10 +203,10 @@ where
     let manager = open_manager(alloc, store, device, place.as_ref())?;
     match network.listen(port, workers) {
         Ok(gates) => {
-            let (manager, tally) = serve(rt, alloc, manager, network, gates, clock, connections)?;
+            let (manager, totals) = serve(rt, alloc, manager, network, gates, clock, connections)?;
             let history = manager.length();
             hand_back(store, manager);
-            Ok(Done { history, tally })
+            Ok(Done { history, totals })
         }
         Err(fail) => {
             hand_back(store, manager);
@@ -217,12 +217,12 @@ where
 
 // Tells a serving that ended: prints its line, unless a gate failed.
 fn tell_done<W: Sink, E: Sink>(done: Done, output: &mut W, errors: &mut E) -> u8
-    ensures { TellsDone done.tally.failed done
+    ensures { TellsDone done.totals.failed done
         (record { output = sink_of W.Sink output.old; errors = sink_of E.Sink errors.old })
         (record { output = sink_of W.Sink output.new; errors = sink_of E.Sink errors.new })
         result }
 {
-    if done.tally.failed {
+    if done.totals.failed {
         return tell("am: network fault\n", 9, errors);
     }
     match write_done(done, output) {
@@ -240,7 +240,7 @@ fn write_done<W: Sink>(done: Done, output: &mut W) -> Result<(), Failed>
     write_all(output, b"history ")?;
     write_number(done.history, output)?;
     write_all(output, b" served ")?;
-    write_number(done.tally.served, output)?;
+    write_number(done.totals.served, output)?;
     write_all(output, b"\n")
 }
 

@@ -1,11 +1,11 @@
 //! One session of a device over an input and an output.
 ghost use Rattle.std.specs.Prelude.{◌≡◌, ◌≤◌, [], IfOk, OnErr};
 ghost use Rattle.am_model.specs.Sound.{IsSound};
-ghost use Rattle.am_http.specs.Links.{source_of, sink_of};
+ghost use Rattle.am_http.specs.Links.{link_of, sink_of, source_of, streams_of};
 ghost use Rattle.am_shell.specs.Clocks.{ServesOn};
-ghost use Rattle.am_shell.specs.Sessions.{Happens, ServesOr, link_of};
+ghost use Rattle.am_shell.specs.Sessions.{Happens, ServesOr};
 ghost use Rattle.am_shell.specs.Lines.{end_line, end_status};
-ghost use Rattle.am_shell.specs.Outside.{shelf_of, store_of, streams_of};
+ghost use Rattle.am_shell.specs.Outside.{shelf_of, store_of};
 ghost use Rattle.am_shell.specs.Runs.{RunsSession};
 
 use crate::device::open_device;

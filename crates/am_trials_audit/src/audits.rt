@@ -3,6 +3,7 @@ ghost use Rattle.std.specs.Prelude.{◌≡◌, [], IfOk};
 
 use am_audit_shell::audit;
 use am_outside::{FileBytes, MemoryFiles, MemorySink};
+use am_trials_words::texts;
 use am_types::{List, Text};
 use std::alloc::Global;
 use std::process::Abort;
@@ -28,14 +29,6 @@ pub struct Left {
     pub status: u8,
     pub output: MemorySink,
     pub errors: MemorySink,
-}
-
-fn texts(alloc: Global, words: &str) -> Result<Vec<Text>, Fail> {
-    let mut all = Vec::new(alloc);
-    for word in words.split(' ') {
-        all.push(Text::of(alloc, word)?)?;
-    }
-    Ok(all)
 }
 
 // The number of the failing call, if that object is to fail.
@@ -73,24 +66,38 @@ fn sink(alloc: Global, object: &str, given: &Given<'_>) -> Result<MemorySink, Fa
     Ok(MemorySink::new(alloc, 256, 7, calls)?)
 }
 
-/// Audits what is given.
-pub fn try_audit(alloc: Global, given: &Given<'_>) -> Result<Left, Fail> {
-    let words = texts(alloc, given.words)?;
-    let mut files = shelf(alloc, given)?;
+/// Audits what is given, with these words, over these files.
+fn try_files(
+    alloc: Global,
+    given: &Given<'_>,
+    words: &[Text],
+    files: &mut MemoryFiles,
+) -> Result<Left, Fail> {
     let mut output = sink(alloc, "output", given)?;
     let mut errors = sink(alloc, "errors", given)?;
-    let status = audit(
-        alloc,
-        words.as_slice(),
-        &mut files,
-        &mut output,
-        &mut errors,
-    );
+    let status = audit(alloc, words, files, &mut output, &mut errors);
     Ok(Left {
         status,
         output,
         errors,
     })
+}
+
+/// Audits what is given.
+pub fn try_audit(alloc: Global, given: &Given<'_>) -> Result<Left, Fail> {
+    let words = texts(alloc, given.words, "")?;
+    let mut files = shelf(alloc, given)?;
+    let left = try_files(alloc, given, words.as_slice(), &mut files);
+    drop(files);
+    left
+}
+
+/// The status is that one, and the line is all that was printed.
+fn try_left(rt: &impl Abort, left: &Left, words: &str, status: u8, line: &str) {
+    let (output, errors) = if status <= 1 { (line, "") } else { ("", line) };
+    assert_eq!(rt; left.output.taken(), output.as_bytes(), "{words}");
+    assert_eq!(rt; left.errors.taken(), errors.as_bytes(), "{words}");
+    assert_eq!(rt; left.status, status);
 }
 
 /// The audit has that status, and prints this line and nothing else: a verdict on the output, all else on the errors.
@@ -102,9 +109,7 @@ pub fn comes_to(
     line: &str,
 ) -> Result<(), Fail> {
     let left = try_audit(alloc, given)?;
-    let (output, errors) = if status <= 1 { (line, "") } else { ("", line) };
-    assert_eq!(rt; left.output.taken(), output.as_bytes(), "{}", given.words);
-    assert_eq!(rt; left.errors.taken(), errors.as_bytes(), "{}", given.words);
-    assert_eq!(rt; left.status, status);
+    try_left(rt, &left, given.words, status, line);
+    drop(left);
     Ok(())
 }

@@ -4,6 +4,7 @@ mod documents;
 
 use self::documents::{DATA, DEVICES, MANIFESTS, RIGHTS, SUMMARIES};
 use am_manifest::{ReadFault, print_fault, read_device, read_package};
+use am_trials_words::spelled_out;
 use am_types::{Authority, Decl, Device, Filter, Kind, List, Mime, Mode, NoMemory, PathRule, Text};
 use std::alloc::{AllocError, Global};
 use std::process::Abort;
@@ -27,16 +28,31 @@ enum Shown {
 /// The printed fault, or `read`.
 fn device_outcome(alloc: Global, bytes: &[u8]) -> Result<String, AllocError> {
     match read_device(alloc, bytes) {
-        Ok(_) => String::from_str(alloc, "read"),
-        Err(fault) => fault.to_string(alloc),
+        Ok(device) => {
+            drop(device);
+            String::from_str(alloc, "read")
+        }
+        Err(fault) => {
+            let printed = fault.to_string(alloc);
+            drop(fault);
+            printed
+        }
     }
 }
 
 /// The printed fault, or `read`.
 fn package_outcome(alloc: Global, manifest: &str) -> Result<Text, NoMemory> {
-    match read_package(alloc, &Text::of(alloc, manifest)?) {
-        Ok(_) => Ok(Text::of(alloc, "read")?),
-        Err(ReadFault::Manifest(fault)) => print_fault(alloc, &fault),
+    let text = Text::of(alloc, manifest)?;
+    match read_package(alloc, &text) {
+        Ok(manifest) => {
+            drop(manifest);
+            Ok(Text::of(alloc, "read")?)
+        }
+        Err(ReadFault::Manifest(fault)) => {
+            let printed = print_fault(alloc, &fault);
+            drop(fault);
+            printed
+        }
         Err(ReadFault::NoMemory) => Err(NoMemory),
     }
 }
@@ -49,6 +65,22 @@ fn read(alloc: Global, document: &str) -> Result<Device, Fail> {
     )
 }
 
+/// What the packages of a document's device say.
+fn packages_shown(alloc: Global, document: &str) -> Result<String, Fail> {
+    let device = read(alloc, document)?;
+    let shown = summary(alloc, &device);
+    drop(device);
+    Ok(shown?)
+}
+
+/// The grants and the links of a document's device.
+fn rights_shown(alloc: Global, document: &str) -> Result<String, Fail> {
+    let device = read(alloc, document)?;
+    let shown = rights(alloc, &device);
+    drop(device);
+    Ok(shown?)
+}
+
 /// What is shown of the document.
 fn show(alloc: Global, shown: Shown, document: &str) -> Result<String, Fail> {
     match shown {
@@ -57,28 +89,10 @@ fn show(alloc: Global, shown: Shown, document: &str) -> Result<String, Fail> {
             let outcome = package_outcome(alloc, document)?;
             Ok(String::from_str(alloc, outcome.as_str())?)
         }
-        Shown::Packages => Ok(summary(alloc, &read(alloc, document)?)?),
-        Shown::Rights => Ok(rights(alloc, &read(alloc, document)?)?),
+        Shown::Packages => packages_shown(alloc, document),
+        Shown::Rights => rights_shown(alloc, document),
         Shown::Data => data_shown(alloc, document),
     }
-}
-
-/// The line, with `<3:a>` spelled out.
-fn spelled_out(alloc: Global, line: &str) -> Result<String, Fail> {
-    let mut all = String::new(alloc);
-    let Some((front, behind)) = line.split_once('<') else {
-        all.push_str(line)?;
-        return Ok(all);
-    };
-    let (count, behind) = behind.split_once(':').ok_or("a count")?;
-    let (part, behind) = behind.split_once('>').ok_or("a part")?;
-    let count = count.parse::<usize>().ok().ok_or("a number")?;
-    all.push_str(front)?;
-    for _ in 0..count {
-        all.push_str(part)?;
-    }
-    all.push_str(behind)?;
-    Ok(all)
 }
 
 /// Shows each document of a table, whose lines end as given.
@@ -221,14 +235,21 @@ fn data_of(alloc: Global, decl: &Decl) -> Result<String, AllocError> {
     Ok(all)
 }
 
+/// The data of the filters of the first of the components.
+fn first_data(alloc: Global, decls: &List<Decl>) -> Result<String, Fail> {
+    let decl = decls.as_slice().first().ok_or("a component")?;
+    Ok(data_of(alloc, decl)?)
+}
+
 /// The data of the filters of a manifest's first component.
 fn data_shown(alloc: Global, document: &str) -> Result<String, Fail> {
     let text = Text::of(alloc, document)?;
     let manifest = read_package(alloc, &text)
         .ok()
         .ok_or("the manifest is read")?;
-    let decl = manifest.decls.as_slice().first().ok_or("a component")?;
-    Ok(data_of(alloc, decl)?)
+    let shown = first_data(alloc, &manifest.decls);
+    drop(manifest);
+    shown
 }
 
 #[test]

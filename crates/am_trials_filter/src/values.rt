@@ -1,7 +1,8 @@
 //! What the clauses of the values leave to be tried: that calls succeed with ample memory, and how texts compare.
 use crate::shown::shown;
 use am_trials_words::intent;
-use am_types::{Glob, Text};
+use am_types::{Glob, Intent, Text};
+use std::alloc::{AllocError, Global};
 use std::test::Fail;
 
 #[test]
@@ -18,20 +19,27 @@ fn bounds_a_pattern(rt: HostRuntime) -> Result<(), Fail> {
 const FULL: &str = "action=x.A identifier=i package=p component=p/C type=a/b category=A category=B \
 scheme=http host=h port=80 path=/x new_task extra=k:1";
 
+/// A copy of the intent in words, and the copy once more without its flag.
+fn copied(alloc: Global, intent: &Intent) -> Result<(String, String), AllocError> {
+    let mut copy = intent.clone()?;
+    let whole = shown(alloc, &copy);
+    copy.flags.new_task = false;
+    let changed = shown(alloc, &copy);
+    drop(copy);
+    Ok((whole?, changed?))
+}
+
 #[test]
 fn copies_values(rt: HostRuntime) -> Result<(), Fail> {
     let alloc = rt.alloc();
     let intent = intent(alloc, FULL)?;
-    let mut copy = intent.clone()?;
-    assert_eq!(rt;
-        shown(alloc, &copy)?.as_str(),
-        shown(alloc, &intent)?.as_str()
-    );
-    copy.flags.new_task = false;
-    assert_ne!(rt;
-        shown(alloc, &copy)?.as_str(),
-        shown(alloc, &intent)?.as_str()
-    );
+    let copies = copied(alloc, &intent);
+    let wanted = shown(alloc, &intent);
+    drop(intent);
+    let (whole, changed) = copies?;
+    let wanted = wanted?;
+    assert_eq!(rt; whole.as_str(), wanted.as_str());
+    assert_ne!(rt; changed.as_str(), wanted.as_str());
     Ok(())
 }
 

@@ -9,11 +9,11 @@ ghost use Rattle.std.specs.Prelude.{◌≡◌, ◌<◌, IfOk};
 ghost use Rattle.am_model.specs.Boards.{without_package};
 ghost use Rattle.am_index.specs.Standing.{CanBeListed, StandsFor};
 
-use self::device::{device, intent_of, kind_of, many};
+use self::device::{device, intent_of, many};
 use self::plain::plain_hits;
 use self::rows::{DEVICE, QUERIES};
 use am_index::FilterIndex;
-use am_trials_words::{intent, says};
+use am_trials_words::{intent, kind_of, says};
 use am_types::{Hit, Intent, Kind, List, NoMemory, Package, Steps};
 use std::alloc::Global;
 use std::marker::Brand;
@@ -117,6 +117,47 @@ fn hits(
     )
 }
 
+/// The hits' names, if the plain scan finds the same as these.
+fn names_of_same(
+    alloc: Global,
+    packages: &List<Package>,
+    query: &str,
+    intent: &Intent,
+    hits: &[Hit],
+) -> Result<String, NoMemory> {
+    let plain = plain_hits(
+        alloc,
+        packages,
+        kind_of(query),
+        intent,
+        says(query, "default"),
+    )?;
+    let are_same = are_same(hits, plain.as_slice());
+    drop(plain);
+    if are_same {
+        names(alloc, hits)
+    } else {
+        Ok(String::from_str(alloc, "another than the plain scan")?)
+    }
+}
+
+/// What a query with this intent finds, if the plain scan finds the same.
+fn found_by(
+    alloc: Global,
+    index: &FilterIndex,
+    packages: &List<Package>,
+    query: &str,
+    intent: &Intent,
+) -> Result<String, NoMemory>
+    requires { StandsFor index.now packages.now }
+{
+    let kind = kind_of(query);
+    let hits = hits(alloc, index, packages, kind, intent, says(query, "default"))?;
+    let names = names_of_same(alloc, packages, query, intent, hits.as_slice());
+    drop(hits);
+    names
+}
+
 /// What a query finds, if the plain scan finds the same.
 fn found(
     alloc: Global,
@@ -126,15 +167,10 @@ fn found(
 ) -> Result<String, NoMemory>
     requires { StandsFor index.now packages.now }
 {
-    let kind = kind_of(query);
     let intent = intent(alloc, query)?;
-    let need_default = says(query, "default");
-    let hits = hits(alloc, index, packages, kind, &intent, need_default)?;
-    let plain = plain_hits(alloc, packages, kind, &intent, need_default)?;
-    if !are_same(hits.as_slice(), plain.as_slice()) {
-        return Ok(String::from_str(alloc, "another than the plain scan")?);
-    }
-    names(alloc, hits.as_slice())
+    let found = found_by(alloc, index, packages, query, &intent);
+    drop(intent);
+    found
 }
 
 fn are_same(hits: &[Hit], others: &[Hit]) -> bool {
@@ -162,8 +198,12 @@ fn count(
     requires { StandsFor index.now packages.now }
 {
     let intent = intent_of(alloc, number)?;
-    let hits = hits(alloc, index, packages, Kind::Activity, &intent, false)?;
-    Ok(hits.as_slice().len())
+    let hits = hits(alloc, index, packages, Kind::Activity, &intent, false);
+    drop(intent);
+    let hits = hits?;
+    let count = hits.as_slice().len();
+    drop(hits);
+    Ok(count)
 }
 
 /// The classes of the hits, each with its place and priority.
@@ -180,53 +220,145 @@ fn names(alloc: Global, hits: &[Hit]) -> Result<String, NoMemory> {
     Ok(names)
 }
 
-#[test]
-fn queries_find_what_the_plain_scan_finds(rt: HostRuntime) -> Result<(), Fail> {
-    let alloc = rt.alloc();
-    let packages = device(alloc, DEVICE)?;
-    assert!(rt; can_be_listed(&packages));
-    let built = FilterIndex::build(alloc, &packages)?;
-    let grown = grown(alloc, &packages)?;
+/// Tries the queries on an index that stands for the packages of the device.
+fn try_queries(
+    rt: &impl Abort,
+    alloc: Global,
+    index: &FilterIndex,
+    packages: &List<Package>,
+) -> Result<(), Fail>
+    requires { StandsFor index.now packages.now }
+{
     let mut rows: u32 = 0;
     for line in QUERIES.lines() {
         let (query, wanted) = line.split_once(" | ").unwrap_or((line, "no row"));
-        let one = found(alloc, &built, &packages, query)?;
-        assert_eq!(rt; one.as_str(), wanted, "{line}");
-        let other = found(alloc, &grown, &packages, query)?;
-        assert_eq!(rt; other.as_str(), wanted, "{line}");
+        let found = found(alloc, index, packages, query)?;
+        assert_eq!(rt; found.as_str(), wanted, "{line}");
         rows = rows.wrapping_add(1);
     }
     assert_eq!(rt; rows, 46);
     Ok(())
 }
 
+/// Tries the queries on the index that is built of the packages at once.
+fn try_built(rt: &impl Abort, alloc: Global, packages: &List<Package>) -> Result<(), Fail>
+    requires { CanBeListed packages.now }
+{
+    let index = FilterIndex::build(alloc, packages)?;
+    let tried = try_queries(rt, alloc, &index, packages);
+    drop(index);
+    tried
+}
+
+/// Tries the queries on the index to which the packages are added one by one.
+fn try_grown(rt: &impl Abort, alloc: Global, packages: &List<Package>) -> Result<(), Fail>
+    requires { CanBeListed packages.now }
+{
+    let index = grown(alloc, packages)?;
+    let tried = try_queries(rt, alloc, &index, packages);
+    drop(index);
+    tried
+}
+
+/// Tries the queries on both indexes of the packages.
+fn try_both(rt: &impl Abort, alloc: Global, packages: &List<Package>) -> Result<(), Fail> {
+    assert!(rt; can_be_listed(packages));
+    try_built(rt, alloc, packages)?;
+    try_grown(rt, alloc, packages)
+}
+
+#[test]
+fn queries_find_what_the_plain_scan_finds(rt: HostRuntime) -> Result<(), Fail> {
+    let alloc = rt.alloc();
+    let packages = device(alloc, DEVICE)?;
+    let tried = try_both(&rt, alloc, &packages);
+    drop(packages);
+    tried
+}
+
+/// Tries the queries on an index that stands for the other packages.
+fn try_others(
+    rt: &impl Abort,
+    alloc: Global,
+    index: &FilterIndex,
+    others: &List<Package>,
+) -> Result<(), Fail>
+    requires { StandsFor index.now others.now }
+{
+    for line in QUERIES.lines() {
+        let (query, _) = line.split_once(" | ").unwrap_or((line, ""));
+        let one = found(alloc, index, others, query)?;
+        assert_ne!(rt; one.as_str(), "another than the plain scan", "{line}");
+    }
+    let one = found(alloc, index, others, "activity action=x.A")?;
+    assert_eq!(rt; one.as_str(), "one.A:0:0 three.A:0:0 one.Less:7:-1");
+    Ok(())
+}
+
+/// Takes the second package out of the index, and tries the queries on the others.
+fn try_dropped(
+    rt: &impl Abort,
+    alloc: Global,
+    index: &mut FilterIndex,
+    packages: &List<Package>,
+) -> Result<(), Fail>
+    requires { StandsFor index.old packages.now }
+{
+    let others = dropped(alloc, index, packages, 10_001)?;
+    let tried = try_others(rt, alloc, index, &others);
+    drop(others);
+    tried
+}
+
+/// Tries the queries on the packages without the second.
+fn try_without(rt: &impl Abort, alloc: Global, packages: &List<Package>) -> Result<(), Fail> {
+    assert!(rt; can_be_listed(packages));
+    let mut index = FilterIndex::build(alloc, packages)?;
+    let tried = try_dropped(rt, alloc, &mut index, packages);
+    drop(index);
+    tried
+}
+
 #[test]
 fn nothing_is_found_of_a_package_that_was_dropped(rt: HostRuntime) -> Result<(), Fail> {
     let alloc = rt.alloc();
     let packages = device(alloc, DEVICE)?;
-    assert!(rt; can_be_listed(&packages));
-    let mut index = FilterIndex::build(alloc, &packages)?;
-    let others = dropped(alloc, &mut index, &packages, 10_001)?;
-    for line in QUERIES.lines() {
-        let (query, _) = line.split_once(" | ").unwrap_or((line, ""));
-        let one = found(alloc, &index, &others, query)?;
-        assert_ne!(rt; one.as_str(), "another than the plain scan", "{line}");
+    let tried = try_without(&rt, alloc, &packages);
+    drop(packages);
+    tried
+}
+
+/// Tries 200,000 intents, each of which finds one activity.
+fn try_numbers(
+    rt: &impl Abort,
+    alloc: Global,
+    index: &FilterIndex,
+    packages: &List<Package>,
+) -> Result<(), Fail>
+    requires { StandsFor index.now packages.now }
+{
+    for call in 0u32..200_000 {
+        let number = call % 131_072;
+        let found = count(alloc, index, packages, number)?;
+        assert_eq!(rt; found, 1, "{number}");
     }
-    let one = found(alloc, &index, &others, "activity action=x.A")?;
-    assert_eq!(rt; one.as_str(), "one.A:0:0 three.A:0:0 one.Less:7:-1");
     Ok(())
+}
+
+/// Tries the intents on the index of the packages.
+fn try_many(rt: &impl Abort, alloc: Global, packages: &List<Package>) -> Result<(), Fail> {
+    assert!(rt; can_be_listed(packages));
+    let index = FilterIndex::build(alloc, packages)?;
+    let tried = try_numbers(rt, alloc, &index, packages);
+    drop(index);
+    tried
 }
 
 #[test]
 fn a_query_among_many_finds_its_one(rt: HostRuntime) -> Result<(), Fail> {
     let alloc = rt.alloc();
     let packages = many(alloc, 256, 16, 32)?;
-    assert!(rt; can_be_listed(&packages));
-    let index = FilterIndex::build(alloc, &packages)?;
-    for call in 0u32..200_000 {
-        let number = call % 131_072;
-        let found = count(alloc, &index, &packages, number)?;
-        assert_eq!(rt; found, 1, "{number}");
-    }
-    Ok(())
+    let tried = try_many(&rt, alloc, &packages);
+    drop(packages);
+    tried
 }

@@ -1,15 +1,14 @@
 //! Rows that are put into a file on the disk and found there again, and files that hold something else.
 
+use crate::disk::{place, remove};
 use crate::puts::put_all;
-use am_keeper::KeepFail;
-use am_keeper_sql::attach_sql;
+use am_keeper::{Attached, KeepFail};
+use am_keeper_sql::{SqlKeeper, attach_sql};
 use am_trials_keeping::lines::show;
 use am_types::Text;
 use sqlite::{Connection, Error, params};
 use std::alloc::{AllocError, Global};
-use std::hash::{BuildHasher, RandomState};
 use std::test::Fail;
-use std::{env, fs};
 
 /// Rows that are put in this order.
 const PUTS: &str = "\
@@ -55,35 +54,29 @@ const GRANT: &str =
 const ODD: &str =
     "INSERT INTO kept (kind, uid, word, name, access, manifest, truth) VALUES (3, 1, '', '', '', '', 0)";
 
-/// Where no other run has a file.
-fn place(rt: &HostRuntime) -> Result<Text, Fail> {
-    let folder = env::temp_dir(rt)?;
-    let number = RandomState::new(rt)?.hash_one(&0u8);
-    let path = format!(in rt.alloc(); "{}/am-trial-{number}.db", folder.as_str())?;
-    Ok(Text::new(path))
-}
-
-/// Removes the file and its log.
-fn remove(rt: &HostRuntime, path: &Text) -> Result<(), Fail> {
-    let log = format!(in rt.alloc(); "{}-wal", path.as_str())?;
-    fs::remove_file(rt, path.as_str())?;
-    fs::remove_file(rt, log.as_str())?;
-    Ok(())
+/// A keeper over the file.
+fn keeper_at(rt: &HostRuntime, path: &Text) -> Result<SqlKeeper, KeepFail> {
+    let Attached { keeper, rows } = attach_sql(rt, rt.alloc(), Some(path))?;
+    drop(rows);
+    Ok(keeper)
 }
 
 /// Attaches to the file, puts the rows of the lines, and closes it.
 fn put_into(rt: &HostRuntime, path: &Text, lines: &str) -> Result<(), KeepFail> {
-    let mut keeper = attach_sql(rt, rt.alloc(), Some(path))?.keeper;
-    put_all(rt.alloc(), &mut keeper, lines)?;
-    keeper.close()
+    let mut keeper = keeper_at(rt, path)?;
+    let done = put_all(rt.alloc(), &mut keeper, lines);
+    let closed = keeper.close();
+    done?;
+    closed
 }
 
 /// All rows that an attach finds in the file, a line each.
 fn found(rt: &HostRuntime, path: &Text) -> Result<String, KeepFail> {
-    let attached = attach_sql(rt, rt.alloc(), Some(path))?;
-    let rows = show(rt.alloc(), &attached.rows)?;
-    attached.keeper.close()?;
-    Ok(rows)
+    let Attached { keeper, rows } = attach_sql(rt, rt.alloc(), Some(path))?;
+    let shown = show(rt.alloc(), &rows);
+    drop(rows);
+    keeper.close()?;
+    Ok(shown?)
 }
 
 /// Runs a statement on the file past the keeper.
@@ -115,8 +108,10 @@ fn so_they_are_once_a_package_is_gone(rt: HostRuntime) -> Result<(), Fail> {
 
 /// Attaches, puts the rows of the lines, and drops the keeper with its rows in the log.
 fn put_and_drop(rt: &HostRuntime, path: &Text, lines: &str) -> Result<(), KeepFail> {
-    let mut keeper = attach_sql(rt, rt.alloc(), Some(path))?.keeper;
-    put_all(rt.alloc(), &mut keeper, lines)
+    let mut keeper = keeper_at(rt, path)?;
+    let done = put_all(rt.alloc(), &mut keeper, lines);
+    drop(keeper);
+    done
 }
 
 #[test]

@@ -1,11 +1,12 @@
 //! Rows that are put and told again by a keeper over a database in memory, and places that can't be opened.
 
 use crate::puts::put;
-use am_keeper::{KeepFail, Keeper, PackageRow};
-use am_keeper_sql::attach_sql;
+use am_keeper::{Attached, KeepFail, Keeper, PackageRow};
+use am_keeper_sql::{SqlKeeper, attach_sql};
 use am_trials_keeping::lines::show;
 use am_types::Text;
 use std::alloc::{AllocError, Global};
+use std::process::Abort;
 use std::test::Fail;
 
 /// Rows that are put in this order.
@@ -30,19 +31,36 @@ link 10001 b.org false
 /// What can't be a database of a keeper.
 const PLACES: [&str; 4] = ["", ".", ":memory:", "no/such/folder/kept.db"];
 
+/// All rows of the keeper, a line each.
+fn told(alloc: Global, keeper: &mut SqlKeeper) -> Result<String, KeepFail> {
+    let rows = keeper.told()?;
+    let shown = show(alloc, &rows);
+    drop(rows);
+    Ok(shown?)
+}
+
+/// Puts the row of each line in turn.
+fn try_puts(rt: &impl Abort, alloc: Global, keeper: &mut SqlKeeper) {
+    for line in PUTS.lines() {
+        assert_eq!(rt; put(alloc, keeper, line), Ok(()), "{line}");
+    }
+}
+
 #[test]
 fn a_row_takes_the_place_of_its_key(rt: HostRuntime) -> Result<(), Fail> {
     let alloc = rt.alloc();
-    let attached = attach_sql(&rt, alloc, None)?;
-    let first = show(alloc, &attached.rows)?;
+    let Attached { mut keeper, rows } = attach_sql(&rt, alloc, None)?;
+    let first = show(alloc, &rows);
+    drop(rows);
+    try_puts(&rt, alloc, &mut keeper);
+    let told = told(alloc, &mut keeper);
+    let faults = keeper.faults();
+    drop(keeper);
+    let first = first?;
     assert_eq!(rt; first.as_str(), "");
-    let mut keeper = attached.keeper;
-    for line in PUTS.lines() {
-        assert_eq!(rt; put(alloc, &mut keeper, line), Ok(()), "{line}");
-    }
-    let told = show(alloc, &keeper.told()?)?;
+    let told = told?;
     assert_eq!(rt; told.as_str(), TOLD);
-    assert_eq!(rt; keeper.faults(), 0);
+    assert_eq!(rt; faults, 0);
     Ok(())
 }
 
@@ -74,16 +92,34 @@ fn long(alloc: Global) -> Result<PackageRow, AllocError> {
     })
 }
 
+/// Puts the package, and tells whether it is the only one then, with its whole text.
+fn is_told_alone(keeper: &mut SqlKeeper, row: &PackageRow) -> Result<bool, KeepFail> {
+    keeper.put_package(row)?;
+    let rows = keeper.told()?;
+    let packages = rows.packages.as_slice();
+    let is_whole = packages
+        .iter()
+        .all(|package| package.text.as_str() == row.text.as_str());
+    let is_alone = packages.len() == 1;
+    drop(rows);
+    Ok(is_alone && is_whole)
+}
+
+/// Whether a package with the longest text is told.
+fn is_long_told(alloc: Global, keeper: &mut SqlKeeper) -> Result<bool, KeepFail> {
+    let row = long(alloc)?;
+    let is_told = is_told_alone(keeper, &row);
+    drop(row);
+    is_told
+}
+
 #[test]
 fn a_long_text_is_told_whole(rt: HostRuntime) -> Result<(), Fail> {
     let alloc = rt.alloc();
-    let row = long(alloc)?;
-    let mut keeper = attach_sql(&rt, alloc, None)?.keeper;
-    assert_eq!(rt; keeper.put_package(&row), Ok(()));
-    let told = keeper.told()?;
-    assert_eq!(rt; told.packages.as_slice().len(), 1);
-    for package in told.packages.as_slice() {
-        assert_eq!(rt; package.text.as_str(), row.text.as_str());
-    }
+    let Attached { mut keeper, rows } = attach_sql(&rt, alloc, None)?;
+    drop(rows);
+    let is_told = is_long_told(alloc, &mut keeper);
+    drop(keeper);
+    assert_eq!(rt; is_told, Ok(true));
     Ok(())
 }

@@ -5,13 +5,20 @@ use am_keeper_sql::SqlKeeper;
 use am_trials_keeping::lines::row;
 use std::alloc::Global;
 
+fn put_row(keeper: &mut SqlKeeper, row: &Row) -> Result<(), KeepFail> {
+    match row {
+        Row::Package(row) => keeper.put_package(row),
+        Row::Grant(row) => keeper.put_grant(row),
+        Row::Link(row) => keeper.put_link(row),
+    }
+}
+
 /// Puts the row of a line.
 pub fn put(alloc: Global, keeper: &mut SqlKeeper, line: &str) -> Result<(), KeepFail> {
-    match row(alloc, line)? {
-        Row::Package(row) => keeper.put_package(&row),
-        Row::Grant(row) => keeper.put_grant(&row),
-        Row::Link(row) => keeper.put_link(&row),
-    }
+    let row = row(alloc, line)?;
+    let done = put_row(keeper, &row);
+    drop(row);
+    done
 }
 
 /// Puts the row of each line.

@@ -4,8 +4,8 @@ ghost use Rattle.am_keeper.specs.Rows.{IsInOrder};
 
 use crate::lines::{package, row};
 use am_keeper::{
-    KeepFail, Keeper, MemoryKeeper, MemoryStore, PackageRow, Row, Rows, RowsBuilder, Store,
-    StoredRows,
+    Attached, KeepFail, Keeper, MemoryKeeper, MemoryStore, PackageRow, Row, Rows, RowsBuilder,
+    Store, StoredRows,
 };
 use am_types::{List, Text};
 use std::alloc::{AllocError, Global};
@@ -60,13 +60,28 @@ fn push_uids(out: &mut String, packages: &[PackageRow]) -> Result<(), AllocError
     Ok(())
 }
 
+fn put_row(keeper: &mut MemoryKeeper, row: &Row) -> Result<(), KeepFail> {
+    match row {
+        Row::Package(row) => keeper.put_package(row),
+        Row::Grant(row) => keeper.put_grant(row),
+        Row::Link(row) => keeper.put_link(row),
+    }
+}
+
 /// Puts the row of a line.
 fn put(alloc: Global, keeper: &mut MemoryKeeper, line: &str) -> Result<(), KeepFail> {
-    match row(alloc, line)? {
-        Row::Package(row) => keeper.put_package(&row),
-        Row::Grant(row) => keeper.put_grant(&row),
-        Row::Link(row) => keeper.put_link(&row),
-    }
+    let row = row(alloc, line)?;
+    let done = put_row(keeper, &row);
+    drop(row);
+    done
+}
+
+/// Adds the uids of the packages that the keeper has.
+fn push_kept(keeper: &MemoryKeeper, out: &mut String) -> Result<(), Fail> {
+    let rows = keeper.rows()?;
+    let pushed = push_uids(out, rows.packages.as_slice());
+    drop(rows);
+    Ok(pushed?)
 }
 
 /// What is answered to the package of a line, and which packages there are then.
@@ -74,8 +89,7 @@ fn put_answer(alloc: Global, keeper: &mut MemoryKeeper, line: &str) -> Result<St
     let line = format!(in alloc; "{line} name=com.a key=ka")?;
     let mut shown = answer(alloc, put(alloc, keeper, line.as_str()))?;
     shown.push_str(":")?;
-    let rows = keeper.rows()?;
-    push_uids(&mut shown, rows.packages.as_slice())?;
+    push_kept(keeper, &mut shown)?;
     Ok(shown)
 }
 
@@ -119,10 +133,7 @@ fn a_grant_takes_the_place_of_its_row(rt: HostRuntime) -> Result<(), Fail> {
 }
 
 /// How many packages, grants and links there are, and how many packages are gone.
-fn counts(alloc: Global, keeper: &MemoryKeeper) -> Result<String, AllocError> {
-    let Ok(rows) = keeper.rows() else {
-        return Ok(String::new(alloc));
-    };
+fn count(alloc: Global, rows: &Rows) -> Result<String, AllocError> {
     let packages = rows.packages.as_slice();
     let grants = rows.grants.as_slice().len();
     let links = rows.links.as_slice().len();
@@ -130,12 +141,28 @@ fn counts(alloc: Global, keeper: &MemoryKeeper) -> Result<String, AllocError> {
     format!(in alloc; "{} {grants} {links}, {gone} gone", packages.len())
 }
 
+/// The counts of the keeper's rows.
+fn counts(alloc: Global, keeper: &MemoryKeeper) -> Result<String, AllocError> {
+    let Ok(rows) = keeper.rows() else {
+        return Ok(String::new(alloc));
+    };
+    let counts = count(alloc, &rows);
+    drop(rows);
+    counts
+}
+
+fn push_number(out: &mut String, number: u32) -> Result<(), AllocError> {
+    write!(out, "{number}")
+}
+
 /// Makes the calls, and tells the lines of those that fail.
 fn failed(alloc: Global, keeper: &mut MemoryKeeper) -> Result<String, AllocError> {
     let mut failed = String::new(alloc);
-    for (before, line) in CALLS.lines().enumerate() {
+    let mut number: u32 = 0;
+    for line in CALLS.lines() {
+        number = number.wrapping_add(1);
         if put(alloc, keeper, line).is_err() {
-            write!(failed, "{}", before.saturating_add(1))?;
+            push_number(&mut failed, number)?;
         }
     }
     Ok(failed)
@@ -161,15 +188,15 @@ fn each_call_may_be_the_one_that_fails(rt: HostRuntime) -> Result<(), Fail> {
 }
 
 fn store_at_p(alloc: Global) -> Result<MemoryStore, AllocError> {
+    let failing = List::new(vec![in alloc; 3u32]?);
+    let path = Text::of(alloc, "p")?;
     let row = package(alloc, "uid=10000 name=com.a key=ka")?;
     let rows = Rows {
         packages: List::new(vec![in alloc; row]?),
         grants: List::new(Vec::new(alloc)),
         links: List::new(Vec::new(alloc)),
     };
-    let path = Text::of(alloc, "p")?;
     let places = List::new(vec![in alloc; StoredRows { path, rows }]?);
-    let failing = List::new(vec![in alloc; 3u32]?);
     Ok(MemoryStore::new(alloc, places, failing))
 }
 
@@ -177,16 +204,26 @@ fn store_at_p(alloc: Global) -> Result<MemoryStore, AllocError> {
 fn found(alloc: Global, store: &mut MemoryStore, path: &str) -> Result<usize, KeepFail> {
     let path = Text::of(alloc, path)?;
     let attached = store.attach(Some(&path))?;
-    Ok(attached.rows.packages.as_slice().len())
+    let count = attached.rows.packages.as_slice().len();
+    drop(attached);
+    Ok(count)
+}
+
+/// Attaches the store, puts the row, and gives the keeper back.
+fn put_once(store: &mut MemoryStore, path: &Text, row: &PackageRow) -> Result<(), KeepFail> {
+    let Attached { mut keeper, rows } = store.attach(Some(path))?;
+    drop(rows);
+    let done = keeper.put_package(row);
+    store.detach(keeper);
+    done
 }
 
 fn put_at_p(alloc: Global, store: &mut MemoryStore) -> Result<(), KeepFail> {
     let path = Text::of(alloc, "p")?;
     let row = package(alloc, "uid=10001 name=com.a key=ka")?;
-    let mut attached = store.attach(Some(&path))?;
-    attached.keeper.put_package(&row)?;
-    store.detach(attached.keeper);
-    Ok(())
+    let done = put_once(store, &path, &row);
+    drop(row);
+    done
 }
 
 #[test]

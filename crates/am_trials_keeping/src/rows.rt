@@ -32,25 +32,47 @@ fn cells(alloc: Global, line: &str) -> Result<List<Cell>, AllocError> {
     Ok(List::new(cells))
 }
 
+fn push_words(out: &mut String, words: &str) -> Result<(), AllocError> {
+    out.push_str("[")?;
+    out.push_str(words)?;
+    out.push_str("]")
+}
+
+fn push_cell(out: &mut String, cell: &Cell) -> Result<(), AllocError> {
+    match cell {
+        Cell::Whole(number) => write!(out, "{number}"),
+        Cell::Words(text) => push_words(out, text.as_str()),
+    }
+}
+
 fn show(alloc: Global, cells: &[Cell]) -> Result<String, AllocError> {
     let mut out = String::new(alloc);
     for cell in cells {
         if !out.is_empty() {
             out.push_str(" ")?;
         }
-        match cell {
-            Cell::Whole(number) => write!(out, "{number}")?,
-            Cell::Words(text) => write!(out, "[{}]", text.as_str())?,
-        }
+        push_cell(&mut out, cell)?;
     }
     Ok(out)
+}
+
+/// The cells of a row.
+fn written(alloc: Global, row: &Row) -> Result<String, Fail> {
+    let cells = row_cells(alloc, row)?;
+    let shown = show(alloc, cells.as_slice());
+    drop(cells);
+    Ok(shown?)
 }
 
 /// The cells of the row that is read, or why none is.
 fn read_back(alloc: Global, line: &str) -> Result<String, Fail> {
     let cells = cells(alloc, line)?;
     match row_of(&cells) {
-        Ok(row) => Ok(show(alloc, row_cells(alloc, &row)?.as_slice())?),
+        Ok(row) => {
+            let written = written(alloc, &row);
+            drop(row);
+            written
+        }
         Err(fault) => Ok(fault.to_string(alloc)?),
     }
 }

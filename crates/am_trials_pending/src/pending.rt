@@ -62,16 +62,27 @@ fn categories(alloc: Global, word: &str) -> Result<List<Text>, AllocError> {
     Ok(List::new(categories))
 }
 
-/// An intent with that action, or for that component, and with categories.
-fn intent(alloc: Global, word: &str, extras: List<Named>) -> Result<Intent, AllocError> {
-    let mut intent = unaimed(alloc, extras);
+/// Gives the intent the word's categories, and its component or its action.
+fn tell(alloc: Global, word: &str, intent: &mut Intent) -> Result<(), AllocError> {
     intent.categories = categories(alloc, word)?;
     let word = word.split('+').next().unwrap_or("");
     match word.split_once('/') {
         Some((package, class)) => intent.component = Some(component(alloc, package, class)?),
         None => intent.action = Some(Text::of(alloc, word)?),
     }
-    Ok(intent)
+    Ok(())
+}
+
+/// An intent with that action, or for that component, and with categories.
+fn intent(alloc: Global, word: &str, extras: List<Named>) -> Result<Intent, AllocError> {
+    let mut intent = unaimed(alloc, extras);
+    match tell(alloc, word, &mut intent) {
+        Ok(()) => Ok(intent),
+        Err(error) => {
+            drop(intent);
+            Err(error)
+        }
+    }
 }
 
 fn component(alloc: Global, package: &str, class: &str) -> Result<Component, AllocError> {
@@ -120,17 +131,28 @@ fn done(answer: Result<(), PendingFault>) -> &'static str {
     }
 }
 
+/// Adds an extra, if it is a whole number.
+fn push_extra(words: &mut String, extra: &Named) -> Result<(), AllocError> {
+    match &extra.value {
+        Extra::Whole(value) => write!(words, " {}={value}", extra.key.as_str()),
+        _ => Ok(()),
+    }
+}
+
+fn push_extras(words: &mut String, extras: &List<Named>) -> Result<(), AllocError> {
+    for extra in extras.as_slice() {
+        push_extra(words, extra)?;
+    }
+    Ok(())
+}
+
 /// What a token stands for, in words.
 fn shown(alloc: Global, used: &Used) -> Result<String, AllocError> {
     let mut words = format!(in alloc; "{}", used.creator)?;
     if used.one_shot {
         words.push_str(" once")?;
     }
-    for extra in used.intent.extras.as_slice() {
-        if let Extra::Whole(value) = &extra.value {
-            write!(words, " {}={value}", extra.key.as_str())?;
-        }
-    }
+    push_extras(&mut words, &used.intent.extras)?;
     Ok(words)
 }
 
@@ -257,6 +279,34 @@ fn is_made<L: Ledger>(
     )
 }
 
+/// How many of 1,030 records of a creator are made.
+fn records_made<L: Ledger>(
+    alloc: Global,
+    pending: &mut Pending,
+    steps: &mut Steps<L>,
+) -> Result<u32, AllocError>
+    requires { pending.old.next ≤ 1 }
+{
+    let mut made = 0u32;
+    for code in 0..1030u32 {
+        if is_made(alloc, pending, code, steps)? {
+            made += 1;
+        }
+    }
+    Ok(made)
+}
+
+/// How many of 70 holders of one record are taken.
+fn holders_taken<L: Ledger>(pending: &mut Pending, steps: &mut Steps<L>) -> u32 {
+    let mut held = 0u32;
+    for to in 0..70u32 {
+        if pending.give(1000, 10000, 20000 + to, steps).is_ok() {
+            held += 1;
+        }
+    }
+    held
+}
+
 /// How many of 1,030 records of a creator are made, and how many of 70 holders of one are taken.
 fn limited<L: Ledger>(alloc: Global, blank: Blank) -> Result<(u32, u32), AllocError>
     requires name { blank.name ≡ L.name }
@@ -265,19 +315,11 @@ fn limited<L: Ledger>(alloc: Global, blank: Blank) -> Result<(u32, u32), AllocEr
 {
     let mut steps = Steps::<L>::new(blank);
     let mut pending = Pending::new(alloc);
-    let mut made = 0u32;
-    for code in 0..1030u32 {
-        if is_made(alloc, &mut pending, code, &mut steps)? {
-            made += 1;
-        }
-    }
-    let mut held = 0u32;
-    for to in 0..70u32 {
-        if pending.give(1000, 10000, 20000 + to, &mut steps).is_ok() {
-            held += 1;
-        }
-    }
-    Ok((made, held))
+    let made = records_made(alloc, &mut pending, &mut steps);
+    let held = holders_taken(&mut pending, &mut steps);
+    drop(pending);
+    drop(steps);
+    Ok((made?, held))
 }
 
 #[test]
@@ -335,9 +377,11 @@ fn told_apart<L: Ledger>(alloc: Global, blank: Blank) -> Result<(u32, u32), Allo
 {
     let mut steps = Steps::<L>::new(blank);
     let mut pending = Pending::new(alloc);
-    let new = numbered(alloc, &mut pending, &mut steps)?;
-    let known = numbered(alloc, &mut pending, &mut steps)?;
-    Ok((new, known))
+    let new = numbered(alloc, &mut pending, &mut steps);
+    let known = numbered(alloc, &mut pending, &mut steps);
+    drop(pending);
+    drop(steps);
+    Ok((new?, known?))
 }
 
 #[test]
@@ -376,9 +420,11 @@ fn tried_after_many<L: Ledger>(alloc: Global, blank: Blank) -> Result<(u32, usiz
 {
     let mut steps = Steps::<L>::new(blank);
     let mut pending = Pending::new(alloc);
-    let ended = ended_in_turn(alloc, &mut pending, &mut steps)?;
-    let right = first_wrong(alloc, &mut pending, AFTER_MANY, &mut steps)?;
-    Ok((ended, right))
+    let ended = ended_in_turn(alloc, &mut pending, &mut steps);
+    let right = first_wrong(alloc, &mut pending, AFTER_MANY, &mut steps);
+    drop(pending);
+    drop(steps);
+    Ok((ended?, right?))
 }
 
 #[test]

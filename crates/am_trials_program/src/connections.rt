@@ -4,11 +4,11 @@ ghost use Rattle.std.specs.Prelude.{◌<◌};
 mod inputs;
 
 use self::inputs::{CLIENTS, CONNECTIONS};
-use crate::exchanges::EMPTY;
-use crate::runs::{Host, Left, Outside, QUIET, try_run};
-use crate::spelling::spelled_out;
+use am_trials_runs::{Left, Outside, QUIET, Runtime, session_over};
+use am_trials_spelling::{EMPTY, spelled_out};
 use am_types::NoMemory;
 use std::alloc::Global;
+use std::process::Abort;
 use std::str;
 use std::test::Fail;
 
@@ -46,10 +46,15 @@ fn twice(alloc: Global, bytes: &[u8]) -> Result<Vec<u8>, NoMemory> {
 }
 
 /// A session over the device with that input.
-fn serve(rt: &impl Host, alloc: Global, input: &[u8], outside: &Outside) -> Result<Left, Fail>
+fn serve(
+    rt: &impl Runtime,
+    alloc: Global,
+    input: &[u8],
+    outside: &Outside,
+) -> Result<Left, NoMemory>
     requires { 0 < outside.now.most }
 {
-    try_run(rt, alloc, "session --device d", EMPTY, input, outside)
+    session_over(rt, alloc, EMPTY, input, outside)
 }
 
 /// How the session ended, by what it wrote to its errors.
@@ -66,7 +71,7 @@ fn end(errors: &[u8]) -> &'static str {
 }
 
 /// The responses, by status and body, and the end.
-fn outcome(rt: &impl Host, alloc: Global, input: &[u8]) -> Result<String, Fail> {
+fn outcome(rt: &impl Runtime, alloc: Global, input: &[u8]) -> Result<String, Fail> {
     let left = serve(rt, alloc, input, &WHOLE)?;
     let taken = str::from_utf8(left.output.taken()).ok().ok_or("a text")?;
     let mut words = String::new(alloc);
@@ -85,7 +90,7 @@ fn push_response(words: &mut String, response: &str) -> Result<(), Fail> {
     Ok(())
 }
 
-fn try_row(rt: &impl Host, alloc: Global, row: &str) -> Result<(), Fail> {
+fn try_row(rt: &(impl Runtime + Abort), alloc: Global, row: &str) -> Result<(), Fail> {
     let (name, behind) = row.split_once(" | ").ok_or("a name")?;
     let (input, wanted) = behind.split_once(" -> ").ok_or("an outcome")?;
     let bytes = spelled_out(alloc, input)?;
@@ -95,7 +100,7 @@ fn try_row(rt: &impl Host, alloc: Global, row: &str) -> Result<(), Fail> {
 }
 
 /// Tries each row, and tells how many there are.
-fn try_rows(rt: &impl Host, alloc: Global, table: &str) -> Result<u32, Fail> {
+fn try_rows(rt: &(impl Runtime + Abort), alloc: Global, table: &str) -> Result<u32, Fail> {
     let mut rows: u32 = 0;
     for row in table.lines() {
         try_row(rt, alloc, row)?;
@@ -118,7 +123,7 @@ fn answers_frames_and_ends(rt: HostRuntime) -> Result<(), Fail> {
 
 /// A session with that input ends so after these bytes.
 fn try_session(
-    rt: &impl Host,
+    rt: &(impl Runtime + Abort),
     alloc: Global,
     input: &[u8],
     outside: &Outside,
@@ -167,30 +172,33 @@ fn cut_anywhere(rt: HostRuntime) -> Result<(), Fail> {
     Ok(())
 }
 
-/// So many whole answers were written if the read with that number fails.
-fn try_read_fault(rt: &impl Host, alloc: Global, number: u32, answered: u32) -> Result<(), Fail> {
+/// Two queries end so after so many bytes of their answers if that call of the object fails.
+fn try_fault(
+    rt: &(impl Runtime + Abort),
+    alloc: Global,
+    failing: &'static str,
+    call: u32,
+    wanted: (&'static str, usize),
+) -> Result<(), Fail> {
     let (input, output) = (twice(alloc, QUERY)?, twice(alloc, ANSWER)?);
-    let written = ANSWER.len().saturating_mul(answered as usize);
+    let written = output.as_slice().get(..wanted.1).ok_or("the output")?;
     let outside = Outside {
-        failing: "input",
-        call: number,
+        failing,
+        call,
         ..BYTES
     };
-    let wanted = (
-        "read fault",
-        output.as_slice().get(..written).ok_or("the output")?,
-    );
-    try_session(rt, alloc, input.as_slice(), &outside, wanted)
+    try_session(rt, alloc, input.as_slice(), &outside, (wanted.0, written))
 }
 
 #[test]
 fn each_read_fails(rt: HostRuntime) -> Result<(), Fail> {
     let mut number: u32 = 0;
-    for answered in 0..3 {
+    for answered in 0..3usize {
         let reads = if answered < 2 { QUERY.len() } else { 1 };
+        let wanted = ("read fault", ANSWER.len().saturating_mul(answered));
         for _ in 0..reads {
             number = number.wrapping_add(1);
-            try_read_fault(&rt, rt.alloc(), number, answered)?;
+            try_fault(&rt, rt.alloc(), "input", number, wanted)?;
         }
     }
     assert_eq!(rt;
@@ -200,28 +208,12 @@ fn each_read_fails(rt: HostRuntime) -> Result<(), Fail> {
     Ok(())
 }
 
-/// All bytes before it were written if the write with that number fails.
-fn try_write_fault(rt: &impl Host, alloc: Global, number: u32) -> Result<(), Fail> {
-    let (input, output) = (twice(alloc, QUERY)?, twice(alloc, ANSWER)?);
-    let written = (number as usize).saturating_sub(1);
-    let outside = Outside {
-        failing: "output",
-        call: number,
-        ..BYTES
-    };
-    let wanted = (
-        "write fault",
-        output.as_slice().get(..written).ok_or("the output")?,
-    );
-    try_session(rt, alloc, input.as_slice(), &outside, wanted)
-}
-
 #[test]
 fn each_write_fails(rt: HostRuntime) -> Result<(), Fail> {
     let mut number: u32 = 0;
-    for _ in 0..ANSWER.len().wrapping_mul(2) {
+    for written in 0..ANSWER.len().wrapping_mul(2) {
         number = number.wrapping_add(1);
-        try_write_fault(&rt, rt.alloc(), number)?;
+        try_fault(&rt, rt.alloc(), "output", number, ("write fault", written))?;
     }
     Ok(())
 }

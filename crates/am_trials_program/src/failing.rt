@@ -1,17 +1,17 @@
 //! Sessions whose keeper fails at one of its calls, and what is found again of them.
-ghost use Rattle.std.specs.Prelude.{◌≡◌, ◌≤◌, Err};
+ghost use Rattle.std.specs.Prelude.{◌≡◌, ◌≤◌, Err, IfOk};
 ghost use Rattle.am_outside.specs.Counts.{HasRisen};
 ghost use Rattle.am_keeper.specs.Rows.{IsInOrder};
 
-use crate::calls::{Exchanged, push_frame, session_of};
-use crate::runs::{Host, QUIET, run_over};
 use am_keeper::{
     Attached, GrantRow, KeepFail, Keeper, LinkRow, MemoryKeeper, MemoryStore, PackageRow, Rows,
     RowsBuilder, Store, StoredRows,
 };
+use am_trials_runs::{Left, QUIET, Runtime, run_over};
+use am_trials_spelling::{Exchanged, push_frame, session_of};
 use am_types::{List, Text};
 use std::alloc::Global;
-use std::str;
+use std::process::Abort;
 use std::test::Fail;
 
 /// A keeper in memory that tells nothing of its rows.
@@ -167,46 +167,130 @@ fn names(alloc: Global, rows: &Rows) -> Result<String, Fail> {
     Ok(names)
 }
 
-/// A session over those rows has so many packages.
-fn try_again(rt: &impl Host, alloc: Global, rows: Rows, packages: usize) -> Result<(), Fail>
+const WORDS: &str = "session --device d --store p";
+
+/// A store with those rows at that place.
+fn store_of(alloc: Global, path: Text, rows: Rows) -> Result<MemoryStore, Fail>
     requires { IsInOrder rows }
 {
-    let path = Text::of(alloc, "p")?;
     let mut places = Vec::new(alloc);
     places.push(StoredRows { path, rows })?;
-    let mut store = MemoryStore::new(alloc, List::new(places), List::new(Vec::new(alloc)));
+    Ok(MemoryStore::new(alloc, List::new(places), List::new(Vec::new(alloc))))
+}
+
+/// A session over the store that asks for the status.
+fn asked_for_status(
+    rt: &impl Runtime,
+    alloc: Global,
+    store: &mut MemoryStore,
+) -> Result<Left, Fail> {
     let mut input = String::new(alloc);
     push_frame(&mut input, "GET /v1/status | sys | ")?;
-    let words = "session --device d --store p";
-    let left = run_over(rt, alloc, words, BARE, input.as_bytes(), &QUIET, &mut store)?;
-    let output = str::from_utf8(left.output.taken()).ok().ok_or("a text")?;
+    Ok(run_over(rt, alloc, WORDS, BARE, input.as_bytes(), &QUIET, store)?)
+}
+
+/// Whether the output ends with so many packages.
+fn ends_with_packages(alloc: Global, output: &[u8], packages: usize) -> Result<bool, Fail> {
     let wanted = format!(in alloc; "\"packages\":{packages}}}")?;
-    assert!(rt; output.ends_with(wanted.as_str()), "{output}");
+    Ok(output.ends_with(wanted.as_bytes()))
+}
+
+/// A session over those rows, at that place, has so many packages.
+fn try_again(
+    rt: &(impl Runtime + Abort),
+    alloc: Global,
+    path: Text,
+    rows: Rows,
+    packages: usize,
+) -> Result<(), Fail>
+    requires { IsInOrder rows }
+{
+    let mut store = store_of(alloc, path, rows)?;
+    let left = asked_for_status(rt, alloc, &mut store);
+    drop(store);
+    let left = left?;
+    let is_told = ends_with_packages(alloc, left.output.taken(), packages);
+    drop(left);
+    assert!(rt; is_told?, "{packages} packages");
     Ok(())
 }
 
+/// The rows have those packages.
+fn try_names(alloc: Global, rows: &Rows, found: &str) -> Result<(), Fail> {
+    let names = names(alloc, rows)?;
+    (names.as_str() == found)
+        .then_some(())
+        .ok_or("other packages")?;
+    Ok(())
+}
+
+/// The rows have those packages, and are found again.
+fn try_kept(
+    rt: &(impl Runtime + Abort),
+    alloc: Global,
+    path: Text,
+    kept: Rows,
+    found: &str,
+) -> Result<(), Fail>
+    requires { IsInOrder kept }
+{
+    let packages = found.split(' ').filter(|name| !name.is_empty()).count();
+    match try_names(alloc, &kept, found) {
+        Ok(()) => try_again(rt, alloc, path, kept, packages),
+        Err(fail) => {
+            drop(path);
+            drop(kept);
+            Err(fail)
+        }
+    }
+}
+
+/// Holds the session over the store, and looks at what it answers.
+fn try_answers(
+    rt: &(impl Runtime + Abort),
+    alloc: Global,
+    rows: &str,
+    store: &mut FailingStore,
+) -> Result<(), Fail> {
+    let Exchanged { input, wanted, .. } = session_of(alloc, rows)?;
+    let left = run_over(rt, alloc, WORDS, BARE, input.as_bytes(), &QUIET, store)?;
+    assert_eq!(rt; left.output.taken(), wanted.as_bytes(), "{rows}");
+    assert_eq!(rt; left.status, 0, "{rows}");
+    assert_eq!(rt; store.faults, if store.call < 5 { 1 } else { 0 }, "{rows}");
+    Ok(())
+}
+
+/// The rows of the keeper that came back.
+fn rows_left(store: FailingStore) -> Result<Rows, Fail>
+    ensures { IfOk result IsInOrder }
+{
+    let keeper = store.left.ok_or("a keeper")?;
+    let rows = keeper.rows();
+    drop(keeper);
+    Ok(rows?)
+}
+
 /// Holds the session over a keeper that fails at the call of its first line, and looks what is found again.
-fn try_session(rt: &impl Host, alloc: Global, session: &str) -> Result<(), Fail> {
+fn try_session(rt: &(impl Runtime + Abort), alloc: Global, session: &str) -> Result<(), Fail> {
     let (head, rows) = session.split_once('\n').ok_or("calls")?;
     let (call, found) = head.split_once(' ').ok_or("packages")?;
-    let found = if found == "-" { "" } else { found };
     let call = call.parse::<u32>().ok().ok_or("a call")?;
+    let path = Text::of(alloc, "p")?;
     let mut store = FailingStore {
         alloc,
         call,
         faults: 0,
         left: None,
     };
-    let Exchanged { input, wanted, .. } = session_of(alloc, rows)?;
-    let words = "session --device d --store p";
-    let left = run_over(rt, alloc, words, BARE, input.as_bytes(), &QUIET, &mut store)?;
-    assert_eq!(rt; left.output.taken(), wanted.as_bytes(), "{session}");
-    assert_eq!(rt; left.status, 0, "{session}");
-    assert_eq!(rt; store.faults, if call < 5 { 1 } else { 0 }, "{session}");
-    let kept = store.left.ok_or("a keeper")?.rows()?;
-    assert_eq!(rt; names(alloc, &kept)?.as_str(), found, "{session}");
-    let packages = found.split(' ').filter(|name| !name.is_empty()).count();
-    try_again(rt, alloc, kept, packages)
+    let found = if found == "-" { "" } else { found };
+    match try_answers(rt, alloc, rows, &mut store) {
+        Ok(()) => try_kept(rt, alloc, path, rows_left(store)?, found),
+        Err(fail) => {
+            drop(path);
+            drop(store);
+            Err(fail)
+        }
+    }
 }
 
 #[test]

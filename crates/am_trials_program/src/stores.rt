@@ -1,8 +1,9 @@
 //! Sessions one after the other over one store.
-use crate::calls::push_frame;
-use crate::runs::{Host, QUIET, run_over, store};
 use am_keeper::MemoryStore;
+use am_trials_runs::{QUIET, Runtime, run_over, store};
+use am_trials_spelling::push_frame;
 use std::alloc::Global;
+use std::process::Abort;
 use std::str;
 use std::test::Fail;
 
@@ -17,7 +18,12 @@ session --device d --store q | GET /v1/status | sys |  -> {"history":0,"moment":
 session --device d --store q | POST /v1/install | sys | {"key":"kb","manifest":"package = 'com.b'"} -> {"uid":10001}"#;
 
 /// Holds the session over the store.
-fn try_row(rt: &impl Host, alloc: Global, store: &mut MemoryStore, row: &str) -> Result<(), Fail> {
+fn try_row(
+    rt: &(impl Runtime + Abort),
+    alloc: Global,
+    store: &mut MemoryStore,
+    row: &str,
+) -> Result<(), Fail> {
     let (words, rest) = row.split_once(" | ").ok_or("words")?;
     let (asked, wanted) = rest.split_once(" -> ").ok_or("an answer")?;
     let mut input = String::new(alloc);

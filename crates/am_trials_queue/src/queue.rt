@@ -12,6 +12,7 @@ use am_types::{
 };
 use std::alloc::{AllocError, Global};
 use std::marker::Brand;
+use std::process::Abort;
 use std::sync::ledger::{Blank, Ledger};
 use std::test::Fail;
 
@@ -128,30 +129,34 @@ fn show_finished(alloc: Global, finished: Result<(), FinishFault>) -> Result<Str
     )
 }
 
+/// A normal delivery, without its aim and its intent.
+fn show_normal(alloc: Global, item: &Item) -> Result<String, AllocError> {
+    let (delivery, broadcast) = (item.delivery, item.broadcast);
+    format!(in alloc; "{delivery}.{broadcast}n")
+}
+
+/// An item with the letter of its kind and the code of its outcome.
+fn show_coded(
+    alloc: Global,
+    item: &Item,
+    letter: &str,
+    outcome: &Outcome,
+) -> Result<String, AllocError> {
+    let (delivery, broadcast, code) = (item.delivery, item.broadcast, outcome.code);
+    format!(in alloc; "{delivery}.{broadcast}{letter}{code}")
+}
+
 fn show_item(alloc: Global, item: &Item) -> Result<String, AllocError> {
-    let delivery = item.delivery;
-    let broadcast = item.broadcast;
     match &item.what {
-        ItemKind::Normal { aim: _, intent: _ } => { format!(in alloc; "{delivery}.{broadcast}n") }
-        ItemKind::InOrder {
-            aim: _,
-            intent: _,
-            outcome,
-        } => {
-            let code = outcome.code;
-            format!(in alloc; "{delivery}.{broadcast}o{code}")
-        }
-        ItemKind::Final { outcome } => {
-            let code = outcome.code;
-            format!(in alloc; "{delivery}.{broadcast}f{code}")
-        }
+        ItemKind::Normal { .. } => show_normal(alloc, item),
+        ItemKind::InOrder { outcome, .. } => show_coded(alloc, item, "o", outcome),
+        ItemKind::Final { outcome } => show_coded(alloc, item, "f", outcome),
     }
 }
 
-fn show_inbox(alloc: Global, queues: &Queues, uid: u32) -> Result<String, Fail> {
-    let items = queues.inbox(uid)?;
+fn show_items(alloc: Global, items: &[Item]) -> Result<String, AllocError> {
     let mut shown = String::new(alloc);
-    for item in items.as_slice() {
+    for item in items {
         if !shown.is_empty() {
             shown.push_str(",")?;
         }
@@ -161,6 +166,13 @@ fn show_inbox(alloc: Global, queues: &Queues, uid: u32) -> Result<String, Fail> 
         shown.push_str("-")?;
     }
     Ok(shown)
+}
+
+fn show_inbox(alloc: Global, queues: &Queues, uid: u32) -> Result<String, Fail> {
+    let items = queues.inbox(uid)?;
+    let shown = show_items(alloc, items.as_slice());
+    drop(items);
+    Ok(shown?)
 }
 
 fn is_due<L: Ledger>(blank: Blank, queues: &Queues, now: u64) -> bool
@@ -260,14 +272,22 @@ fn seen(alloc: Global, queues: &mut Queues, history: &str, copying: bool) -> Res
     Ok(all)
 }
 
+/// What is seen of a history that begins with empty queues.
+fn seen_anew(alloc: Global, history: &str, copying: bool) -> Result<String, Fail> {
+    let mut queues = Queues::new(alloc);
+    let seen = seen(alloc, &mut queues, history, copying);
+    drop(queues);
+    seen
+}
+
 #[test]
 fn histories_show_what_was_seen(rt: HostRuntime) -> Result<(), Fail> {
     for row in HISTORIES.lines() {
         let (history, wanted) = row.split_once(" => ").unwrap_or((row, ""));
         let alloc = rt.alloc();
-        let plain = seen(alloc, &mut Queues::new(alloc), history, false)?;
+        let plain = seen_anew(alloc, history, false)?;
         assert!(rt; plain.as_str() == wanted, "{history} shows {plain}");
-        let copied = seen(alloc, &mut Queues::new(alloc), history, true)?;
+        let copied = seen_anew(alloc, history, true)?;
         assert!(rt;
             copied.as_str() == wanted,
             "{history} on copies shows {copied}"
@@ -285,32 +305,45 @@ fn last_sent(alloc: Global, queues: &mut Queues, word: &str, times: u32) -> Resu
     Ok(shown)
 }
 
+/// Sends what the word says until the sender has 64 live broadcasts, and once more after one has ended.
+fn try_64(rt: &impl Abort, alloc: Global, queues: &mut Queues, word: &str) -> Result<(), Fail> {
+    let last = last_sent(alloc, queues, word, 64)?;
+    assert!(rt; last.as_str() == "64", "{word} shows {last}");
+    let more = call(alloc, queues, word)?;
+    assert!(rt; more.as_str() == "full", "{word} shows {more}");
+    drop(seen(alloc, queues, "f:1:p:0 f:2:s:0", false)?);
+    let again = call(alloc, queues, word)?;
+    assert!(rt; again.as_str() == "65", "{word} shows {again}");
+    Ok(())
+}
+
 #[test]
 fn a_sender_has_64_live_broadcasts(rt: HostRuntime) -> Result<(), Fail> {
-    let alloc = rt.alloc();
     for word in ["n:0:p", "o:0:p", "w:0:p"] {
-        let mut queues = Queues::new(alloc);
-        let last = last_sent(alloc, &mut queues, word, 64)?;
-        assert!(rt; last.as_str() == "64", "{word} shows {last}");
-        let more = call(alloc, &mut queues, word)?;
-        assert!(rt; more.as_str() == "full", "{word} shows {more}");
-        drop(seen(alloc, &mut queues, "f:1:p:0 f:2:s:0", false)?);
-        let again = call(alloc, &mut queues, word)?;
-        assert!(rt; again.as_str() == "65", "{word} shows {again}");
+        let mut queues = Queues::new(rt.alloc());
+        let tried = try_64(&rt, rt.alloc(), &mut queues, word);
+        drop(queues);
+        tried?;
     }
+    Ok(())
+}
+
+/// Sends 64 broadcasts, and again before and after they are late.
+fn try_late(rt: &impl Abort, alloc: Global, queues: &mut Queues) -> Result<(), Fail> {
+    let last = last_sent(alloc, queues, "n:0:p", 64)?;
+    assert!(rt; last.as_str() == "64", "the last shows {last}");
+    let history = "e:59999 n:59999:p e:60000 n:60000:p";
+    let shown = seen(alloc, queues, history, false)?;
+    assert!(rt; shown.as_str() == "full 65", "{history} shows {shown}");
     Ok(())
 }
 
 #[test]
 fn a_sender_sends_again_once_its_broadcasts_are_late(rt: HostRuntime) -> Result<(), Fail> {
-    let alloc = rt.alloc();
-    let mut queues = Queues::new(alloc);
-    let last = last_sent(alloc, &mut queues, "n:0:p", 64)?;
-    assert!(rt; last.as_str() == "64", "the last shows {last}");
-    let history = "e:59999 n:59999:p e:60000 n:60000:p";
-    let shown = seen(alloc, &mut queues, history, false)?;
-    assert!(rt; shown.as_str() == "full 65", "{history} shows {shown}");
-    Ok(())
+    let mut queues = Queues::new(rt.alloc());
+    let tried = try_late(&rt, rt.alloc(), &mut queues);
+    drop(queues);
+    tried
 }
 
 /// What a sending to so many receivers shows.
@@ -327,27 +360,40 @@ fn to_many(
     send_to(alloc, queues, kind, 0, letters.as_str())
 }
 
+/// Sends to one receiver too many, and to as many as a broadcast may have.
+fn try_many(rt: &impl Abort, alloc: Global, queues: &mut Queues, kind: u8) -> Result<(), Fail> {
+    let many = to_many(alloc, queues, kind, 1025)?;
+    assert!(rt; many.as_str() == "many");
+    let few = to_many(alloc, queues, kind, 1024)?;
+    assert!(rt; few.as_str() == "1");
+    Ok(())
+}
+
 #[test]
 fn a_broadcast_has_1024_receivers(rt: HostRuntime) -> Result<(), Fail> {
-    let alloc = rt.alloc();
     for kind in [b'n', b'o'] {
-        let mut queues = Queues::new(alloc);
-        let many = to_many(alloc, &mut queues, kind, 1025)?;
-        assert!(rt; many.as_str() == "many");
-        let few = to_many(alloc, &mut queues, kind, 1024)?;
-        assert!(rt; few.as_str() == "1");
+        let mut queues = Queues::new(rt.alloc());
+        let tried = try_many(&rt, rt.alloc(), &mut queues, kind);
+        drop(queues);
+        tried?;
     }
+    Ok(())
+}
+
+/// A thousand deliveries, of which three are finished before the others are late at once.
+fn try_thousand(rt: &impl Abort, alloc: Global, queues: &mut Queues) -> Result<(), Fail> {
+    let sent = to_many(alloc, queues, b'n', 1000)?;
+    assert!(rt; sent.as_str() == "1");
+    let history = "f:1:p:1 f:500:p:1 f:1000:p:1 d:59999 d:60000 e:60000 d:99999 i:p";
+    let shown = seen(alloc, queues, history, false)?;
+    assert!(rt; shown.as_str() == "+ + + no due no -");
     Ok(())
 }
 
 #[test]
 fn a_thousand_deliveries_are_due_at_once(rt: HostRuntime) -> Result<(), Fail> {
-    let alloc = rt.alloc();
-    let mut queues = Queues::new(alloc);
-    let sent = to_many(alloc, &mut queues, b'n', 1000)?;
-    assert!(rt; sent.as_str() == "1");
-    let history = "f:1:p:1 f:500:p:1 f:1000:p:1 d:59999 d:60000 e:60000 d:99999 i:p";
-    let shown = seen(alloc, &mut queues, history, false)?;
-    assert!(rt; shown.as_str() == "+ + + no due no -");
-    Ok(())
+    let mut queues = Queues::new(rt.alloc());
+    let tried = try_thousand(&rt, rt.alloc(), &mut queues);
+    drop(queues);
+    tried
 }

@@ -7,9 +7,10 @@ use am_tasks::Tasks;
 use am_trials_words::{empty_intent, flags, last, number, optional};
 use am_types::{
     Component, InstanceView, Intent, Landed, Mode, NoMemory, PlaceFault, Placed, StartCall,
-    TaskFault, Text,
+    TaskFault, TaskView, Text,
 };
 use std::alloc::{AllocError, Global};
+use std::process::Abort;
 use std::test::Fail;
 
 /// The number that a word is, or 0.
@@ -38,9 +39,16 @@ fn mode(words: &str) -> Mode {
 
 /// An intent whose action is what the words say.
 fn intent(alloc: Global, words: &str) -> Result<Intent, AllocError> {
+    let action = optional(alloc, words, "say=")?;
     let mut intent = empty_intent(alloc);
-    intent.action = optional(alloc, words, "say=")?;
+    intent.action = action;
     Ok(intent)
+}
+
+fn component(alloc: Global, package: &str, class: &str) -> Result<Component, AllocError> {
+    let package = Text::of(alloc, package)?;
+    let class = Text::of(alloc, class)?;
+    Ok(Component { package, class })
 }
 
 /// A start of the activity that follows, by its own uid unless another is named.
@@ -48,11 +56,8 @@ fn start(alloc: Global, words: &str) -> Result<StartCall, AllocError> {
     let (name, _) = words.split_once(' ').unwrap_or((words, ""));
     let (package, class) = name.split_once('.').unwrap_or((name, ""));
     let owner = if package == "one" { 10000 } else { 10001 };
-    let target = Component {
-        package: Text::of(alloc, package)?,
-        class: Text::of(alloc, class)?,
-    };
     let affinity = Text::of(alloc, last(words, "affinity=").unwrap_or(package))?;
+    let target = component(alloc, package, class)?;
     let intent = intent(alloc, words)?;
     Ok(StartCall {
         target,
@@ -164,21 +169,33 @@ fn tell_instances(told: &mut String, instances: &[InstanceView]) -> Result<(), A
     Ok(())
 }
 
-/// The tasks that the uid sees.
-fn told(alloc: Global, tasks: &Tasks, uid: u32) -> Result<String, NoMemory> {
+fn tell_task(told: &mut String, task: &TaskView) -> Result<(), AllocError> {
+    let number = task.task;
+    write!(told, "{number}:")?;
+    tell_instances(told, task.instances.as_slice())
+}
+
+/// The tasks with blanks between them, or a hyphen if there are none.
+fn tell_tasks(alloc: Global, tasks: &[TaskView]) -> Result<String, AllocError> {
     let mut told = String::new(alloc);
-    for task in tasks.views(uid)?.as_slice() {
+    for task in tasks {
         if !told.is_empty() {
             told.push_str(" ")?;
         }
-        let number = task.task;
-        write!(told, "{number}:")?;
-        tell_instances(&mut told, task.instances.as_slice())?;
+        tell_task(&mut told, task)?;
     }
     if told.is_empty() {
         told.push_str("-")?;
     }
     Ok(told)
+}
+
+/// The tasks that the uid sees.
+fn told(alloc: Global, tasks: &Tasks, uid: u32) -> Result<String, NoMemory> {
+    let views = tasks.views(uid)?;
+    let told = tell_tasks(alloc, views.as_slice());
+    drop(views);
+    Ok(told?)
 }
 
 /// The answer of the call, and the tasks after it as its uid sees them: that of `views`, else the
@@ -189,22 +206,34 @@ fn row(alloc: Global, tasks: &mut Tasks, call: &str) -> Result<String, NoMemory>
     Ok(format!(in alloc; "{answer} | {told}")?)
 }
 
-#[test]
-fn calls_answer_in_order(rt: HostRuntime) -> Result<(), Fail> {
-    let alloc = rt.alloc();
-    let mut tasks = Tasks::new(alloc);
+/// The call of a line answers as the line says.
+fn try_line(rt: &impl Abort, alloc: Global, tasks: &mut Tasks, line: &str) -> Result<(), Fail> {
+    let (call, wanted) = line.split_once(" | ").unwrap_or((line, "no row"));
+    let got = row(alloc, tasks, call)?;
+    assert_eq!(rt; got.as_str(), wanted, "{line}");
+    Ok(())
+}
+
+/// Makes the calls of all lines in order; the number of calls.
+fn try_lines(rt: &impl Abort, alloc: Global, tasks: &mut Tasks) -> Result<u32, Fail> {
     let mut rows: u32 = 0;
     for line in CALLS.lines() {
         if line.starts_with('#') {
-            tasks = Tasks::new(alloc);
+            *tasks = Tasks::new(alloc);
         } else {
-            let (call, wanted) = line.split_once(" | ").unwrap_or((line, "no row"));
-            let got = row(alloc, &mut tasks, call)?;
-            assert_eq!(rt; got.as_str(), wanted, "{line}");
+            try_line(rt, alloc, tasks, line)?;
             rows = rows.wrapping_add(1);
         }
     }
-    assert_eq!(rt; rows, 103);
+    Ok(rows)
+}
+
+#[test]
+fn calls_answer_in_order(rt: HostRuntime) -> Result<(), Fail> {
+    let mut tasks = Tasks::new(rt.alloc());
+    let rows = try_lines(&rt, rt.alloc(), &mut tasks);
+    drop(tasks);
+    assert_eq!(rt; rows?, 103);
     Ok(())
 }
 
@@ -222,32 +251,44 @@ fn repeated(
     Ok(last)
 }
 
-#[test]
-fn there_are_at_most_64_tasks(rt: HostRuntime) -> Result<(), Fail> {
-    let alloc = rt.alloc();
-    let mut tasks = Tasks::new(alloc);
-    let many = repeated(alloc, &mut tasks, "one.A new_task multiple_task", 64)?;
+/// Starts as many tasks as there may be, one too many, and an activity in the last of them.
+fn try_tasks(rt: &impl Abort, alloc: Global, tasks: &mut Tasks) -> Result<(), Fail> {
+    let many = repeated(alloc, tasks, "one.A new_task multiple_task", 64)?;
     assert_eq!(rt; many.as_str(), "fresh 64 64");
-    let full = placed(alloc, &mut tasks, "one.A new_task multiple_task")?;
+    let full = placed(alloc, tasks, "one.A new_task multiple_task")?;
     assert_eq!(rt; full.as_str(), "tasks_full");
-    let found = placed(alloc, &mut tasks, "one.B new_task")?;
+    let found = placed(alloc, tasks, "one.B new_task")?;
     assert_eq!(rt; found.as_str(), "fresh 64 65");
     Ok(())
 }
 
 #[test]
-fn a_task_has_at_most_64_instances(rt: HostRuntime) -> Result<(), Fail> {
-    let alloc = rt.alloc();
-    let mut tasks = Tasks::new(alloc);
-    let root = placed(alloc, &mut tasks, "one.A new_task")?;
+fn there_are_at_most_64_tasks(rt: HostRuntime) -> Result<(), Fail> {
+    let mut tasks = Tasks::new(rt.alloc());
+    let tried = try_tasks(&rt, rt.alloc(), &mut tasks);
+    drop(tasks);
+    tried
+}
+
+/// Starts as many activities in a task as there may be, one too many, and two that take the place of others.
+fn try_instances(rt: &impl Abort, alloc: Global, tasks: &mut Tasks) -> Result<(), Fail> {
+    let root = placed(alloc, tasks, "one.A new_task")?;
     assert_eq!(rt; root.as_str(), "fresh 1 1");
-    let many = repeated(alloc, &mut tasks, "one.B from=1", 63)?;
+    let many = repeated(alloc, tasks, "one.B from=1", 63)?;
     assert_eq!(rt; many.as_str(), "fresh 1 64");
-    let full = placed(alloc, &mut tasks, "one.B from=1")?;
+    let full = placed(alloc, tasks, "one.B from=1")?;
     assert_eq!(rt; full.as_str(), "task_full");
-    let in_place = placed(alloc, &mut tasks, "one.B clear_top from=1")?;
+    let in_place = placed(alloc, tasks, "one.B clear_top from=1")?;
     assert_eq!(rt; in_place.as_str(), "fresh 1 65");
-    let root = placed(alloc, &mut tasks, "one.C new_task clear_task")?;
+    let root = placed(alloc, tasks, "one.C new_task clear_task")?;
     assert_eq!(rt; root.as_str(), "fresh 1 66");
     Ok(())
+}
+
+#[test]
+fn a_task_has_at_most_64_instances(rt: HostRuntime) -> Result<(), Fail> {
+    let mut tasks = Tasks::new(rt.alloc());
+    let tried = try_instances(&rt, rt.alloc(), &mut tasks);
+    drop(tasks);
+    tried
 }

@@ -4,7 +4,7 @@ mod rows;
 
 use self::rows::{PATHS, SCHEMES, TYPES, URIS};
 use am_trials_words::{filter, parts};
-use am_types::{Text, Uri};
+use am_types::{Filter, Text, Uri};
 use am_uri::{is_scheme, parse_mime, parse_uri, passes_path};
 use std::alloc::{AllocError, Global};
 use std::test::Fail;
@@ -53,9 +53,21 @@ fn types_are_read(rt: HostRuntime) -> Result<(), Fail> {
 fn uri_read(alloc: Global, text: &str) -> Result<String, AllocError> {
     let whole = Text::of(alloc, text)?;
     match parse_uri(alloc, &whole) {
-        Ok(uri) if uri.text == whole => shown(alloc, &uri),
-        Ok(_) => String::from_str(alloc, "another text"),
+        Ok(uri) => {
+            let shown = shown_of(alloc, &uri, &whole);
+            drop(uri);
+            shown
+        }
         Err(fault) => format!(in alloc; "{fault:?}"),
+    }
+}
+
+/// The parts of a URI that was read from the text.
+fn shown_of(alloc: Global, uri: &Uri, whole: &Text) -> Result<String, AllocError> {
+    if uri.text == *whole {
+        shown(alloc, uri)
+    } else {
+        String::from_str(alloc, "another text")
     }
 }
 
@@ -111,15 +123,22 @@ fn long_uris_are_refused_unread(rt: HostRuntime) -> Result<(), Fail> {
     Ok(())
 }
 
+/// Whether the path passes the one rule of the filter.
+fn passing_by(filter: &Filter, path: &Text) -> &'static str {
+    match filter.paths.as_slice() {
+        [rule] if passes_path(rule, path) => "passes",
+        [_] => "fails",
+        _ => "no rule",
+    }
+}
+
 /// Whether the path passes the rule that the word writes.
 fn passing(alloc: Global, rule: &str, path: &str) -> Result<&'static str, AllocError> {
     let path = Text::of(alloc, path)?;
     let filter = filter(alloc, rule)?;
-    Ok(match filter.paths.as_slice() {
-        [rule] if passes_path(rule, &path) => "passes",
-        [_] => "fails",
-        _ => "no rule",
-    })
+    let passing = passing_by(&filter, &path);
+    drop(filter);
+    Ok(passing)
 }
 
 #[test]

@@ -8,9 +8,9 @@ use self::documents::{ASKED, DEVICE, FILES, SEEN};
 use am_queries::{Described, read_described};
 use am_resolve::Board;
 use am_trials_words::{number, parts};
-use am_types::{List, NoMemory, Queries, Text};
+use am_types::{List, ManifestFault, NoMemory, Queries, Text};
 use am_visible::{VisibleFault, answer, answer_file, sees};
-use am_wire_fields::Unread;
+use am_wire_fields::{Unread, WireFault};
 use std::alloc::{AllocError, Global};
 use std::test::Fail;
 
@@ -68,12 +68,20 @@ fn line_of(alloc: Global, line: &Text) -> Result<String, AllocError> {
     String::from_str(alloc, line.as_str().strip_suffix('\n').unwrap_or("no line"))
 }
 
+fn device_refused(alloc: Global, fault: &ManifestFault) -> Result<String, AllocError> {
+    format!(in alloc; "device refused: {fault}")
+}
+
+fn query_refused(alloc: Global, fault: &WireFault) -> Result<String, AllocError> {
+    format!(in alloc; "query refused: {fault}")
+}
+
 /// Why nothing is answered.
 fn shown(alloc: Global, why: &VisibleFault) -> Result<String, AllocError> {
     match why {
-        VisibleFault::Device(fault) => format!(in alloc; "device refused: {fault}"),
+        VisibleFault::Device(fault) => device_refused(alloc, fault),
         VisibleFault::NoPackage => String::from_str(alloc, "no package"),
-        VisibleFault::Query(fault) => format!(in alloc; "query refused: {fault}"),
+        VisibleFault::Query(fault) => query_refused(alloc, fault),
         VisibleFault::NoMemory => String::from_str(alloc, "out of memory"),
     }
 }
@@ -88,7 +96,11 @@ fn answer_to_name(
     let name = Text::of(alloc, name)?;
     match answer_file(alloc, document.as_bytes(), &name, question) {
         Ok(line) => line_of(alloc, &line),
-        Err(why) => shown(alloc, &why),
+        Err(why) => {
+            let words = shown(alloc, &why);
+            drop(why);
+            words
+        }
     }
 }
 
@@ -104,7 +116,11 @@ fn answer_to_uid(
     };
     match answer(alloc, known, uid, question) {
         Ok(line) => line_of(alloc, &line),
-        Err(Unread::Fault(fault)) => format!(in alloc; "query refused: {fault}"),
+        Err(Unread::Fault(fault)) => {
+            let words = query_refused(alloc, &fault);
+            drop(fault);
+            words
+        }
         Err(Unread::NoMemory) => String::from_str(alloc, "out of memory"),
     }
 }

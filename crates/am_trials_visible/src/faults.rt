@@ -13,7 +13,11 @@ use std::test::Fail;
 fn outcome(alloc: Global, document: &str) -> Result<String, AllocError> {
     match read_queries(alloc, document.as_bytes()) {
         Ok(_) => String::from_str(alloc, "read"),
-        Err(fault) => fault.to_string(alloc),
+        Err(fault) => {
+            let words = fault.to_string(alloc);
+            drop(fault);
+            words
+        }
     }
 }
 
@@ -63,13 +67,23 @@ fn tables_are_read_or_have_a_first_fault(rt: HostRuntime) -> Result<(), Fail> {
     Ok(())
 }
 
+fn is_read(alloc: Global, document: &str) -> bool {
+    match read_device(alloc, document.as_bytes()) {
+        Ok(device) => {
+            drop(device);
+            true
+        }
+        Err(_) => false,
+    }
+}
+
 #[test]
 fn a_device_is_read_without_its_queries(rt: HostRuntime) -> Result<(), Fail> {
     let alloc = rt.alloc();
     for line in TABLES.lines().filter(|line| !line.ends_with("not_toml")) {
         let (queries, _) = line.split_once(" => ").unwrap_or((line, ""));
         let document = device_with(alloc, queries)?;
-        assert!(rt; read_device(alloc, document.as_bytes()).is_ok(), "{line}");
+        assert!(rt; is_read(alloc, document.as_str()), "{line}");
     }
     Ok(())
 }
@@ -109,23 +123,26 @@ fn push_data(all: &mut String, signature: &Signature) -> Result<(), AllocError> 
     }
 }
 
+fn push_categories(all: &mut String, categories: &List<Text>) -> Result<(), AllocError> {
+    for category in categories.as_slice() {
+        write!(all, " category={}", category.as_str())?;
+    }
+    Ok(())
+}
+
 /// Adds a signature.
 fn push_signature(all: &mut String, signature: &Signature) -> Result<(), AllocError> {
     write!(all, " (action={}", signature.action.as_str())?;
-    for category in signature.categories.as_slice() {
-        write!(all, " category={}", category.as_str())?;
-    }
+    push_categories(all, &signature.categories)?;
     push_data(all, signature)?;
     all.push_str(")")
 }
 
-/// Adds what a package asks to see.
-fn push_queries(all: &mut String, queries: &Queries) -> Result<(), AllocError> {
-    all.push_str("|")?;
-    for name in queries.names.as_slice() {
+fn push_names(all: &mut String, names: &List<Text>) -> Result<(), AllocError> {
+    for name in names.as_slice() {
         write!(all, " {}", name.as_str())?;
     }
-    push_signatures(all, &queries.signatures)
+    Ok(())
 }
 
 fn push_signatures(all: &mut String, signatures: &List<Signature>) -> Result<(), AllocError> {
@@ -135,15 +152,29 @@ fn push_signatures(all: &mut String, signatures: &List<Signature>) -> Result<(),
     Ok(())
 }
 
+/// Adds what a package asks to see.
+fn push_queries(all: &mut String, queries: &Queries) -> Result<(), AllocError> {
+    all.push_str("|")?;
+    push_names(all, &queries.names)?;
+    push_signatures(all, &queries.signatures)
+}
+
+/// What each package asks to see.
+fn told(alloc: Global, all_queries: &[Queries]) -> Result<String, AllocError> {
+    let mut all = String::new(alloc);
+    for queries in all_queries {
+        push_queries(&mut all, queries)?;
+    }
+    Ok(all)
+}
+
 /// What each package of the device asks to see.
 fn asking(alloc: Global, document: &str) -> Result<String, Fail> {
     let read = read_queries(alloc, document.as_bytes());
     let all_queries = read.ok().ok_or("the queries are read")?;
-    let mut all = String::new(alloc);
-    for queries in all_queries.as_slice() {
-        push_queries(&mut all, queries)?;
-    }
-    Ok(all)
+    let told = told(alloc, all_queries.as_slice());
+    drop(all_queries);
+    Ok(told?)
 }
 
 #[test]

@@ -58,6 +58,7 @@ fn verdict(alloc: Global, document: &str) -> Result<&'static str, NoMemory> {
         return Ok("isn't read");
     };
     let Some(is_met) = is_met(&known) else {
+        drop(known);
         return Ok("isn't there");
     };
     if is_seen(alloc, known)? == is_met {

@@ -2,6 +2,7 @@
 mod bodies;
 
 use self::bodies::BODIES;
+use am_trials_words::spelled_out;
 use am_types::{MimeFault, UriFault};
 use am_uri::Form;
 use am_wire_fields::{
@@ -13,29 +14,14 @@ use std::alloc::{AllocError, Global};
 use std::process::Abort;
 use std::test::Fail;
 
-/// The text, with `<3:a>` spelled out.
-fn spelled_out(alloc: Global, line: &str) -> Result<String, Fail> {
-    let mut all = String::new(alloc);
-    let Some((front, behind)) = line.split_once('<') else {
-        all.push_str(line)?;
-        return Ok(all);
-    };
-    let (count, behind) = behind.split_once(':').ok_or("a count")?;
-    let (part, behind) = behind.split_once('>').ok_or("a part")?;
-    let count = count.parse::<usize>().ok().ok_or("a number")?;
-    all.push_str(front)?;
-    for _ in 0..count {
-        all.push_str(part)?;
-    }
-    all.push_str(behind)?;
-    Ok(all)
-}
-
-/// Adds what the fields that say numbers say.
-fn tell_numbers(alloc: Global, told: &mut String, object: &Value) -> Result<(), Unread> {
+fn tell_natural(alloc: Global, told: &mut String, object: &Value) -> Result<(), Unread> {
     if let Some(number) = optional_natural(alloc, "natural", object)? {
         write!(told, " natural={number}")?;
     }
+    Ok(())
+}
+
+fn tell_whole(alloc: Global, told: &mut String, object: &Value) -> Result<(), Unread> {
     if let Some(number) = optional_whole(alloc, "whole", object)? {
         write!(told, " whole={number}")?;
     }
@@ -72,7 +58,8 @@ fn told(alloc: Global, object: &Value) -> Result<String, Unread> {
     if optional_truth(alloc, "truth", object)? {
         told.push_str(" truth")?;
     }
-    tell_numbers(alloc, &mut told, object)?;
+    tell_natural(alloc, &mut told, object)?;
+    tell_whole(alloc, &mut told, object)?;
     tell_texts(alloc, &mut told, object)?;
     tell_words(alloc, &mut told, object)?;
     Ok(told)
@@ -86,11 +73,17 @@ fn read(alloc: Global, body: &[u8]) -> Result<String, Unread> {
     told
 }
 
+fn printed(alloc: Global, fault: WireFault) -> Result<String, AllocError> {
+    let words = fault.to_string(alloc);
+    drop(fault);
+    words
+}
+
 /// What a body says, or the printed fault.
 fn outcome(alloc: Global, body: &[u8]) -> Result<String, AllocError> {
     match read(alloc, body) {
         Ok(told) => Ok(told),
-        Err(Unread::Fault(fault)) => fault.to_string(alloc),
+        Err(Unread::Fault(fault)) => printed(alloc, fault),
         Err(Unread::NoMemory) => Err(AllocError),
     }
 }
@@ -126,9 +119,9 @@ fn reads_no_text(rt: HostRuntime) -> Result<(), Fail> {
 #[test]
 fn prints(rt: HostRuntime) -> Result<(), Fail> {
     let alloc = rt.alloc();
-    let uri = WireFault::BadUri(UriFault::NotUtf8).to_string(alloc)?;
+    let uri = printed(alloc, WireFault::BadUri(UriFault::NotUtf8))?;
     assert_eq!(rt; uri.as_str(), "bad_uri 4");
-    let mime = WireFault::BadMime(MimeFault::EmptyPart).to_string(alloc)?;
+    let mime = printed(alloc, WireFault::BadMime(MimeFault::EmptyPart))?;
     assert_eq!(rt; mime.as_str(), "bad_mime 2");
     Ok(())
 }

@@ -2,7 +2,7 @@
 mod rows;
 
 use self::rows::ROWS;
-use crate::endpoints::endpoint_at;
+use crate::endpoints::parts_of;
 use am_types::Request;
 use am_wire::read_request;
 use am_wire_routes::Endpoint;
@@ -44,9 +44,7 @@ fn try_body(
 }
 
 fn try_row(rt: &impl Abort, alloc: Global, row: &str) -> Result<(), Fail> {
-    let (end, behind) = row.split_once(' ').ok_or("an endpoint")?;
-    let (body, wanted) = behind.split_once(" -> ").ok_or("an arrow")?;
-    let endpoint = endpoint_at(end).ok_or("a path")?;
+    let (endpoint, body, wanted) = parts_of(row)?;
     try_body(rt, alloc, endpoint, body, wanted)
 }
 

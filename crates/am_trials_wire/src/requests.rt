@@ -4,7 +4,7 @@ mod shown;
 
 use self::rows::ROWS;
 use self::shown::shown;
-use crate::endpoints::endpoint_at;
+use crate::endpoints::parts_of;
 use am_wire::read_request;
 use am_wire_fields::Unread;
 use am_wire_routes::Endpoint;
@@ -87,8 +87,16 @@ fn bytes_of(alloc: Global, body: &str) -> Result<Vec<u8>, Fail> {
 fn outcome(alloc: Global, endpoint: Endpoint, body: &str) -> Result<String, Fail> {
     let bytes = bytes_of(alloc, body)?;
     match read_request(alloc, endpoint, &bytes) {
-        Ok(request) => shown(alloc, &request),
-        Err(Unread::Fault(fault)) => Ok(fault.to_string(alloc)?),
+        Ok(request) => {
+            let words = shown(alloc, &request);
+            drop(request);
+            words
+        }
+        Err(Unread::Fault(fault)) => {
+            let words = fault.to_string(alloc);
+            drop(fault);
+            Ok(words?)
+        }
         Err(Unread::NoMemory) => Err(Fail::new("out of memory")),
     }
 }
@@ -109,9 +117,7 @@ fn try_body(
 }
 
 fn try_row(rt: &impl Abort, alloc: Global, row: &str) -> Result<(), Fail> {
-    let (end, behind) = row.split_once(' ').ok_or("an endpoint")?;
-    let (body, wanted) = behind.split_once(" -> ").ok_or("an arrow")?;
-    let endpoint = endpoint_at(end).ok_or("a path")?;
+    let (endpoint, body, wanted) = parts_of(row)?;
     try_body(rt, alloc, endpoint, body, wanted)
 }
 

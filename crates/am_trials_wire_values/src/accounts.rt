@@ -3,8 +3,8 @@ mod rows;
 
 use self::rows::ROWS;
 use crate::parts::{component_a, none};
+use crate::replies::reply_line;
 use am_types::{Account, Aim, List, Narrowing, Reply, Rule, Standing, Text, Why};
-use am_wire_values::{reply_status, reply_text};
 use std::alloc::{AllocError, Global};
 use std::test::Fail;
 
@@ -67,22 +67,12 @@ fn accounts(n: u32, alloc: Global) -> Result<List<Account>, AllocError> {
     Ok(List::new(accounts))
 }
 
-/// The status and the text of a reply.
-fn written(n: u32, alloc: Global) -> Result<String, Fail> {
-    let reply = Reply::Accounts(accounts(n, alloc)?);
-    let text = reply_text(alloc, &reply);
-    let status = reply_status(&reply);
-    drop(reply);
-    let text = text?;
-    Ok(format!(in alloc; "{status} {text}")?)
-}
-
 #[test]
 fn every_account_is_written(rt: HostRuntime) -> Result<(), Fail> {
     let alloc = rt.alloc();
     let mut n: u32 = 0;
     for line in ROWS.lines() {
-        let found = written(n, alloc)?;
+        let found = reply_line(alloc, Reply::Accounts(accounts(n, alloc)?))?;
         assert_eq!(rt; found.as_str(), line, "{n}");
         n = n.wrapping_add(1);
     }

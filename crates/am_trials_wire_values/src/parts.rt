@@ -66,13 +66,24 @@ fn uri(alloc: Global) -> Result<Uri, AllocError> {
 const FULL_WORDS: &str =
     "action=a.X identifier=i category=c.A category=c.B package=com.a component=com.a/com.a.Main new_task multiple_task clear_task clear_top single_top reorder_to_front registered_only foreground no_abort include_stopped";
 
-/// An intent with all that one may have.
-pub fn full(alloc: Global) -> Result<Intent, AllocError> {
-    let mut full = intent(alloc, FULL_WORDS)?;
+/// Gives the intent its URI, its type and its extras.
+fn tell_rest(alloc: Global, full: &mut Intent) -> Result<(), AllocError> {
     full.uri = Some(uri(alloc)?);
     full.mime = Some(mime(alloc, "text", "plain")?);
     full.extras = extras(alloc)?;
-    Ok(full)
+    Ok(())
+}
+
+/// An intent with all that one may have.
+pub fn full(alloc: Global) -> Result<Intent, AllocError> {
+    let mut full = intent(alloc, FULL_WORDS)?;
+    match tell_rest(alloc, &mut full) {
+        Ok(()) => Ok(full),
+        Err(error) => {
+            drop(full);
+            Err(error)
+        }
+    }
 }
 
 pub const FULL: &str =
@@ -101,19 +112,34 @@ fn paths(alloc: Global) -> Result<List<PathRule>, AllocError> {
     Ok(List::new(paths))
 }
 
-/// A filter with all that one may have.
-pub fn filter(alloc: Global) -> Result<Filter, AllocError> {
-    let mut filter = empty_filter(alloc);
+fn types(alloc: Global) -> Result<List<Mime>, AllocError> {
+    let mut types = Vec::new(alloc);
+    types.push(mime(alloc, "text", "*")?)?;
+    Ok(List::new(types))
+}
+
+/// Gives the filter all that one may have.
+fn tell_filter(alloc: Global, filter: &mut Filter) -> Result<(), AllocError> {
     filter.actions = texts(alloc, "action=a.X action=a.Y", "action=")?;
     filter.categories = texts(alloc, "category=c.A", "category=")?;
     filter.schemes = texts(alloc, "scheme=ftp scheme=http", "scheme=")?;
     filter.authorities = authorities(alloc)?;
     filter.paths = paths(alloc)?;
-    let mut types = Vec::new(alloc);
-    types.push(mime(alloc, "text", "*")?)?;
-    filter.types = List::new(types);
+    filter.types = types(alloc)?;
     filter.priority = -1000;
-    Ok(filter)
+    Ok(())
+}
+
+/// A filter with all that one may have.
+pub fn filter(alloc: Global) -> Result<Filter, AllocError> {
+    let mut filter = empty_filter(alloc);
+    match tell_filter(alloc, &mut filter) {
+        Ok(()) => Ok(filter),
+        Err(error) => {
+            drop(filter);
+            Err(error)
+        }
+    }
 }
 
 pub const FILTER: &str =
@@ -121,8 +147,9 @@ pub const FILTER: &str =
 
 /// A filter with an action alone.
 pub fn bare_filter(alloc: Global) -> Result<Filter, AllocError> {
+    let actions = texts(alloc, "action=a.X", "action=")?;
     let mut filter = empty_filter(alloc);
-    filter.actions = texts(alloc, "action=a.X", "action=")?;
+    filter.actions = actions;
     Ok(filter)
 }
 

@@ -29,13 +29,19 @@ fn landed(how: Placed) -> Reply {
     })
 }
 
+fn instance(alloc: Global) -> Result<InstanceView, AllocError> {
+    let component = component_a(alloc)?;
+    let intent = full(alloc)?;
+    Ok(InstanceView {
+        instance: 4,
+        component,
+        intent,
+    })
+}
+
 fn tasks(alloc: Global) -> Result<Reply, AllocError> {
     let mut instances = Vec::new(alloc);
-    instances.push(InstanceView {
-        instance: 4,
-        component: component_a(alloc)?,
-        intent: full(alloc)?,
-    })?;
+    instances.push(instance(alloc)?)?;
     let mut tasks = Vec::new(alloc);
     tasks.push(TaskView {
         task: 1,
@@ -48,13 +54,19 @@ fn tasks(alloc: Global) -> Result<Reply, AllocError> {
     Ok(Reply::Tasks(List::new(tasks)))
 }
 
+fn service(alloc: Global) -> Result<ServiceView, AllocError> {
+    let component = component_a(alloc)?;
+    let intent = small(alloc)?;
+    Ok(ServiceView {
+        component,
+        intent,
+        starts: 6,
+    })
+}
+
 fn services(alloc: Global) -> Result<Reply, AllocError> {
     let mut services = Vec::new(alloc);
-    services.push(ServiceView {
-        component: component_a(alloc)?,
-        intent: small(alloc)?,
-        starts: 6,
-    })?;
+    services.push(service(alloc)?)?;
     Ok(Reply::Services(List::new(services)))
 }
 
@@ -86,17 +98,27 @@ fn item(what: ItemKind) -> Item {
     }
 }
 
+fn normal(alloc: Global) -> Result<Item, AllocError> {
+    let aim = Aim::Registered(8);
+    let intent = small(alloc)?;
+    Ok(item(ItemKind::Normal { aim, intent }))
+}
+
+fn in_order(alloc: Global) -> Result<Item, AllocError> {
+    let component = component_a(alloc)?;
+    let outcome = outcome(alloc)?;
+    let intent = small(alloc)?;
+    Ok(item(ItemKind::InOrder {
+        aim: Aim::Declared(component),
+        intent,
+        outcome,
+    }))
+}
+
 fn items(alloc: Global) -> Result<Reply, AllocError> {
     let mut items = Vec::new(alloc);
-    items.push(item(ItemKind::Normal {
-        aim: Aim::Registered(8),
-        intent: small(alloc)?,
-    }))?;
-    items.push(item(ItemKind::InOrder {
-        aim: Aim::Declared(component_a(alloc)?),
-        intent: small(alloc)?,
-        outcome: outcome(alloc)?,
-    }))?;
+    items.push(normal(alloc)?)?;
+    items.push(in_order(alloc)?)?;
     items.push(item(ItemKind::Final {
         outcome: no_outcome(alloc),
     }))?;
@@ -205,8 +227,7 @@ fn limit(n: u32) -> Limit {
 }
 
 /// The status and the text of a reply.
-fn written(n: u32, alloc: Global) -> Result<String, Fail> {
-    let reply = answered(n, alloc)?;
+pub fn reply_line(alloc: Global, reply: Reply) -> Result<String, Fail> {
     let text = reply_text(alloc, &reply);
     let status = reply_status(&reply);
     drop(reply);
@@ -219,7 +240,7 @@ fn every_reply_is_written(rt: HostRuntime) -> Result<(), Fail> {
     let alloc = rt.alloc();
     let mut n: u32 = 0;
     for line in ROWS.lines() {
-        let found = written(n, alloc)?;
+        let found = reply_line(alloc, answered(n, alloc)?)?;
         let wanted = with(alloc, line, "FULL", FULL)?;
         assert_eq!(rt; found.as_str(), wanted.as_str(), "{n}");
         n = n.wrapping_add(1);

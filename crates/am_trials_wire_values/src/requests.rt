@@ -5,7 +5,7 @@ use self::rows::ROWS;
 use crate::parts::{
     FILTER, FULL, bare_filter, component_a, filter, full, no_outcome, ordered, outcome, small, with,
 };
-use am_types::{Answer, Kind, PendingFlags, Request, Text};
+use am_types::{Answer, Kind, Ordered, PendingFlags, Request, Text};
 use am_wire_values::{request_value, route_of};
 use std::alloc::{AllocError, Global};
 use std::test::Fail;
@@ -28,10 +28,7 @@ fn asked(n: u32, alloc: Global) -> Result<Request, AllocError> {
         }),
         10 => Ok(Request::Services),
         11..=14 => sent(n, alloc),
-        15 => Ok(Request::Register {
-            filter: filter(alloc)?,
-            permission: Some(Text::of(alloc, "p.X")?),
-        }),
+        15 => registered(alloc),
         16 => Ok(Request::Register {
             filter: bare_filter(alloc)?,
             permission: None,
@@ -41,6 +38,14 @@ fn asked(n: u32, alloc: Global) -> Result<Request, AllocError> {
         19..=21 => finished(n, alloc),
         _ => later(n, alloc),
     }
+}
+
+fn registered(alloc: Global) -> Result<Request, AllocError> {
+    let permission = Text::of(alloc, "p.X")?;
+    Ok(Request::Register {
+        filter: filter(alloc)?,
+        permission: Some(permission),
+    })
 }
 
 fn query(alloc: Global, kind: Kind, default_only: bool) -> Result<Request, AllocError> {
@@ -58,21 +63,29 @@ fn start(alloc: Global, source: Option<u64>) -> Result<Request, AllocError> {
     })
 }
 
+/// How the broadcast starts, if it is ordered.
+fn order_of(n: u32, alloc: Global) -> Result<Option<Ordered>, AllocError> {
+    match n {
+        13 => Ok(ordered(no_outcome(alloc), false)),
+        14 => Ok(ordered(outcome(alloc)?, true)),
+        _ => Ok(None),
+    }
+}
+
 fn sent(n: u32, alloc: Global) -> Result<Request, AllocError> {
-    let permission = match n {
-        12 => Some(Text::of(alloc, "p.X")?),
-        _ => None,
-    };
-    let order = match n {
-        13 => ordered(no_outcome(alloc), false),
-        14 => ordered(outcome(alloc)?, true),
-        _ => None,
-    };
-    Ok(Request::Send {
-        intent: small(alloc)?,
-        permission,
-        ordered: order,
-    })
+    let permission = said(alloc, if n == 12 { "p.X" } else { "" })?;
+    let order = order_of(n, alloc)?;
+    match small(alloc) {
+        Ok(intent) => Ok(Request::Send {
+            intent,
+            permission,
+            ordered: order,
+        }),
+        Err(error) => {
+            drop(order);
+            Err(error)
+        }
+    }
 }
 
 fn finished(n: u32, alloc: Global) -> Result<Request, AllocError> {
@@ -180,13 +193,21 @@ fn explained(alloc: Global, kind: Kind, texts: [&str; 3]) -> Result<Request, All
     })
 }
 
+/// The text of a request.
+fn text_of(alloc: Global, request: &Request) -> Result<String, AllocError> {
+    let value = request_value(alloc, request)?;
+    let text = value.to_string(alloc);
+    drop(value);
+    text
+}
+
 /// The route and the text of a request.
 fn written(n: u32, alloc: Global) -> Result<String, Fail> {
     let request = asked(n, alloc)?;
-    let value = request_value(alloc, &request);
+    let text = text_of(alloc, &request);
     let route = route_of(&request);
     drop(request);
-    let text = value?.to_string(alloc)?;
+    let text = text?;
     Ok(format!(in alloc; "{route} {text}")?)
 }
 

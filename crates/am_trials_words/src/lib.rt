@@ -1,11 +1,12 @@
 //! Words `key=value` behind blanks, and the values that the trials make of them.
 #![tactic(auto)]
 
+pub mod devices;
 mod filters;
 
 pub use self::filters::filter;
 use self::filters::mime;
-use am_types::{Component, Extra, Filter, Flags, Intent, List, Named, Text, Uri, UriFault};
+use am_types::{Component, Extra, Filter, Flags, Intent, Kind, List, Named, Text, Uri, UriFault};
 use am_uri::parse_uri;
 use std::alloc::{AllocError, Global};
 
@@ -28,7 +29,7 @@ pub fn optional(alloc: Global, words: &str, key: &str) -> Result<Option<Text>, A
     }
 }
 
-/// The values of all words with that key, in their order.
+/// The values of all words with that key, in their order; all words, if the key is empty.
 pub fn texts(alloc: Global, words: &str, key: &str) -> Result<List<Text>, AllocError> {
     let mut texts = Vec::new(alloc);
     for word in words.split(' ') {
@@ -181,6 +182,39 @@ pub fn empty_filter(alloc: Global) -> Filter {
         types: List::new(Vec::new(alloc)),
         priority: 0,
     }
+}
+
+/// The kind that the first word names; an activity if it names none.
+pub fn kind_of(words: &str) -> Kind {
+    if words.starts_with("service") {
+        Kind::Service
+    } else if words.starts_with("receiver") {
+        Kind::Receiver
+    } else {
+        Kind::Activity
+    }
+}
+
+/// The text around `<3:a>`, the number and the part in it; none if the text has no such.
+fn repeated(text: &str) -> Option<(&str, usize, &str, &str)> {
+    let (front, behind) = text.split_once('<')?;
+    let (count, behind) = behind.split_once(':')?;
+    let (part, behind) = behind.split_once('>')?;
+    let count = count.parse::<usize>().ok()?;
+    Some((front, count, part, behind))
+}
+
+/// The text, with the first `<3:a>` in it spelled out as `aaa`.
+pub fn spelled_out(alloc: Global, text: &str) -> Result<String, AllocError> {
+    let Some((front, count, part, behind)) = repeated(text) else {
+        return String::from_str(alloc, text);
+    };
+    let mut all = String::from_str(alloc, front)?;
+    for _ in 0..count {
+        all.push_str(part)?;
+    }
+    all.push_str(behind)?;
+    Ok(all)
 }
 
 /// The parts of a row behind bars; a row of fewer has empty ones, which no row wants.

@@ -18,12 +18,16 @@ kind_words = codes "activity" ∷ codes "service" ∷ codes "receiver" ∷ []
 abbrev pub kind_named : List ℕ → Kind
 kind_named word = if is_same word (codes "activity") then Activity else if is_same word (codes "service") then Service else Receiver
 
+-- the kind that the field `kind` names by one of these words
+unfoldable pub kind_among : List (List ℕ) → Data → Result Kind WireFault
+kind_among words body = do
+  value ← required (codes "kind") body
+  word ← word_in words (codes "kind") value
+  Ok (kind_named word)
+
 -- the kind of component that a query asks for
 unfoldable pub kind_of : Data → Result Kind WireFault
-kind_of body = do
-  value ← required (codes "kind") body
-  word ← word_in kind_words (codes "kind") value
-  Ok (kind_named word)
+kind_of body = kind_among kind_words body
 
 -- what a pending intent does
 unfoldable pub pending_words : List (List ℕ)
@@ -31,10 +35,7 @@ pending_words = codes "activity" ∷ codes "broadcast" ∷ codes "service" ∷ [
 
 -- the kind that a pending intent reaches
 unfoldable pub pending_kind_of : Data → Result Kind WireFault
-pending_kind_of body = do
-  value ← required (codes "kind") body
-  word ← word_in pending_words (codes "kind") value
-  Ok (kind_named word)
+pending_kind_of body = kind_among pending_words body
 
 -- the names of the flags with which a pending intent is asked for
 unfoldable pub pending_flag_names : List (List ℕ)

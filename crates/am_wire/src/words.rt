@@ -2,8 +2,8 @@
 ghost use Rattle.std.specs.Prelude.{◌≡◌, codes, map};
 ghost use Rattle.serde_json.specs.View.{view};
 ghost use Rattle.am_wire_fields.specs.Reading.{Gives, GivesBy};
-ghost use Rattle.am_wire_fields.specs.Lists.{word_in, words_in};
-ghost use Rattle.am_wire.specs.Words.{kind_words, kind_named, kind_of, pending_words, pending_kind_of, pending_flag_names, pending_flags_listed, pending_flags_of};
+ghost use Rattle.am_wire_fields.specs.Lists.{words_in};
+ghost use Rattle.am_wire.specs.Words.{kind_among, kind_named, kind_of, pending_kind_of, pending_flag_names, pending_flags_listed, pending_flags_of};
 
 use am_types::{Kind, PendingFlags};
 use am_wire_fields::{Unread, is_listed, list_in, required, word_in, words_in};
@@ -21,41 +21,30 @@ fn kind_named(word: &str) -> Kind
     }
 }
 
-/// The word for a kind of component that a value says.
-#[tactic(auto, unfolding(crate::specs::Words::kind_words))]
-fn kind_word<'v>(alloc: Global, value: &'v Value) -> Result<&'v str, Unread>
-    ensures { GivesBy (λ word. word.now) result (word_in kind_words (codes "kind") (view value.now)) }
+/// The kind that the field `kind` names by one of these words.
+#[tactic(auto, unfolding(crate::specs::Words::kind_among))]
+fn kind_among(alloc: Global, words: &[&str], body: &Value) -> Result<Kind, Unread>
+    ensures { Gives result (kind_among (map (λ listed. listed.now) words.now) (view body.now)) }
 {
-    word_in(alloc, &["activity", "service", "receiver"], "kind", value)
+    let value = required(alloc, "kind", body)?;
+    let word = word_in(alloc, words, "kind", value)?;
+    Ok(kind_named(word))
 }
 
 /// The kind of component that the field `kind` asks for: `activity`, `service` or `receiver`.
-#[tactic(auto, unfolding(crate::specs::Words::kind_of))]
+#[tactic(auto, unfolding(crate::specs::Words::kind_of, crate::specs::Words::kind_words))]
 pub fn kind_of(alloc: Global, body: &Value) -> Result<Kind, Unread>
     ensures { Gives result (kind_of (view body.now)) }
 {
-    let value = required(alloc, "kind", body)?;
-    let word = kind_word(alloc, value)?;
-    Ok(kind_named(word))
-}
-
-/// The word for what a pending intent does that a value says.
-#[tactic(auto, unfolding(crate::specs::Words::pending_words))]
-fn pending_word<'v>(alloc: Global, value: &'v Value) -> Result<&'v str, Unread>
-    ensures { GivesBy (λ word. word.now) result
-        (word_in pending_words (codes "kind") (view value.now)) }
-{
-    word_in(alloc, &["activity", "broadcast", "service"], "kind", value)
+    kind_among(alloc, &["activity", "service", "receiver"], body)
 }
 
 /// The kind of component that a pending intent reaches, from its field `kind`: `activity`, `broadcast` or `service`.
-#[tactic(auto, unfolding(crate::specs::Words::pending_kind_of))]
+#[tactic(auto, unfolding(crate::specs::Words::pending_kind_of, crate::specs::Words::pending_words))]
 pub fn pending_kind_of(alloc: Global, body: &Value) -> Result<Kind, Unread>
     ensures { Gives result (pending_kind_of (view body.now)) }
 {
-    let value = required(alloc, "kind", body)?;
-    let word = pending_word(alloc, value)?;
-    Ok(kind_named(word))
+    kind_among(alloc, &["activity", "broadcast", "service"], body)
 }
 
 /// The flags whose names are listed, once or more often.

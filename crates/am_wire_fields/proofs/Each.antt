@@ -23,7 +23,8 @@ length_view vs = length-map vs view
 abbrev pub front_then : {A : Type 0} → List A → Result (List A) WireFault → Result (List A) WireFault
 front_then front read = read >>= λ xs. Ok (front ++ xs)
 
-regroup : {A : Type 0} (front : List A) (x : A) (read : Result (List A) WireFault) → front_then front (read >>= λ xs. Ok (x ∷ xs)) ≡ front_then (front ++ x ∷ []) read
+-- an entry that was read goes to those before it
+pub regroup : {A : Type 0} (front : List A) (x : A) (read : Result (List A) WireFault) → front_then front (read >>= λ xs. Ok (x ∷ xs)) ≡ front_then (front ++ x ∷ []) read
 regroup front x (Ok xs) = ap (λ (ys : List _). Ok ys) (simp append_assoc)
 regroup front x (Err f) = refl
 

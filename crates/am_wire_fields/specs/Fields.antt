@@ -45,6 +45,11 @@ only_fields_in name fields (Some members) = none_unknown (unlisted fields member
 unfoldable pub only_fields : List ℕ → List (List ℕ) → Data → Result (Unit {0}) WireFault
 only_fields name fields value = only_fields_in name fields (as_object value)
 
+-- what a value says, if there is a value
+abbrev pub if_said : {A : Type 0} → (Data → Result A WireFault) → Option Data → Result (Option A) WireFault
+if_said read None = Ok None
+if_said read (Some value) = read value >>= λ x. Ok (Some x)
+
 -- the value of a field that must be there
 unfoldable pub present : List ℕ → Option Data → Result Data WireFault
 present name None = Err (Missing name)
@@ -54,14 +59,14 @@ present name (Some value) = Ok value
 unfoldable pub required : List ℕ → Data → Result Data WireFault
 required name parent = present name (field name parent)
 
--- a truth
-unfoldable pub truth_of : List ℕ → Option Bool → Result Bool WireFault
-truth_of name None = Err (WrongKind name)
-truth_of name (Some truth) = Ok truth
+-- what a value says of the kind that is asked for, unless it says none
+unfoldable pub of_kind : {A : Type 0} → List ℕ → Option A → Result A WireFault
+of_kind name None = Err (WrongKind name)
+of_kind name (Some x) = Ok x
 
 -- the truth that a value says
 unfoldable pub truth_in : List ℕ → Data → Result Bool WireFault
-truth_in name value = truth_of name (as_bool value)
+truth_in name value = of_kind name (as_bool value)
 
 -- a field that must be there and says a truth
 unfoldable pub required_truth : List ℕ → Data → Result Bool WireFault

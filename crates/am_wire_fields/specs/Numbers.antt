@@ -1,24 +1,18 @@
 -- The fields that say whole numbers.
-use Rattle.std.specs.Prelude.{ℕ, ℤ, List, Option, Some, None, option_and_then, Result, Ok, Err}
+use Rattle.std.specs.Prelude.{ℕ, ℤ, List, Option, option_and_then, Result}
 use Rattle.serde_json.specs.Data.{Data}
 use Rattle.serde_json.specs.Find.{as_number, as_u64, as_i64}
 use Rattle.am_wire_fields.specs.declared.fault.WireFault.{WireFault}
-use Rattle.am_wire_fields.specs.declared.fault.WireFault.TheVariants.{WrongKind}
-use Rattle.am_wire_fields.specs.Fields.{field, required}
+use Rattle.am_wire_fields.specs.Fields.{field, if_said, of_kind, required}
 use Rattle.am_wire_fields.specs.Reading.{◌>>=◌}
-
--- a number, unless the value says none of the kind
-unfoldable pub number_of : {N : Type 0} → List ℕ → Option N → Result N WireFault
-number_of name None = Err (WrongKind name)
-number_of name (Some n) = Ok n
 
 -- the whole number from 0 to 18,446,744,073,709,551,615 that a value says
 unfoldable pub natural_in : List ℕ → Data → Result ℕ WireFault
-natural_in name value = number_of name (option_and_then as_u64 (as_number value))
+natural_in name value = of_kind name (option_and_then as_u64 (as_number value))
 
 -- the signed whole number of 64 bits that a value says
 unfoldable pub whole_in : List ℕ → Data → Result ℤ WireFault
-whole_in name value = number_of name (option_and_then as_i64 (as_number value))
+whole_in name value = of_kind name (option_and_then as_i64 (as_number value))
 
 -- a field that must be there and says a number from 0 on
 unfoldable pub required_natural : List ℕ → Data → Result ℕ WireFault
@@ -32,24 +26,10 @@ required_whole name parent = do
   value ← required name parent
   whole_in name value
 
--- a number from 0 on that need not be said
-unfoldable pub natural_if_said : List ℕ → Option Data → Result (Option ℕ) WireFault
-natural_if_said name None = Ok None
-natural_if_said name (Some value) = do
-  n ← natural_in name value
-  Ok (Some n)
-
 -- a field that says a number from 0 on, if it is there
 unfoldable pub optional_natural : List ℕ → Data → Result (Option ℕ) WireFault
-optional_natural name parent = natural_if_said name (field name parent)
-
--- a signed number that need not be said
-unfoldable pub whole_if_said : List ℕ → Option Data → Result (Option ℤ) WireFault
-whole_if_said name None = Ok None
-whole_if_said name (Some value) = do
-  n ← whole_in name value
-  Ok (Some n)
+optional_natural name parent = if_said (natural_in name) (field name parent)
 
 -- a field that says a signed number, if it is there
 unfoldable pub optional_whole : List ℕ → Data → Result (Option ℤ) WireFault
-optional_whole name parent = whole_if_said name (field name parent)
+optional_whole name parent = if_said (whole_in name) (field name parent)

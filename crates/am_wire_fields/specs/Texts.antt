@@ -6,7 +6,7 @@ use Rattle.am_uri.specs.declared.text.Form.{Form}
 use Rattle.am_uri.specs.Texts.{fits}
 use Rattle.am_wire_fields.specs.declared.fault.WireFault.{WireFault}
 use Rattle.am_wire_fields.specs.declared.fault.WireFault.TheVariants.{WrongKind, TooLong}
-use Rattle.am_wire_fields.specs.Fields.{field, required}
+use Rattle.am_wire_fields.specs.Fields.{field, if_said, required}
 use Rattle.am_wire_fields.specs.Reading.{◌>>=◌}
 
 -- a text of the form with at most so many bytes; none stands for a value that is no text
@@ -25,13 +25,6 @@ required_text form limit name parent = do
   value ← required name parent
   text_in form limit name value
 
--- a text that need not be said
-unfoldable pub text_if_said : Form → ℕ → List ℕ → Option Data → Result (Option (List ℕ)) WireFault
-text_if_said form limit name None = Ok None
-text_if_said form limit name (Some value) = do
-  text ← text_in form limit name value
-  Ok (Some text)
-
 -- a field that says a text, if it is there
 unfoldable pub optional_text : Form → ℕ → List ℕ → Data → Result (Option (List ℕ)) WireFault
-optional_text form limit name parent = text_if_said form limit name (field name parent)
+optional_text form limit name parent = if_said (text_in form limit name) (field name parent)

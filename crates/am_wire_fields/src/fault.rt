@@ -22,22 +22,6 @@ pub enum WireFault {
     TooLong(Text),
 }
 
-impl Clone for WireFault {
-    ghost is_clone = { λ x y. y ≡ x };
-
-    fn clone(&self) -> Result<WireFault, AllocError> {
-        match self {
-            WireFault::NotJson => Ok(WireFault::NotJson),
-            WireFault::Missing(name) => Ok(WireFault::Missing(name.clone()?)),
-            WireFault::WrongKind(name) => Ok(WireFault::WrongKind(name.clone()?)),
-            WireFault::UnknownField(key) => Ok(WireFault::UnknownField(key.clone()?)),
-            WireFault::BadUri(fault) => Ok(WireFault::BadUri(*fault)),
-            WireFault::BadMime(fault) => Ok(WireFault::BadMime(*fault)),
-            WireFault::TooLong(name) => Ok(WireFault::TooLong(name.clone()?)),
-        }
-    }
-}
-
 /// Why nothing was read.
 #[derive(Drop)]
 pub enum Unread {

@@ -77,7 +77,7 @@ pub fn required<'v>(alloc: Global, name: &str, object: &'v Value) -> Result<&'v 
 }
 
 /// The truth that a value says.
-#[tactic(auto, unfolding(crate::specs::Fields::truth_in, crate::specs::Fields::truth_of))]
+#[tactic(auto, unfolding(crate::specs::Fields::truth_in, crate::specs::Fields::of_kind))]
 fn truth_in(alloc: Global, name: &str, value: &Value) -> Result<bool, Unread>
     ensures { Gives result (truth_in name.now (view value.now)) }
 {

@@ -14,7 +14,7 @@ use std::alloc::Global;
 /// # Errors
 ///
 /// Where the value is no such number.
-#[tactic(auto, unfolding(crate::specs::Numbers::natural_in, crate::specs::Numbers::number_of))]
+#[tactic(auto, unfolding(crate::specs::Numbers::natural_in, crate::specs::Fields::of_kind))]
 pub fn natural_in(alloc: Global, name: &str, value: &Value) -> Result<u64, Unread>
     ensures { Gives result (natural_in name.now (view value.now)) }
 {
@@ -29,7 +29,7 @@ pub fn natural_in(alloc: Global, name: &str, value: &Value) -> Result<u64, Unrea
 /// # Errors
 ///
 /// Where the value is no such number.
-#[tactic(auto, unfolding(crate::specs::Numbers::whole_in, crate::specs::Numbers::number_of))]
+#[tactic(auto, unfolding(crate::specs::Numbers::whole_in, crate::specs::Fields::of_kind))]
 pub fn whole_in(alloc: Global, name: &str, value: &Value) -> Result<i64, Unread>
     ensures { Gives result (whole_in name.now (view value.now)) }
 {
@@ -70,7 +70,7 @@ pub fn required_whole(alloc: Global, name: &str, object: &Value) -> Result<i64, 
 /// # Errors
 ///
 /// Where the field says no such number.
-#[tactic(auto, unfolding(crate::specs::Numbers::optional_natural, crate::specs::Numbers::natural_if_said))]
+#[tactic(auto, unfolding(crate::specs::Numbers::optional_natural))]
 pub fn optional_natural(alloc: Global, name: &str, object: &Value) -> Result<Option<u64>, Unread>
     ensures { Gives result (optional_natural name.now (view object.now)) }
 {
@@ -86,7 +86,7 @@ pub fn optional_natural(alloc: Global, name: &str, object: &Value) -> Result<Opt
 /// # Errors
 ///
 /// Where the field says no such number.
-#[tactic(auto, unfolding(crate::specs::Numbers::optional_whole, crate::specs::Numbers::whole_if_said))]
+#[tactic(auto, unfolding(crate::specs::Numbers::optional_whole))]
 pub fn optional_whole(alloc: Global, name: &str, object: &Value) -> Result<Option<i64>, Unread>
     ensures { Gives result (optional_whole name.now (view object.now)) }
 {

@@ -71,7 +71,7 @@ pub fn required_text(
 /// # Errors
 ///
 /// Where the field says no text of the form, and then where that is too long.
-#[tactic(auto, unfolding(crate::specs::Texts::optional_text, crate::specs::Texts::text_if_said))]
+#[tactic(auto, unfolding(crate::specs::Texts::optional_text))]
 pub fn optional_text(
     alloc: Global,
     form: Form,

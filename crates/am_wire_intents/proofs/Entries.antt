@@ -1,5 +1,5 @@
 -- Reading the members of an object one after the other, as a loop does.
-use Rattle.std.proofs.Common.{◌≡◌, ◌≢◌, suc, ◌==◌, if◌then◌else◌, codes, List, [], ◌∷◌, ◌++◌, length, map, Result, Ok, Err, refl, sym, ap, ◌∙◌, append_assoc, arith, String, Global, string_bytes}
+use Rattle.std.proofs.Common.{◌≡◌, ◌≢◌, suc, ◌==◌, if◌then◌else◌, codes, List, [], ◌∷◌, ◌++◌, length, map, Result, Ok, Err, refl, sym, ap, ◌∙◌, arith, String, Global, string_bytes}
 use Rattle.std.proofs.lemmas.Bool.{ne_eqb}
 use Rattle.std.proofs.lemmas.List.{append-nil}
 use Rattle.serde_json.specs.View.{view, members_view}
@@ -10,7 +10,8 @@ use Rattle.am_wire_fields.specs.declared.fault.WireFault.TheVariants.{WrongKind}
 use Rattle.am_wire_fields.specs.declared.fault.Unread.{Unread}
 use Rattle.am_wire_fields.specs.declared.fault.Unread.TheVariants as unread
 use Rattle.am_wire_fields.specs.Fields.{keys_in}
-use Rattle.am_wire_fields.specs.Reading.{◌>>=◌, Fails}
+use Rattle.am_wire_fields.specs.Reading.{Fails}
+use Rattle.am_wire_fields.proofs.Each.{front_then, regroup}
 use Rattle.am_wire_intents.specs.Extras.{each_named, named_in}
 use Rattle.am_wire_intents.specs.Filters.{some_values}
 
@@ -26,14 +27,6 @@ some_viewed [] = refl
 some_viewed (v ∷ vs) =
     let ne : suc (length vs) ≢ 0 = omega arith in
     rw (ne_eqb (suc (length vs)) 0 ne) refl
-
--- what was read before, and what is still read
-abbrev pub front_then : List Named → Result (List Named) WireFault → Result (List Named) WireFault
-front_then front read = read >>= λ others. Ok (front ++ others)
-
-regroup : (front : List Named) (x : Named) (read : Result (List Named) WireFault) → front_then front (read >>= λ others. Ok (x ∷ others)) ≡ front_then (front ++ x ∷ []) read
-regroup front x (Ok others) = ap (λ (all : List Named). Ok all) (simp append_assoc)
-regroup front x (Err f) = refl
 
 module _ (front : List Named) (entries : List (String Global × Value)) (e : String Global × Value) (left : List (String Global × Value)) (is : entries ≡ e ∷ left) (whole : Result (List Named) WireFault) where
   pub goes_on : (x : Named) → named_in (string_bytes e.0) (view e.1) ≡ Ok x

@@ -8,9 +8,9 @@ use Rattle.am_uri.specs.declared.text.Form.{Form}
 use Rattle.am_uri.specs.Texts.{fits}
 use Rattle.am_wire_fields.specs.declared.fault.WireFault.{WireFault}
 use Rattle.am_wire_fields.specs.declared.fault.WireFault.TheVariants.{WrongKind, TooLong}
-use Rattle.am_wire_fields.specs.Fields.{field}
+use Rattle.am_wire_fields.specs.Fields.{field, if_said}
 use Rattle.am_wire_fields.specs.Reading.{◌>>=◌}
-use Rattle.am_wire_fields.specs.Texts.{text_of, text_in, text_if_said, optional_text}
+use Rattle.am_wire_fields.specs.Texts.{text_of, text_in, optional_text}
 
 pub short_text : (form : Form) (limit : ℕ) (name : List ℕ) (said : Option (List ℕ)) (text : List ℕ) → text_of form limit name said ≡ Ok text → length text ≤ limit
 unfolding text_of
@@ -23,10 +23,10 @@ short_text form limit name (Some t) text h = by (fits form t) (nat_lt limit (len
     by false b e h = absurd cc
 
 pub short_if_said : (form : Form) (limit : ℕ) (name : List ℕ) (value : Data) (text : List ℕ) → optional_text form limit name value ≡ Ok (Some text) → length text ≤ limit
-unfolding optional_text text_if_said text_in
+unfolding optional_text text_in
 short_if_said form limit name value text h = by (field name value) h
   where
-    by : (said : Option Data) → text_if_said form limit name said ≡ Ok (Some text) → length text ≤ limit
+    by : (said : Option Data) → if_said (text_in form limit name) said ≡ Ok (Some text) → length text ≤ limit
     by None h = absurd cc
     by (Some v) h = within (text_of form limit name (as_str v)) refl h
       where

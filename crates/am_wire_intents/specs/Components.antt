@@ -6,7 +6,7 @@ use Rattle.am_types.specs.declared.intent.Component.{Component}
 use Rattle.am_model.specs.Sound.{is_name, is_package_name, starts_with_dot}
 use Rattle.am_wire_fields.specs.declared.fault.WireFault.{WireFault}
 use Rattle.am_wire_fields.specs.declared.fault.WireFault.TheVariants.{WrongKind, TooLong}
-use Rattle.am_wire_fields.specs.Fields.{field, required}
+use Rattle.am_wire_fields.specs.Fields.{field, if_said, required}
 use Rattle.am_wire_fields.specs.Reading.{◌>>=◌}
 
 -- the parts with one more byte before the first
@@ -48,13 +48,6 @@ required_component field_name parent = do
   value ← required field_name parent
   component_in field_name value
 
--- a component that need not be named
-unfoldable pub component_if_said : List ℕ → Option Data → Result (Option Component) WireFault
-component_if_said field_name None = Ok None
-component_if_said field_name (Some value) = do
-  component ← component_in field_name value
-  Ok (Some component)
-
 -- a field that names a component, if it is there
 unfoldable pub optional_component : List ℕ → Data → Result (Option Component) WireFault
-optional_component field_name parent = component_if_said field_name (field field_name parent)
+optional_component field_name parent = if_said (component_in field_name) (field field_name parent)

@@ -8,18 +8,18 @@ use Rattle.am_types.specs.declared.uri.Mime.{Mime}
 use Rattle.am_model.specs.MimeTypes.{mime_of}
 use Rattle.am_model.specs.Uris.{is_scheme}
 use Rattle.am_filter.specs.declared.rows.Paths.{Paths}
-use Rattle.am_filter.specs.declared.rows.Row.{Row}
-use Rattle.am_filter.specs.declared.rows.Rows.{Rows}
+use Rattle.am_filter.specs.declared.rows.DataRow.{DataRow}
+use Rattle.am_filter.specs.declared.rows.DataRows.{DataRows}
 use Rattle.am_uri.specs.declared.text.Form.TheVariants.{Filled}
 use Rattle.am_filter.specs.Rows.{with_row, no_rows}
 use Rattle.am_uri.specs.Texts.{sorted_texts}
 use Rattle.am_wire_fields.specs.declared.fault.WireFault.{WireFault}
 use Rattle.am_wire_fields.specs.declared.fault.WireFault.TheVariants.{WrongKind, TooLong}
-use Rattle.am_wire_fields.specs.Fields.{field, only_fields, required}
-use Rattle.am_wire_fields.specs.Lists.{list_in, optional_list, each, texts_in, optional_texts}
+use Rattle.am_wire_fields.specs.Fields.{field, if_said, only_fields, required}
+use Rattle.am_wire_fields.specs.Lists.{list_in, optional_list, each, texts_in}
 use Rattle.am_wire_fields.specs.Reading.{◌>>=◌}
 use Rattle.am_wire_fields.specs.Texts.{text_in, optional_text}
-use Rattle.am_wire_intents.specs.Intents.{mime_or_fault}
+use Rattle.am_wire_intents.specs.Intents.{categories_of, mime_or_fault}
 
 -- a scheme of at most 1,024 bytes
 unfoldable pub scheme_of : Option (List ℕ) → Result (List ℕ) WireFault
@@ -28,32 +28,18 @@ scheme_of (Some text) =
     if is_scheme text then (if nat_lt 1024 (length text) then Err (TooLong (codes "scheme")) else Ok text)
     else Err (WrongKind (codes "scheme"))
 
--- a scheme that need not be said
-unfoldable pub scheme_if_said : Option Data → Result (Option (List ℕ)) WireFault
-scheme_if_said None = Ok None
-scheme_if_said (Some value) = do
-  scheme ← scheme_of (as_str value)
-  Ok (Some scheme)
-
 -- the scheme of a row
 unfoldable pub scheme_at : Data → Result (Option (List ℕ)) WireFault
-scheme_at row = scheme_if_said (field (codes "scheme") row)
+scheme_at row = if_said (λ value. scheme_of (as_str value)) (field (codes "scheme") row)
 
 -- a whole number from 0 to 99,999
 unfoldable pub port_of : Option ℕ → Result ℕ WireFault
 port_of None = Err (WrongKind (codes "port"))
 port_of (Some n) = if nat_lt 99999 n then Err (WrongKind (codes "port")) else Ok n
 
--- a port that need not be said
-unfoldable pub port_if_said : Option Data → Result (Option ℕ) WireFault
-port_if_said None = Ok None
-port_if_said (Some value) = do
-  port ← port_of (option_and_then as_u64 (as_number value))
-  Ok (Some port)
-
 -- the port of a row
 unfoldable pub port_at : Data → Result (Option ℕ) WireFault
-port_at row = port_if_said (field (codes "port") row)
+port_at row = if_said (λ value. port_of (option_and_then as_u64 (as_number value))) (field (codes "port") row)
 
 -- the authority of a row: its host with its port; a port without a host counts for nothing
 unfoldable pub authority_at : Data → Result (Option Authority) WireFault
@@ -77,19 +63,12 @@ row_type value = do
   text ← text_in Filled 1024 (codes "mimeType") value
   mime_or_fault (mime_of text)
 
--- a type that need not be said
-unfoldable pub type_if_said : Option Data → Result (Option Mime) WireFault
-type_if_said None = Ok None
-type_if_said (Some value) = do
-  mime ← row_type value
-  Ok (Some mime)
-
 -- the type of a row
 unfoldable pub type_at : Data → Result (Option Mime) WireFault
-type_at row = type_if_said (field (codes "mimeType") row)
+type_at row = if_said row_type (field (codes "mimeType") row)
 
 -- what the keys of a row say
-unfoldable pub row_of : Data → Result Row WireFault
+unfoldable pub row_of : Data → Result DataRow WireFault
 row_of row = do
   scheme ← scheme_at row
   authority ← authority_at row
@@ -104,13 +83,13 @@ row_fields =
     ∷ codes "mimeType" ∷ []
 
 -- an entry of `data`
-unfoldable pub row_in : Data → Result Row WireFault
+unfoldable pub row_in : Data → Result DataRow WireFault
 row_in value = do
   known ← only_fields (codes "data") row_fields value
   row_of value
 
 -- the rows of a filter, merged
-unfoldable pub rows_at : Data → Result Rows WireFault
+unfoldable pub rows_at : Data → Result DataRows WireFault
 rows_at filter = do
   values ← optional_list (codes "data") filter
   rows ← each row_in values
@@ -128,12 +107,6 @@ actions_at filter = do
   values ← list_in (codes "actions") value
   some ← some_values values
   texts ← texts_in Filled (codes "actions") some
-  Ok (sorted_texts texts)
-
--- the categories of a filter, sorted
-unfoldable pub categories_at : Data → Result (List (List ℕ)) WireFault
-categories_at filter = do
-  texts ← optional_texts Filled (codes "categories") filter
   Ok (sorted_texts texts)
 
 -- a whole number of 32 bits
@@ -157,7 +130,7 @@ priority_at filter = priority_if_said (field (codes "priority") filter)
 unfoldable pub filter_of : Data → Result Filter WireFault
 filter_of filter = do
   actions ← actions_at filter
-  categories ← categories_at filter
+  categories ← categories_of Filled filter
   rows ← rows_at filter
   priority ← priority_at filter
   Ok (record { actions = actions; categories = categories; schemes = rows.schemes; authorities = rows.authorities; paths = rows.paths; types = rows.types; priority = priority })

@@ -1,5 +1,5 @@
 -- An intent.
-use Rattle.std.specs.Prelude.{ℕ, List, [], ◌∷◌, codes, Option, Some, None, Result, Ok, Err}
+use Rattle.std.specs.Prelude.{ℕ, List, [], ◌∷◌, codes, Option, Result, Ok, Err}
 use Rattle.serde_json.specs.Data.{Data}
 use Rattle.am_types.specs.declared.intent.Intent.{Intent}
 use Rattle.am_types.specs.declared.uri.Mime.{Mime}
@@ -8,11 +8,12 @@ use Rattle.am_types.specs.declared.uri.Uri.{Uri}
 use Rattle.am_types.specs.declared.uri.UriFault.{UriFault}
 use Rattle.am_model.specs.MimeTypes.{mime_of}
 use Rattle.am_model.specs.Uris.{uri_of}
+use Rattle.am_uri.specs.declared.text.Form.{Form}
 use Rattle.am_uri.specs.declared.text.Form.TheVariants.{Any}
 use Rattle.am_uri.specs.Texts.{sorted_texts}
 use Rattle.am_wire_fields.specs.declared.fault.WireFault.{WireFault}
 use Rattle.am_wire_fields.specs.declared.fault.WireFault.TheVariants.{BadUri, BadMime}
-use Rattle.am_wire_fields.specs.Fields.{field, only_fields, required}
+use Rattle.am_wire_fields.specs.Fields.{field, if_said, only_fields, required}
 use Rattle.am_wire_fields.specs.Lists.{optional_texts}
 use Rattle.am_wire_fields.specs.Reading.{◌>>=◌}
 use Rattle.am_wire_fields.specs.Texts.{text_in, optional_text}
@@ -33,16 +34,9 @@ uri_in name value = do
   text ← text_in Any 1024 name value
   uri_or_fault (uri_of text)
 
--- a URI that need not be said
-unfoldable pub uri_if_said : List ℕ → Option Data → Result (Option Uri) WireFault
-uri_if_said name None = Ok None
-uri_if_said name (Some value) = do
-  uri ← uri_in name value
-  Ok (Some uri)
-
 -- a field that says a URI, if it is there
 unfoldable pub optional_uri : List ℕ → Data → Result (Option Uri) WireFault
-optional_uri name parent = uri_if_said name (field name parent)
+optional_uri name parent = if_said (uri_in name) (field name parent)
 
 -- a MIME type, or what is wrong with it
 unfoldable pub mime_or_fault : Result Mime MimeFault → Result Mime WireFault
@@ -55,28 +49,21 @@ mime_in name value = do
   text ← text_in Any 1024 name value
   mime_or_fault (mime_of text)
 
--- a MIME type that need not be said
-unfoldable pub mime_if_said : List ℕ → Option Data → Result (Option Mime) WireFault
-mime_if_said name None = Ok None
-mime_if_said name (Some value) = do
-  mime ← mime_in name value
-  Ok (Some mime)
-
 -- a field that says a MIME type, if it is there
 unfoldable pub optional_mime : List ℕ → Data → Result (Option Mime) WireFault
-optional_mime name parent = mime_if_said name (field name parent)
+optional_mime name parent = if_said (mime_in name) (field name parent)
 
--- the categories, sorted by bytes, each once
-unfoldable pub categories_of : Data → Result (List (List ℕ)) WireFault
-categories_of parent = do
-  texts ← optional_texts Any (codes "categories") parent
+-- the categories, each of the form, sorted by bytes, each once
+unfoldable pub categories_of : Form → Data → Result (List (List ℕ)) WireFault
+categories_of form parent = do
+  texts ← optional_texts form (codes "categories") parent
   Ok (sorted_texts texts)
 
 -- the fields of an intent from `action` to `data`
 unfoldable pub asked_in : Data → Result Asked WireFault
 asked_in parent = do
   action ← optional_text Any 1024 (codes "action") parent
-  categories ← categories_of parent
+  categories ← categories_of Any parent
   component ← optional_component (codes "component") parent
   uri ← optional_uri (codes "data") parent
   Ok (record { action = action; categories = categories; component = component; uri = uri })
@@ -125,13 +112,6 @@ required_intent name parent = do
   value ← required name parent
   intent_in name value
 
--- an intent that need not be there
-unfoldable pub intent_if_said : List ℕ → Option Data → Result (Option Intent) WireFault
-intent_if_said name None = Ok None
-intent_if_said name (Some value) = do
-  intent ← intent_in name value
-  Ok (Some intent)
-
 -- a field that is an intent, if it is there
 unfoldable pub optional_intent : List ℕ → Data → Result (Option Intent) WireFault
-optional_intent name parent = intent_if_said name (field name parent)
+optional_intent name parent = if_said (intent_in name) (field name parent)

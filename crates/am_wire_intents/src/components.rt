@@ -105,7 +105,7 @@ pub fn required_component(alloc: Global, name: &str, object: &Value) -> Result<C
 /// # Errors
 ///
 /// As for [`component_in`].
-#[tactic(auto, unfolding(crate::specs::Components::optional_component, crate::specs::Components::component_if_said))]
+#[tactic(auto, unfolding(crate::specs::Components::optional_component))]
 pub fn optional_component(
     alloc: Global,
     name: &str,

@@ -2,14 +2,13 @@
 ghost use Rattle.std.specs.Prelude.{◌≡◌, map};
 ghost use Rattle.serde_json.specs.View.{view};
 ghost use Rattle.am_wire_fields.specs.Reading.{Gives, GivesBy};
-ghost use Rattle.am_wire_intents.specs.Filters.{actions_at, categories_at, filter_in, filter_of, priority_at, required_filter, some_values};
+ghost use Rattle.am_wire_intents.specs.Filters.{actions_at, filter_in, filter_of, priority_at, required_filter, some_values};
 
+use crate::intents::categories_of;
 use crate::rows::rows_at;
 use am_types::{Filter, List, Text};
 use am_uri::{Form, sorted};
-use am_wire_fields::{
-    Unread, field, list_in, only_fields, optional_texts, required, texts_in, wrong_kind,
-};
+use am_wire_fields::{Unread, field, list_in, only_fields, required, texts_in, wrong_kind};
 use serde_json::Value;
 use std::alloc::Global;
 
@@ -33,15 +32,6 @@ fn actions_at(alloc: Global, filter: &Value) -> Result<List<Text>, Unread>
     let values = list_in(alloc, "actions", value)?;
     let some = some_values(alloc, values)?;
     let texts = texts_in(alloc, Form::Filled, "actions", some)?;
-    Ok(sorted(alloc, texts)?)
-}
-
-/// The categories of a filter, sorted by bytes, each once.
-#[tactic(auto, unfolding(crate::specs::Filters::categories_at))]
-fn categories_at(alloc: Global, filter: &Value) -> Result<List<Text>, Unread>
-    ensures { Gives result (categories_at (view filter.now)) }
-{
-    let texts = optional_texts(alloc, Form::Filled, "categories", filter)?;
     Ok(sorted(alloc, texts)?)
 }
 
@@ -71,7 +61,7 @@ fn filter_of(alloc: Global, filter: &Value) -> Result<Filter, Unread>
     ensures { Gives result (filter_of (view filter.now)) }
 {
     let actions = actions_at(alloc, filter)?;
-    let categories = categories_at(alloc, filter)?;
+    let categories = categories_of(alloc, Form::Filled, filter)?;
     let rows = rows_at(alloc, filter)?;
     let priority = priority_at(alloc, filter)?;
     Ok(Filter {

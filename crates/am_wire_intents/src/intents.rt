@@ -40,7 +40,7 @@ fn uri_in(alloc: Global, name: &str, value: &Value) -> Result<Uri, Unread>
 }
 
 /// The URI that a field says, if it is there.
-#[tactic(auto, unfolding(crate::specs::Intents::optional_uri, crate::specs::Intents::uri_if_said))]
+#[tactic(auto, unfolding(crate::specs::Intents::optional_uri))]
 fn optional_uri(alloc: Global, name: &str, object: &Value) -> Result<Option<Uri>, Unread>
     ensures { Gives result (optional_uri name.now (view object.now)) }
 {
@@ -73,7 +73,7 @@ fn mime_in(alloc: Global, name: &str, value: &Value) -> Result<Mime, Unread>
 }
 
 /// The MIME type that a field says, if it is there.
-#[tactic(auto, unfolding(crate::specs::Intents::optional_mime, crate::specs::Intents::mime_if_said))]
+#[tactic(auto, unfolding(crate::specs::Intents::optional_mime))]
 fn optional_mime(alloc: Global, name: &str, object: &Value) -> Result<Option<Mime>, Unread>
     ensures { Gives result (optional_mime name.now (view object.now)) }
 {
@@ -84,12 +84,12 @@ fn optional_mime(alloc: Global, name: &str, object: &Value) -> Result<Option<Mim
     Ok(Some(mime))
 }
 
-/// The categories that an intent lists, sorted by bytes, each once.
+/// The categories that an intent or a filter lists, each of the form, sorted by bytes, each once.
 #[tactic(auto, unfolding(crate::specs::Intents::categories_of))]
-fn categories_of(alloc: Global, object: &Value) -> Result<List<Text>, Unread>
-    ensures { Gives result (categories_of (view object.now)) }
+pub fn categories_of(alloc: Global, form: Form, object: &Value) -> Result<List<Text>, Unread>
+    ensures { Gives result (categories_of form (view object.now)) }
 {
-    let texts = optional_texts(alloc, Form::Any, "categories", object)?;
+    let texts = optional_texts(alloc, form, "categories", object)?;
     Ok(sorted(alloc, texts)?)
 }
 
@@ -118,7 +118,7 @@ fn asked_in(alloc: Global, object: &Value) -> Result<Asked, Unread>
     ensures { Gives result (asked_in (view object.now)) }
 {
     let action = optional_text(alloc, Form::Any, 1024, "action", object)?;
-    let categories = categories_of(alloc, object)?;
+    let categories = categories_of(alloc, Form::Any, object)?;
     let component = optional_component(alloc, "component", object)?;
     let uri = optional_uri(alloc, "data", object)?;
     Ok(Asked {
@@ -223,7 +223,7 @@ pub fn required_intent(alloc: Global, name: &str, object: &Value) -> Result<Inte
 /// # Errors
 ///
 /// As for [`intent_in`].
-#[tactic(auto, unfolding(crate::specs::Intents::optional_intent, crate::specs::Intents::intent_if_said))]
+#[tactic(auto, unfolding(crate::specs::Intents::optional_intent))]
 pub fn optional_intent(alloc: Global, name: &str, object: &Value) -> Result<Option<Intent>, Unread>
     ensures { Gives result (optional_intent name.now (view object.now)) }
 {

@@ -10,7 +10,7 @@ ghost use Rattle.am_wire_fields.specs.Texts.{optional_text};
 ghost use Rattle.am_wire_intents.specs.Filters.{authority_at, paths_at, port_at, row_fields, row_in, row_of, row_type, rows_at, scheme_at, scheme_of, type_at};
 
 use crate::intents::mime_of;
-use am_filter::{Paths, Row, Rows, merge_rows};
+use am_filter::{DataRow, DataRows, Paths, merge_rows};
 use am_types::{Authority, Glob, Mime, Text};
 use am_uri::{Form, is_scheme};
 use am_wire_fields::{
@@ -45,7 +45,7 @@ fn scheme_in(alloc: Global, value: &Value) -> Result<Text, Unread>
 }
 
 /// The scheme of a row.
-#[tactic(auto, unfolding(crate::specs::Filters::scheme_at, crate::specs::Filters::scheme_if_said))]
+#[tactic(auto, unfolding(crate::specs::Filters::scheme_at))]
 fn scheme_at(alloc: Global, row: &Value) -> Result<Option<Text>, Unread>
     ensures { Gives result (scheme_at (view row.now)) }
 {
@@ -57,7 +57,7 @@ fn scheme_at(alloc: Global, row: &Value) -> Result<Option<Text>, Unread>
 }
 
 /// The port of a row, from 0 to 99,999.
-#[tactic(auto, unfolding(crate::specs::Filters::port_at, crate::specs::Filters::port_if_said, crate::specs::Filters::port_of))]
+#[tactic(auto, unfolding(crate::specs::Filters::port_at, crate::specs::Filters::port_of))]
 fn port_at(alloc: Global, row: &Value) -> Result<Option<u32>, Unread>
     ensures { Gives result (port_at (view row.now)) }
 {
@@ -126,7 +126,7 @@ fn row_type(alloc: Global, value: &Value) -> Result<Mime, Unread>
 }
 
 /// The type of a row.
-#[tactic(auto, unfolding(crate::specs::Filters::type_at, crate::specs::Filters::type_if_said))]
+#[tactic(auto, unfolding(crate::specs::Filters::type_at))]
 fn type_at(alloc: Global, row: &Value) -> Result<Option<Mime>, Unread>
     ensures { Gives result (type_at (view row.now)) }
 {
@@ -139,14 +139,14 @@ fn type_at(alloc: Global, row: &Value) -> Result<Option<Mime>, Unread>
 
 /// What the keys of a row say.
 #[tactic(auto, unfolding(crate::specs::Filters::row_of))]
-fn row_of(alloc: Global, row: &Value) -> Result<Row, Unread>
+fn row_of(alloc: Global, row: &Value) -> Result<DataRow, Unread>
     ensures { Gives result (row_of (view row.now)) }
 {
     let scheme = scheme_at(alloc, row)?;
     let authority = authority_at(alloc, row)?;
     let paths = paths_at(alloc, row)?;
     let mime = type_at(alloc, row)?;
-    Ok(Row {
+    Ok(DataRow {
         scheme,
         authority,
         paths,
@@ -177,7 +177,7 @@ fn only_row_fields(alloc: Global, value: &Value) -> Result<(), Unread>
 
 /// An entry of `data`.
 #[tactic(auto, unfolding(crate::specs::Filters::row_in))]
-fn row_in(alloc: Global, value: &Value) -> Result<Row, Unread>
+fn row_in(alloc: Global, value: &Value) -> Result<DataRow, Unread>
     ensures { Gives result (row_in (view value.now)) }
 {
     only_row_fields(alloc, value)?;
@@ -185,7 +185,7 @@ fn row_in(alloc: Global, value: &Value) -> Result<Row, Unread>
 }
 
 /// Each value as a data row.
-fn each_row(alloc: Global, values: &[Value]) -> Result<Vec<Row>, Unread>
+fn each_row(alloc: Global, values: &[Value]) -> Result<Vec<DataRow>, Unread>
     ensures { GivesBy (λ rows. rows.items) result (each row_in (map view values.now)) }
 {
     let mut rows = Vec::new(alloc);
@@ -198,7 +198,7 @@ fn each_row(alloc: Global, values: &[Value]) -> Result<Vec<Row>, Unread>
 
 /// The data rows of a filter, merged.
 #[tactic(auto, unfolding(crate::specs::Filters::rows_at))]
-pub fn rows_at(alloc: Global, filter: &Value) -> Result<Rows, Unread>
+pub fn rows_at(alloc: Global, filter: &Value) -> Result<DataRows, Unread>
     ensures { Gives result (rows_at (view filter.now)) }
 {
     let values = optional_list(alloc, "data", filter)?;

@@ -289,20 +289,14 @@ pending_send_none token fill =
 grant_none : (name permission : List ℕ) (held : Bool) → has_float (grant_data name permission held) ≡ false
 unfolding grant_data
 grant_none name permission held =
-    let ms-a : Members = put (codes "package") (string name) no_members in
-    let none-a : members_have_float ms-a ≡ false = put_none (codes "package") (string name) no_members refl refl in
-    let ms-b : Members = put (codes "permission") (string permission) ms-a in
-    let none-b : members_have_float ms-b ≡ false = put_none (codes "permission") (string permission) ms-a refl none-a in
-    put_none (codes "held") (boolean held) ms-b refl none-b
+    let ms : Members = put (codes "permission") (string permission) (put (codes "package") (string name) no_members) in
+    put_none (codes "held") (boolean held) ms refl (two_none (codes "package") (string name) (codes "permission") (string permission) refl refl)
 
 link_none : (name host : List ℕ) (approved : Bool) → has_float (link_data name host approved) ≡ false
 unfolding link_data
 link_none name host approved =
-    let ms-a : Members = put (codes "package") (string name) no_members in
-    let none-a : members_have_float ms-a ≡ false = put_none (codes "package") (string name) no_members refl refl in
-    let ms-b : Members = put (codes "host") (string host) ms-a in
-    let none-b : members_have_float ms-b ≡ false = put_none (codes "host") (string host) ms-a refl none-a in
-    put_none (codes "approved") (boolean approved) ms-b refl none-b
+    let ms : Members = put (codes "host") (string host) (put (codes "package") (string name) no_members) in
+    put_none (codes "approved") (boolean approved) ms refl (two_none (codes "package") (string name) (codes "host") (string host) refl refl)
 
 -- a request
 pub request_none : (r : Request) → has_float (request_data r) ≡ false

@@ -1,11 +1,13 @@
 -- Queries, activities and services: what was read of a body is read of what is written for it.
-use Rattle.std.proofs.Common.{◌≡◌, ℕ, true, List, [], ◌∷◌, Some, option_map, Ok, refl, ap, subst}
+use Rattle.std.proofs.Common.{◌≡◌, ℕ, true, List, [], ◌∷◌, Some, option_map, Result, Ok, refl, ap, ◌∙◌, subst}
 use Rattle.std.specs.Prelude.{codes}
 use Rattle.serde_json.specs.Data.{Data, string, object, no_members}
 use Rattle.am_types.specs.declared.manifest.Kind.{Kind}
 use Rattle.am_types.specs.declared.manifest.Kind.TheVariants.{Activity, Service, Receiver}
 use Rattle.am_types.specs.declared.request.Request.{Request}
 use Rattle.am_types.specs.declared.request.Request.TheVariants as asks
+use Rattle.am_model.specs.Texts.{lists}
+use Rattle.am_wire_fields.specs.declared.fault.WireFault.{WireFault}
 use Rattle.am_wire_fields.specs.Fields.{required, optional_truth}
 use Rattle.am_wire_fields.specs.Lists.{word_in}
 use Rattle.am_wire_fields.specs.Numbers.{required_natural, optional_natural}
@@ -13,7 +15,7 @@ use Rattle.am_wire_fields.specs.Reading.{◌>>=◌}
 use Rattle.am_wire_intents.specs.Components.{required_component}
 use Rattle.am_wire_intents.specs.Intents.{required_intent}
 use Rattle.am_wire.specs.Activities.{fields_of, plain_in, number_in, query_fields, default_only_of, query_in, start_in, finish_activity_in, start_service_in, stop_service_in, history_in}
-use Rattle.am_wire.specs.Words.{kind_words, kind_named, kind_of}
+use Rattle.am_wire.specs.Words.{kind_words, kind_named, kind_among, kind_of}
 use Rattle.am_wire_values.specs.Fields.{natural, some_truth}
 use Rattle.am_wire_values.specs.Intents.{component_data, intent_data}
 use Rattle.am_wire_values.specs.Names.{kind_name}
@@ -23,6 +25,7 @@ use Rattle.am_wire_written.proofs.Intents.{required_intent_again}
 use Rattle.am_wire_written.proofs.Kept.{IsKept}
 use Rattle.am_wire_written.proofs.Numbers.{required_natural_again, natural_field}
 use Rattle.am_wire_written.proofs.Objects.{Entry, members_with, value_at, are_apart, are_listed, only_listed}
+use Rattle.am_wire_written.proofs.Options.{IsReread}
 use Rattle.am_wire_written.proofs.Steps.{step, steps, same_ok}
 use Rattle.am_wire_written.proofs.Texts.{required_at, truth_field, word_again}
 
@@ -46,24 +49,30 @@ number_again name value n k listed at h =
     steps (fields_of (name ∷ []) (object (members_with es))) (λ known. required_natural name (object (members_with es))) tt n (fields_known (name ∷ []) es listed)
     (required_natural_again name value n es k one.later refl at)
 
--- the name of a kind is read as it
-kind_word : (kind : Kind) → word_in kind_words (codes "kind") (string (kind_name kind)) ≡ Ok (kind_name kind)
-unfolding kind_words
-kind_word Activity = word_again kind_words (codes "kind") (codes "activity") refl
-kind_word Service = word_again kind_words (codes "kind") (codes "service") refl
-kind_word Receiver = word_again kind_words (codes "kind") (codes "receiver") refl
+-- a request that is made of one thing, which is read again
+pub made_again : {A : Type 0} (read : Data → Result A WireFault) (write : A → Data) → IsReread read write → (make : A → Request) → ((x : A) → request_data (make x) ≡ write x)
+    → (value : Data) (r : Request) → IsKept value → (read value >>= λ x. Ok (make x)) ≡ Ok r → (read (request_data r) >>= λ x. Ok (make x)) ≡ Ok r
+made_again read write again make written value r k h =
+    let one = step (read value) (λ x. Ok (make x)) r h in
+    let P : Request → Type 0 = λ r. (read (request_data r) >>= λ x. Ok (make x)) ≡ Ok r in
+    subst P (same_ok (make one.value) r one.later)
+    (ap (λ d. read d >>= λ x. Ok (make x)) (written one.value)
+    ∙ steps (read (write one.value)) (λ x. Ok (make x)) one.value (make one.value) (again value one.value k one.first) refl)
 
-kind_again : (kind : Kind) → kind_named (kind_name kind) ≡ kind
-kind_again Activity = refl
-kind_again Service = refl
-kind_again Receiver = refl
+-- a kind is read of its word
+pub named_at : (words : List (List ℕ)) (word : List ℕ) (kind : Kind) (es : List Entry) → lists words word ≡ true → kind_named word ≡ kind → are_apart es ≡ true → value_at (codes "kind") es ≡ Some (string word)
+    → kind_among words (object (members_with es)) ≡ Ok kind
+unfolding kind_among
+named_at words word kind es listed named apart is =
+    steps (required (codes "kind") (object (members_with es))) (λ value. word_in words (codes "kind") value >>= λ word. Ok (kind_named word)) (string word) kind
+    (required_at (codes "kind") es (string word) apart is refl)
+    (steps (word_in words (codes "kind") (string word)) (λ word. Ok (kind_named word)) word kind (word_again words (codes "kind") word listed) (ap Ok named))
 
 pub kind_at : (kind : Kind) (es : List Entry) → are_apart es ≡ true → value_at (codes "kind") es ≡ Some (string (kind_name kind)) → kind_of (object (members_with es)) ≡ Ok kind
-unfolding kind_of
-kind_at kind es apart is =
-    steps (required (codes "kind") (object (members_with es))) (λ value. word_in kind_words (codes "kind") value >>= λ word. Ok (kind_named word)) (string (kind_name kind)) kind
-    (required_at (codes "kind") es (string (kind_name kind)) apart is refl)
-    (steps (word_in kind_words (codes "kind") (string (kind_name kind))) (λ word. Ok (kind_named word)) (kind_name kind) kind (kind_word kind) (ap Ok (kind_again kind)))
+unfolding kind_of kind_words
+kind_at Activity es apart is = named_at kind_words (codes "activity") Activity es refl refl apart is
+kind_at Service es apart is = named_at kind_words (codes "service") Service es refl refl apart is
+kind_at Receiver es apart is = named_at kind_words (codes "receiver") Receiver es refl refl apart is
 
 pub query_again : (value : Data) (r : Request) → IsKept value → query_in value ≡ Ok r → query_in (request_data r) ≡ Ok r
 unfolding query_fields default_only_of query_in request_data query_data
@@ -100,18 +109,12 @@ start_again value r k h =
 pub finish_activity_again : (value : Data) (r : Request) → IsKept value → finish_activity_in value ≡ Ok r → finish_activity_in (request_data r) ≡ Ok r
 unfolding finish_activity_in request_data
 finish_activity_again value r k h =
-    let one = step (number_in (codes "instance") value) _ r h in
-    let got = asks.FinishActivity one.value in
-    let P : Request → Type 0 = λ r. finish_activity_in (request_data r) ≡ Ok r in
-    subst P (same_ok got r one.later) (steps (number_in (codes "instance") (with_one (codes "instance") (natural one.value))) _ one.value got (number_again (codes "instance") value one.value k refl refl one.first) refl)
+    made_again (number_in (codes "instance")) (λ n. with_one (codes "instance") (natural n)) (λ value n k h. number_again (codes "instance") value n k refl refl h) asks.FinishActivity (λ n. refl) value r k h
 
 pub history_again : (value : Data) (r : Request) → IsKept value → history_in value ≡ Ok r → history_in (request_data r) ≡ Ok r
 unfolding history_in request_data
 history_again value r k h =
-    let one = step (number_in (codes "from") value) _ r h in
-    let got = asks.History one.value in
-    let P : Request → Type 0 = λ r. history_in (request_data r) ≡ Ok r in
-    subst P (same_ok got r one.later) (steps (number_in (codes "from") (with_one (codes "from") (natural one.value))) _ one.value got (number_again (codes "from") value one.value k refl refl one.first) refl)
+    made_again (number_in (codes "from")) (λ n. with_one (codes "from") (natural n)) (λ value n k h. number_again (codes "from") value n k refl refl h) asks.History (λ n. refl) value r k h
 
 pub start_service_again : (value : Data) (r : Request) → IsKept value → start_service_in value ≡ Ok r → start_service_in (request_data r) ≡ Ok r
 unfolding start_service_in request_data

@@ -18,7 +18,7 @@ use Rattle.am_wire.specs.Broadcasts.{is_true, truth_at, is_ordered, send_fields,
 use Rattle.am_wire_values.specs.Fields.{natural, whole, some_whole, some_truth}
 use Rattle.am_wire_values.specs.Intents.{intent_data, some_extras}
 use Rattle.am_wire_values.specs.Requests.{with_one, with_outcome, with_ordered, send_data, finish_data, request_data}
-use Rattle.am_wire_written.proofs.Activities.{fields_known, number_again}
+use Rattle.am_wire_written.proofs.Activities.{fields_known, made_again, number_again}
 use Rattle.am_wire_written.proofs.Extras.{extras_field}
 use Rattle.am_wire_written.proofs.Intents.{required_intent_again}
 use Rattle.am_wire_written.proofs.Kept.{IsKept}
@@ -116,10 +116,7 @@ send_again value r k h =
 pub unregister_again : (value : Data) (r : Request) → IsKept value → unregister_in value ≡ Ok r → unregister_in (request_data r) ≡ Ok r
 unfolding unregister_in request_data
 unregister_again value r k h =
-    let one = step (number_in (codes "number") value) _ r h in
-    let got = asks.Unregister one.value in
-    let P : Request → Type 0 = λ r. unregister_in (request_data r) ≡ Ok r in
-    subst P (same_ok got r one.later) (steps (number_in (codes "number") (with_one (codes "number") (natural one.value))) _ one.value got (number_again (codes "number") value one.value k refl refl one.first) refl)
+    made_again (number_in (codes "number")) (λ n. with_one (codes "number") (natural n)) (λ value n k h. number_again (codes "number") value n k refl refl h) asks.Unregister (λ n. refl) value r k h
 
 -- ---- answers
 

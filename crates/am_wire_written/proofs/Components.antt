@@ -19,15 +19,14 @@ use Rattle.am_model.specs.Uris.{has_scheme, is_port_good, is_escaped, path_text,
 use Rattle.am_uri.specs.declared.text.Form.{Form}
 use Rattle.am_uri.specs.declared.text.Form.TheVariants.{Any}
 use Rattle.am_wire_fields.specs.declared.fault.WireFault.TheVariants.{WrongKind, TooLong}
-use Rattle.am_wire_fields.specs.Fields.{unless_null, field}
 use Rattle.am_wire_fields.specs.Reading.{◌>>=◌}
 use Rattle.am_wire_fields.specs.Texts.{text_in}
-use Rattle.am_wire_intents.specs.Components.{parts_of, with_first, full_class, measured, of_parts, component_in, required_component, component_if_said, optional_component}
-use Rattle.am_wire_intents.specs.Intents.{uri_or_fault, uri_in, uri_if_said, optional_uri, mime_or_fault, mime_in, mime_if_said, optional_mime}
+use Rattle.am_wire_intents.specs.Components.{parts_of, with_first, full_class, measured, of_parts, component_in, required_component, optional_component}
+use Rattle.am_wire_intents.specs.Intents.{uri_or_fault, uri_in, optional_uri, mime_or_fault, mime_in, optional_mime}
 use Rattle.am_wire_values.specs.Intents.{component_data, mime_data, uri_data}
-use Rattle.am_wire_written.proofs.Kept.{IsKept, field_kept}
-use Rattle.am_wire_written.proofs.Objects.{Entry, members_with, value_at, are_apart, field_at}
-use Rattle.am_wire_written.proofs.Options.{IsReread, if_said, option_again}
+use Rattle.am_wire_written.proofs.Kept.{IsKept}
+use Rattle.am_wire_written.proofs.Objects.{Entry, members_with, value_at, are_apart}
+use Rattle.am_wire_written.proofs.Options.{IsReread, option_field}
 use Rattle.am_wire_written.proofs.Steps.{step, steps, same_ok}
 use Rattle.am_wire_written.proofs.Texts.{if_read, else_read, read_if, read_else, text_again, field_again}
 
@@ -95,17 +94,10 @@ pub mime_again : (name : List ℕ) → IsReread (mime_in name) mime_data
 unfolding mime_in
 mime_again name value mime k h = mime_read_again Any name value mime k h
 
-mime_if_is : (name : List ℕ) (o : Option Data) → mime_if_said name o ≡ if_said (mime_in name) o
-unfolding mime_if_said
-mime_if_is name None = refl
-mime_if_is name (Some value) = refl
-
 pub mime_field : (name : List ℕ) (value : Data) (o : Option Mime) (es : List Entry) → IsKept value → optional_mime name value ≡ Ok o
     → are_apart es ≡ true → value_at name es ≡ option_map mime_data o → optional_mime name (object (members_with es)) ≡ Ok o
 unfolding optional_mime
-mime_field name value o es k h apart is =
-    mime_if_is name _ ∙ option_again (mime_in name) mime_data (mime_again name) (λ m. refl) (field name value) o _ (field_kept name value k)
-    (sym (mime_if_is name (field name value)) ∙ h) (field_at name es apart ∙ ap unless_null is)
+mime_field name value o es k h apart is = option_field (mime_in name) mime_data (mime_again name) (λ m. refl) name value o es k h apart is
 
 -- ---- URIs
 
@@ -138,17 +130,10 @@ uri_again name value uri k h =
     ap (λ t. text_in Any 1024 name (string t) >>= λ text. uri_or_fault (uri_of text)) same
     ∙ steps (text_in Any 1024 name (string s.value)) (λ text. uri_or_fault (uri_of text)) s.value uri (text_again Any 1024 name value s.value k s.first) s.later
 
-uri_if_is : (name : List ℕ) (o : Option Data) → uri_if_said name o ≡ if_said (uri_in name) o
-unfolding uri_if_said
-uri_if_is name None = refl
-uri_if_is name (Some value) = refl
-
 pub uri_field : (name : List ℕ) (value : Data) (o : Option Uri) (es : List Entry) → IsKept value → optional_uri name value ≡ Ok o
     → are_apart es ≡ true → value_at name es ≡ option_map uri_data o → optional_uri name (object (members_with es)) ≡ Ok o
 unfolding optional_uri
-uri_field name value o es k h apart is =
-    uri_if_is name _ ∙ option_again (uri_in name) uri_data (uri_again name) (λ u. refl) (field name value) o _ (field_kept name value k)
-    (sym (uri_if_is name (field name value)) ∙ h) (field_at name es apart ∙ ap unless_null is)
+uri_field name value o es k h apart is = option_field (uri_in name) uri_data (uri_again name) (λ u. refl) name value o es k h apart is
 
 -- ---- components
 
@@ -219,17 +204,10 @@ pub component_again : (name : List ℕ) → IsReread (component_in name) compone
 unfolding component_in
 component_again name value c k h = component_again_of name (option_and_then parts_of (as_str value)) c h
 
-component_if_is : (name : List ℕ) (o : Option Data) → component_if_said name o ≡ if_said (component_in name) o
-unfolding component_if_said
-component_if_is name None = refl
-component_if_is name (Some value) = refl
-
 pub component_field : (name : List ℕ) (value : Data) (o : Option Component) (es : List Entry) → IsKept value → optional_component name value ≡ Ok o
     → are_apart es ≡ true → value_at name es ≡ option_map component_data o → optional_component name (object (members_with es)) ≡ Ok o
 unfolding optional_component
-component_field name value o es k h apart is =
-    component_if_is name _ ∙ option_again (component_in name) component_data (component_again name) (λ c. refl) (field name value) o _ (field_kept name value k)
-    (sym (component_if_is name (field name value)) ∙ h) (field_at name es apart ∙ ap unless_null is)
+component_field name value o es k h apart is = option_field (component_in name) component_data (component_again name) (λ c. refl) name value o es k h apart is
 
 pub required_component_again : (name : List ℕ) (parent : Data) (c : Component) (es : List Entry) → IsKept parent → required_component name parent ≡ Ok c
     → are_apart es ≡ true → value_at name es ≡ Some (component_data c) → required_component name (object (members_with es)) ≡ Ok c

@@ -11,15 +11,16 @@ use Rattle.serde_json.specs.Find.{as_number, as_i64}
 use Rattle.am_types.specs.declared.filter.Filter.{Filter}
 use Rattle.am_types.specs.declared.request.Request.{Request}
 use Rattle.am_types.specs.declared.request.Request.TheVariants as asks
-use Rattle.am_filter.specs.declared.rows.Rows.{Rows}
+use Rattle.am_filter.specs.declared.rows.DataRows.{DataRows}
 use Rattle.am_uri.specs.declared.text.Form.TheVariants.{Any, Filled}
 use Rattle.am_filter.specs.Rows.{with_row, no_rows}
 use Rattle.am_uri.specs.Texts.{with_text, sorted_texts}
 use Rattle.am_wire_fields.specs.declared.fault.WireFault.TheVariants.{WrongKind}
 use Rattle.am_wire_fields.specs.Fields.{unless_null, field, only_fields, required}
-use Rattle.am_wire_fields.specs.Lists.{list_in, list_if_said, optional_list, texts_in, optional_texts, each}
+use Rattle.am_wire_fields.specs.Lists.{list_in, list_if_said, optional_list, texts_in, each}
 use Rattle.am_wire_fields.specs.Texts.{text_in, optional_text}
-use Rattle.am_wire_intents.specs.Filters.{row_in, rows_at, some_values, actions_at, categories_at, priority_of, priority_if_said, priority_at, filter_of, filter_fields, filter_in, required_filter}
+use Rattle.am_wire_intents.specs.Filters.{row_in, rows_at, some_values, actions_at, priority_of, priority_if_said, priority_at, filter_of, filter_fields, filter_in, required_filter}
+use Rattle.am_wire_intents.specs.Intents.{categories_of}
 use Rattle.am_wire.specs.Activities.{fields_of}
 use Rattle.am_wire.specs.Broadcasts.{register_fields, register_in}
 use Rattle.am_wire_values.specs.Fields.{whole, some_whole, some_listed, texts_data, some_texts}
@@ -27,7 +28,7 @@ use Rattle.am_wire_values.specs.Filters.{scheme_row, authority_row, path_row, ty
 use Rattle.am_wire_values.specs.Requests.{register_data, request_data}
 use Rattle.am_wire_written.specs.Written.{rows_in, HasFewRows}
 use Rattle.am_wire_written.proofs.Activities.{fields_known}
-use Rattle.am_wire_written.proofs.Intents.{AreRead, sorted_are_read, optional_are_read, texts_field}
+use Rattle.am_wire_written.proofs.Intents.{AreRead, sorted_are_read, categories_again}
 use Rattle.am_wire_written.proofs.Kept.{IsKept, ForSome, field_kept}
 use Rattle.am_wire_written.proofs.Lists.{WasListed, was_list, was_list_if, list_again, list_if_again, each_length, mapped_length}
 use Rattle.am_wire_written.proofs.Merged.{rows_said, listed_by, merged_again, each_row_again}
@@ -97,14 +98,6 @@ actions_again value actions es k h apart is =
         (steps (list_in (codes "actions") (texts_data actions)) _ (map string actions) actions (list_again (codes "actions") (map string actions) r.within)
         (steps (some_values (map string actions)) _ (map string actions) actions (some_again actions filled)
         (steps (texts_in Filled (codes "actions") (map string actions)) _ actions actions r.read (ap Ok r.sorted))))
-
-categories_again : (value : Data) (texts : List (List ℕ)) (es : List Entry) → IsKept value → categories_at value ≡ Ok texts
-    → are_apart es ≡ true → value_at (codes "categories") es ≡ some_texts texts → categories_at (object (members_with es)) ≡ Ok texts
-unfolding categories_at
-categories_again value texts es k h apart is =
-    let one = step (optional_texts Filled (codes "categories") value) (λ texts. Ok (sorted_texts texts)) texts h in
-    let P : List (List ℕ) → Type 0 = AreRead Filled (codes "categories") in
-    texts_field Filled (codes "categories") texts es (subst P (same_ok (sorted_texts one.value) texts one.later) (optional_are_read Filled (codes "categories") value one.value k one.first)) apart is
 
 -- ---- the priority
 
@@ -176,7 +169,7 @@ few_rows f h = by (nat_lt 64 (length (rows_of f))) refl
     by true e = let more : 64 < length (rows_of f) = (Decides-ltb 64 (length (rows_of f))).0 e in absurd (omega (arith, rows_length f))
     by false e = refl
 
-rows_were : (value : Data) (rows : Rows) → IsKept value → rows_at value ≡ Ok rows → ReadRows rows
+rows_were : (value : Data) (rows : DataRows) → IsKept value → rows_at value ≡ Ok rows → ReadRows rows
 unfolding rows_at optional_list
 rows_were value rows k h =
     let one = step (list_if_said (codes "data") (field (codes "data") value)) _ rows h in
@@ -207,7 +200,7 @@ filter_of_again value f k h few =
     let es = filter_entries f in
     let d = object (members_with es) in
     let one = step (actions_at value) _ f h in
-    let two = step (categories_at value) _ f one.later in
+    let two = step (categories_of Filled value) _ f one.later in
     let three = step (rows_at value) _ f two.later in
     let four = step (priority_at value) _ f three.later in
     let got : Filter = record {
@@ -223,7 +216,7 @@ filter_of_again value f k h few =
     let read : ReadRows (listed_by f) = subst ReadRows (ap listed_by is) (rows_were value three.value k three.first) in
     let rows : listed_by f ≡ three.value = ap listed_by (sym is) in
     steps (actions_at d) _ one.value f (actions_again value one.value es k one.first refl (ap (λ (f : Filter). Some (texts_data f.actions)) (sym is)))
-    (steps (categories_at d) _ two.value f (categories_again value two.value es k two.first refl (ap (λ (f : Filter). some_texts f.categories) (sym is)))
+    (steps (categories_of Filled d) _ two.value f (categories_again Filled value two.value es k two.first refl (ap (λ (f : Filter). some_texts f.categories) (sym is)))
     (steps (rows_at d) _ three.value f (rows_again f es read few refl refl ∙ ap Ok rows)
     (steps (priority_at d) _ four.value f (priority_again value four.value es k four.first refl (ap (λ (f : Filter). some_whole f.priority) (sym is))) (ap Ok is))))
 

@@ -1,5 +1,5 @@
 -- An intent: what was read of a value is read of what is written for it.
-use Rattle.std.proofs.Common.{◌≡◌, ℕ, true, false, List, [], ◌∷◌, length, map, Option, Some, None, option_map, Ok, refl, sym, ap, ◌∙◌, subst}
+use Rattle.std.proofs.Common.{◌≡◌, ℕ, true, false, List, [], ◌∷◌, length, map, Option, Some, option_map, Ok, refl, sym, ap, ◌∙◌, subst}
 use Rattle.std.specs.Prelude.{codes, nat_lt}
 use Rattle.serde_json.specs.Data.{Data, string, object}
 use Rattle.am_types.specs.declared.intent.Intent.{Intent}
@@ -13,7 +13,7 @@ use Rattle.am_wire_fields.specs.Texts.{text_in}
 use Rattle.am_wire_intents.specs.declared.intents.Asked.{Asked}
 use Rattle.am_wire_intents.specs.declared.intents.Carried.{Carried}
 use Rattle.am_wire_intents.specs.Flags.{flags_of}
-use Rattle.am_wire_intents.specs.Intents.{categories_of, asked_in, carried_in, intent_of, intent_fields, intent_in, required_intent, intent_if_said, optional_intent}
+use Rattle.am_wire_intents.specs.Intents.{categories_of, asked_in, carried_in, intent_of, intent_fields, intent_in, required_intent, optional_intent}
 use Rattle.am_wire_values.specs.Fields.{some_texts}
 use Rattle.am_wire_values.specs.Intents.{component_data, mime_data, uri_data, some_extras, asked, aimed, carried, intent_data}
 use Rattle.am_wire_values.specs.Names.{names_set, flags_named}
@@ -23,7 +23,7 @@ use Rattle.am_wire_written.proofs.Flags.{flags_field}
 use Rattle.am_wire_written.proofs.Kept.{IsKept, field_kept}
 use Rattle.am_wire_written.proofs.Lists.{IsRead, each_read, each_again, each_length, WasListed, was_list_if, list_if_again, all_sorted, are_sorted, sorted_again, mapped_within}
 use Rattle.am_wire_written.proofs.Objects.{Entry, members_with, value_at, are_apart, field_at, only_listed}
-use Rattle.am_wire_written.proofs.Options.{IsReread, if_said, option_again}
+use Rattle.am_wire_written.proofs.Options.{IsReread, option_field}
 use Rattle.am_wire_written.proofs.Steps.{step, steps, same_ok}
 use Rattle.am_wire_written.proofs.Texts.{text_again, text_field, field_again}
 
@@ -46,13 +46,13 @@ sorted_are_read form name values texts listed h =
       sorted = sorted_again (sorted_texts texts) (are_sorted texts);
     }
 
-pub optional_are_read : (form : Form) (name : List ℕ) (value : Data) (texts : List (List ℕ)) → IsKept value → optional_texts form name value ≡ Ok texts → AreRead form name (sorted_texts texts)
+optional_are_read : (form : Form) (name : List ℕ) (value : Data) (texts : List (List ℕ)) → IsKept value → optional_texts form name value ≡ Ok texts → AreRead form name (sorted_texts texts)
 unfolding optional_texts optional_list
 optional_are_read form name value texts k h =
     let one = step (list_if_said name (field name value)) (λ values. texts_in form name values) texts h in
     sorted_are_read form name one.value texts (was_list_if name (field name value) one.value (field_kept name value k) one.first) one.later
 
-pub texts_field : (form : Form) (name : List ℕ) (texts : List (List ℕ)) (es : List Entry) → AreRead form name texts → are_apart es ≡ true → value_at name es ≡ some_texts texts
+texts_field : (form : Form) (name : List ℕ) (texts : List (List ℕ)) (es : List Entry) → AreRead form name texts → are_apart es ≡ true → value_at name es ≡ some_texts texts
     → (optional_texts form name (object (members_with es)) >>= λ texts. Ok (sorted_texts texts)) ≡ Ok texts
 unfolding optional_texts optional_list
 texts_field form name texts es r apart is =
@@ -61,13 +61,13 @@ texts_field form name texts es r apart is =
     (ap (list_if_said name) (field_at name es apart ∙ ap unless_null is) ∙ list_if_again name (map string texts) r.within) r.read)
     (ap Ok r.sorted)
 
-categories_again : (value : Data) (texts : List (List ℕ)) (es : List Entry) → IsKept value → categories_of value ≡ Ok texts
-    → are_apart es ≡ true → value_at (codes "categories") es ≡ some_texts texts → categories_of (object (members_with es)) ≡ Ok texts
+pub categories_again : (form : Form) (value : Data) (texts : List (List ℕ)) (es : List Entry) → IsKept value → categories_of form value ≡ Ok texts
+    → are_apart es ≡ true → value_at (codes "categories") es ≡ some_texts texts → categories_of form (object (members_with es)) ≡ Ok texts
 unfolding categories_of
-categories_again value texts es k h apart is =
-    let one = step (optional_texts Any (codes "categories") value) (λ texts. Ok (sorted_texts texts)) texts h in
-    let P : List (List ℕ) → Type 0 = AreRead Any (codes "categories") in
-    texts_field Any (codes "categories") texts es (subst P (same_ok (sorted_texts one.value) texts one.later) (optional_are_read Any (codes "categories") value one.value k one.first)) apart is
+categories_again form value texts es k h apart is =
+    let one = step (optional_texts form (codes "categories") value) (λ texts. Ok (sorted_texts texts)) texts h in
+    let P : List (List ℕ) → Type 0 = AreRead form (codes "categories") in
+    texts_field form (codes "categories") texts es (subst P (same_ok (sorted_texts one.value) texts one.later) (optional_are_read form (codes "categories") value one.value k one.first)) apart is
 
 -- ---- an intent
 
@@ -93,7 +93,7 @@ asked_again value i a k h e1 e2 e3 e4 =
     let four = step _ _ a three.later in
     let is : record { action = one.value; categories = two.value; component = three.value; uri = four.value } ≡ a = same_ok _ a four.later in
     steps _ _ one.value a (text_field Any 1024 (codes "action") value one.value es k one.first refl (ap (option_map string) (sym e1 ∙ ap (λ (a : Asked). a.action) (sym is))))
-    (steps _ _ two.value a (categories_again value two.value es k two.first refl (ap some_texts (sym e2 ∙ ap (λ (a : Asked). a.categories) (sym is))))
+    (steps _ _ two.value a (categories_again Any value two.value es k two.first refl (ap some_texts (sym e2 ∙ ap (λ (a : Asked). a.categories) (sym is))))
     (steps _ _ three.value a (component_field (codes "component") value three.value es k three.first refl (ap (option_map component_data) (sym e3 ∙ ap (λ (a : Asked). a.component) (sym is))))
     (steps _ _ four.value a (uri_field (codes "data") value four.value es k four.first refl (ap (option_map uri_data) (sym e4 ∙ ap (λ (a : Asked). a.uri) (sym is))))
     four.later)))
@@ -145,14 +145,7 @@ pub required_intent_again : (name : List ℕ) (parent : Data) (i : Intent) (es :
 unfolding required_intent
 required_intent_again name parent i es k h apart is = field_again (intent_in name) intent_data (intent_again name) name parent i es k h apart is (no_null i)
 
-intent_if_is : (name : List ℕ) (o : Option Data) → intent_if_said name o ≡ if_said (intent_in name) o
-unfolding intent_if_said
-intent_if_is name None = refl
-intent_if_is name (Some value) = refl
-
 pub intent_field : (name : List ℕ) (value : Data) (o : Option Intent) (es : List Entry) → IsKept value → optional_intent name value ≡ Ok o
     → are_apart es ≡ true → value_at name es ≡ option_map intent_data o → optional_intent name (object (members_with es)) ≡ Ok o
 unfolding optional_intent
-intent_field name value o es k h apart is =
-    intent_if_is name _ ∙ option_again (intent_in name) intent_data (intent_again name) no_null (field name value) o _ (field_kept name value k)
-    (sym (intent_if_is name (field name value)) ∙ h) (field_at name es apart ∙ ap unless_null is)
+intent_field name value o es k h apart is = option_field (intent_in name) intent_data (intent_again name) no_null name value o es k h apart is

@@ -8,8 +8,8 @@ use Rattle.am_types.specs.declared.filter.Filter.{Filter}
 use Rattle.am_types.specs.declared.filter.PathRule.{PathRule}
 use Rattle.am_types.specs.declared.filter.PathRule.TheVariants.{Literal, Prefix, Suffix, Pattern}
 use Rattle.am_types.specs.declared.uri.Mime.{Mime}
-use Rattle.am_filter.specs.declared.rows.Row.{Row}
-use Rattle.am_filter.specs.declared.rows.Rows.{Rows}
+use Rattle.am_filter.specs.declared.rows.DataRow.{DataRow}
+use Rattle.am_filter.specs.declared.rows.DataRows.{DataRows}
 use Rattle.am_filter.specs.Rows.{with_paths, with_row, no_rows}
 use Rattle.am_uri.specs.Texts.{with_text}
 use Rattle.am_wire_fields.specs.declared.fault.WireFault.{WireFault}
@@ -42,12 +42,12 @@ each_mapped read write got (x ∷ xs) h =
     (steps (each read (map write xs)) (λ others. Ok (got x ∷ others)) (map got xs) (got x ∷ map got xs) (each_mapped read write got xs h.1) refl)
 
 -- what is read of the rows of a filter
-abbrev pub rows_said : Filter → List Row
+abbrev pub rows_said : Filter → List DataRow
 rows_said f = ((map row_with_scheme f.schemes ++ map row_with_authority f.authorities) ++ map row_with_path f.paths) ++ map row_with_type f.types
 
 -- ---- merging
 
-fold_onto : (rows : Rows) (xs ys : List Row) → fold with_row rows (xs ++ ys) ≡ fold with_row (fold with_row rows xs) ys
+fold_onto : (rows : DataRows) (xs ys : List DataRow) → fold with_row rows (xs ++ ys) ≡ fold with_row (fold with_row rows xs) ys
 fold_onto rows [] ys = refl
 fold_onto rows (x ∷ xs) ys = fold_onto (with_row rows x) xs ys
 
@@ -60,50 +60,50 @@ one_path rules (Prefix text) = simp append-nil
 one_path rules (Suffix text) = simp append-nil
 one_path rules (Pattern text) = simp append-nil
 
-one_scheme : (rows : Rows) (text : List ℕ) → with_row rows (row_with_scheme text) ≡ record { schemes = with_text rows.schemes text; authorities = rows.authorities; paths = rows.paths; types = rows.types }
+one_scheme : (rows : DataRows) (text : List ℕ) → with_row rows (row_with_scheme text) ≡ record { schemes = with_text rows.schemes text; authorities = rows.authorities; paths = rows.paths; types = rows.types }
 one_scheme rows text = λ i. record { schemes = with_text rows.schemes text; authorities = append-nil rows.authorities i; paths = four_nils rows.paths i; types = append-nil rows.types i }
 
-one_authority : (rows : Rows) (a : Authority) → with_row rows (row_with_authority a) ≡ record { schemes = rows.schemes; authorities = rows.authorities ++ a ∷ []; paths = rows.paths; types = rows.types }
+one_authority : (rows : DataRows) (a : Authority) → with_row rows (row_with_authority a) ≡ record { schemes = rows.schemes; authorities = rows.authorities ++ a ∷ []; paths = rows.paths; types = rows.types }
 one_authority rows a = λ i. record { schemes = rows.schemes; authorities = rows.authorities ++ a ∷ []; paths = four_nils rows.paths i; types = append-nil rows.types i }
 
-one_rule : (rows : Rows) (rule : PathRule) → with_row rows (row_with_path rule) ≡ record { schemes = rows.schemes; authorities = rows.authorities; paths = rows.paths ++ rule ∷ []; types = rows.types }
+one_rule : (rows : DataRows) (rule : PathRule) → with_row rows (row_with_path rule) ≡ record { schemes = rows.schemes; authorities = rows.authorities; paths = rows.paths ++ rule ∷ []; types = rows.types }
 one_rule rows rule = λ i. record { schemes = rows.schemes; authorities = append-nil rows.authorities i; paths = one_path rows.paths rule i; types = append-nil rows.types i }
 
-one_type : (rows : Rows) (mime : Mime) → with_row rows (row_with_type mime) ≡ record { schemes = rows.schemes; authorities = rows.authorities; paths = rows.paths; types = rows.types ++ mime ∷ [] }
+one_type : (rows : DataRows) (mime : Mime) → with_row rows (row_with_type mime) ≡ record { schemes = rows.schemes; authorities = rows.authorities; paths = rows.paths; types = rows.types ++ mime ∷ [] }
 one_type rows mime = λ i. record { schemes = rows.schemes; authorities = append-nil rows.authorities i; paths = four_nils rows.paths i; types = rows.types ++ mime ∷ [] }
 
 grouped : {A : Type 0} (xs : List A) (y : A) (ys : List A) → (xs ++ y ∷ []) ++ ys ≡ xs ++ y ∷ ys
 grouped xs y ys = simp append_assoc
 
-merge_schemes : (texts : List (List ℕ)) (rows : Rows) → fold with_row rows (map row_with_scheme texts) ≡ record { schemes = fold with_text rows.schemes texts; authorities = rows.authorities; paths = rows.paths; types = rows.types }
+merge_schemes : (texts : List (List ℕ)) (rows : DataRows) → fold with_row rows (map row_with_scheme texts) ≡ record { schemes = fold with_text rows.schemes texts; authorities = rows.authorities; paths = rows.paths; types = rows.types }
 merge_schemes [] rows = refl
 merge_schemes (text ∷ texts) rows =
-    ap (λ (r : Rows). fold with_row r (map row_with_scheme texts)) (one_scheme rows text)
+    ap (λ (r : DataRows). fold with_row r (map row_with_scheme texts)) (one_scheme rows text)
     ∙ merge_schemes texts (record { schemes = with_text rows.schemes text; authorities = rows.authorities; paths = rows.paths; types = rows.types })
 
-merge_authorities : (all : List Authority) (rows : Rows) → fold with_row rows (map row_with_authority all) ≡ record { schemes = rows.schemes; authorities = rows.authorities ++ all; paths = rows.paths; types = rows.types }
+merge_authorities : (all : List Authority) (rows : DataRows) → fold with_row rows (map row_with_authority all) ≡ record { schemes = rows.schemes; authorities = rows.authorities ++ all; paths = rows.paths; types = rows.types }
 merge_authorities [] rows = ap (λ (all : List Authority). record { schemes = rows.schemes; authorities = all; paths = rows.paths; types = rows.types }) (sym (append-nil rows.authorities))
 merge_authorities (a ∷ all) rows =
-    ap (λ (r : Rows). fold with_row r (map row_with_authority all)) (one_authority rows a)
+    ap (λ (r : DataRows). fold with_row r (map row_with_authority all)) (one_authority rows a)
     ∙ (merge_authorities all (record { schemes = rows.schemes; authorities = rows.authorities ++ a ∷ []; paths = rows.paths; types = rows.types })
     ∙ λ i. record { schemes = rows.schemes; authorities = grouped rows.authorities a all i; paths = rows.paths; types = rows.types })
 
-merge_paths : (rules : List PathRule) (rows : Rows) → fold with_row rows (map row_with_path rules) ≡ record { schemes = rows.schemes; authorities = rows.authorities; paths = rows.paths ++ rules; types = rows.types }
+merge_paths : (rules : List PathRule) (rows : DataRows) → fold with_row rows (map row_with_path rules) ≡ record { schemes = rows.schemes; authorities = rows.authorities; paths = rows.paths ++ rules; types = rows.types }
 merge_paths [] rows = ap (λ (ps : List PathRule). record { schemes = rows.schemes; authorities = rows.authorities; paths = ps; types = rows.types }) (sym (append-nil rows.paths))
 merge_paths (rule ∷ rules) rows =
-    ap (λ (r : Rows). fold with_row r (map row_with_path rules)) (one_rule rows rule)
+    ap (λ (r : DataRows). fold with_row r (map row_with_path rules)) (one_rule rows rule)
     ∙ (merge_paths rules (record { schemes = rows.schemes; authorities = rows.authorities; paths = rows.paths ++ rule ∷ []; types = rows.types })
     ∙ λ i. record { schemes = rows.schemes; authorities = rows.authorities; paths = grouped rows.paths rule rules i; types = rows.types })
 
-merge_types : (mimes : List Mime) (rows : Rows) → fold with_row rows (map row_with_type mimes) ≡ record { schemes = rows.schemes; authorities = rows.authorities; paths = rows.paths; types = rows.types ++ mimes }
+merge_types : (mimes : List Mime) (rows : DataRows) → fold with_row rows (map row_with_type mimes) ≡ record { schemes = rows.schemes; authorities = rows.authorities; paths = rows.paths; types = rows.types ++ mimes }
 merge_types [] rows = ap (λ (ms : List Mime). record { schemes = rows.schemes; authorities = rows.authorities; paths = rows.paths; types = ms }) (sym (append-nil rows.types))
 merge_types (mime ∷ mimes) rows =
-    ap (λ (r : Rows). fold with_row r (map row_with_type mimes)) (one_type rows mime)
+    ap (λ (r : DataRows). fold with_row r (map row_with_type mimes)) (one_type rows mime)
     ∙ (merge_types mimes (record { schemes = rows.schemes; authorities = rows.authorities; paths = rows.paths; types = rows.types ++ mime ∷ [] })
     ∙ λ i. record { schemes = rows.schemes; authorities = rows.authorities; paths = rows.paths; types = grouped rows.types mime mimes i })
 
 -- what a filter lists, as merged rows
-abbrev pub listed_by : Filter → Rows
+abbrev pub listed_by : Filter → DataRows
 listed_by f = record { schemes = f.schemes; authorities = f.authorities; paths = f.paths; types = f.types }
 
 pub merged_again : (f : Filter) → ReadRows (listed_by f) → fold with_row no_rows (rows_said f) ≡ listed_by f
@@ -115,10 +115,10 @@ merged_again f r =
     let one : fold with_row no_rows ss ≡ record { schemes = f.schemes; authorities = []; paths = []; types = [] } =
     merge_schemes f.schemes no_rows ∙ ap (λ (texts : List (List ℕ)). record { schemes = texts; authorities = []; paths = []; types = [] }) (sorted_again f.schemes r.sorted) in
     let two : fold with_row no_rows (ss ++ auths) ≡ record { schemes = f.schemes; authorities = f.authorities; paths = []; types = [] } =
-    fold_onto no_rows ss auths ∙ (ap (λ (rows : Rows). fold with_row rows auths) one ∙ merge_authorities f.authorities _) in
+    fold_onto no_rows ss auths ∙ (ap (λ (rows : DataRows). fold with_row rows auths) one ∙ merge_authorities f.authorities _) in
     let three : fold with_row no_rows ((ss ++ auths) ++ ps) ≡ record { schemes = f.schemes; authorities = f.authorities; paths = f.paths; types = [] } =
-    fold_onto no_rows (ss ++ auths) ps ∙ (ap (λ (rows : Rows). fold with_row rows ps) two ∙ merge_paths f.paths _) in
-    fold_onto no_rows ((ss ++ auths) ++ ps) ts ∙ (ap (λ (rows : Rows). fold with_row rows ts) three ∙ merge_types f.types _)
+    fold_onto no_rows (ss ++ auths) ps ∙ (ap (λ (rows : DataRows). fold with_row rows ps) two ∙ merge_paths f.paths _) in
+    fold_onto no_rows ((ss ++ auths) ++ ps) ts ∙ (ap (λ (rows : DataRows). fold with_row rows ts) three ∙ merge_types f.types _)
 
 pub each_row_again : (f : Filter) → ReadRows (listed_by f) → each row_in (rows_of f) ≡ Ok (rows_said f)
 unfolding rows_of

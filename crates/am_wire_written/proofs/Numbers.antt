@@ -1,26 +1,26 @@
 -- Numbers: what was read of a value is read again.
-use Rattle.std.proofs.Common.{◌≡◌, ℕ, zero, suc, ℤ, pos, negsuc, Bool, true, false, cond, List, Option, Some, None, option_map, option_and_then, Ok, refl, sym, ap, ◌∙◌, subst, arith}
+use Rattle.std.proofs.Common.{◌≡◌, ℕ, zero, suc, ℤ, pos, negsuc, Bool, true, false, cond, List, Option, Some, None, option_map, option_and_then, Ok, refl, ap, ◌∙◌, subst, arith}
 use Rattle.std.specs.Prelude.{◌^◌, nat_lt, unsigned_abs, ◌==◌}
 use Rattle.std.proofs.lemmas.Bool.Decides.{Decides-eqb}
 use Rattle.serde_json.specs.Data.{Num, unsigned, negative, float, Data, object}
 use Rattle.serde_json.specs.Find.{as_number, as_i64, of_integer}
-use Rattle.am_wire_fields.specs.Fields.{unless_null, field}
-use Rattle.am_wire_fields.specs.Numbers.{number_of, natural_in, whole_in, required_natural, required_whole, natural_if_said, optional_natural, whole_if_said, optional_whole}
+use Rattle.am_wire_fields.specs.Fields.{unless_null, field, if_said, of_kind}
+use Rattle.am_wire_fields.specs.Numbers.{natural_in, whole_in, required_natural, required_whole, optional_natural, optional_whole}
 use Rattle.am_wire.specs.Broadcasts.{or_zero}
 use Rattle.am_wire_values.specs.Fields.{natural, whole, some_whole}
 use Rattle.am_wire_written.proofs.Kept.{IsPlainNumber, IsKept, ForSome, field_kept}
 use Rattle.am_wire_written.proofs.Objects.{Entry, members_with, value_at, are_apart, field_at}
-use Rattle.am_wire_written.proofs.Options.{IsReread, if_said, option_again}
+use Rattle.am_wire_written.proofs.Options.{IsReread, option_field}
 use Rattle.am_wire_written.proofs.Steps.{step, steps, same_ok, same_some}
 use Rattle.am_wire_written.proofs.Texts.{field_again}
 
 -- a number from 0 on is read of what is written for it
 pub natural_again : (name : List ℕ) → IsReread (natural_in name) natural
-unfolding natural_in number_of
+unfolding natural_in of_kind
 natural_again name value n k h = refl
 
-pub number_is : {N : Type 0} (name : List ℕ) (o : Option N) (n : N) → number_of name o ≡ Ok n → o ≡ Some n
-unfolding number_of
+pub number_is : {N : Type 0} (name : List ℕ) (o : Option N) (n : N) → of_kind name o ≡ Ok n → o ≡ Some n
+unfolding of_kind
 number_is name None n h = absurd (cc)
 number_is name (Some m) n h = ap Some (same_ok m n h)
 
@@ -51,9 +51,9 @@ number_kept (Data.object ms) h = tt
 
 -- a signed number is read of what is written for it
 pub whole_again : (name : List ℕ) → IsReread (whole_in name) whole
-unfolding whole_in number_of
+unfolding whole_in of_kind
 whole_again name value z k h =
-    ap (number_of name) (signed_of (as_number value) z (number_kept value k) (number_is name (option_and_then as_i64 (as_number value)) z h))
+    ap (of_kind name) (signed_of (as_number value) z (number_kept value k) (number_is name (option_and_then as_i64 (as_number value)) z h))
 
 pub required_natural_again : (name : List ℕ) (parent : Data) (n : ℕ) (es : List Entry) → IsKept parent → required_natural name parent ≡ Ok n
     → are_apart es ≡ true → value_at name es ≡ Some (natural n) → required_natural name (object (members_with es)) ≡ Ok n
@@ -65,17 +65,10 @@ pub required_whole_again : (name : List ℕ) (parent : Data) (z : ℤ) (es : Lis
 unfolding required_whole
 required_whole_again name parent z es k h apart is = field_again (whole_in name) whole (whole_again name) name parent z es k h apart is refl
 
-natural_if_is : (name : List ℕ) (o : Option Data) → natural_if_said name o ≡ if_said (natural_in name) o
-unfolding natural_if_said
-natural_if_is name None = refl
-natural_if_is name (Some value) = refl
-
 pub natural_field : (name : List ℕ) (value : Data) (o : Option ℕ) (es : List Entry) → IsKept value → optional_natural name value ≡ Ok o
     → are_apart es ≡ true → value_at name es ≡ option_map natural o → optional_natural name (object (members_with es)) ≡ Ok o
 unfolding optional_natural
-natural_field name value o es k h apart is =
-    natural_if_is name _ ∙ option_again (natural_in name) natural (natural_again name) (λ n. refl) (field name value) o _ (field_kept name value k)
-    (sym (natural_if_is name (field name value)) ∙ h) (field_at name es apart ∙ ap unless_null is)
+natural_field name value o es k h apart is = option_field (natural_in name) natural (natural_again name) (λ n. refl) name value o es k h apart is
 
 -- a number that is written if it isn't 0
 pub is_zero : (z : ℤ) → (unsigned_abs z == 0) ≡ true → pos 0 ≡ z
@@ -87,8 +80,8 @@ is_zero (negsuc n) h = let e : suc n ≡ 0 = (Decides-eqb (suc n) 0).0 h in absu
 abbrev pub IsSigned : ℤ → Type 0
 IsSigned z = as_i64 (of_integer z) ≡ Some z
 
-if_is_signed : (name : List ℕ) (value : Option Data) (o : Option ℤ) → ForSome IsKept value → whole_if_said name value ≡ Ok o → IsSigned (or_zero o)
-unfolding whole_if_said whole_in
+if_is_signed : (name : List ℕ) (value : Option Data) (o : Option ℤ) → ForSome IsKept value → if_said (whole_in name) value ≡ Ok o → IsSigned (or_zero o)
+unfolding whole_in
 if_is_signed name None o k h = let P : Option ℤ → Type 0 = λ o. IsSigned (or_zero o) in subst P (same_ok None o h) refl
 if_is_signed name (Some value) o k h =
     let s = step (whole_in name value) (λ z. Ok (Some z)) o h in
@@ -107,15 +100,15 @@ pub record ReadsWhole (name : List ℕ) (value : Data) (z : ℤ) : Type 0 where
   pub is : or_zero said ≡ z
 
 pub some_whole_field : (name : List ℕ) (z : ℤ) (es : List Entry) → IsSigned z → are_apart es ≡ true → value_at name es ≡ some_whole z → ReadsWhole name (object (members_with es)) z
-unfolding optional_whole whole_if_said whole_in number_of
+unfolding optional_whole whole_in of_kind
 some_whole_field name z es signed apart is = by (unsigned_abs z == 0) refl
   where
     by : (b : Bool) → (unsigned_abs z == 0) ≡ b → ReadsWhole name (object (members_with es)) z
     by true e =
-        record { said = None; read = ap (whole_if_said name) (field_at name es apart ∙ ap unless_null (is ∙ ap (λ b. cond b None (Some (whole z))) e)); is = is_zero z e }
+        record { said = None; read = ap (if_said (whole_in name)) (field_at name es apart ∙ ap unless_null (is ∙ ap (λ b. cond b None (Some (whole z))) e)); is = is_zero z e }
     by false e =
         record {
           said = Some z;
-          read = ap (whole_if_said name) (field_at name es apart ∙ ap unless_null (is ∙ ap (λ b. cond b None (Some (whole z))) e)) ∙ steps (whole_in name (whole z)) (λ z. Ok (Some z)) z (Some z) (ap (number_of name) signed) refl;
+          read = ap (if_said (whole_in name)) (field_at name es apart ∙ ap unless_null (is ∙ ap (λ b. cond b None (Some (whole z))) e)) ∙ steps (whole_in name (whole z)) (λ z. Ok (Some z)) z (Some z) (ap (of_kind name) signed) refl;
           is = refl;
         }

@@ -16,7 +16,7 @@ use Rattle.am_wire_fields.specs.Texts.{text_of, text_in, required_text}
 use Rattle.am_wire.specs.Activities.{fields_of}
 use Rattle.am_wire.specs.Packages.{key_of, key_in, install_in, package_in, uninstall_in, force_stop_in, grant_fields, grant_in, link_fields, link_in}
 use Rattle.am_wire_values.specs.Requests.{with_one, grant_data, link_data, request_data}
-use Rattle.am_wire_written.proofs.Activities.{fields_known}
+use Rattle.am_wire_written.proofs.Activities.{fields_known, made_again}
 use Rattle.am_wire_written.proofs.Kept.{IsKept}
 use Rattle.am_wire_written.proofs.Objects.{Entry, members_with, value_at, are_apart}
 use Rattle.am_wire_written.proofs.Options.{IsReread}
@@ -55,7 +55,7 @@ install_again value r k h =
 
 -- ---- names
 
-package_again : (value : Data) (name : List ℕ) → IsKept value → package_in value ≡ Ok name → package_in (with_one (codes "package") (string name)) ≡ Ok name
+package_again : IsReread package_in (λ name. with_one (codes "package") (string name))
 unfolding package_in
 package_again value name k h =
     let fields = codes "package" ∷ [] in
@@ -66,19 +66,11 @@ package_again value name k h =
 
 pub uninstall_again : (value : Data) (r : Request) → IsKept value → uninstall_in value ≡ Ok r → uninstall_in (request_data r) ≡ Ok r
 unfolding uninstall_in request_data
-uninstall_again value r k h =
-    let one = step (package_in value) _ r h in
-    let got = asks.Uninstall one.value in
-    let P : Request → Type 0 = λ r. uninstall_in (request_data r) ≡ Ok r in
-    subst P (same_ok got r one.later) (steps (package_in (with_one (codes "package") (string one.value))) _ one.value got (package_again value one.value k one.first) refl)
+uninstall_again value r k h = made_again package_in (λ name. with_one (codes "package") (string name)) package_again asks.Uninstall (λ name. refl) value r k h
 
 pub force_stop_again : (value : Data) (r : Request) → IsKept value → force_stop_in value ≡ Ok r → force_stop_in (request_data r) ≡ Ok r
 unfolding force_stop_in request_data
-force_stop_again value r k h =
-    let one = step (package_in value) _ r h in
-    let got = asks.ForceStop one.value in
-    let P : Request → Type 0 = λ r. force_stop_in (request_data r) ≡ Ok r in
-    subst P (same_ok got r one.later) (steps (package_in (with_one (codes "package") (string one.value))) _ one.value got (package_again value one.value k one.first) refl)
+force_stop_again value r k h = made_again package_in (λ name. with_one (codes "package") (string name)) package_again asks.ForceStop (λ name. refl) value r k h
 
 pub grant_again : (value : Data) (r : Request) → IsKept value → grant_in value ≡ Ok r → grant_in (request_data r) ≡ Ok r
 unfolding grant_fields grant_in request_data grant_data

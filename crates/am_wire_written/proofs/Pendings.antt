@@ -1,5 +1,5 @@
 -- Pending intents: what was read of a body is read of what is written for it.
-use Rattle.std.proofs.Common.{◌≡◌, true, List, [], ◌∷◌, Some, option_map, Ok, refl, ap, subst}
+use Rattle.std.proofs.Common.{◌≡◌, true, List, [], ◌∷◌, Some, option_map, Ok, refl, subst}
 use Rattle.std.specs.Prelude.{codes}
 use Rattle.serde_json.specs.Data.{Data, string, object}
 use Rattle.am_types.specs.declared.manifest.Kind.{Kind}
@@ -7,46 +7,30 @@ use Rattle.am_types.specs.declared.manifest.Kind.TheVariants.{Activity, Service,
 use Rattle.am_types.specs.declared.request.Request.{Request}
 use Rattle.am_types.specs.declared.request.Request.TheVariants as asks
 use Rattle.am_uri.specs.declared.text.Form.TheVariants.{Any}
-use Rattle.am_wire_fields.specs.Fields.{required}
-use Rattle.am_wire_fields.specs.Lists.{word_in}
 use Rattle.am_wire_fields.specs.Numbers.{required_natural, required_whole}
 use Rattle.am_wire_fields.specs.Texts.{required_text}
-use Rattle.am_wire_fields.specs.Reading.{◌>>=◌}
 use Rattle.am_wire_intents.specs.Intents.{required_intent, optional_intent}
 use Rattle.am_wire.specs.Activities.{fields_of, number_in}
 use Rattle.am_wire.specs.Pendings.{get_of, pending_get_in, pending_send_in, pending_cancel_in, pending_give_in}
-use Rattle.am_wire.specs.Words.{kind_named, pending_words, pending_kind_of, pending_flags_of}
+use Rattle.am_wire.specs.Words.{pending_words, pending_kind_of, pending_flags_of}
 use Rattle.am_wire_values.specs.Fields.{natural, whole, texts_data}
 use Rattle.am_wire_values.specs.Intents.{intent_data}
 use Rattle.am_wire_values.specs.Names.{pending_name, names_set, pending_named}
 use Rattle.am_wire_values.specs.Requests.{with_one, get_data, pending_send_data, request_data}
-use Rattle.am_wire_written.proofs.Activities.{fields_known, number_again}
+use Rattle.am_wire_written.proofs.Activities.{fields_known, made_again, named_at, number_again}
 use Rattle.am_wire_written.proofs.Flags.{pending_flags_at}
 use Rattle.am_wire_written.proofs.Intents.{required_intent_again, intent_field}
 use Rattle.am_wire_written.proofs.Kept.{IsKept}
 use Rattle.am_wire_written.proofs.Numbers.{required_natural_again, required_whole_again}
 use Rattle.am_wire_written.proofs.Objects.{Entry, members_with, value_at, are_apart}
 use Rattle.am_wire_written.proofs.Steps.{step, steps, same_ok}
-use Rattle.am_wire_written.proofs.Texts.{required_at, required_text_again, word_again}
-
--- the word of a pending intent's kind is read as it
-pending_word : (kind : Kind) → word_in pending_words (codes "kind") (string (pending_name kind)) ≡ Ok (pending_name kind)
-unfolding pending_words
-pending_word Activity = word_again pending_words (codes "kind") (codes "activity") refl
-pending_word Service = word_again pending_words (codes "kind") (codes "service") refl
-pending_word Receiver = word_again pending_words (codes "kind") (codes "broadcast") refl
-
-kind_again : (kind : Kind) → kind_named (pending_name kind) ≡ kind
-kind_again Activity = refl
-kind_again Service = refl
-kind_again Receiver = refl
+use Rattle.am_wire_written.proofs.Texts.{required_text_again}
 
 kind_at : (kind : Kind) (es : List Entry) → are_apart es ≡ true → value_at (codes "kind") es ≡ Some (string (pending_name kind)) → pending_kind_of (object (members_with es)) ≡ Ok kind
-unfolding pending_kind_of
-kind_at kind es apart is =
-    steps (required (codes "kind") (object (members_with es))) (λ value. word_in pending_words (codes "kind") value >>= λ word. Ok (kind_named word)) (string (pending_name kind)) kind
-    (required_at (codes "kind") es (string (pending_name kind)) apart is refl)
-    (steps (word_in pending_words (codes "kind") (string (pending_name kind))) (λ word. Ok (kind_named word)) (pending_name kind) kind (pending_word kind) (ap Ok (kind_again kind)))
+unfolding pending_kind_of pending_words
+kind_at Activity es apart is = named_at pending_words (codes "activity") Activity es refl refl apart is
+kind_at Service es apart is = named_at pending_words (codes "service") Service es refl refl apart is
+kind_at Receiver es apart is = named_at pending_words (codes "broadcast") Receiver es refl refl apart is
 
 pub pending_get_again : (value : Data) (r : Request) → IsKept value → pending_get_in value ≡ Ok r → pending_get_in (request_data r) ≡ Ok r
 unfolding pending_get_in get_of request_data get_data
@@ -88,10 +72,7 @@ pending_send_again value r k h =
 pub pending_cancel_again : (value : Data) (r : Request) → IsKept value → pending_cancel_in value ≡ Ok r → pending_cancel_in (request_data r) ≡ Ok r
 unfolding pending_cancel_in request_data
 pending_cancel_again value r k h =
-    let one = step (number_in (codes "token") value) _ r h in
-    let got = asks.PendingCancel one.value in
-    let P : Request → Type 0 = λ r. pending_cancel_in (request_data r) ≡ Ok r in
-    subst P (same_ok got r one.later) (steps (number_in (codes "token") (with_one (codes "token") (natural one.value))) _ one.value got (number_again (codes "token") value one.value k refl refl one.first) refl)
+    made_again (number_in (codes "token")) (λ n. with_one (codes "token") (natural n)) (λ value n k h. number_again (codes "token") value n k refl refl h) asks.PendingCancel (λ n. refl) value r k h
 
 pub pending_give_again : (value : Data) (r : Request) → IsKept value → pending_give_in value ≡ Ok r → pending_give_in (request_data r) ≡ Ok r
 unfolding pending_give_in request_data

@@ -1,5 +1,5 @@
 -- The rows of a filter: what was read of them is read of the rows that are written for it.
-use Rattle.std.proofs.Common.{◌≡◌, ℕ, true, cond, List, [], ◌∷◌, ◌++◌, length, fold, Option, Some, None, option_map, option_and_then, Result, Ok, Err, nat_cmp, refl, sym, ap, ◌∙◌, subst}
+use Rattle.std.proofs.Common.{◌≡◌, ℕ, true, cond, List, [], ◌∷◌, ◌++◌, length, fold, Option, Some, None, option_map, option_and_then, Result, Ok, Err, nat_cmp, refl, ap, ◌∙◌, subst}
 use Rattle.std.specs.Prelude.{codes, nat_lt}
 use Rattle.std.specs.Cmp.Lexicographic.{slice_cmp}
 use Rattle.std.specs.List.{AllByRecursion}
@@ -12,19 +12,19 @@ use Rattle.am_types.specs.declared.filter.PathRule.TheVariants.{Literal, Prefix,
 use Rattle.am_types.specs.declared.uri.Mime.{Mime}
 use Rattle.am_model.specs.Uris.{is_scheme}
 use Rattle.am_filter.specs.declared.rows.Paths.{Paths}
-use Rattle.am_filter.specs.declared.rows.Row.{Row}
-use Rattle.am_filter.specs.declared.rows.Rows.{Rows}
+use Rattle.am_filter.specs.declared.rows.DataRow.{DataRow}
+use Rattle.am_filter.specs.declared.rows.DataRows.{DataRows}
 use Rattle.am_uri.specs.declared.text.Form.TheVariants.{Filled}
 use Rattle.am_filter.specs.Rows.{listed, with_paths, with_row, no_rows}
 use Rattle.am_uri.specs.Texts.{with_optional}
 use Rattle.am_uri.proofs.Order.{sorted_put}
 use Rattle.am_wire_fields.specs.declared.fault.WireFault.{WireFault}
 use Rattle.am_wire_fields.specs.declared.fault.WireFault.TheVariants.{WrongKind, TooLong}
-use Rattle.am_wire_fields.specs.Fields.{unless_null, field, only_fields}
+use Rattle.am_wire_fields.specs.Fields.{unless_null, field, if_said, only_fields}
 use Rattle.am_wire_fields.specs.Lists.{each}
 use Rattle.am_wire_fields.specs.Reading.{◌>>=◌}
-use Rattle.am_wire_fields.specs.Texts.{text_in, text_if_said, optional_text}
-use Rattle.am_wire_intents.specs.Filters.{scheme_of, scheme_if_said, scheme_at, port_of, port_if_said, port_at, authority_at, paths_at, row_type, type_if_said, type_at, row_of, row_fields, row_in}
+use Rattle.am_wire_fields.specs.Texts.{text_in, optional_text}
+use Rattle.am_wire_intents.specs.Filters.{scheme_of, scheme_at, port_of, port_at, authority_at, paths_at, row_type, type_at, row_of, row_fields, row_in}
 use Rattle.am_wire_values.specs.Fields.{natural}
 use Rattle.am_wire_values.specs.Filters.{scheme_row, authority_row, path_row, type_row}
 use Rattle.am_wire_values.specs.Intents.{mime_data}
@@ -32,17 +32,17 @@ use Rattle.am_wire_written.proofs.Components.{mime_read_again}
 use Rattle.am_wire_written.proofs.Kept.{IsKept, ForSome, field_kept}
 use Rattle.am_wire_written.proofs.Lists.{AreKept, AreSorted, none_sorted, all_put}
 use Rattle.am_wire_written.proofs.Objects.{Entry, members_with, value_at, are_apart, field_at, only_listed}
-use Rattle.am_wire_written.proofs.Options.{IsReread, if_said, option_again}
+use Rattle.am_wire_written.proofs.Options.{IsReread, option_field}
 use Rattle.am_wire_written.proofs.Steps.{step, steps, same_ok}
 use Rattle.am_wire_written.proofs.Texts.{if_read, else_read, text_again, text_field}
 
 -- ---- the parts of a row
 
 -- what a row that has one key says
-abbrev pub row_with_scheme : List ℕ → Row
+abbrev pub row_with_scheme : List ℕ → DataRow
 row_with_scheme text = record { scheme = Some text; authority = None; paths = record { literal = None; prefix = None; suffix = None; pattern = None }; mime = None }
 
-abbrev pub row_with_authority : Authority → Row
+abbrev pub row_with_authority : Authority → DataRow
 row_with_authority authority = record { scheme = None; authority = Some authority; paths = record { literal = None; prefix = None; suffix = None; pattern = None }; mime = None }
 
 abbrev pub paths_with : PathRule → Paths
@@ -51,10 +51,10 @@ paths_with (Prefix text) = record { literal = None; prefix = Some text; suffix =
 paths_with (Suffix text) = record { literal = None; prefix = None; suffix = Some text; pattern = None }
 paths_with (Pattern text) = record { literal = None; prefix = None; suffix = None; pattern = Some text }
 
-abbrev pub row_with_path : PathRule → Row
+abbrev pub row_with_path : PathRule → DataRow
 row_with_path rule = record { scheme = None; authority = None; paths = paths_with rule; mime = None }
 
-abbrev pub row_with_type : Mime → Row
+abbrev pub row_with_type : Mime → DataRow
 row_with_type mime = record { scheme = None; authority = None; paths = record { literal = None; prefix = None; suffix = None; pattern = None }; mime = Some mime }
 
 -- what is read of the row that is written for one of them
@@ -92,13 +92,8 @@ scheme_of_again (Some said) text h =
     let P : List ℕ → Type 0 = λ t. scheme_of (Some t) ≡ Ok text in
     subst P (same_ok said text short.1) h
 
-scheme_if_is : (o : Option Data) → scheme_if_said o ≡ if_said (λ value. scheme_of (as_str value)) o
-unfolding scheme_if_said
-scheme_if_is None = refl
-scheme_if_is (Some value) = refl
-
 reads_scheme : (text : List ℕ) → scheme_of (Some text) ≡ Ok text → ReadsScheme text
-unfolding row_in row_of scheme_at scheme_if_said authority_at port_at port_if_said paths_at type_at type_if_said optional_text text_if_said field
+unfolding row_in row_of scheme_at authority_at port_at paths_at type_at optional_text field
 reads_scheme text h =
     let d = scheme_row text in
     steps (only_fields (codes "data") row_fields d) (λ known. row_of d) tt (row_with_scheme text) (only_listed (codes "data") row_fields ((codes "scheme", Some (string text)) ∷ []) refl)
@@ -108,8 +103,7 @@ scheme_read : (value : Data) (o : Option (List ℕ)) → IsKept value → scheme
 unfolding scheme_at
 scheme_read value o k h =
     for_some _ ReadsScheme reads_scheme o
-    (said_is_read (λ value. scheme_of (as_str value)) string (λ value text k h. scheme_of_again (as_str value) text h) (field (codes "scheme") value) o (field_kept (codes "scheme") value k)
-    (sym (scheme_if_is (field (codes "scheme") value)) ∙ h))
+    (said_is_read (λ value. scheme_of (as_str value)) string (λ value text k h. scheme_of_again (as_str value) text h) (field (codes "scheme") value) o (field_kept (codes "scheme") value k) h)
 
 -- ---- authorities
 
@@ -121,32 +115,27 @@ port_of_again (Some said) n h =
     let P : ℕ → Type 0 = λ m. port_of (Some m) ≡ Ok n in
     subst P (same_ok said n short.1) h
 
-port_if_is : (o : Option Data) → port_if_said o ≡ if_said (λ value. port_of (option_and_then as_u64 (as_number value))) o
-unfolding port_if_said
-port_if_is None = refl
-port_if_is (Some value) = refl
-
 port_field : (value : Data) (o : Option ℕ) (es : List Entry) → IsKept value → port_at value ≡ Ok o → are_apart es ≡ true → value_at (codes "port") es ≡ option_map natural o
     → port_at (object (members_with es)) ≡ Ok o
 unfolding port_at
 port_field value o es k h apart is =
-    port_if_is _ ∙ option_again (λ value. port_of (option_and_then as_u64 (as_number value))) natural (λ value n k h. port_of_again (option_and_then as_u64 (as_number value)) n h) (λ n. refl)
-    (field (codes "port") value) o _ (field_kept (codes "port") value k) (sym (port_if_is (field (codes "port") value)) ∙ h) (field_at (codes "port") es apart ∙ ap unless_null is)
+    option_field (λ value. port_of (option_and_then as_u64 (as_number value))) natural (λ value n k h. port_of_again (option_and_then as_u64 (as_number value)) n h) (λ n. refl)
+    (codes "port") value o es k h apart is
 
 abbrev authority_entries : Authority → List Entry
 authority_entries authority = (codes "port", option_map natural authority.port) ∷ (codes "host", Some (string authority.host)) ∷ []
 
 no_text : (name : List ℕ) (es : List Entry) → are_apart es ≡ true → value_at name es ≡ None → optional_text Filled 1024 name (object (members_with es)) ≡ Ok None
-unfolding optional_text text_if_said
-no_text name es apart is = ap (text_if_said Filled 1024 name) (field_at name es apart ∙ ap unless_null is)
+unfolding optional_text
+no_text name es apart is = ap (if_said (text_in Filled 1024 name)) (field_at name es apart ∙ ap unless_null is)
 
 no_scheme : (es : List Entry) → are_apart es ≡ true → value_at (codes "scheme") es ≡ None → scheme_at (object (members_with es)) ≡ Ok None
-unfolding scheme_at scheme_if_said
-no_scheme es apart is = ap scheme_if_said (field_at (codes "scheme") es apart ∙ ap unless_null is)
+unfolding scheme_at
+no_scheme es apart is = ap (if_said (λ value. scheme_of (as_str value))) (field_at (codes "scheme") es apart ∙ ap unless_null is)
 
 no_type : (es : List Entry) → are_apart es ≡ true → value_at (codes "mimeType") es ≡ None → type_at (object (members_with es)) ≡ Ok None
-unfolding type_at type_if_said
-no_type es apart is = ap type_if_said (field_at (codes "mimeType") es apart ∙ ap unless_null is)
+unfolding type_at
+no_type es apart is = ap (if_said row_type) (field_at (codes "mimeType") es apart ∙ ap unless_null is)
 
 no_paths : (es : List Entry) → are_apart es ≡ true → value_at (codes "path") es ≡ None → value_at (codes "pathPrefix") es ≡ None → value_at (codes "pathSuffix") es ≡ None → value_at (codes "pathPattern") es ≡ None
     → paths_at (object (members_with es)) ≡ Ok (record { literal = None; prefix = None; suffix = None; pattern = None })
@@ -188,18 +177,13 @@ authority_read value o k h =
 
 -- ---- paths
 
-text_said : (name : List ℕ) (o : Option Data) → text_if_said Filled 1024 name o ≡ if_said (text_in Filled 1024 name) o
-unfolding text_if_said
-text_said name None = refl
-text_said name (Some value) = refl
-
 -- a text that is read again
 abbrev IsSaid : List ℕ → List ℕ → Type 0
 IsSaid name text = text_in Filled 1024 name (string text) ≡ Ok text
 
 path_said : (name : List ℕ) (value : Data) (o : Option (List ℕ)) → IsKept value → optional_text Filled 1024 name value ≡ Ok o → ForSome (IsSaid name) o
 unfolding optional_text
-path_said name value o k h = said_is_read (text_in Filled 1024 name) string (text_again Filled 1024 name) (field name value) o (field_kept name value k) (sym (text_said name (field name value)) ∙ h)
+path_said name value o k h = said_is_read (text_in Filled 1024 name) string (text_again Filled 1024 name) (field name value) o (field_kept name value k) h
 
 reads_path : (rule : PathRule) (d : Data) → only_fields (codes "data") row_fields d ≡ Ok tt → scheme_at d ≡ Ok None → authority_at d ≡ Ok None → paths_at d ≡ Ok (paths_with rule) → type_at d ≡ Ok None
     → row_in d ≡ Ok (row_with_path rule)
@@ -209,28 +193,28 @@ reads_path rule d known s a p t =
     (steps (scheme_at d) _ None (row_with_path rule) s (steps (authority_at d) _ None (row_with_path rule) a (steps (paths_at d) _ (paths_with rule) (row_with_path rule) p (steps (type_at d) _ None (row_with_path rule) t refl))))
 
 reads_literal : (text : List ℕ) → IsSaid (codes "path") text → ReadsPath (Literal text)
-unfolding scheme_at scheme_if_said authority_at port_at port_if_said paths_at type_at type_if_said optional_text text_if_said field
+unfolding scheme_at authority_at port_at paths_at type_at optional_text field
 reads_literal text h =
     let d = path_row (Literal text) in
     reads_path (Literal text) d (only_listed (codes "data") row_fields ((codes "path", Some (string text)) ∷ []) refl) refl refl
     (steps (optional_text Filled 1024 (codes "path") d) _ (Some text) (paths_with (Literal text)) (steps (text_in Filled 1024 (codes "path") (string text)) (λ text. Ok (Some text)) text (Some text) h refl) refl) refl
 
 reads_prefix : (text : List ℕ) → IsSaid (codes "pathPrefix") text → ReadsPath (Prefix text)
-unfolding scheme_at scheme_if_said authority_at port_at port_if_said paths_at type_at type_if_said optional_text text_if_said field
+unfolding scheme_at authority_at port_at paths_at type_at optional_text field
 reads_prefix text h =
     let d = path_row (Prefix text) in
     reads_path (Prefix text) d (only_listed (codes "data") row_fields ((codes "pathPrefix", Some (string text)) ∷ []) refl) refl refl
     (steps (optional_text Filled 1024 (codes "pathPrefix") d) _ (Some text) (paths_with (Prefix text)) (steps (text_in Filled 1024 (codes "pathPrefix") (string text)) (λ text. Ok (Some text)) text (Some text) h refl) refl) refl
 
 reads_suffix : (text : List ℕ) → IsSaid (codes "pathSuffix") text → ReadsPath (Suffix text)
-unfolding scheme_at scheme_if_said authority_at port_at port_if_said paths_at type_at type_if_said optional_text text_if_said field
+unfolding scheme_at authority_at port_at paths_at type_at optional_text field
 reads_suffix text h =
     let d = path_row (Suffix text) in
     reads_path (Suffix text) d (only_listed (codes "data") row_fields ((codes "pathSuffix", Some (string text)) ∷ []) refl) refl refl
     (steps (optional_text Filled 1024 (codes "pathSuffix") d) _ (Some text) (paths_with (Suffix text)) (steps (text_in Filled 1024 (codes "pathSuffix") (string text)) (λ text. Ok (Some text)) text (Some text) h refl) refl) refl
 
 reads_pattern : (text : List ℕ) → IsSaid (codes "pathPattern") text → ReadsPath (Pattern text)
-unfolding scheme_at scheme_if_said authority_at port_at port_if_said paths_at type_at type_if_said optional_text text_if_said field
+unfolding scheme_at authority_at port_at paths_at type_at optional_text field
 reads_pattern text h =
     let d = path_row (Pattern text) in
     reads_path (Pattern text) d (only_listed (codes "data") row_fields ((codes "pathPattern", Some (string text)) ∷ []) refl) refl refl
@@ -264,13 +248,8 @@ row_type_again : IsReread row_type mime_data
 unfolding row_type
 row_type_again value mime k h = mime_read_again Filled (codes "mimeType") value mime k h
 
-type_if_is : (o : Option Data) → type_if_said o ≡ if_said row_type o
-unfolding type_if_said
-type_if_is None = refl
-type_if_is (Some value) = refl
-
 reads_type : (mime : Mime) → row_type (mime_data mime) ≡ Ok mime → ReadsType mime
-unfolding row_in row_of scheme_at scheme_if_said authority_at port_at port_if_said paths_at type_at type_if_said optional_text text_if_said field
+unfolding row_in row_of scheme_at authority_at port_at paths_at type_at optional_text field
 reads_type mime h =
     let d = type_row mime in
     steps (only_fields (codes "data") row_fields d) (λ known. row_of d) tt (row_with_type mime) (only_listed (codes "data") row_fields ((codes "mimeType", Some (mime_data mime)) ∷ []) refl)
@@ -280,18 +259,18 @@ type_read : (value : Data) (o : Option Mime) → IsKept value → type_at value 
 unfolding type_at
 type_read value o k h =
     for_some _ ReadsType reads_type o
-    (said_is_read row_type mime_data row_type_again (field (codes "mimeType") value) o (field_kept (codes "mimeType") value k) (sym (type_if_is (field (codes "mimeType") value)) ∙ h))
+    (said_is_read row_type mime_data row_type_again (field (codes "mimeType") value) o (field_kept (codes "mimeType") value k) h)
 
 -- ---- a row
 
 -- a row whose parts are each read again
-pub record ReadRow (row : Row) : Type 0 where
+pub record ReadRow (row : DataRow) : Type 0 where
   pub scheme : ForSome ReadsScheme row.scheme
   pub authority : ForSome ReadsAuthority row.authority
   pub paths : ReadPaths row.paths
   pub mime : ForSome ReadsType row.mime
 
-row_read : (value : Data) (row : Row) → IsKept value → row_in value ≡ Ok row → ReadRow row
+row_read : (value : Data) (row : DataRow) → IsKept value → row_in value ≡ Ok row → ReadRow row
 unfolding row_in row_of
 row_read value row k h =
     let one = step (only_fields (codes "data") row_fields value) (λ known. row_of value) row h in
@@ -299,7 +278,7 @@ row_read value row k h =
     let three = step (authority_at value) _ row two.later in
     let four = step (paths_at value) _ row three.later in
     let five = step (type_at value) _ row four.later in
-    let got : Row = record { scheme = two.value; authority = three.value; paths = four.value; mime = five.value } in
+    let got : DataRow = record { scheme = two.value; authority = three.value; paths = four.value; mime = five.value } in
     subst ReadRow (same_ok got row five.later) (record {
       scheme = scheme_read value two.value k two.first;
       authority = authority_read value three.value k three.first;
@@ -307,7 +286,7 @@ row_read value row k h =
       mime = type_read value five.value k five.first;
     })
 
-pub rows_read : (values : List Data) (rows : List Row) → AreKept values → each row_in values ≡ Ok rows → AllByRecursion ReadRow rows
+pub rows_read : (values : List Data) (rows : List DataRow) → AreKept values → each row_in values ≡ Ok rows → AllByRecursion ReadRow rows
 unfolding each
 rows_read [] rows k h = subst (AllByRecursion ReadRow) (same_ok [] rows h) tt
 rows_read (v ∷ vs) rows k h =
@@ -318,7 +297,7 @@ rows_read (v ∷ vs) rows k h =
 -- ---- rows merged
 
 -- merged rows whose entries are each read again, with the schemes in order
-pub record ReadRows (rows : Rows) : Type 0 where
+pub record ReadRows (rows : DataRows) : Type 0 where
   pub schemes : AllByRecursion ReadsScheme rows.schemes
   pub sorted : AreSorted rows.schemes
   pub authorities : AllByRecursion ReadsAuthority rows.authorities
@@ -350,7 +329,7 @@ paths_put rules paths h k =
     all_append ReadsPath _ _ (all_append ReadsPath _ _ (all_append ReadsPath _ _ (all_append ReadsPath rules _ h (all_mapped ReadsPath Literal paths.literal k.literal)) (all_mapped ReadsPath Prefix paths.prefix k.prefix))
     (all_mapped ReadsPath Suffix paths.suffix k.suffix)) (all_mapped ReadsPath Pattern paths.pattern k.pattern)
 
-one_more : (rows : Rows) (row : Row) → ReadRows rows → ReadRow row → ReadRows (with_row rows row)
+one_more : (rows : DataRows) (row : DataRow) → ReadRows rows → ReadRow row → ReadRows (with_row rows row)
 one_more rows row h k = record {
   schemes = scheme_put rows.schemes row.scheme h.schemes k.scheme;
   sorted = scheme_sorted rows.schemes row.scheme h.sorted;
@@ -359,10 +338,10 @@ one_more rows row h k = record {
   types = all_append ReadsType rows.types _ h.types (all_listed ReadsType row.mime k.mime);
 }
 
-merged_onto : (front : Rows) (rows : List Row) → ReadRows front → AllByRecursion ReadRow rows → ReadRows (fold with_row front rows)
+merged_onto : (front : DataRows) (rows : List DataRow) → ReadRows front → AllByRecursion ReadRow rows → ReadRows (fold with_row front rows)
 merged_onto front [] h k = h
 merged_onto front (row ∷ rows) h k = merged_onto (with_row front row) rows (one_more front row h k.0) k.1
 
 -- rows that were read, merged
-pub merged_read : (rows : List Row) → AllByRecursion ReadRow rows → ReadRows (fold with_row no_rows rows)
+pub merged_read : (rows : List DataRow) → AllByRecursion ReadRow rows → ReadRows (fold with_row no_rows rows)
 merged_read rows k = merged_onto no_rows rows (record { schemes = tt; sorted = none_sorted; authorities = tt; paths = tt; types = tt }) k

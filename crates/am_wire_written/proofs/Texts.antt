@@ -9,15 +9,15 @@ use Rattle.am_uri.specs.Texts.{fits}
 use Rattle.am_model.specs.Texts.{lists}
 use Rattle.am_wire_fields.specs.declared.fault.WireFault.{WireFault}
 use Rattle.am_wire_fields.specs.declared.fault.WireFault.TheVariants.{WrongKind, TooLong}
-use Rattle.am_wire_fields.specs.Fields.{unless_null, field, present, required, truth_of, truth_in, truth_or_false, optional_truth, required_truth}
+use Rattle.am_wire_fields.specs.Fields.{unless_null, field, present, required, of_kind, truth_in, truth_or_false, optional_truth, required_truth}
 use Rattle.am_wire_fields.specs.Lists.{word_of, word_in, words_in}
 use Rattle.am_wire_fields.specs.Reading.{◌>>=◌}
-use Rattle.am_wire_fields.specs.Texts.{text_of, text_in, text_if_said, optional_text, required_text}
+use Rattle.am_wire_fields.specs.Texts.{text_of, text_in, optional_text, required_text}
 use Rattle.am_wire_values.specs.Fields.{some_truth}
 use Rattle.am_wire_written.proofs.Kept.{IsKept, ForSome, field_kept}
 use Rattle.am_wire_written.proofs.Lists.{IsRead, each_again}
 use Rattle.am_wire_written.proofs.Objects.{Entry, members_with, value_at, are_apart, field_at}
-use Rattle.am_wire_written.proofs.Options.{IsReread, if_said, option_again}
+use Rattle.am_wire_written.proofs.Options.{IsReread, option_field}
 use Rattle.am_wire_written.proofs.Steps.{step, steps, same_ok}
 
 -- where a test holds, what is read behind it
@@ -55,18 +55,12 @@ pub text_again : (form : Form) (limit : ℕ) (name : List ℕ) → IsReread (tex
 unfolding text_in
 text_again form limit name value text k h = text_of_again form limit name (as_str value) text h
 
-text_if_is : (form : Form) (limit : ℕ) (name : List ℕ) (o : Option Data) → text_if_said form limit name o ≡ if_said (text_in form limit name) o
-unfolding text_if_said
-text_if_is form limit name None = refl
-text_if_is form limit name (Some value) = refl
-
 -- a text that need not be there
 pub text_field : (form : Form) (limit : ℕ) (name : List ℕ) (value : Data) (o : Option (List ℕ)) (es : List Entry) → IsKept value → optional_text form limit name value ≡ Ok o
     → are_apart es ≡ true → value_at name es ≡ option_map string o → optional_text form limit name (object (members_with es)) ≡ Ok o
 unfolding optional_text
 text_field form limit name value o es k h apart is =
-    text_if_is form limit name _ ∙ option_again (text_in form limit name) string (text_again form limit name) (λ t. refl) (field name value) o _ (field_kept name value k)
-    (sym (text_if_is form limit name (field name value)) ∙ h) (field_at name es apart ∙ ap unless_null is)
+    option_field (text_in form limit name) string (text_again form limit name) (λ t. refl) name value o es k h apart is
 
 -- ---- fields that must be there
 
@@ -102,7 +96,7 @@ required_text_again form limit name parent text es k h apart is = field_again (t
 -- ---- truths
 
 pub truth_field : (name : List ℕ) (b : Bool) (es : List Entry) → are_apart es ≡ true → value_at name es ≡ some_truth b → optional_truth name (object (members_with es)) ≡ Ok b
-unfolding optional_truth truth_or_false truth_in truth_of
+unfolding optional_truth truth_or_false truth_in of_kind
 truth_field name b es apart is = ap (truth_or_false name) (field_at name es apart ∙ ap unless_null is) ∙ by b
   where
     by : (b : Bool) → truth_or_false name (unless_null (some_truth b)) ≡ Ok b
@@ -110,7 +104,7 @@ truth_field name b es apart is = ap (truth_or_false name) (field_at name es apar
     by false = refl
 
 pub required_truth_at : (name : List ℕ) (b : Bool) (es : List Entry) → are_apart es ≡ true → value_at name es ≡ Some (boolean b) → required_truth name (object (members_with es)) ≡ Ok b
-unfolding required_truth truth_in truth_of
+unfolding required_truth truth_in of_kind
 required_truth_at name b es apart is = steps (required name (object (members_with es))) (truth_in name) (boolean b) b (required_at name es (boolean b) apart is refl) refl
 
 -- ---- words

@@ -10,7 +10,7 @@ use Rattle.am_history.specs.Desks.{DeskView, Origin, Sharing, opening_of}
 use Rattle.am_history.specs.History.{Extends, IsLegal, entries_of}
 use Rattle.am_baton.specs.Shared.{AreAll, AreNew, IsNumbered, new_desk}
 use Rattle.am_baton.proofs.Desks.{new_all, still_all}
-use Rattle.am_workers.specs.declared.worker.Tally.{Tally}
+use Rattle.am_workers.specs.declared.worker.Totals.{Totals}
 use Rattle.am_workers.specs.declared.worker.Worker.{Worker}
 use Rattle.am_workers.specs.Work.{WorkerView}
 use Rattle.am_workers.specs.Serving.{NetworkView, ServesAll, all_released, faults_raised}
@@ -83,19 +83,19 @@ numbered_as sharing last out d all told =
     subst (λ (s : Sharing). IsNumbered s.desks s.handed out) (all.each 0 d within).1 (told 0 d within)
 
 -- all workers together
-pub serves : {G C : Type 0} (links : G → Option Links) (faults : G → ℕ) (most : Option ℕ) (count : ℕ) (origin : Origin) (history out : List Entry) (olds news : List (Worker DeskView G C)) (desks last : List DeskView) (gates : List G) (tally : Tally) (old new : NetworkView)
+pub serves : {G C : Type 0} (links : G → Option Links) (faults : G → ℕ) (most : Option ℕ) (count : ℕ) (origin : Origin) (history out : List Entry) (olds news : List (Worker DeskView G C)) (desks last : List DeskView) (gates : List G) (totals : Totals) (old new : NetworkView)
     → IsLegal (opening_of origin) out → (shared : (sharing : Sharing) × (sharing.desks ≡ count) × (sharing.handed ≡ history) × AreNew origin sharing desks) → 1 ≤ count
     → map (λ (w : Worker DeskView G C). w.desk) olds ≡ desks → map (λ (w : Worker DeskView G C). w.gate) olds ≡ gates → AreNewGates links faults gates → Worked links faults most olds news → length news ≡ length olds
     → last ≡ map (λ (w : Worker DeskView G C). w.desk) news
     → All (λ (d : DeskView). Extends d.sharing.handed d.seen × Extends d.seen out) last
     → All (λ (d : DeskView). entries_of d.number out ≡ entries_of d.number d.seen) last
     → All (λ (d : DeskView). IsNumbered d.sharing.desks d.sharing.handed out) last
-    → tally.served ≡ min 18446744073709551615 (sum_by (λ (w : Worker DeskView G C). w.worked.served) news)
-    → tally.failed ≡ list_any (λ (w : Worker DeskView G C). w.worked.failed) news
+    → totals.served ≡ min 18446744073709551615 (sum_by (λ (w : Worker DeskView G C). w.worked.served) news)
+    → totals.failed ≡ list_any (λ (w : Worker DeskView G C). w.worked.failed) news
     → new.listening ≡ all_released old.listening (map (λ (w : Worker DeskView G C). (view links faults w).gate) news) → new.faults ≡ old.faults
     → new.gate_faults ≡ faults_raised old.gate_faults (map (λ (w : Worker DeskView G C). (view links faults w).gate) news)
-    → ServesAll most count (record { origin = origin; history = history }) (record { history = out; tally = tally }) old new
-serves {G} {C} links faults most count origin history out olds news desks last gates tally old new legal shared some_gate of_desks of_gates new_gates all many ends seen own others served failed told same_faults gate_faults =
+    → ServesAll most count (record { origin = origin; history = history }) (record { history = out; totals = totals }) old new
+serves {G} {C} links faults most count origin history out olds news desks last gates totals old new legal shared some_gate of_desks of_gates new_gates all many ends seen own others served failed told same_faults gate_faults =
     let sharing = shared.0 in
     let made = shared.3 in
     let some_desk : 1 ≤ sharing.desks = let e = shared.1 in omega (arith, e, some_gate) in
@@ -112,6 +112,6 @@ serves {G} {C} links faults most count origin history out olds news desks last g
     let P : DeskView → Type 0 = λ (d : DeskView). Extends d.seen out × (entries_of d.number out ≡ entries_of d.number d.seen) in
     let both : All P (map (λ (w : Worker DeskView G C). w.desk) news) = subst (All P) ends (λ k d within. ((seen k d within).1, own k d within)) in
     let closes = of_workers (view links faults) (λ (w : Worker DeskView G C). w.worked) P news (recursion_from_All P (map (λ (w : Worker DeskView G C). w.desk) news) both) in
-    subst (λ (h : List Entry). ServesAll most count (record { origin = origin; history = h }) (record { history = out; tally = tally }) old new) shared.2
-    (serves_all (view links faults) (λ (w : Worker DeskView G C). w.worked) most count origin sharing (record { history = out; tally = tally }) olds news old new all as_count shared.1 begins legal
+    subst (λ (h : List Entry). ServesAll most count (record { origin = origin; history = h }) (record { history = out; totals = totals }) old new) shared.2
+    (serves_all (view links faults) (λ (w : Worker DeskView G C). w.worked) most count origin sharing (record { history = out; totals = totals }) olds news old new all as_count shared.1 begins legal
     (numbered_as sharing last out (new_desk origin sharing 0) alls others) closes served failed told same_faults gate_faults)

@@ -45,7 +45,7 @@ no_fault false old new risen none = refl
 pub gate_served : (most : Option ℕ) (origin : Origin) (sharing : Sharing) (k : ℕ) (ended : Ended) (old new : WorkerView) (worked : Worked)
     → old.desk ≡ new_desk origin sharing k → IsNewGate old.gate → (w : Works most old new worked)
     → Extends new.desk.seen ended.history → entries_of new.desk.number ended.history ≡ entries_of new.desk.number new.desk.seen
-    → (ended.tally.failed ≡ false → worked.failed ≡ false)
+    → (ended.totals.failed ≡ false → worked.failed ≡ false)
     → IsGateServed most (record { origin = origin; history = sharing.handed }) ended k (record { gate = new.gate; services = w.services })
 gate_served most origin sharing k ended old new worked made is_new w grows own calm =
     let P : DeskView → Type 0 = λ (d : DeskView). IsWorked (start_of d) (length d.seen) d.number new.desk.seen w.services in
@@ -60,7 +60,7 @@ gate_served most origin sharing k ended old new worked made is_new w grows own c
           (subst (λ n. entries_of n ended.history ≡ entries_of n new.desk.seen) number own) there;
       links = whole_gate old.gate.links new.gate.links w.services is_new.1 w.has.links;
       few = w.few;
-      stops = ⊎_elim (λ (h : ended.tally.failed ≡ false). w.stops (calm h))
+      stops = ⊎_elim (λ (h : ended.totals.failed ≡ false). w.stops (calm h))
           (λ (h : new.gate.faults ≡ 0). w.stops (no_fault worked.failed old.gate.faults new.gate.faults w.failed h));
     }
 
@@ -252,7 +252,7 @@ module _ {W : Type 0} (view : W → WorkerView) (did : W → Worked) where
   -- so all gates were served over the history of the whole
   pub works_served : (most : Option ℕ) (origin : Origin) (sharing : Sharing) (ended : Ended) (k : ℕ) (olds news : List W) (all : AllZip (WorksAs most) olds news)
       → BeginFrom origin sharing k olds → AllByRecursion (Closes ended.history) news
-      → (ended.tally.failed ≡ false → AllByRecursion (λ (w : W). (did w).failed ≡ false) news)
+      → (ended.totals.failed ≡ false → AllByRecursion (λ (w : W). (did w).failed ≡ false) news)
       → AreServed most (record { origin = origin; history = sharing.handed }) ended k (works_of most olds news all)
   works_served most origin sharing ended k [] [] all begins closes calm = tt
   works_served most origin sharing ended k [] (y ∷ ys) all begins closes calm = absurd all
@@ -287,8 +287,8 @@ module _ {W : Type 0} (view : W → WorkerView) (did : W → Worked) where
       → AllZip (WorksAs most) olds news → length olds ≡ count → sharing.desks ≡ count → BeginFrom origin sharing 0 olds
       → IsLegal (opening_of origin) ended.history → IsNumbered sharing.desks sharing.handed ended.history
       → AllByRecursion (Closes ended.history) news
-      → ended.tally.served ≡ min 18446744073709551615 (sum_by (λ (w : W). (did w).served) news)
-      → ended.tally.failed ≡ list_any (λ (w : W). (did w).failed) news
+      → ended.totals.served ≡ min 18446744073709551615 (sum_by (λ (w : W). (did w).served) news)
+      → ended.totals.failed ≡ list_any (λ (w : W). (did w).failed) news
       → new.listening ≡ all_released old.listening (map (λ (w : W). (view w).gate) news) → new.faults ≡ old.faults
       → new.gate_faults ≡ faults_raised old.gate_faults (map (λ (w : W). (view w).gate) news)
       → ServesAll most count (record { origin = origin; history = sharing.handed }) ended old new

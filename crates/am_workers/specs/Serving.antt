@@ -8,7 +8,7 @@ use Rattle.am_history.specs.Desks.{Origin, opening_of}
 use Rattle.am_history.specs.History.{IsLegal}
 use Rattle.am_history.specs.Steps.{is_formed}
 use Rattle.am_baton.specs.Shared.{IsNumbered}
-use Rattle.am_workers.specs.declared.worker.Tally.{Tally}
+use Rattle.am_workers.specs.declared.worker.Totals.{Totals}
 use Rattle.am_workers.specs.Work.{AreItsLinks, IsWorked, MayStop, Service}
 
 -- a network as clauses see it: what it was asked for last, if it tells that, and its two counts of faults
@@ -43,7 +43,7 @@ pub record Begun : Type 0 where
 -- and what it had as its serving ended, with what the workers did
 pub record Ended : Type 0 where
   pub history : List Entry
-  pub tally : Tally
+  pub totals : Totals
 
 -- one gate as it was released, with the links that its worker served
 pub record Gatework : Type 0 where
@@ -60,7 +60,7 @@ pub record IsGateServed (most : Option ℕ) (begun : Begun) (ended : Ended) (num
   pub worked : IsWorked (opening_of begun.origin) (length begun.history) number ended.history work.services
   pub links : IfSome work.gate.links (λ links. AreAllLinks links work.services)
   pub few : IfSome most (λ m. length work.services ≤ m)
-  pub stops : (ended.tally.failed ≡ false) ⊎ (work.gate.faults ≡ 0) → MayStop most work.gate.links (length work.services)
+  pub stops : (ended.totals.failed ≡ false) ⊎ (work.gate.faults ≡ 0) → MayStop most work.gate.links (length work.services)
 
 -- each gate was served by the worker of its number, where the first has that number
 abbrev pub AreServed : Option ℕ → Begun → Ended → ℕ → List Gatework → Type 0
@@ -78,7 +78,7 @@ IsFormed entry = IsTrue (is_formed entry.request)
 
 -- the manager was served by that many workers over as many gates of the network: its history goes on from the one that
 -- it had, and could have been made from its opening state; each entry behind carries a worker's number and is formed; each
--- worker served its gate over this history; the gates were released in order; and the tally is that of all workers
+-- worker served its gate over this history; the gates were released in order; and the totals is that of all workers
 pub record ServesAll (most : Option ℕ) (workers : ℕ) (begun : Begun) (ended : Ended) (old new : NetworkView) : Type 0 where
   pub legal : IsLegal (opening_of begun.origin) ended.history
   pub numbered : IsNumbered workers begun.history ended.history
@@ -87,7 +87,7 @@ pub record ServesAll (most : Option ℕ) (workers : ℕ) (begun : Begun) (ended 
   pub count : length works ≡ workers
   pub served : AreServed most begun ended 0 works
   pub told : new.listening ≡ all_released old.listening (gates_of works)
-  pub total : ended.tally.served ≡ min 18446744073709551615 (sum_by (λ (work : Gatework). length work.services) works)
-  pub failed : ended.tally.failed ≡ true → HasRisen old.gate_faults new.gate_faults
+  pub total : ended.totals.served ≡ min 18446744073709551615 (sum_by (λ (work : Gatework). length work.services) works)
+  pub failed : ended.totals.failed ≡ true → HasRisen old.gate_faults new.gate_faults
   pub faults : new.faults ≡ old.faults
   pub gate_faults : new.gate_faults ≡ faults_raised old.gate_faults (gates_of works)

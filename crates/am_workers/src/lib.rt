@@ -7,5 +7,5 @@ mod worker;
 mod working;
 
 pub use serving::serve;
-pub use worker::Tally;
+pub use worker::Totals;
 pub use working::{Worked, work};

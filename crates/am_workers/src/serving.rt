@@ -3,7 +3,7 @@ ghost use Rattle.std.specs.Prelude.{◌≡◌, ◌≤◌, ℕ, Some, IfOk, IfSom
 ghost use Rattle.am_network.specs.Links.{IsNewGate};
 ghost use Rattle.am_workers.specs.Serving.{MayReleaseAll, ServesAll, network_of};
 
-use crate::worker::{Tally, dismiss, gather, tally_of, work_all};
+use crate::worker::{Totals, dismiss, gather, totals_of, work_all};
 use am_baton::{close, share};
 use am_keeper::Keeper;
 use am_machine::Manager;
@@ -31,7 +31,7 @@ pub fn serve<R, K: Keeper + Send, N: Network, C: Clock>(
     gates: Vec<N::Gate>,
     clock: &C,
     most: Option<u32>,
-) -> Result<(Manager<K>, Tally), NoMemory>
+) -> Result<(Manager<K>, Totals), NoMemory>
 where
     R: Threads + Wait + Clone + Drop + Send + Sync,
     N::Gate: Send,
@@ -45,7 +45,7 @@ where
     requires most { IfSome most (λ m. 1 ≤ m) }
     ensures serves { IfOk result (λ done. ServesAll most (vec_len gates)
         (record { origin = manager.origin; history = manager.history })
-        (record { history = done.0.history; tally = done.1 })
+        (record { history = done.0.history; totals = done.1 })
         (network_of N.Network network.old) (network_of N.Network network.new)) }
     ensures origin { IfOk result (λ done. done.0.origin ≡ manager.origin) }
     ensures same { OnErr result (network_of N.Network network.new ≡ network_of N.Network network.old) }
@@ -53,10 +53,10 @@ where
     let desks = share(rt, alloc, manager, gates.len() as u32)?;
     let (mut workers, room) = gather(alloc, clock, desks, gates)?;
     work_all(rt, alloc, workers.as_mut_slice(), most);
-    let tally = tally_of(workers.as_slice());
+    let totals = totals_of(workers.as_slice());
     let desks = dismiss(network, VecDeque::from_vec(workers), room);
     let manager = close(desks);
     // The count of the entries isn't wanted: it tells the contract that the history is legal.
     let _ = manager.length();
-    Ok((manager, tally))
+    Ok((manager, totals))
 }

@@ -20,7 +20,7 @@ use std::thread::Threads;
 
 /// What the workers did together.
 #[derive(Clone, Copy, Debug, PartialEq, Eq)]
-pub struct Tally {
+pub struct Totals {
     /// How many links they served. It stays at the greatest 64-bit number.
     pub served: u64,
     /// Whether the gate of one of them failed.
@@ -156,11 +156,11 @@ where
 }
 
 // What the workers did together.
-pub(crate) fn tally_of<D: Drop, A: Drop, C: Drop>(workers: &[Worker<D, A, C>]) -> Tally
+pub(crate) fn totals_of<D: Drop, A: Drop, C: Drop>(workers: &[Worker<D, A, C>]) -> Totals
     ensures served { result.served ≡ min 18446744073709551615 (sum_by (λ (w : Worker D A C). w.worked.served) workers.now) }
     ensures failed { result.failed ≡ list_any (λ (w : Worker D A C). w.worked.failed) workers.now }
 {
-    Tally {
+    Totals {
         served: served_by(workers),
         failed: workers.iter().any(|worker| worker.worked.failed),
     }

@@ -1,27 +1,21 @@
 //! Devices from words `key=value`.
-use am_trials_words::{empty_filter, empty_intent, filter, last, says};
-use am_types::{Decl, Filter, Intent, Kind, List, Mode, Package, Text};
+use am_trials_words::{empty_filter, empty_intent, filter, kind_of, last, says};
+use am_types::{Decl, Filter, Intent, List, Mode, Package, Text};
 use std::alloc::{AllocError, Global};
-
-/// The kind that the first word names.
-pub fn kind_of(words: &str) -> Kind {
-    if words.starts_with("service") {
-        Kind::Service
-    } else if words.starts_with("receiver") {
-        Kind::Receiver
-    } else {
-        Kind::Activity
-    }
-}
 
 /// A component: its kind, its class, and whether it is off; then its filters behind semicolons.
 fn decl(alloc: Global, line: &str) -> Result<Decl, AllocError> {
     let (head, rest) = line.split_once(';').unwrap_or((line, ""));
-    let class = Text::of(alloc, last(head, "class=").unwrap_or(""))?;
     let mut filters = Vec::new(alloc);
     for words in rest.split(';') {
         filters.push(filter(alloc, words)?)?;
     }
+    decl_with(alloc, head, filters)
+}
+
+/// The component of these words, with the filters.
+fn decl_with(alloc: Global, head: &str, filters: Vec<Filter>) -> Result<Decl, AllocError> {
+    let class = Text::of(alloc, last(head, "class=").unwrap_or(""))?;
     Ok(Decl {
         kind: kind_of(head),
         class,
@@ -87,14 +81,12 @@ pub fn many(
 
 /// The activity whose filters list the actions from that number on.
 fn decl_of(alloc: Global, class: u32, first: u32, filters: u32) -> Result<Decl, AllocError> {
-    let line = format!(in alloc; "activity class=A{class}")?;
-    let mut decl = decl(alloc, line.as_str())?;
+    let head = format!(in alloc; "activity class=A{class}")?;
     let mut listed = Vec::new(alloc);
     for k in 0..filters {
         listed.push(filter_of(alloc, first.wrapping_add(k))?)?;
     }
-    decl.filters = List::new(listed);
-    Ok(decl)
+    decl_with(alloc, head.as_str(), listed)
 }
 
 /// The filter that lists the action of that number alone.
@@ -112,7 +104,8 @@ fn action(alloc: Global, number: u32) -> Result<Text, AllocError> {
 
 /// The intent that asks for the action of that number alone.
 pub fn intent_of(alloc: Global, number: u32) -> Result<Intent, AllocError> {
+    let action = action(alloc, number)?;
     let mut intent = empty_intent(alloc);
-    intent.action = Some(action(alloc, number)?);
+    intent.action = Some(action);
     Ok(intent)
 }

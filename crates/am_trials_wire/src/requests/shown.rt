@@ -58,12 +58,32 @@ fn push_uri(all: &mut String, uri: &Uri) -> Result<(), AllocError> {
     push_text(all, " path=", &uri.path)
 }
 
-fn push_extra(all: &mut String, extra: &Extra) -> Result<(), AllocError> {
+/// Adds a word and a number.
+fn push_number(all: &mut String, front: &str, number: u64) -> Result<(), AllocError> {
+    write!(all, "{front}{number}")
+}
+
+/// Adds a word and a number that may be below 0.
+fn push_whole(all: &mut String, front: &str, whole: i64) -> Result<(), AllocError> {
+    write!(all, "{front}{whole}")
+}
+
+/// Adds a word and a truth.
+fn push_truth(all: &mut String, front: &str, truth: bool) -> Result<(), AllocError> {
+    write!(all, "{front}{truth}")
+}
+
+fn push_value(all: &mut String, extra: &Extra) -> Result<(), AllocError> {
     match extra {
-        Extra::Word(text) => write!(all, "=text({})", text.as_str()),
-        Extra::Whole(number) => write!(all, "=whole({number})"),
-        Extra::Truth(truth) => write!(all, "=truth({truth})"),
+        Extra::Word(text) => push_text(all, "=text(", text),
+        Extra::Whole(number) => push_whole(all, "=whole(", *number),
+        Extra::Truth(truth) => push_truth(all, "=truth(", *truth),
     }
+}
+
+fn push_extra(all: &mut String, extra: &Extra) -> Result<(), AllocError> {
+    push_value(all, extra)?;
+    all.push_str(")")
 }
 
 fn push_extras(all: &mut String, extras: &List<Named>) -> Result<(), AllocError> {
@@ -141,7 +161,7 @@ fn push_kind(all: &mut String, kind: Kind) -> Result<(), AllocError> {
 }
 
 fn push_outcome(all: &mut String, outcome: &Outcome) -> Result<(), AllocError> {
-    write!(all, " code={}", outcome.code)?;
+    push_whole(all, " code=", outcome.code)?;
     push_optional(all, " data=", &outcome.text)?;
     push_extras(all, &outcome.extras)
 }
@@ -235,10 +255,10 @@ fn push_activity(all: &mut String, request: &Request) -> Result<(), AllocError> 
             push_intent(all, intent)?;
             match source {
                 None => Ok(()),
-                Some(source) => write!(all, " source={source}"),
+                Some(source) => push_number(all, " source=", *source),
             }
         }
-        Request::FinishActivity { instance } => write!(all, " {instance}"),
+        Request::FinishActivity { instance } => push_number(all, " ", *instance),
         Request::StartService { intent } => push_intent(all, intent),
         Request::StopService { component } => push_component(all, component),
         _ => push_explained(all, request),
@@ -261,9 +281,9 @@ fn push_broadcast(all: &mut String, request: &Request) -> Result<(), AllocError>
             push_filter(all, filter)?;
             push_optional(all, " permission=", permission)
         }
-        Request::Unregister { number } => write!(all, " {number}"),
+        Request::Unregister { number } => push_number(all, " ", *number),
         Request::Finish { delivery, answer } => {
-            write!(all, " {delivery}")?;
+            push_number(all, " ", *delivery)?;
             push_answer(all, answer)
         }
         _ => push_pending(all, request),
@@ -280,20 +300,20 @@ fn push_pending(all: &mut String, request: &Request) -> Result<(), AllocError> {
             flags,
         } => {
             push_kind(all, *kind)?;
-            write!(all, " {code}")?;
+            push_whole(all, " ", *code)?;
             push_intent(all, intent)?;
             push_pending_flags(all, *flags)
         }
         Request::PendingSend { token, fill } => {
-            write!(all, " {token}")?;
+            push_number(all, " ", *token)?;
             match fill {
                 None => Ok(()),
                 Some(intent) => push_intent(all, intent),
             }
         }
-        Request::PendingCancel { token } => write!(all, " {token}"),
+        Request::PendingCancel { token } => push_number(all, " ", *token),
         Request::PendingGive { token, package } => {
-            write!(all, " {token}")?;
+            push_number(all, " ", *token)?;
             push_text(all, " package=", package)
         }
         _ => push_package(all, request),
@@ -315,7 +335,7 @@ fn push_package(all: &mut String, request: &Request) -> Result<(), AllocError> {
         } => {
             push_text(all, " ", package)?;
             push_text(all, " ", permission)?;
-            write!(all, " {held}")
+            push_truth(all, " ", *held)
         }
         Request::Link {
             package,
@@ -324,10 +344,10 @@ fn push_package(all: &mut String, request: &Request) -> Result<(), AllocError> {
         } => {
             push_text(all, " ", package)?;
             push_text(all, " ", host)?;
-            write!(all, " {approved}")
+            push_truth(all, " ", *approved)
         }
         Request::ForceStop { package } => push_text(all, " ", package),
-        Request::History { from } => write!(all, " {from}"),
+        Request::History { from } => push_number(all, " ", *from),
         _ => Ok(()),
     }
 }

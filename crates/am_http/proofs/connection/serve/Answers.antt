@@ -1,6 +1,6 @@
 use Rattle.std.proofs.Common.{ℕ, ◌+◌, ◌*◌, List, [], Option, refl, ◌∙◌, subst, arith}
 use Rattle.am_http.specs.Frames.{Leaves}
-use Rattle.am_http.specs.Links.{Link, source_of, sink_of}
+use Rattle.am_http.specs.Links.{Link, link_of, streams_of}
 use Rattle.am_http.specs.Sessions.{most_bytes}
 use Rattle.am_http.proofs.NextLemmas.{gives_none, gives_more}
 use Rattle.am_http.proofs.SessionLemmas.{going_none, leaves_self, going_more, session_close, session_stop, same_link_trans, same_link_refl}
@@ -10,11 +10,7 @@ use Rattle.am_http.proofs.connection.serve.Goals as goal
 -- a connection begins with an empty window
 pub loop-answered-init : goal.loop-answered-init
 loop-answered-init g c =
-    let first : Link = record {
-      server = record { desk = g.D.Desk.view c.args.desk.now; clock = g.C.Clock.moments c.args.clock.now };
-      source = source_of g.S.Source c.args.source.now;
-      sink = sink_of g.W.Sink c.args.sink.now;
-    } in
+    let first : Link = link_of (g.D.Desk.view c.args.desk.now) (streams_of g.S.Source g.W.Sink g.C.Clock c.args.source.now c.args.sink.now c.args.clock.now) in
     let left = first.source.left in
     record {
       going = going_none first c.clear.new.self

@@ -3,7 +3,7 @@ use Rattle.std.specs.Prelude.{IfOk}
 use Rattle.am_keeper.specs.declared.rows.LinkRow.{LinkRow}
 use Rattle.am_opening.specs.Merging.{is_live_link}
 use Rattle.am_keeper.specs.Rows.{by_host}
-use Rattle.am_opening.specs.Merging.{Right}
+use Rattle.am_model.specs.Rights.{Right}
 use Rattle.am_opening.proofs.Follows.{IsMerging, none_merged, one_merged, rise, all_merged}
 use Rattle.am_opening.proofs.merging.approved.Goals as goal
 

@@ -3,7 +3,7 @@ use Rattle.std.specs.Prelude.{IfOk}
 use Rattle.am_keeper.specs.declared.rows.GrantRow.{GrantRow}
 use Rattle.am_model.specs.Boards.{is_package_uid}
 use Rattle.am_keeper.specs.Rows.{by_permission}
-use Rattle.am_opening.specs.Merging.{Right}
+use Rattle.am_model.specs.Rights.{Right}
 use Rattle.am_opening.proofs.Follows.{IsMerging, none_merged, one_merged, rise, all_merged}
 use Rattle.am_opening.proofs.merging.granted.Goals as goal
 

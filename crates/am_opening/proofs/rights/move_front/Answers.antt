@@ -1,5 +1,6 @@
 use Rattle.std.proofs.Common.{◌≡◌, ◌<◌, true, false, List, ◌++◌, length, take, sym, subst, ◌∙◌}
-use Rattle.am_opening.specs.Merging.{Right, is_first_before}
+use Rattle.am_model.specs.Rights.{Right}
+use Rattle.am_opening.specs.Merging.{is_first_before}
 use Rattle.am_opening.proofs.Moving.{IsMoving, moved_all, left_all, moved_more, fewer_left}
 use Rattle.am_opening.proofs.rights.move_front.Goals as goal
 

@@ -1,7 +1,7 @@
 use Rattle.std.proofs.Common.{◌≡◌}
 use Rattle.serde_json.specs.View.{members_view}
+use Rattle.am_wire_fields.proofs.Each.{front_then}
 use Rattle.am_wire_intents.specs.Extras.{each_named}
-use Rattle.am_wire_intents.proofs.Entries.{front_then}
 use Rattle.am_wire_intents.proofs.extras.each_named.Given as goal
 
 abbrev pub invariant-loop-key : goal.invariant-loop-key

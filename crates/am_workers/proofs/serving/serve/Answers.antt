@@ -78,14 +78,14 @@ returns-clause-serves g c =
     (ap (map (λ w. w.desk)) c.as_mut_slice.ensures.value ∙ c.in_ok-workers.ensures.desks) all c.work_all.ensures.count ends c.close-manager.ensures.origin in
     let out = c.dismiss-desks.ensures in
     serves g.N.Gate.Acceptor.links g.N.Gate.Acceptor.faults c.args.most _ c.args.manager.origin c.args.manager.history c.close-manager.result.history olds news c.in_ok-desks.desks.items
-    c.dismiss-desks.result.items c.args.gates.items c.tally_of-tally.result _ _
+    c.dismiss-desks.result.items c.args.gates.items c.totals_of-totals.result _ _
     (subst (λ o. IsLegal (opening_of o) c.close-manager.result.history) one c.length.ensures.legal)
     (made.0, count, made.2, made.3) some_desk
     (ap (map (λ w. w.desk)) c.as_mut_slice.ensures.value ∙ c.in_ok-workers.ensures.desks)
     (ap (map (λ w. w.gate)) c.as_mut_slice.ensures.value ∙ c.in_ok-workers.ensures.gates) c.requires.new all c.work_all.ensures.count ends
     c.close-manager.ensures.seen c.close-manager.ensures.own c.close-manager.ensures.others
-    (c.tally_of-tally.ensures.served ∙ ap (λ ws. min 18446744073709551615 (sum_by (λ w. w.worked.served) ws)) (c.as_slice.ensures.value ∙ back))
-    (c.tally_of-tally.ensures.failed ∙ ap (λ ws. list_any (λ w. w.worked.failed) ws) (c.as_slice.ensures.value ∙ back))
+    (c.totals_of-totals.ensures.served ∙ ap (λ ws. min 18446744073709551615 (sum_by (λ w. w.worked.served) ws)) (c.as_slice.ensures.value ∙ back))
+    (c.totals_of-totals.ensures.failed ∙ ap (λ ws. list_any (λ w. w.worked.failed) ws) (c.as_slice.ensures.value ∙ back))
     (out.told ∙ ap (λ ws. all_released (g.N.Network.listening c.args.network.now) (map (λ w. record { links = g.N.Gate.Acceptor.links w.gate; faults = g.N.Gate.Acceptor.faults w.gate }) ws)) (c.from_vec.ensures.items ∙ back))
     out.faults
     (out.gate_faults ∙ ap (λ ws. faults_raised (g.N.Network.gate_faults c.args.network.now) (map (λ w. record { links = g.N.Gate.Acceptor.links w.gate; faults = g.N.Gate.Acceptor.faults w.gate }) ws)) (c.from_vec.ensures.items ∙ back))

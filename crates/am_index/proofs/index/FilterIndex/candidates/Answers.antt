@@ -1,7 +1,6 @@
-use Rattle.std.proofs.Common.{◌≡◌, ◌≤◌, ◌∙◌, sym, ap, subst, List, arith}
+use Rattle.std.proofs.Common.{◌≡◌, ◌≤◌, ◌∙◌, ap, List, arith}
 use Rattle.std.proofs.lemmas.Result.{IfOk-weaker}
 use Rattle.am_model.specs.Candidates.{by_priority, hits}
-use Rattle.am_index.specs.declared.key.Spot.{Spot}
 use Rattle.am_index.specs.Groups.{group_size}
 use Rattle.am_index.specs.Lookups.{cost_of_spots, hits_of_spots}
 use Rattle.am_index.proofs.Asking.{explicit_free, finds_candidates, within_group}
@@ -9,22 +8,14 @@ use Rattle.am_index.proofs.index.FilterIndex.candidates.Goals as goal
 
 pub returns-in_err-found-clause-tests : goal.returns-in_err-found-clause-tests
 returns-in_err-found-clause-tests g c =
-    let packages = c.args.packages.now in
-    let intent = c.args.intent.now in
-    let at = c.as_slice.ensures.value ∙ c.in_ok-spots.ensures in
-    let few : cost_of_spots packages intent c.as_slice.result.now ≤ group_size packages c.args.kind intent =
-    subst (λ (l : List Spot). cost_of_spots packages intent l ≤ group_size packages c.args.kind intent) (sym at)
-    (within_group c.args.kind intent c.args.need_default c.args.self.now packages c.requires) in
+    let few : cost_of_spots c.args.packages.now c.args.intent.now c.as_slice.result.now ≤ group_size c.args.packages.now c.args.kind c.args.intent.now =
+    within_group c.args.kind c.args.intent.now c.args.need_default c.args.self.now c.args.packages.now c.requires _ (c.as_slice.ensures.value ∙ c.in_ok-spots.ensures) in
     omega (arith, c.hits_of_spots.ensures.most)
 
 pub returns-clause-tests : goal.returns-clause-tests
 returns-clause-tests g c =
-    let packages = c.args.packages.now in
-    let intent = c.args.intent.now in
-    let at = c.as_slice.ensures.value ∙ c.in_ok-spots.ensures in
-    let few : cost_of_spots packages intent c.as_slice.result.now ≤ group_size packages c.args.kind intent =
-    subst (λ (l : List Spot). cost_of_spots packages intent l ≤ group_size packages c.args.kind intent) (sym at)
-    (within_group c.args.kind intent c.args.need_default c.args.self.now packages c.requires) in
+    let few : cost_of_spots c.args.packages.now c.args.intent.now c.as_slice.result.now ≤ group_size c.args.packages.now c.args.kind c.args.intent.now =
+    within_group c.args.kind c.args.intent.now c.args.need_default c.args.self.now c.args.packages.now c.requires _ (c.as_slice.ensures.value ∙ c.in_ok-spots.ensures) in
     omega (arith, c.hits_of_spots.ensures.most)
 
 pub returns-in_err-found-clause-explicit : goal.returns-in_err-found-clause-explicit

@@ -10,8 +10,8 @@ invariant_of-self c =
     record {
       grants =
           subst AreGrantsInOrder (sym c.new.ensures)
-          (whatever AreGrantsInOrder c.set_grant-set.result c.take-grants.result.items c.set_grant-set.new.grants.items
-          (with_grant c.take-grants.result.items c.args.uid c.args.permission.now c.args.held) c.set_grant-set.ensures.set c.set_grant-set.ensures.same before
+          (whatever AreGrantsInOrder c.set_right-set.result c.take-grants.result.items c.set_right-set.new.rights.items
+          (with_grant c.take-grants.result.items c.args.uid c.args.permission.now c.args.held) c.set_right-set.ensures.set c.set_right-set.ensures.same before
           (grants_in_order c.take-grants.result.items c.args.uid c.args.permission.now c.args.held before));
       packages = c.self.invariant.packages;
       links = c.self.invariant.links;

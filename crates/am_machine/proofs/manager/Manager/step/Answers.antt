@@ -3,7 +3,7 @@ use Rattle.am_types.specs.declared.history.Entry.{Entry}
 use Rattle.am_history.specs.State.{State, uid_of}
 use Rattle.am_history.specs.History.{replay}
 use Rattle.am_history.specs.Desks.{Origin, opening_of}
-use Rattle.am_history.proofs.Shows.{uid_has_caller}
+use Rattle.am_history.proofs.Callers.{uid_has_caller}
 use Rattle.am_machine.proofs.Stored.{from_inside}
 use Rattle.am_machine.proofs.manager.Manager.step.Goals as goal
 

@@ -7,7 +7,8 @@ use Rattle.std.specs.Option.{option_copied_mut}
 use Rattle.std.proofs.lemmas.Map.Steps.{set_value_same}
 use Rattle.am_model.specs.Pendings.{Pending, with_holder}
 use Rattle.am_pending.specs.Records.{before, held_by, pending_of, pendings_of}
-use Rattle.am_pending.proofs.Changes.{changed, from_err, from_ok, holder-change, lookup-records}
+use Rattle.am_types.proofs.Results.{from_err, from_ok}
+use Rattle.am_pending.proofs.Changes.{changed, holder-change, lookup-records}
 use Rattle.am_pending.proofs.Using.{give_again, give_full, give_new, give_none, give_other, there}
 use Rattle.am_pending.proofs.records.Records.give.Goals as goal
 

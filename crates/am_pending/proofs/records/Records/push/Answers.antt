@@ -2,7 +2,8 @@ use Rattle.std.proofs.Common.{◌∙◌, ◌<◌, ◌++◌, ◌∷◌, [], All, 
 use Rattle.std.specs.Result.{is_err}
 use Rattle.am_model.specs.Pendings.{Pending}
 use Rattle.am_pending.specs.Records.{pending_of, pendings_of}
-use Rattle.am_pending.proofs.Changes.{from_ok, inserted}
+use Rattle.am_types.proofs.Results.{from_ok}
+use Rattle.am_pending.proofs.Changes.{inserted}
 use Rattle.am_pending.proofs.records.Records.push.Goals as goal
 
 pub returns-in-Ok-clause-ok : goal.returns-in-Ok-clause-ok

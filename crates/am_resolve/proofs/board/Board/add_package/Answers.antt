@@ -3,7 +3,8 @@ use Rattle.am_types.specs.declared.device.Package.{Package}
 use Rattle.am_model.specs.Boards as boards
 use Rattle.am_installed.specs.Installed.{AreInstalled}
 use Rattle.am_index.specs.Standing.{StandsFor}
-use Rattle.am_resolve.proofs.Standing.{from_err, from_ok, listable, without_last}
+use Rattle.am_types.proofs.Results.{from_err, from_ok}
+use Rattle.am_resolve.proofs.Standing.{listable, without_last}
 use Rattle.am_resolve.proofs.board.Board.add_package.Goals as goal
 use Rattle.am_resolve.proofs.board.Board.add_package.Goals.{After-is_err-2}
 

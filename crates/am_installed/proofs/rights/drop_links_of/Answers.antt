@@ -1,7 +1,0 @@
-use Rattle.std.proofs.Common.{not, eqb, rules}
-use Rattle.std.proofs.lemmas.Fn.{filter_same}
-use Rattle.am_types.specs.declared.device.Link.{Link}
-use Rattle.am_installed.proofs.rights.drop_links_of.Goals as goal
-
-pub returns : goal.returns
-returns c = filter_same _ (λ (x : Link). not (eqb x.uid c.args.uid)) _ (λ x b f k. search rules) _ _ c.retain.ensures.filtered

@@ -1,8 +1,0 @@
-use Rattle.std.proofs.Common.{◌≡◌, map, not, string_bytes}
-use Rattle.std.specs.List.{find}
-use Rattle.toml.specs.View.{table_view}
-use Rattle.am_manifest_filters.specs.Rows.{is_row_key, unlisted}
-use Rattle.am_manifest_filters.proofs.rows.unlisted.Given as goal
-
-abbrev pub invariant-loop-key : goal.invariant-loop-key
-invariant-loop-key l = find (λ key. not (is_row_key key)) (map string_bytes l.key-iterator) ≡ unlisted (table_view l.table)

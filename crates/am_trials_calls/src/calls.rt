@@ -1,0 +1,103 @@
+//! Sessions of several calls, and their answers.
+ghost use Rattle.std.specs.Prelude.{◌<◌, IfOk};
+
+mod activities;
+mod broadcasts;
+mod devices;
+mod explaining;
+mod finding;
+mod packages;
+mod pending_intents;
+mod reads;
+mod services;
+
+pub use self::devices::device_file;
+use self::devices::device_of;
+use crate::exchanges::answers;
+use am_trials_runs::{Outside, QUIET, Runtime};
+use am_trials_spelling::session_of;
+use std::alloc::Global;
+use std::process::Abort;
+use std::test::Fail;
+
+/// The clock of a session: the first moment, and how much later each further one is.
+fn clock(alloc: Global, at: &str, step: &str) -> Result<Outside, Fail>
+    ensures { IfOk result (λ outside. 0 < outside.most) }
+{
+    let at = at.parse::<u64>().ok().ok_or("a moment")?;
+    let step = step.parse::<u64>().ok().ok_or("a step")?;
+    Ok(Outside { at, step, ..QUIET })
+}
+
+/// Holds the session, and tells how many calls it has: the first line names the device, with its browser, and the clock.
+fn try_session(rt: &(impl Runtime + Abort), alloc: Global, session: &str) -> Result<u32, Fail> {
+    let (head, rows) = session.split_once('\n').ok_or("calls")?;
+    let (name, times) = head.split_once(' ').ok_or("a clock")?;
+    let (at, step) = times.split_once(' ').ok_or("a step")?;
+    let device = device_of(alloc, name)?;
+    let outside = clock(alloc, at, step)?;
+    let all = session_of(alloc, rows)?;
+    let (input, wanted) = (all.input.as_str(), all.wanted.as_str());
+    answers(rt, alloc, device.as_str(), input, wanted, &outside)?;
+    Ok(all.calls)
+}
+
+/// Holds the sessions, and tells how many calls they have.
+fn try_sessions(rt: &(impl Runtime + Abort), alloc: Global, sessions: &str) -> Result<u32, Fail> {
+    let mut calls: u32 = 0;
+    for session in sessions.split("\n= ") {
+        calls = calls.wrapping_add(try_session(rt, alloc, session)?);
+    }
+    Ok(calls)
+}
+
+#[test]
+fn answers_reads(rt: HostRuntime) -> Result<(), Fail> {
+    assert_eq!(rt; try_sessions(&rt, rt.alloc(), reads::SESSIONS)?, 16);
+    Ok(())
+}
+
+#[test]
+fn finds_and_reaches(rt: HostRuntime) -> Result<(), Fail> {
+    assert_eq!(rt; try_sessions(&rt, rt.alloc(), finding::SESSIONS)?, 45);
+    Ok(())
+}
+
+#[test]
+fn explains(rt: HostRuntime) -> Result<(), Fail> {
+    assert_eq!(rt; try_sessions(&rt, rt.alloc(), explaining::SESSIONS)?, 116);
+    Ok(())
+}
+
+#[test]
+fn starts_and_ends_activities(rt: HostRuntime) -> Result<(), Fail> {
+    assert_eq!(rt; try_sessions(&rt, rt.alloc(), activities::SESSIONS)?, 46);
+    Ok(())
+}
+
+#[test]
+fn starts_and_stops_services(rt: HostRuntime) -> Result<(), Fail> {
+    assert_eq!(rt; try_sessions(&rt, rt.alloc(), services::SESSIONS)?, 17);
+    Ok(())
+}
+
+#[test]
+fn sends_and_finishes(rt: HostRuntime) -> Result<(), Fail> {
+    assert_eq!(rt; try_sessions(&rt, rt.alloc(), broadcasts::SESSIONS)?, 44);
+    Ok(())
+}
+
+#[test]
+fn lends_pending_intents(rt: HostRuntime) -> Result<(), Fail> {
+    assert_eq!(rt;
+        try_sessions(&rt, rt.alloc(), pending_intents::SESSIONS)?,
+        34
+    );
+    Ok(())
+}
+
+#[test]
+fn installs_grants_and_stops(rt: HostRuntime) -> Result<(), Fail> {
+    assert_eq!(rt; try_sessions(&rt, rt.alloc(), packages::SESSIONS)?, 59);
+    Ok(())
+}

@@ -1,0 +1,9 @@
+//! Trials of frames and responses, and of the adapters of the standard streams, the files and the clock.
+#![tactic(auto)]
+
+#[cfg(test)]
+mod frames;
+#[cfg(test)]
+mod host;
+#[cfg(test)]
+mod responses;

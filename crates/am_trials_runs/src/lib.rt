@@ -1,0 +1,227 @@
+//! Runs of the program over files, an input, sinks, a network and a store in memory.
+#![tactic(auto)]
+
+ghost use Rattle.std.specs.Prelude.{◌≡◌, ◌<◌, [], IfOk};
+ghost use Rattle.am_network.specs.Memory.{ArePlans};
+
+use am_keeper::{MemoryStore, PackageRow, Row, RowsBuilder, Store, StoredRows};
+use am_network::{Acceptor, GatePlan, MemoryNetwork, Network};
+use am_outside::{FileBytes, MemoryFiles, MemorySink, MemorySource, StepClock};
+use am_shell::run;
+use am_trials_words::texts;
+use am_types::{List, NoMemory, Text};
+use std::alloc::Global;
+use std::sync::Wait;
+use std::thread::Threads;
+
+/// What a run of the program takes of the runtime.
+pub trait Runtime: Threads + Wait + Clone + Drop + Send + Sync {}
+
+impl<R: Threads + Wait + Clone + Drop + Send + Sync> Runtime for R {}
+
+/// How the outside behaves: how many bytes a read and a write take at most, which call of which object fails, or of
+/// which objects, between `+`, and the first moment that the clock tells, with how much later each further one is.
+#[derive(Clone, Copy)]
+pub struct Outside {
+    pub most: usize,
+    pub failing: &'static str,
+    pub call: u32,
+    pub at: u64,
+    pub step: u64,
+}
+
+/// Nothing fails, pieces are of seven bytes, and the moments are 0, 1, 2 and so on.
+pub const QUIET: Outside = Outside {
+    most: 7,
+    failing: "",
+    call: 1,
+    at: 0,
+    step: 1,
+};
+
+/// What a run leaves: its status, its output and its errors.
+#[derive(Drop)]
+pub struct Left {
+    pub status: u8,
+    pub output: MemorySink,
+    pub errors: MemorySink,
+}
+
+/// The number of the failing call, if that object is to fail.
+fn failing(alloc: Global, object: &str, outside: &Outside) -> Result<List<u32>, NoMemory> {
+    let mut calls = Vec::new(alloc);
+    if outside.failing.split('+').any(|name| name == object) {
+        calls.push(outside.call)?;
+    }
+    Ok(List::new(calls))
+}
+
+/// The file `d`.
+fn shelf(alloc: Global, device: &str, outside: &Outside) -> Result<MemoryFiles, NoMemory> {
+    let name = Text::of(alloc, "d")?;
+    let bytes = List::new(device.as_bytes().to_vec(alloc)?);
+    let calls = failing(alloc, "files", outside)?;
+    let mut files = Vec::new(alloc);
+    files.push(FileBytes { name, bytes })?;
+    Ok(MemoryFiles::new(alloc, List::new(files), calls))
+}
+
+/// A network of these gates.
+pub fn network_of(
+    alloc: Global,
+    gates: List<GatePlan>,
+    outside: &Outside,
+) -> Result<MemoryNetwork, NoMemory>
+    requires { ArePlans gates }
+{
+    let calls = failing(alloc, "network", outside)?;
+    Ok(MemoryNetwork::new(alloc, gates, calls))
+}
+
+/// What comes from the input.
+pub fn source(alloc: Global, input: &[u8], outside: &Outside) -> Result<MemorySource, NoMemory>
+    requires { 0 < outside.now.most }
+    ensures { IfOk result (λ made. (made.given ≡ []) × (made.faults ≡ 0)) }
+{
+    let calls = failing(alloc, "input", outside)?;
+    Ok(MemorySource::new(List::new(input.to_vec(alloc)?), outside.most, calls))
+}
+
+/// What the object takes, which has room for so many bytes.
+pub fn sink(
+    alloc: Global,
+    object: &str,
+    room: usize,
+    outside: &Outside,
+) -> Result<MemorySink, NoMemory>
+    requires { 0 < outside.now.most }
+    ensures { IfOk result (λ made. (made.taken ≡ []) × (made.faults ≡ 0)) }
+{
+    let calls = failing(alloc, object, outside)?;
+    Ok(MemorySink::new(alloc, room, outside.most, calls)?)
+}
+
+/// The row of a package without components.
+fn package_row(alloc: Global) -> Result<Row, NoMemory> {
+    Ok(Row::Package(PackageRow {
+        uid: 10_000,
+        name: Text::of(alloc, "com.a")?,
+        key: Text::of(alloc, "ka")?,
+        text: Text::of(alloc, "package = 'com.a'")?,
+        gone: false,
+    }))
+}
+
+/// A store with a package at the place `p`.
+pub fn store(alloc: Global, outside: &Outside) -> Result<MemoryStore, NoMemory> {
+    let mut rows = RowsBuilder::new(alloc);
+    rows.put(package_row(alloc)?)?;
+    let path = Text::of(alloc, "p")?;
+    let calls = failing(alloc, "store", outside)?;
+    let mut places = Vec::new(alloc);
+    places.push(StoredRows {
+        path,
+        rows: rows.finish(),
+    })?;
+    Ok(MemoryStore::new(alloc, List::new(places), calls))
+}
+
+/// Runs the words over the device file `d`, the input, a network without links, and a store with a package at the place
+/// `p`.
+pub fn try_run(
+    rt: &impl Runtime,
+    alloc: Global,
+    words: &str,
+    device: &str,
+    input: &[u8],
+    outside: &Outside,
+) -> Result<Left, NoMemory>
+    requires { 0 < outside.now.most }
+{
+    let mut store = store(alloc, outside)?;
+    run_over(rt, alloc, words, device, input, outside, &mut store)
+}
+
+/// A session over the device with that input.
+pub fn session_over(
+    rt: &impl Runtime,
+    alloc: Global,
+    device: &str,
+    input: &[u8],
+    outside: &Outside,
+) -> Result<Left, NoMemory>
+    requires { 0 < outside.now.most }
+{
+    try_run(rt, alloc, "session --device d", device, input, outside)
+}
+
+/// Runs the words over the device file `d`, the input, a network without links, and the store.
+pub fn run_over<T: Store>(
+    rt: &impl Runtime,
+    alloc: Global,
+    words: &str,
+    device: &str,
+    input: &[u8],
+    outside: &Outside,
+    store: &mut T,
+) -> Result<Left, NoMemory>
+where
+    T::Kept: Send,
+    requires { 0 < outside.now.most }
+{
+    let mut network = network_of(alloc, List::new(Vec::new(alloc)), outside)?;
+    run_on(
+        rt,
+        alloc,
+        words,
+        device,
+        input,
+        outside,
+        store,
+        &mut network,
+    )
+}
+
+/// Runs the words over the device file `d`, the input, the store and the network.
+pub fn run_on<R: Runtime, N: Network, T: Store>(
+    rt: &R,
+    alloc: Global,
+    words: &str,
+    device: &str,
+    input: &[u8],
+    outside: &Outside,
+    store: &mut T,
+    network: &mut N,
+) -> Result<Left, NoMemory>
+where
+    T::Kept: Send,
+    N::Gate: Send,
+    <N::Gate as Acceptor>::Reader: Send,
+    <N::Gate as Acceptor>::Writer: Send,
+    requires { 0 < outside.now.most }
+{
+    let words = texts(alloc, words, "")?;
+    let mut files = shelf(alloc, device, outside)?;
+    let room = input.len().saturating_mul(8).saturating_add(65_536);
+    let mut output = sink(alloc, "output", room, outside)?;
+    let mut errors = sink(alloc, "errors", 4096, outside)?;
+    let mut input = source(alloc, input, outside)?;
+    let mut clock = StepClock::new(outside.at, outside.step);
+    let status = run(
+        rt,
+        alloc,
+        words.as_slice(),
+        &mut files,
+        &mut input,
+        &mut output,
+        &mut errors,
+        network,
+        store,
+        &mut clock,
+    );
+    Ok(Left {
+        status,
+        output,
+        errors,
+    })
+}

@@ -1,0 +1,330 @@
+//! Two workers at the same time: the frame that comes to one is whole only once the other has answered its own.
+ghost use Rattle.std.specs.Prelude.{◌≡◌, ◌+◌, ◌<◌, ◌≤◌, [], length, vec_len, vec_capacity};
+ghost use Rattle.std.specs.Io.{ReadsAtMost};
+
+use am_network::{Acceptor, ListenFail, Network};
+use am_outside::{Failed, MemorySink, MemorySource, Sink, Source};
+use am_trials_runs::{QUIET, Runtime, run_on, sink, source, store};
+use am_trials_spelling::EMPTY;
+use std::alloc::Global;
+use std::collections::VecDeque;
+use std::process::Abort;
+use std::sync::Arc;
+use std::sync::atomic::{AtomicBool, Ordering};
+use std::test::Fail;
+use std::{str, thread};
+
+/// How often a link that waits looks whether the other one is answered, before its read fails.
+const TURNS: u32 = 100_000_000;
+
+const HEAD: &[u8] = b"POST /v1/tick HTTP/1.1\r\nAM-Key: sys\r\nContent-Length: 2\r\n\r\n";
+
+const BODY: &[u8] = b"{}";
+
+/// A response is whole where it ends so.
+const END: &[u8] = b"\r\n\r\n{}";
+
+/// A link that is to come: a frame in two pieces, and where the response goes.
+#[derive(Drop)]
+struct Link {
+    head: MemorySource,
+    body: MemorySource,
+    sink: MemorySink,
+    /// What has to be true before the body comes.
+    awaited: Option<Arc<AtomicBool>>,
+    /// What becomes true once the response is whole.
+    told: Option<Arc<AtomicBool>>,
+}
+
+/// What comes over a link. It tells nothing of it.
+#[derive(Drop)]
+struct Reader {
+    head: MemorySource,
+    body: MemorySource,
+    awaited: Option<Arc<AtomicBool>>,
+    faults: u64,
+}
+
+/// What goes over a link. It tells nothing of it.
+#[derive(Drop)]
+struct Writer {
+    sink: MemorySink,
+    told: Option<Arc<AtomicBool>>,
+    faults: u64,
+}
+
+/// Whether it becomes true soon enough.
+fn comes_true(awaited: &AtomicBool) -> bool {
+    for _ in 0..TURNS {
+        if awaited.load(Ordering::SeqCst) {
+            return true;
+        }
+        thread::yield_now();
+    }
+    false
+}
+
+impl Reader {
+    /// Whether the body comes.
+    fn goes_on(&self) -> bool {
+        match &self.awaited {
+            Some(awaited) => comes_true(awaited),
+            None => true,
+        }
+    }
+
+    /// One read of the head, or of the body behind it.
+    fn read_next(&mut self, into: &mut [u8]) -> Result<usize, Failed>
+        requires { 0 < length into.old }
+        ensures within { ReadsAtMost result into.new }
+        ensures faults { self.new.faults ≡ self.old.faults }
+    {
+        let count = self.head.read(into)?;
+        if count > 0 {
+            return Ok(count);
+        }
+        if !self.goes_on() {
+            return Err(Failed);
+        }
+        self.body.read(into)
+    }
+}
+
+impl Source for Reader {
+    ghost use Rattle.std.specs.Prelude.{None};
+
+    ghost given = { λ r. None };
+
+    ghost left = { λ r. None };
+
+    ghost faults = { λ r. r.faults };
+
+    ghost mark = { λ r. 0 };
+
+    fn read(&mut self, into: &mut [u8]) -> Result<usize, Failed> {
+        match self.read_next(into) {
+            Ok(count) => Ok(count),
+            Err(_) => {
+                self.faults = self.faults.saturating_add(1);
+                Err(Failed)
+            }
+        }
+    }
+}
+
+impl Writer {
+    /// Tells of the response if it is whole.
+    fn tell(&self) {
+        if let Some(told) = &self.told
+            && self.sink.taken().ends_with(END)
+        {
+            told.store(true, Ordering::SeqCst);
+        }
+    }
+}
+
+impl Sink for Writer {
+    ghost use Rattle.std.specs.Prelude.{None};
+
+    ghost taken = { λ w. None };
+
+    ghost faults = { λ w. w.faults };
+
+    ghost mark = { λ w. 0 };
+
+    fn write(&mut self, from: &[u8]) -> Result<usize, Failed> {
+        match self.sink.write(from) {
+            Ok(count) => {
+                self.tell();
+                Ok(count)
+            }
+            Err(_) => {
+                self.faults = self.faults.saturating_add(1);
+                Err(Failed)
+            }
+        }
+    }
+}
+
+/// The two ends of a link.
+fn ends_of(link: Link) -> (Reader, Writer)
+    ensures { (result.0.faults ≡ 0) × (result.1.faults ≡ 0) }
+{
+    let Link {
+        head,
+        body,
+        sink,
+        awaited,
+        told,
+    } = link;
+    let reader = Reader {
+        head,
+        body,
+        awaited,
+        faults: 0,
+    };
+    let writer = Writer {
+        sink,
+        told,
+        faults: 0,
+    };
+    (reader, writer)
+}
+
+/// A gate of one link, or of none. It tells nothing of it.
+#[derive(Drop)]
+struct Gate {
+    coming: Option<Link>,
+    ended: Option<Writer>,
+}
+
+impl Acceptor for Gate {
+    ghost use Rattle.std.specs.Prelude.{None};
+
+    type Reader = Reader;
+
+    type Writer = Writer;
+
+    ghost links = { λ g. None };
+
+    ghost faults = { λ g. 0 };
+
+    fn accept(&mut self) -> Result<Option<(Reader, Writer)>, Failed> {
+        match self.coming.take() {
+            Some(link) => Ok(Some(ends_of(link))),
+            None => Ok(None),
+        }
+    }
+
+    fn finish(&mut self, reader: Reader, writer: Writer) {
+        drop(reader);
+        self.ended = Some(writer);
+    }
+}
+
+/// A network whose gates have a link each. It tells nothing of them.
+#[derive(Drop)]
+struct Pair {
+    alloc: Global,
+    coming: VecDeque<Link>,
+    released: Vec<Gate>,
+}
+
+/// Makes that many gates.
+fn gates_of(coming: &mut VecDeque<Link>, gates: u32, mut made: Vec<Gate>) -> Vec<Gate>
+    requires empty { made.items ≡ [] }
+    requires room { gates ≤ vec_capacity made }
+    ensures { length result.items ≡ gates }
+{
+    for _number in 0..gates {
+        made.push_reserved(Gate {
+            coming: coming.pop_front(),
+            ended: None,
+        });
+    }
+    made
+}
+
+impl Network for Pair {
+    ghost use Rattle.std.specs.Prelude.{None};
+
+    type Gate = Gate;
+
+    ghost listening = { λ n. None };
+
+    ghost faults = { λ n. 0 };
+
+    ghost gate_faults = { λ n. 0 };
+
+    fn listen(&mut self, _port: u16, gates: u32) -> Result<Vec<Gate>, ListenFail> {
+        let room = Vec::with_capacity(self.alloc, gates as usize)?;
+        Ok(gates_of(&mut self.coming, gates, room))
+    }
+
+    fn release(&mut self, gate: Gate) {
+        drop(self.released.push(gate));
+    }
+}
+
+/// A link that waits for the other one, or the other one.
+fn link_of(alloc: Global, waits: bool, answered: &Arc<AtomicBool>) -> Result<Link, Fail> {
+    let shared = Some(Arc::try_clone(answered)?);
+    let (awaited, told) = if waits {
+        (shared, None)
+    } else {
+        (None, shared)
+    };
+    Ok(Link {
+        head: source(alloc, HEAD, &QUIET)?,
+        body: source(alloc, BODY, &QUIET)?,
+        sink: sink(alloc, "output", 4096, &QUIET)?,
+        awaited,
+        told,
+    })
+}
+
+/// Two links, of which the one with that number waits for the other one.
+fn pair_of(alloc: Global, waiting: u32) -> Result<Pair, Fail> {
+    let answered = Arc::new(alloc, AtomicBool::new(false))?;
+    let mut coming = VecDeque::new(alloc);
+    for number in 0..2 {
+        coming.push_back(link_of(alloc, number == waiting, &answered)?)?;
+    }
+    Ok(Pair {
+        alloc,
+        coming,
+        released: Vec::new(alloc),
+    })
+}
+
+/// The link of the gate was answered so.
+fn try_gate(rt: &(impl Runtime + Abort), gate: &Gate, place: &str) -> Result<(), Fail> {
+    let writer = gate.ended.as_ref().ok_or("a link")?;
+    let taken = str::from_utf8(writer.sink.taken()).ok().ok_or("a text")?;
+    assert!(rt; taken.starts_with("HTTP/1.1 200 OK\r\n"), "{taken}");
+    assert!(rt; taken.contains(place), "{taken}");
+    Ok(())
+}
+
+/// Both links are answered, the one with that number behind the other one.
+fn try_waiting(rt: &(impl Runtime + Abort), alloc: Global, waiting: u32) -> Result<(), Fail> {
+    let mut network = pair_of(alloc, waiting)?;
+    let mut store = store(alloc, &QUIET)?;
+    let words = "serve --device d --port 1 --workers 2 --connections 1";
+    let left = run_on(
+        rt,
+        alloc,
+        words,
+        EMPTY,
+        b"",
+        &QUIET,
+        &mut store,
+        &mut network,
+    )?;
+    assert_eq!(rt; left.output.taken(), b"history 2 served 2\n".as_slice());
+    assert!(rt; left.errors.taken().is_empty());
+    assert_eq!(rt; left.status, 0);
+    try_places(rt, network.released.as_slice(), waiting)
+}
+
+/// The places of the two answers.
+fn try_places(rt: &(impl Runtime + Abort), gates: &[Gate], waiting: u32) -> Result<(), Fail> {
+    let mut number: u32 = 0;
+    for gate in gates {
+        let place = if number == waiting {
+            "AM-At: 1\r\n"
+        } else {
+            "AM-At: 0\r\n"
+        };
+        try_gate(rt, gate, place)?;
+        number = number.wrapping_add(1);
+    }
+    assert_eq!(rt; number, 2);
+    Ok(())
+}
+
+#[test]
+fn serves_both_at_once(rt: HostRuntime) -> Result<(), Fail> {
+    try_waiting(&rt, rt.alloc(), 0)?;
+    try_waiting(&rt, rt.alloc(), 1)
+}
