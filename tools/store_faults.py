@@ -160,7 +160,7 @@ def small_disk():
 
 def full_disk(program, folder):
     path = os.path.join(folder, "full.db")
-    done = run(program, path, 10000, preexec_fn=small_disk)
+    done = run(program, path, 256, preexec_fn=small_disk)
     kept = acknowledged(done.stdout)
     status = run(program, path, 0).returncode
     found = sqlite3.connect(path).execute("SELECT count(*) FROM kept").fetchone()[0]

@@ -28,18 +28,18 @@ def remove(path):
             os.remove(path + end)
 
 
-DEVICE = """system_key = "sys"
-[[package]]
-key = "ka"
-manifest = { package = "com.a" }
-"""
+# A package may have 256 grants at most.
+EACH = 250
+DEVICE = 'system_key = "sys"\n' + "".join(
+    f'[[package]]\nkey = "k{number}"\nmanifest = {{ package = "com.p{number}" }}\n' for number in range(40)
+)
 
 
 def grants(count):
     """The frames of so many grants, each of another permission."""
     made = []
     for number in range(count):
-        body = f'{{"package":"com.a","permission":"p.{number}","held":true}}'
+        body = f'{{"package":"com.p{number // EACH}","permission":"p.{number % EACH}","held":true}}'
         made.append(f"POST /v1/grant HTTP/1.1\r\nAM-Key: sys\r\nContent-Length: {len(body)}\r\n\r\n{body}")
     return "".join(made)
 
