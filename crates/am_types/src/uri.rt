@@ -23,11 +23,11 @@ impl Clone for Uri {
 
     fn clone(&self) -> Result<Uri, AllocError> {
         Ok(Uri {
-            text: copies::value(&self.text)?,
-            scheme: copies::value(&self.scheme)?,
+            text: self.text.clone()?,
+            scheme: self.scheme.clone()?,
             host: copies::option(&self.host)?,
             port: self.port,
-            path: copies::value(&self.path)?,
+            path: self.path.clone()?,
         })
     }
 }
