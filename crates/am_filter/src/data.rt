@@ -132,9 +132,9 @@ fn passes_authority(authority: &Authority, uri: &Uri) -> bool
     }
 }
 
-/// The hosts are equal with ASCII case ignored, or the filter's begins with a star and the other
-/// ends with what follows.
-fn has_host(listed: &str, host: &str) -> bool
+/// Whether the hosts are equal with ASCII case ignored, or the filter's begins with a star and the
+/// other ends with what follows. Takes no memory.
+pub fn has_host(listed: &str, host: &str) -> bool
     ensures { result ≡ has_host (lowered listed.now) (lowered host.now) }
 {
     match listed.strip_prefix('*') {
@@ -157,8 +157,8 @@ fn has_port(listed: Option<u32>, port: Option<u32>) -> bool
     listed.is_none() || listed == port
 }
 
-/// Some listed type goes with this one.
-fn passes_type(types: &List<Mime>, mime: &Mime) -> bool
+/// Whether some listed type goes with this one. Takes no memory.
+pub fn passes_type(types: &List<Mime>, mime: &Mime) -> bool
     ensures { result ≡ passes_type types.now mime.now }
 {
     types

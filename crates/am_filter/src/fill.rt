@@ -1,5 +1,5 @@
 //! What one intent fills in of another.
-ghost use Rattle.std.specs.Prelude.{◌≡◌, ◌||◌, ◌↔◌, ◌+◌, ◌≤◌, IfOk, Ok, Err, length, nat_lt};
+ghost use Rattle.std.specs.Prelude.{◌≡◌, ◌||◌, ◌↔◌, ◌+◌, ◌≤◌, IfOk, Ok, Err, None, [], length, nat_lt};
 ghost use Rattle.std.specs.List.{insert};
 ghost use Rattle.am_model.specs.Intents.{fill_in, filled, filled_categories, filled_mime, filled_uri, has_key, or_other, place_extra, united_extras, united_flags};
 
@@ -31,17 +31,47 @@ pub fn fill_in(alloc: Global, kept: &Intent, other: &Intent) -> Result<Intent, F
 fn filled(alloc: Global, kept: &Intent, other: &Intent) -> Result<Intent, AllocError>
     ensures { IfOk result (λ intent. intent ≡ filled kept.now other.now) }
 {
-    Ok(Intent {
-        action: text(&kept.action, &other.action)?,
-        uri: uri(kept, other)?,
-        mime: mime(kept, other)?,
-        identifier: text(&kept.identifier, &other.identifier)?,
-        categories: categories(&kept.categories, &other.categories)?,
-        package: text(&kept.package, &other.package)?,
-        component: kept.component.clone()?,
-        flags: united_flags(kept.flags, other.flags),
-        extras: united_extras(alloc, &kept.extras, &other.extras)?,
-    })
+    let mut intent = bare(alloc, united_flags(kept.flags, other.flags));
+    match fill(alloc, &mut intent, kept, other) {
+        Ok(()) => Ok(intent),
+        Err(fault) => {
+            drop(intent);
+            Err(fault)
+        }
+    }
+}
+
+/// The intent that has flags and nothing else.
+fn bare(alloc: Global, flags: Flags) -> Intent
+    ensures { result ≡ record { action = None; uri = None; mime = None; identifier = None; categories = []; «package» = None; component = None; flags = flags; extras = [] } }
+{
+    Intent {
+        action: None,
+        uri: None,
+        mime: None,
+        identifier: None,
+        categories: List::new(Vec::new(alloc)),
+        package: None,
+        component: None,
+        flags,
+        extras: List::new(Vec::new(alloc)),
+    }
+}
+
+/// Puts into the intent, whose flags are there, all else of the first with what it lacks.
+fn fill(alloc: Global, intent: &mut Intent, kept: &Intent, other: &Intent) -> Result<(), AllocError>
+    requires { intent.old.flags ≡ united_flags kept.now.flags other.now.flags }
+    ensures { IfOk result (λ done. intent.new ≡ filled kept.now other.now) }
+{
+    intent.action = text(&kept.action, &other.action)?;
+    intent.uri = uri(kept, other)?;
+    intent.mime = mime(kept, other)?;
+    intent.identifier = text(&kept.identifier, &other.identifier)?;
+    intent.categories = categories(&kept.categories, &other.categories)?;
+    intent.package = text(&kept.package, &other.package)?;
+    intent.component = kept.component.clone()?;
+    intent.extras = united_extras(alloc, &kept.extras, &other.extras)?;
+    Ok(())
 }
 
 /// The first where it is there, else the second.

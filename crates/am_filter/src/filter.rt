@@ -44,8 +44,8 @@ fn passes_categories(listed: &List<Text>, categories: &List<Text>, need_default:
     lists_all(listed, categories) && (!need_default || lists_default(listed))
 }
 
-/// Each text of the second list stands in the first.
-pub(crate) fn lists_all(texts: &List<Text>, wanted: &List<Text>) -> bool
+/// Whether each text of the second list stands in the first. Takes no memory.
+pub fn lists_all(texts: &List<Text>, wanted: &List<Text>) -> bool
     ensures { result ≡ list_all (λ text. lists texts.now text) wanted.now }
 {
     wanted.as_slice().iter().all(|text| lists(texts, text))

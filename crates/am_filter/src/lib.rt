@@ -8,8 +8,8 @@ mod fill;
 mod filter;
 mod rows;
 
-pub use data::is_any_type;
+pub use data::{has_host, is_any_type, passes_type};
 pub use equal::filter_equals;
 pub use fill::fill_in;
-pub use filter::{lists, passes};
+pub use filter::{lists, lists_all, passes};
 pub use rows::{DataRow, DataRows, Paths, merge_rows};

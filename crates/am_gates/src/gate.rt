@@ -56,11 +56,18 @@ pub fn verdict<'a>(
 pub fn holds(uid: u32, permission: &Text, grants: &List<Grant>) -> bool
     ensures { result ≡ holds grants.now uid permission.now }
 {
+    holds_named(uid, permission.as_str(), grants)
+}
+
+/// Whether the uid holds the permission of that name, as [`holds`] has it. Takes no memory.
+pub fn holds_named(uid: u32, permission: &str, grants: &List<Grant>) -> bool
+    ensures { result ≡ holds grants.now uid permission.now }
+{
     is_privileged(uid) || is_granted(grants, uid, permission)
 }
 
-/// The uid was granted the permission.
-fn is_granted(grants: &List<Grant>, uid: u32, permission: &Text) -> bool
+/// Whether the uid was granted the permission of that name itself, whoever it is. Takes no memory.
+pub fn is_granted(grants: &List<Grant>, uid: u32, permission: &str) -> bool
     ensures { result ≡ is_granted grants.now uid permission.now }
 {
     grants
@@ -77,8 +84,8 @@ pub fn is_privileged(uid: u32) -> bool
 }
 
 /// The grant is of that uid and permission.
-fn is_grant(grant: &Grant, uid: u32, permission: &Text) -> bool
+fn is_grant(grant: &Grant, uid: u32, permission: &str) -> bool
     ensures { result ≡ is_grant uid permission.now grant.now }
 {
-    grant.uid == uid && grant.permission == *permission
+    grant.uid == uid && grant.permission.as_str() == permission
 }

@@ -3,4 +3,4 @@
 
 mod gate;
 
-pub use gate::{Ruling, holds, is_privileged, verdict};
+pub use gate::{Ruling, holds, holds_named, is_granted, is_privileged, verdict};

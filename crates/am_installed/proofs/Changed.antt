@@ -1,5 +1,5 @@
 -- Packages stay distinct when one is taken out, or stopped.
-use Rattle.std.proofs.Common.{◌≡◌, ℕ, Bool, true, false, not, cond, eqb, List, [], ◌∷◌, refl, ap, subst, sym}
+use Rattle.std.proofs.Common.{◌≡◌, ℕ, Bool, true, false, not, cond, eqb, List, [], ◌∷◌, map, refl, ap, subst, sym, ◌∙◌}
 use Rattle.std.specs.List.{AllByRecursion, IsDistinct}
 use Rattle.am_types.specs.declared.device.Package.{Package}
 use Rattle.am_model.specs.Boards.{with_stopped, without_package}
@@ -28,23 +28,22 @@ names_without (p ∷ ps) uid d = by (eqb p.uid uid) (names_without ps uid d.1)
     by true h = h
     by false h = (all_without (λ y. is_same p.name y ≡ false) ps uid d.0, h)
 
+-- what stopping one of them doesn't change in a package it doesn't change in all
+module _ {X : Type 0} (part : Package → X) (same : (p : Package) (stopped : Bool) → part (record p { stopped = stopped }) ≡ part p) where
+  parts_stopped : (ps : List Package) (uid : ℕ) (stopped : Bool) → map part (with_stopped ps uid stopped) ≡ map part ps
+  parts_stopped [] uid stopped = refl
+  parts_stopped (p ∷ ps) uid stopped = by (eqb p.uid uid) (parts_stopped ps uid stopped)
+    where
+      by : (b : Bool) → map part (with_stopped ps uid stopped) ≡ map part ps
+          → part (cond b (record p { stopped = stopped }) p) ∷ map part (with_stopped ps uid stopped) ≡ part p ∷ map part ps
+      by true e = ap (λ x. x ∷ map part (with_stopped ps uid stopped)) (same p stopped) ∙ ap (λ l. part p ∷ l) e
+      by false e = ap (λ l. part p ∷ l) e
+
 pub uids_stopped : (ps : List Package) (uid : ℕ) (stopped : Bool) → uids_of (with_stopped ps uid stopped) ≡ uids_of ps
-uids_stopped [] uid stopped = refl
-uids_stopped (p ∷ ps) uid stopped = by (eqb p.uid uid) (uids_stopped ps uid stopped)
-  where
-    by : (b : Bool) → uids_of (with_stopped ps uid stopped) ≡ uids_of ps
-        → uids_of (cond b (record p { stopped = stopped }) p ∷ with_stopped ps uid stopped) ≡ p.uid ∷ uids_of ps
-    by true e = ap (λ l. p.uid ∷ l) e
-    by false e = ap (λ l. p.uid ∷ l) e
+uids_stopped ps uid stopped = parts_stopped (λ p. p.uid) (λ p stopped. refl) ps uid stopped
 
 pub names_stopped : (ps : List Package) (uid : ℕ) (stopped : Bool) → names_of (with_stopped ps uid stopped) ≡ names_of ps
-names_stopped [] uid stopped = refl
-names_stopped (p ∷ ps) uid stopped = by (eqb p.uid uid) (names_stopped ps uid stopped)
-  where
-    by : (b : Bool) → names_of (with_stopped ps uid stopped) ≡ names_of ps
-        → names_of (cond b (record p { stopped = stopped }) p ∷ with_stopped ps uid stopped) ≡ p.name ∷ names_of ps
-    by true e = ap (λ l. p.name ∷ l) e
-    by false e = ap (λ l. p.name ∷ l) e
+names_stopped ps uid stopped = parts_stopped (λ p. p.name) (λ p stopped. refl) ps uid stopped
 
 each_stopped : (ps : List Package) (uid : ℕ) (stopped : Bool) → AllByRecursion IsInstalled ps → AllByRecursion IsInstalled (with_stopped ps uid stopped)
 each_stopped [] uid stopped a = tt

@@ -7,13 +7,13 @@ ghost use Rattle.am_model.specs.Receivers.{declared};
 ghost use Rattle.am_installed.specs.Installed.{AreGrantsInOrder, AreInstalled, AreLinksInOrder, IsInOrder};
 ghost use Rattle.am_installed.specs.Places.{AreByNumber, place_registered};
 
+use crate::lists::take;
 use crate::{find, lists, rights};
 use am_types::{
     Component, Decl, Device, Grant, Kind, Link, List, NoMemory, Package, Registration, Text,
 };
 use std::alloc::Global;
 use std::marker::Model;
-use std::mem;
 
 /// What is installed on a device and what was given to it.
 #[derive(Drop)]
@@ -248,12 +248,4 @@ impl Installed {
         lists::drop_registered_of(&mut registered, uid);
         self.registered = List::new(registered);
     }
-}
-
-/// Takes the items of a list, and leaves none. Takes no memory.
-fn take<T>(list: &mut List<T>, alloc: Global) -> Vec<T>
-    ensures items { result.items ≡ list.old }
-    ensures left { list.new ≡ [] }
-{
-    mem::replace(list, List::new(Vec::new(alloc))).into_items()
 }

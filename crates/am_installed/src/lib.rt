@@ -9,3 +9,5 @@ mod rights;
 
 pub use find::{caller_named, decl_in, declared, package_at, uid_named};
 pub use installed::Installed;
+pub use lists::{drop_package, take};
+pub use rights::{Right, drop_rights_of, stands_before};

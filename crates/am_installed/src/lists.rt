@@ -5,7 +5,17 @@ ghost use Rattle.am_model.specs.Lists.{place_of};
 ghost use Rattle.am_installed.specs.Places.{before_registered, place_registered};
 ghost use Rattle.am_types.specs.declared.resolve.Registration.{Registration};
 
-use am_types::{NoMemory, Package, Registration};
+use am_types::{List, NoMemory, Package, Registration};
+use std::alloc::Global;
+use std::mem;
+
+/// Takes the items of a list, and leaves none. Takes no memory.
+pub fn take<T>(list: &mut List<T>, alloc: Global) -> Vec<T>
+    ensures items { result.items ≡ list.old }
+    ensures left { list.new ≡ [] }
+{
+    mem::replace(list, List::new(Vec::new(alloc))).into_items()
+}
 
 /// Puts a package behind the others. Without memory all stay.
 pub(crate) fn push_package(packages: &mut Vec<Package>, package: Package) -> Result<(), NoMemory>
@@ -21,8 +31,8 @@ pub(crate) fn push_package(packages: &mut Vec<Package>, package: Package) -> Res
     }
 }
 
-/// Takes the package of the uid out.
-pub(crate) fn drop_package(packages: &mut Vec<Package>, uid: u32)
+/// Takes the package of the uid out. Takes no memory.
+pub fn drop_package(packages: &mut Vec<Package>, uid: u32)
     ensures { packages.new.items ≡ without_package packages.old.items uid }
 {
     packages.retain(|package| package.uid != uid);

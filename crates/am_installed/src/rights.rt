@@ -6,7 +6,7 @@ ghost use Rattle.am_model.specs.Rights.{before_right, has_right, is_right, right
 use am_types::{Grant, Link, NoMemory, Text};
 
 /// What gives a uid a right to a text.
-pub(crate) trait Right: Drop {
+pub trait Right: Drop {
     ghost use Rattle.std.specs.Prelude.{◌≡◌, ℕ, List};
     ghost use Rattle.am_model.specs.Rights.{Right as Held};
 
@@ -68,7 +68,7 @@ impl Right for Link {
 }
 
 /// One uid and text stand before another.
-fn stands_before(uid: u32, text: &Text, other_uid: u32, other: &Text) -> bool
+pub fn stands_before(uid: u32, text: &Text, other_uid: u32, other: &Text) -> bool
     ensures { result ≡ stands_before uid text.now other_uid other.now }
 {
     uid < other_uid || uid == other_uid && text < other
@@ -140,8 +140,8 @@ pub(crate) fn set_right<T: Right>(
     put_right(rights, uid, text)
 }
 
-/// Takes the rights of the uid out.
-pub(crate) fn drop_rights_of<T: Right>(rights: &mut Vec<T>, uid: u32)
+/// Takes the rights of the uid out. Takes no memory.
+pub fn drop_rights_of<T: Right>(rights: &mut Vec<T>, uid: u32)
     ensures { rights.new.items ≡ rights_without T.right_of rights.old.items uid }
 {
     rights.retain(|right| right.uid() != uid);

@@ -1,6 +1,6 @@
 -- A keeper and a store in memory.
-use Rattle.std.specs.Prelude.{ℕ, Bool, ◌==◌, List, Option, Result, Ok, Err}
-use Rattle.std.specs.List.{list_any}
+use Rattle.std.specs.Prelude.{ℕ, Bool, List, Option, Result, Ok, Err}
+use Rattle.am_outside.specs.Memory.{fails}
 use Rattle.am_keeper.specs.declared.failure.KeepFail.{KeepFail}
 use Rattle.am_keeper.specs.declared.failure.KeepFail.TheVariants.{Failed, NoMemory}
 use Rattle.am_keeper.specs.declared.rows.Rows.{Rows}
@@ -16,7 +16,7 @@ pub record InMemory : Type 0 where
 
 -- the call of this number is one of those that fail
 abbrev pub fails_at : List ℕ → ℕ → Bool
-fails_at failing number = list_any (λ n. n == number) failing
+fails_at = fails
 
 -- one call more
 abbrev pub one_more : ℕ → ℕ

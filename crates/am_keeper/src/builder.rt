@@ -28,23 +28,9 @@ impl Model for RowsBuilder {
     ghost invariant = { λ b. IsInOrder (record { packages = b.packages.items; grants = b.grants.items; links = b.links.items }) };
 }
 
-fn packages(alloc: Global, rows: &[PackageRow]) -> Result<Vec<PackageRow>, AllocError>
-    ensures { IfOk result (λ copy. copy.items ≡ rows.now) }
-{
-    let mut copy = Vec::new(alloc);
-    VecCloneMethods::extend_from_slice(&mut copy, rows)?;
-    Ok(copy)
-}
-
-fn grants(alloc: Global, rows: &[GrantRow]) -> Result<Vec<GrantRow>, AllocError>
-    ensures { IfOk result (λ copy. copy.items ≡ rows.now) }
-{
-    let mut copy = Vec::new(alloc);
-    VecCloneMethods::extend_from_slice(&mut copy, rows)?;
-    Ok(copy)
-}
-
-fn links(alloc: Global, rows: &[LinkRow]) -> Result<Vec<LinkRow>, AllocError>
+/// A copy of the rows of one kind.
+fn copied<T: Clone + Drop>(alloc: Global, rows: &[T]) -> Result<Vec<T>, AllocError>
+    requires exact { (x y : T) → T.is_clone x y → y ≡ x }
     ensures { IfOk result (λ copy. copy.items ≡ rows.now) }
 {
     let mut copy = Vec::new(alloc);
@@ -70,9 +56,9 @@ impl RowsBuilder {
         ensures { IfOk result (λ copy. copy ≡ rows.now) }
     {
         Ok(RowsBuilder {
-            packages: packages(alloc, rows.packages.as_slice())?,
-            grants: grants(alloc, rows.grants.as_slice())?,
-            links: links(alloc, rows.links.as_slice())?,
+            packages: copied(alloc, rows.packages.as_slice())?,
+            grants: copied(alloc, rows.grants.as_slice())?,
+            links: copied(alloc, rows.links.as_slice())?,
         })
     }
 

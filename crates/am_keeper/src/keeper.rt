@@ -3,10 +3,10 @@ ghost use Rattle.std.specs.Prelude.{◌≡◌, ◌↔◌, ◌⊎◌, ℕ, ◌≤
 ghost use Rattle.std.specs.Option.{option_copied};
 ghost use Rattle.am_outside.specs.Counts.{HasRisen};
 ghost use Rattle.am_keeper.specs.declared.rows.Rows.{Rows as Told};
-ghost use Rattle.am_keeper.specs.Rows.{IsInOrder, no_rows, with_package, with_grant, with_link};
+ghost use Rattle.am_keeper.specs.Rows.{IsInOrder, no_rows, with_package, with_grant, with_link, with_row};
 ghost use Rattle.am_keeper.specs.Keeping.{Puts, TellsAsBefore, raised_by, rows_after};
 
-use crate::{GrantRow, KeepFail, LinkRow, PackageRow, Rows};
+use crate::{GrantRow, KeepFail, LinkRow, PackageRow, Row, Rows};
 use am_types::Text;
 
 /// What puts rows into a store. A clause on rows says something where the store is honest: it has
@@ -58,6 +58,23 @@ pub trait Keeper: Drop {
         ensures failed { result ≡ Err KeepFail.Failed → HasRisen (faults self.old) (faults self.new) };
 
     ghost honest_by_nature: { (keeper : Self) → stays_honest keeper → is_honest keeper };
+}
+
+/// Puts a row of any kind, by the keeper's call for its kind.
+pub fn put_row<K: Keeper>(keeper: &mut K, row: &Row) -> Result<(), KeepFail>
+    ensures rows { K.is_honest keeper.new → Puts (λ told. with_row told row.now) (K.rows keeper.old) (K.rows keeper.new) result }
+    ensures tells { TellsAsBefore (K.rows keeper.old) (K.rows keeper.new) }
+    ensures place { K.place keeper.new ≡ K.place keeper.old }
+    ensures was_honest { K.is_honest keeper.new → K.is_honest keeper.old }
+    ensures for_good { K.stays_honest keeper.new ↔ K.stays_honest keeper.old }
+    ensures never_falls { K.faults keeper.old ≤ K.faults keeper.new }
+    ensures failed { result ≡ Err KeepFail.Failed → HasRisen (K.faults keeper.old) (K.faults keeper.new) }
+{
+    match row {
+        Row::Package(row) => keeper.put_package(row),
+        Row::Grant(row) => keeper.put_grant(row),
+        Row::Link(row) => keeper.put_link(row),
+    }
 }
 
 /// A keeper at work, and the rows that were there when it came.

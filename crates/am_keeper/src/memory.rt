@@ -5,6 +5,7 @@ ghost use Rattle.am_keeper.specs.Memory.{fails_at, one_more, fresh_keeper, after
 
 use crate::logged::Logged;
 use crate::{GrantRow, KeepFail, Keeper, LinkRow, PackageRow, Row, Rows};
+use am_outside::is_failing;
 use am_types::{List, NoMemory, Text};
 use std::alloc::Global;
 use std::marker::Model;
@@ -86,19 +87,12 @@ impl MemoryKeeper {
         ensures never_falls { self.old.faults ≤ self.new.faults }
     {
         self.calls = self.calls.saturating_add(1);
-        if is_listed(&self.failing, self.calls) {
+        if is_failing(&self.failing, self.calls) {
             self.faults = self.faults.saturating_add(1);
             return Err(KeepFail::Failed);
         }
         Ok(())
     }
-}
-
-/// Whether a list of numbers has this one.
-pub(crate) fn is_listed(numbers: &List<u32>, number: u64) -> bool
-    ensures { result ≡ fails_at numbers.now number }
-{
-    numbers.as_slice().iter().any(|n| u64::from(*n) == number)
 }
 
 impl Keeper for MemoryKeeper {

@@ -9,8 +9,8 @@ ghost use Rattle.am_keeper.specs.Memory.{fails_at, one_more, fresh_keeper};
 ghost use Rattle.am_keeper.specs.Shelf.{ArePlaces, rows_in_places, rows_in_slots, has_slot, fresh_shelf, after_attach, rows_on};
 
 use crate::logged::Logged;
-use crate::memory::is_listed;
 use crate::{Attached, KeepFail, Keeper, MemoryKeeper, Rows, RowsBuilder, Store};
+use am_outside::is_failing;
 use am_types::{List, Text};
 use std::alloc::{AllocError, Global};
 use std::marker::Model;
@@ -150,7 +150,7 @@ impl MemoryStore {
         ensures never_falls { self.old.failed_attaches ≤ self.new.failed_attaches }
     {
         self.attaches = self.attaches.saturating_add(1);
-        if is_listed(&self.failing, self.attaches) {
+        if is_failing(&self.failing, self.attaches) {
             self.failed_attaches = self.failed_attaches.saturating_add(1);
             return Err(KeepFail::Failed);
         }

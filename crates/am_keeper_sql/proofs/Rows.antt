@@ -1,10 +1,11 @@
 -- Kept rows by their keys.
-use Rattle.std.proofs.Common.{◌≡◌, inl, inr, List, [], ◌∷◌, map, Option, Some, None, pos, refl, sym, ap, ◌∙◌}
+use Rattle.std.proofs.Common.{◌≡◌, ℕ, inl, inr, List, [], ◌∷◌, map, Option, Some, None, pos, refl, sym, ap, ◌∙◌}
 use Rattle.std.specs.Prelude.{option_map}
 use Rattle.std.specs.Str.{is_utf8}
 use Rattle.std.proofs.lemmas.Bool.{cases_Bool}
 use Rattle.std.specs.declared.cmp.Ordering.TheVariants.{Equal}
-use Rattle.std.specs.Ordering.{nat_cmp}
+use Rattle.std.specs.Ordering.{nat_cmp, ordering_then}
+use Rattle.std.specs.Cmp.Lexicographic.{slice_cmp}
 use Rattle.std.proofs.lemmas.Cmp.{tied_itself, nat_cmp_total}
 use Rattle.std.proofs.lemmas.Map.Lookups.{exact_unsigned, exact_bytes}
 use Rattle.sqlite.specs.declared.types.Value.{Value}
@@ -81,19 +82,15 @@ said-values values cells h = ap (λ o. o >>= row_in) h
 pub key-said : (values : Row) (row : Kept) → row_said values ≡ Some row → key values ≡ key_of row
 key-said values row h = ap key (values_for-said values row h) ∙ key-values_for row
 
+-- two uids and words that tie are the same
+same_words : (uid uid' : ℕ) (word word' : List ℕ) → ordering_then (nat_cmp uid uid') (slice_cmp nat_cmp word word') ≡ Equal → (uid ≡ uid') × (word ≡ word')
+same_words uid uid' word word' tie = let parts = then_tied (nat_cmp uid uid') _ tie in (exact_unsigned uid uid' parts.0, exact_bytes word word' parts.1)
+
 same_permission : (x y : GrantRow) → by_permission x y ≡ Equal → key_of (Grant x) ≡ key_of (Grant y)
-same_permission x y tie =
-    let parts = then_tied (nat_cmp x.uid y.uid) _ tie in
-    let uid : x.uid ≡ y.uid = exact_unsigned x.uid y.uid parts.0 in
-    let word : x.permission ≡ y.permission = exact_bytes x.permission y.permission parts.1 in
-    rw (uid, word)
+same_permission x y tie = let same = same_words x.uid y.uid x.permission y.permission tie in rw (same.0, same.1)
 
 same_host : (x y : LinkRow) → by_host x y ≡ Equal → key_of (Link x) ≡ key_of (Link y)
-same_host x y tie =
-    let parts = then_tied (nat_cmp x.uid y.uid) _ tie in
-    let uid : x.uid ≡ y.uid = exact_unsigned x.uid y.uid parts.0 in
-    let word : x.host ≡ y.host = exact_bytes x.host y.host parts.1 in
-    rw (uid, word)
+same_host x y tie = let same = same_words x.uid y.uid x.host y.host tie in rw (same.0, same.1)
 
 same_package : (x y : PackageRow) → by_uid x y ≡ Equal → key_of (Package x) ≡ key_of (Package y)
 same_package x y tie = let uid : x.uid ≡ y.uid = exact_unsigned x.uid y.uid tie in rw uid

@@ -10,9 +10,10 @@ ghost use Rattle.am_history.specs.Numbers.{HasNumbers};
 ghost use Rattle.am_history.specs.State.{State};
 ghost use Rattle.am_history.specs.Steps.{at_moment};
 
+use crate::Live;
 use crate::gate::gate;
 use crate::reads::components_of;
-use crate::{Live, callers};
+use am_gates::is_privileged;
 use am_resolve::Board;
 use am_tasks::Tasks;
 use am_types::{
@@ -243,7 +244,7 @@ fn owned_rule(caller: u32, owner: Option<u32>) -> Option<Rule>
 {
     match owner {
         None => Some(Rule::NoInstance),
-        Some(uid) if callers::is_privileged(caller) || caller == uid => None,
+        Some(uid) if is_privileged(caller) || caller == uid => None,
         Some(_) => Some(Rule::NotYours),
     }
 }
@@ -338,7 +339,7 @@ fn back(tasks: &mut Tasks, caller: u32) -> Reply
         for_admin (record s { tasks = tasks.old }) caller (back (record s { tasks = tasks.old }))
         ≡ (result, record s { tasks = tasks.new }) }
 {
-    if callers::is_privileged(caller) {
+    if is_privileged(caller) {
         Reply::Finished(tasks.back())
     } else {
         Reply::Refused(Rule::AdminOnly)

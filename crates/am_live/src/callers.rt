@@ -2,7 +2,6 @@
 ghost use Rattle.std.specs.Prelude.{◌≡◌, ◌||◌, Some, if◌then◌else◌};
 ghost use Rattle.std.specs.List.{list_any};
 ghost use Rattle.am_types.specs.declared.device.Package.{Package};
-ghost use Rattle.am_model.specs.Gates.{is_privileged};
 ghost use Rattle.am_model.specs.Texts.{is_same};
 ghost use Rattle.am_history.specs.Packages.{is_root_key};
 ghost use Rattle.am_history.specs.State.{system_uid, uid_of_package, root_or};
@@ -10,10 +9,10 @@ ghost use Rattle.am_history.specs.State.{system_uid, uid_of_package, root_or};
 use am_types::{List, Package, Text};
 
 /// The uid of the system.
-pub(crate) const SYSTEM: u32 = 1000;
+const SYSTEM: u32 = 1000;
 
 /// The uid of the root.
-pub(crate) const ROOT: u32 = 0;
+const ROOT: u32 = 0;
 
 /// The uid that has the key, if there is one, where these are the keys of the system and of the
 /// root, and the packages that are installed. Takes no memory.
@@ -86,11 +85,4 @@ fn is_root_key(root_key: &Option<Text>, key: &Text) -> bool
         None => false,
         Some(root_key) => *root_key == *key,
     }
-}
-
-/// The uid is the system's or the root's.
-pub(crate) fn is_privileged(uid: u32) -> bool
-    ensures { result ≡ is_privileged uid }
-{
-    uid == ROOT || uid == SYSTEM
 }

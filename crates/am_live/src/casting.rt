@@ -214,8 +214,8 @@ fn receiver_with(
     ensures { IfOk result (λ made. made
         ≡ record { number = number; uid = uid; filter = filter.now; permission = option_copied permission.entry }) }
 {
-    let filter = filter.clone()?;
     let permission = permission_of(permission)?;
+    let filter = filter.clone()?;
     Ok(Registration {
         number,
         uid,

@@ -6,7 +6,8 @@ ghost use Rattle.am_history.specs.State.{State, with_packages};
 ghost use Rattle.am_history.specs.Steps.{at_moment};
 ghost use Rattle.am_live.specs.Changes.{changed, prepared, with_package, Fits, IsInstallable, IsPrepared};
 
-use crate::{Change, Live, callers};
+use crate::{Change, Live};
+use am_gates::is_privileged;
 use am_resolve::Board;
 use am_types::{NoMemory, Package, Reply, Rule, Steps, Text};
 use std::sync::ledger::Ledger;
@@ -149,7 +150,7 @@ impl Live {
         ensures { force_stop (at_moment self.old moment) caller name.now ≡ (result, self.new) }
     {
         self.settle(moment, steps);
-        if !callers::is_privileged(caller) {
+        if !is_privileged(caller) {
             return Reply::Refused(Rule::AdminOnly);
         }
         let Some(owner) = self.board.package_named(name) else {

@@ -12,6 +12,7 @@ ghost use Rattle.am_laws_state.specs.Sound.{IsSoundState};
 ghost use Rattle.am_live.specs.Changes.{IsPlanOf};
 
 use crate::{Change, Live, Plan, callers};
+use am_gates::{is_granted, is_privileged};
 use am_keeper::{GrantRow, LinkRow, PackageRow, Row};
 use am_manifest::{ReadFault, read_package};
 use am_types::{Grant, Limit, Link, List, Manifest, NoMemory, Package, Request, Rule, Text};
@@ -34,7 +35,7 @@ impl Live {
         requires sound { IsSoundState self.now }
         ensures { IfOk result (λ plan. IsPlanOf plan self.now caller request.now) }
     {
-        if !callers::is_privileged(caller) {
+        if !is_privileged(caller) {
             return Ok(Plan::Refused(Rule::AdminOnly));
         }
         match request {
@@ -272,13 +273,6 @@ fn link_row(uid: u32, host: &Text, approved: bool) -> Result<Row, NoMemory>
     }))
 }
 
-/// The uid holds the permission.
-fn is_granted(grants: &List<Grant>, uid: u32, permission: &Text) -> bool
-    ensures { result ≡ is_granted grants.now uid permission.now }
-{
-    grants.as_slice().iter().any(|grant| grant.uid == uid && grant.permission == *permission)
-}
-
 /// The uid is approved for the host.
 fn is_linked(links: &List<Link>, uid: u32, host: &Text) -> bool
     ensures { result ≡ is_linked links.now uid host.now }
@@ -293,7 +287,7 @@ fn is_linked(links: &List<Link>, uid: u32, host: &Text) -> bool
 fn is_new_grant(grants: &List<Grant>, uid: u32, permission: &Text, held: bool) -> bool
     ensures { result ≡ (held && not (is_granted grants.now uid permission.now)) }
 {
-    held && !is_granted(grants, uid, permission)
+    held && !is_granted(grants, uid, permission.as_str())
 }
 
 /// The uid is approved for a host for which it wasn't.

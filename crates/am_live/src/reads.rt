@@ -12,14 +12,16 @@ ghost use Rattle.am_history.specs.Services.{services_of};
 ghost use Rattle.am_history.specs.Steps.{at_moment};
 ghost use Rattle.am_explain.specs.Asking.{question_of};
 
-use crate::{Live, callers};
+use crate::Live;
 use am_explain::{Question, accounts};
+use am_gates::is_privileged;
 use am_installed::{caller_named, uid_named};
 use am_types::{
     Component, Hit, Intent, Item, Kind, List, NoMemory, Reply, Rule, ServiceView, Steps, TaskView,
     Text,
 };
 use std::alloc::Global;
+use std::mem;
 use std::sync::ledger::Ledger;
 
 impl Live {
@@ -60,7 +62,7 @@ impl Live {
         let Some(name) = name else {
             return self.told(question, shown, steps);
         };
-        if !callers::is_privileged(question.caller) {
+        if !is_privileged(question.caller) {
             return Ok(Reply::Refused(Rule::AdminOnly));
         }
         let Some(uid) = caller_named(self.board.packages(), name) else {
@@ -138,12 +140,17 @@ impl Live {
     {
         let mut queues = self.queues.copy()?;
         queues.expire(moment, steps);
-        let items = queues.inbox(caller);
-        if items.is_ok() {
-            self.queues = queues;
-            self.moment = moment;
+        match queues.inbox(caller) {
+            Ok(items) => {
+                drop(mem::replace(&mut self.queues, queues));
+                self.moment = moment;
+                Ok(items)
+            }
+            Err(error) => {
+                drop(queues);
+                Err(error)
+            }
         }
-        items
     }
 
     /// How many packages are installed. Takes no memory.
@@ -157,7 +164,7 @@ impl Live {
     pub fn is_privileged(caller: u32) -> bool
         ensures { result ≡ is_privileged caller }
     {
-        callers::is_privileged(caller)
+        is_privileged(caller)
     }
 }
 

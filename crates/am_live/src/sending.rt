@@ -9,12 +9,13 @@ ghost use Rattle.am_model.specs.Texts.{lists};
 ghost use Rattle.am_history.specs.State.{State};
 ghost use Rattle.am_history.specs.BroadcastCalls.{send_rule, sending_of};
 
-use crate::callers;
+use am_gates::is_privileged;
 use am_queue::Queues;
 use am_types::{
     Intent, Limit, List, NoMemory, Ordered, Receiving, Rule, SendFault, Sending, Spot, Steps, Text,
 };
 use std::alloc::Global;
+use std::mem;
 use std::sync::ledger::Ledger;
 
 /// The text is listed.
@@ -38,7 +39,7 @@ fn is_protected(protected: &List<Text>, action: &Option<Text>) -> bool
 pub(crate) fn is_withheld(protected: &List<Text>, action: &Option<Text>, caller: u32) -> bool
     ensures { result ≡ is_protected protected.now action.now && not (is_privileged caller) }
 {
-    is_protected(protected, action) && !callers::is_privileged(caller)
+    is_protected(protected, action) && !is_privileged(caller)
 }
 
 /// The receivers that are admitted, in their order.
@@ -151,9 +152,12 @@ fn send_due<L: Ledger>(
     };
     copy.expire(call.now, steps);
     match copy.send(call) {
-        Err(SendFault::NoMemory) => Err(SendFault::NoMemory),
+        Err(SendFault::NoMemory) => {
+            drop(copy);
+            Err(SendFault::NoMemory)
+        }
         sent => {
-            *queues = copy;
+            drop(mem::replace(queues, copy));
             sent
         }
     }

@@ -36,6 +36,12 @@ manifest_made «package» decls = do
   few ← at_most 256 (codes "components") (length decls)
   unless_repeated (record { «package» = «package»; decls = decls }) (first_repeated (classes decls))
 
+-- the first components, then others that are read
+abbrev pub more_decls : List Decl → Result (List Decl) ManifestFault → Result (List Decl) ManifestFault
+more_decls first others = do
+  more ← others
+  Ok (first ++ more)
+
 -- the components of a package: activities, then services, then receivers
 unfoldable pub decls_in : List ℕ → List ℕ → Data → Result (List Decl) ManifestFault
 decls_in «package» at value = do

@@ -111,6 +111,12 @@ with_uids [] held = []
 with_uids (p ∷ packages) [] = []
 with_uids (p ∷ packages) (texts ∷ held) = map (λ text. (p.uid, text)) texts ++ with_uids packages held
 
+-- the rights of one kind, each with the uid of its package
+abbrev pub rights_given : RightKind → List Package → Data → Result (List (ℕ × List ℕ)) ManifestFault
+rights_given kind packages value = do
+  held ← rights_of kind packages value
+  Ok (with_uids packages held)
+
 -- what is granted to the packages, and the hosts for which they are approved
 unfoldable pub rights_in : List Package → Data → Result Rights ManifestFault
 rights_in packages value = do

@@ -197,17 +197,22 @@ fn declared(
 ) -> Result<Decl, ReadFault>
     ensures { Gives result (declared kind heading launch filters) }
 {
-    let exported = exported_of(&heading.class, filters.written, heading.exported)?;
-    Ok(Decl {
-        kind,
-        class: heading.class,
-        exported,
-        enabled: heading.enabled,
-        permission: launch.permission,
-        mode: launch.mode,
-        affinity: launch.affinity,
-        filters: filters.kept,
-    })
+    match exported_of(&heading.class, filters.written, heading.exported) {
+        Ok(exported) => Ok(Decl {
+            kind,
+            class: heading.class,
+            exported,
+            enabled: heading.enabled,
+            permission: launch.permission,
+            mode: launch.mode,
+            affinity: launch.affinity,
+            filters: filters.kept,
+        }),
+        Err(fault) => {
+            drop(filters);
+            Err(fault)
+        }
+    }
 }
 
 /// The component in a table.

@@ -5,10 +5,10 @@ ghost use Rattle.am_manifest_filters.specs.Reading.{Gives, GivesBy};
 ghost use Rattle.am_manifest_filters.specs.Tables.{each};
 ghost use Rattle.am_uri.specs.Texts.{with_text};
 ghost use Rattle.am_model.specs.Sound.{IsSound};
-ghost use Rattle.am_manifest.specs.Devices.{actions_in, apart, device_in, device_of, first_taken, is_taken, manifest_at, owners_in, package_entry, package_of, packages_apart, packages_in, known_keys, roots_apart, shares_key, text_of};
+ghost use Rattle.am_manifest.specs.Devices.{actions_in, apart, device_in, device_made, device_of, first_taken, is_taken, manifest_at, owners_in, package_entry, package_of, packages_apart, packages_in, known_keys, roots_apart, shares_key, text_of};
 
-use crate::manifest::{manifest_in, root_of};
-use crate::rights::rights_in;
+use crate::manifest::{duplicate, manifest_in, root_of};
+use crate::rights::{Rights, rights_in};
 use am_manifest_filters::{
     Position, ReadFault, at_most, entry_table, missing, optional_text, optional_values, read_each,
     required_text, texts_at, within_key, wrong_kind,
@@ -166,24 +166,36 @@ fn roots_apart(alloc: Global, owners: &Owners) -> Result<(), ReadFault>
     ensures { Gives result (roots_apart owners.now) }
 {
     if shares_key(owners) {
-        let name = String::from_str(alloc, "root_key")?;
-        return Err(ReadFault::Manifest(ManifestFault::Duplicate(Text::new(name))));
+        return Err(duplicate(alloc, "root_key"));
+    }
+    Ok(())
+}
+
+/// Refuses packages whose names and keys aren't apart, or not apart from those of the system and the root.
+#[tactic(auto, unfolding(crate::specs::Devices::apart, crate::specs::Devices::unless_taken))]
+fn are_apart(alloc: Global, owners: &Owners, packages: &[Package]) -> Result<(), ReadFault>
+    ensures { GivesBy (λ _. packages.now) result (apart owners.now packages.now) }
+{
+    roots_apart(alloc, owners)?;
+    let names = known_names(alloc)?;
+    let keys = known_keys(alloc, owners)?;
+    if let Some(name) = first_taken(alloc, names, keys, packages)? {
+        return Err(ReadFault::Manifest(ManifestFault::Duplicate(name)));
     }
     Ok(())
 }
 
 /// The packages, if their names and keys are apart, and apart from those of the system and the root.
-#[tactic(auto, unfolding(crate::specs::Devices::apart, crate::specs::Devices::unless_taken))]
 fn apart(alloc: Global, owners: &Owners, packages: Vec<Package>) -> Result<Vec<Package>, ReadFault>
     ensures { GivesBy (λ packages. packages.items) result (apart owners.now packages.items) }
 {
-    roots_apart(alloc, owners)?;
-    let names = known_names(alloc)?;
-    let keys = known_keys(alloc, owners)?;
-    if let Some(name) = first_taken(alloc, names, keys, &packages)? {
-        return Err(ReadFault::Manifest(ManifestFault::Duplicate(name)));
+    match are_apart(alloc, owners, &packages) {
+        Ok(()) => Ok(packages),
+        Err(fault) => {
+            drop(packages);
+            Err(fault)
+        }
     }
-    Ok(packages)
 }
 
 /// The packages of a device, apart.
@@ -223,16 +235,11 @@ fn actions_in(alloc: Global, table: &Value) -> Result<Actions, ReadFault>
     })
 }
 
-/// The device in a table.
-#[tactic(auto, unfolding(crate::specs::Devices::device_in))]
-fn device_in(alloc: Global, table: &Value) -> Result<Device, ReadFault>
-    ensures { Gives result (device_in (view table.now)) }
+/// The device of these parts.
+fn device_made(owners: Owners, actions: Actions, packages: Vec<Package>, rights: Rights) -> Device
+    ensures { result ≡ device_made owners actions packages.items rights }
 {
-    let owners = owners_in(alloc, table)?;
-    let actions = actions_in(alloc, table)?;
-    let packages = packages_apart(alloc, &owners, table)?;
-    let rights = rights_in(alloc, &packages, table)?;
-    Ok(Device {
+    Device {
         system_key: owners.system_key,
         root_key: owners.root_key,
         browser: owners.browser,
@@ -241,7 +248,26 @@ fn device_in(alloc: Global, table: &Value) -> Result<Device, ReadFault>
         packages: List::new(packages),
         grants: rights.grants,
         links: rights.links,
-    })
+    }
+}
+
+/// The device in a table.
+#[tactic(auto, unfolding(crate::specs::Devices::device_in))]
+fn device_in(alloc: Global, table: &Value) -> Result<Device, ReadFault>
+    ensures { Gives result (device_in (view table.now)) }
+{
+    let owners = owners_in(alloc, table)?;
+    let actions = actions_in(alloc, table)?;
+    let packages = packages_apart(alloc, &owners, table)?;
+    match rights_in(alloc, &packages, table) {
+        Ok(rights) => Ok(device_made(owners, actions, packages, rights)),
+        Err(fault) => {
+            drop(owners);
+            drop(actions);
+            drop(packages);
+            Err(fault)
+        }
+    }
 }
 
 /// The bytes as a text.

@@ -1,9 +1,11 @@
 //! The manifest of a package.
-ghost use Rattle.std.specs.Prelude.{◌≡◌, IfOk, Some, if◌then◌else◌, ◌++◌};
+ghost use Rattle.std.specs.Prelude.{◌≡◌, ℕ, List as Items, IfOk, Some, if◌then◌else◌, ◌++◌};
 ghost use Rattle.toml.specs.Parse.{parse_document};
 ghost use Rattle.toml.specs.View.{view};
-ghost use Rattle.am_manifest_filters.specs.Reading.{Gives, GivesBy};
-ghost use Rattle.am_manifest.specs.Manifests.{IsAppManifest, classes, decls_in, first_repeated, manifest_alone, manifest_in, manifest_made, manifest_of, root_of};
+ghost use Rattle.am_types.specs.declared.manifest.ManifestFault.TheVariants.{Duplicate};
+ghost use Rattle.am_manifest_filters.specs.Reading.{Gives, GivesBy, IsFault};
+ghost use Rattle.am_manifest.specs.Components.{components_at};
+ghost use Rattle.am_manifest.specs.Manifests.{IsAppManifest, classes, decls_in, first_repeated, manifest_alone, manifest_in, manifest_made, manifest_of, more_decls, root_of};
 
 use crate::components::components_at;
 use am_manifest_filters::{ReadFault, at_most, required_text};
@@ -39,19 +41,43 @@ fn first_repeated(alloc: Global, decls: &[Decl]) -> Result<Option<Text>, AllocEr
     Ok(repeated)
 }
 
-/// The manifest of these components, of which there may be 256, of distinct classes.
+/// That this stands twice, or that memory ran out.
+pub(crate) fn duplicate(alloc: Global, name: &str) -> ReadFault
+    ensures { IsFault result (Duplicate name.now) }
+{
+    match Text::of(alloc, name) {
+        Ok(name) => ReadFault::Manifest(ManifestFault::Duplicate(name)),
+        Err(_) => ReadFault::NoMemory,
+    }
+}
+
+/// Refuses more than 256 components of a package, and a class that stands twice.
 #[tactic(auto, unfolding(crate::specs::Manifests::manifest_made, crate::specs::Manifests::unless_repeated))]
+fn are_distinct(alloc: Global, decls: &[Decl]) -> Result<(), ReadFault>
+    ensures { («package» : Items ℕ) →
+        GivesBy (λ _. record { «package» = «package»; decls = decls.now }) result (manifest_made «package» decls.now) }
+{
+    at_most(alloc, 256, "components", decls.len())?;
+    if let Some(class) = first_repeated(alloc, decls)? {
+        return Err(ReadFault::Manifest(ManifestFault::Duplicate(class)));
+    }
+    Ok(())
+}
+
+/// The manifest of these components, of which there may be 256, of distinct classes.
 fn manifest_made(alloc: Global, package: Text, decls: Vec<Decl>) -> Result<Manifest, ReadFault>
     ensures { Gives result (manifest_made «package» decls.items) }
 {
-    at_most(alloc, 256, "components", decls.len())?;
-    if let Some(class) = first_repeated(alloc, &decls)? {
-        return Err(ReadFault::Manifest(ManifestFault::Duplicate(class)));
+    match are_distinct(alloc, &decls) {
+        Ok(()) => Ok(Manifest {
+            package,
+            decls: List::new(decls),
+        }),
+        Err(fault) => {
+            drop(decls);
+            Err(fault)
+        }
     }
-    Ok(Manifest {
-        package,
-        decls: List::new(decls),
-    })
 }
 
 /// The first components, then the others.
@@ -64,16 +90,36 @@ fn joined(first: Vec<Decl>, others: Vec<Decl>) -> Result<Vec<Decl>, AllocError>
     Ok(all)
 }
 
+/// The first components, then those at a key.
+fn more_decls(
+    alloc: Global,
+    first: Vec<Decl>,
+    kind: Kind,
+    package: &Text,
+    at: &str,
+    key: &str,
+    table: &Value,
+) -> Result<Vec<Decl>, ReadFault>
+    ensures { GivesBy (λ decls. decls.items) result
+        (more_decls first.items (components_at kind «package».now at.now key.now (view table.now))) }
+{
+    match components_at(alloc, kind, package, at, key, table) {
+        Ok(others) => Ok(joined(first, others)?),
+        Err(fault) => {
+            drop(first);
+            Err(fault)
+        }
+    }
+}
+
 /// The components of a package: activities, then services, then receivers.
 #[tactic(auto, unfolding(crate::specs::Manifests::decls_in))]
 fn decls_in(alloc: Global, package: &Text, at: &str, table: &Value) -> Result<Vec<Decl>, ReadFault>
     ensures { GivesBy (λ decls. decls.items) result (decls_in «package».now at.now (view table.now)) }
 {
-    let activities = components_at(alloc, Kind::Activity, package, at, "activity", table)?;
-    let services = components_at(alloc, Kind::Service, package, at, "service", table)?;
-    let receivers = components_at(alloc, Kind::Receiver, package, at, "receiver", table)?;
-    let decls = joined(activities, services)?;
-    Ok(joined(decls, receivers)?)
+    let decls = components_at(alloc, Kind::Activity, package, at, "activity", table)?;
+    let decls = more_decls(alloc, decls, Kind::Service, package, at, "service", table)?;
+    more_decls(alloc, decls, Kind::Receiver, package, at, "receiver", table)
 }
 
 /// The manifest in a table, the places of whose keys begin with `at`.
@@ -93,8 +139,8 @@ fn manifest_alone(alloc: Global, table: &Value) -> Result<Manifest, ReadFault>
 {
     let manifest = manifest_in(alloc, "", table)?;
     if manifest.package.as_str() == "android" {
-        let name = String::from_str(alloc, "android")?;
-        return Err(ReadFault::Manifest(ManifestFault::Duplicate(Text::new(name))));
+        drop(manifest);
+        return Err(duplicate(alloc, "android"));
     }
     Ok(manifest)
 }

@@ -3,7 +3,7 @@ ghost use Rattle.std.specs.Prelude.{◌≡◌, ◌++◌, ◌<◌, ℕ, List as I
 ghost use Rattle.toml.specs.Data.{as_str};
 ghost use Rattle.toml.specs.View.{view};
 ghost use Rattle.am_manifest_filters.specs.Reading.{Gives, GivesBy};
-ghost use Rattle.am_manifest.specs.Rights.{array_key, holder_at, limit_name, more_texts, place_among, right_entry, right_of, right_put, rights_from, rights_in, rights_of, spelled, text_key, with_right, with_uids};
+ghost use Rattle.am_manifest.specs.Rights.{array_key, holder_at, limit_name, more_texts, place_among, right_entry, right_of, right_put, rights_from, rights_given, rights_in, rights_of, spelled, text_key, with_right, with_uids};
 ghost use Rattle.am_manifest.specs.RightsHeld.{place_in, texts_in};
 
 use am_manifest_filters::{
@@ -266,18 +266,29 @@ fn rights_of(
     rights_from(alloc, &places, kind, held, values)
 }
 
+/// The rights of one kind, each with the uid of its package.
+fn rights_given(
+    alloc: Global,
+    kind: RightKind,
+    packages: &[Package],
+    table: &Value,
+) -> Result<Vec<(u32, Text)>, ReadFault>
+    ensures { GivesBy (λ rights. rights.items) result (rights_given kind packages.now (view table.now)) }
+{
+    let held = rights_of(alloc, kind, packages, table)?;
+    Ok(with_uids(alloc, packages, &held)?)
+}
+
 /// What is granted to the packages, and the hosts for which they are approved.
 #[tactic(auto, unfolding(crate::specs::Rights::rights_in))]
 pub fn rights_in(alloc: Global, packages: &[Package], table: &Value) -> Result<Rights, ReadFault>
     ensures { Gives result (rights_in packages.now (view table.now)) }
 {
-    let granted = rights_of(alloc, RightKind::Granted, packages, table)?;
-    let approved = rights_of(alloc, RightKind::Approved, packages, table)?;
-    let grants = with_uids(alloc, packages, &granted)?;
-    let links = with_uids(alloc, packages, &approved)?;
+    let granted = rights_given(alloc, RightKind::Granted, packages, table)?;
+    let approved = rights_given(alloc, RightKind::Approved, packages, table)?;
     Ok(Rights {
-        grants: List::new(as_grants(alloc, grants)?),
-        links: List::new(as_links(alloc, links)?),
+        grants: List::new(as_grants(alloc, granted)?),
+        links: List::new(as_links(alloc, approved)?),
     })
 }
 
@@ -314,7 +325,12 @@ fn with_uids(
     Ok(rights)
 }
 
-fn as_grants(alloc: Global, rights: Vec<(u32, Text)>) -> Result<Vec<Grant>, AllocError>
+/// The grants that rights to permissions are.
+///
+/// # Errors
+///
+/// Only want of memory.
+pub fn as_grants(alloc: Global, rights: Vec<(u32, Text)>) -> Result<Vec<Grant>, AllocError>
     ensures { IfOk result (λ grants. grants.items ≡ map (λ r. record { uid = r.0; permission = r.1 }) rights.items) }
 {
     rights
@@ -323,7 +339,12 @@ fn as_grants(alloc: Global, rights: Vec<(u32, Text)>) -> Result<Vec<Grant>, Allo
         .collect(alloc)
 }
 
-fn as_links(alloc: Global, rights: Vec<(u32, Text)>) -> Result<Vec<Link>, AllocError>
+/// The links that rights to hosts are.
+///
+/// # Errors
+///
+/// Only want of memory.
+pub fn as_links(alloc: Global, rights: Vec<(u32, Text)>) -> Result<Vec<Link>, AllocError>
     ensures { IfOk result (λ links. links.items ≡ map (λ r. record { uid = r.0; host = r.1 }) rights.items) }
 {
     rights

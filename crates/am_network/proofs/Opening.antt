@@ -76,6 +76,12 @@ pub rooms_count : (gates : ℕ) (planned : List GatePlan) → length (rooms_of g
 rooms_count zero planned = refl
 rooms_count (suc others) planned = ap suc (rooms_count others (drop 1 planned))
 
+-- each of them is for its plan
+pub rooms_are : (gates : ℕ) (planned : List GatePlan) (made rooms : List ℕ) → made ≡ rooms → rooms ≡ rooms_of gates planned → (made ≡ rooms_of (length made) planned) × (length made ≡ gates)
+rooms_are gates planned made rooms is all =
+    let count : length made ≡ gates = ap length (is ∙ all) ∙ rooms_count gates planned in
+    (is ∙ (all ∙ ap (λ n. rooms_of n planned) (sym count)), count)
+
 -- there are as many gates as were asked for
 pub gates_count : (gates : ℕ) (planned : List GatePlan) → length (gates_of gates planned) ≡ gates
 gates_count zero planned = refl

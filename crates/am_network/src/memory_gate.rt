@@ -8,7 +8,7 @@ ghost use Rattle.am_network.specs.Memory.{AreUnused, IsUnused, after_accept, cou
 
 use crate::memory_link::{LinkPlan, MemoryLink, MemoryReader, MemoryWriter};
 use crate::network::Acceptor;
-use am_outside::Failed;
+use am_outside::{Failed, is_failing};
 use am_types::List;
 use std::alloc::{AllocError, Global};
 use std::collections::VecDeque;
@@ -56,13 +56,6 @@ impl Model for MemoryGate {
 
     ghost invariant = { λ g. (g.coming.items ≡ drop g.handed g.plan.value) × (g.handed ≤ length g.plan.value)
         × (length g.plan.value ≤ vec_capacity g.ended) × AreUnused g.plan.value };
-}
-
-// Whether a list of numbers has this one.
-pub(crate) fn is_listed(numbers: &List<u32>, number: u64) -> bool
-    ensures { result ≡ fails numbers.now number }
-{
-    numbers.as_slice().iter().any(|n| u64::from(*n) == number)
 }
 
 /// The room for links that a gate takes back. Contracts see how many it has room for.
@@ -132,7 +125,7 @@ impl MemoryGate {
         ensures failed { OnErr result (HasRisen self.old.faults self.new.faults) }
     {
         self.accepts = self.accepts.saturating_add(1);
-        if is_listed(&self.failing, self.accepts) {
+        if is_failing(&self.failing, self.accepts) {
             self.faults = self.faults.saturating_add(1);
             return Err(Failed);
         }

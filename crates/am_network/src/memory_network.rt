@@ -5,8 +5,9 @@ ghost use Rattle.am_outside.specs.Memory.{fails, one_more};
 ghost use Rattle.am_network.specs.Links.{IsNewGate, MayRelease, listening_at, released};
 ghost use Rattle.am_network.specs.Memory.{ArePlans, AreUnused, GateInMemory, after_listen, after_release, counted_listen, gate_view, gates_of, listening_again, listening_of, new_network, no_plan, rooms_of};
 
-use crate::memory_gate::{GatePlan, MemoryGate, Room, is_listed};
+use crate::memory_gate::{GatePlan, MemoryGate, Room};
 use crate::network::{ListenFail, Network};
+use am_outside::is_failing;
 use am_types::List;
 use std::alloc::{AllocError, Global};
 use std::collections::VecDeque;
@@ -162,7 +163,7 @@ impl MemoryNetwork {
         ensures failed { result ≡ Err ListenFail.Failed → HasRisen self.old.faults self.new.faults }
     {
         self.listens = self.listens.saturating_add(1);
-        if is_listed(&self.failing, self.listens) {
+        if is_failing(&self.failing, self.listens) {
             self.faults = self.faults.saturating_add(1);
             return Err(ListenFail::Failed);
         }

@@ -18,7 +18,7 @@ use Rattle.am_model.specs.Rights.{Right, before_right, grant_of, has_right, link
 use Rattle.am_model.specs.Sound.{right_cmp, rights_approved, rights_granted}
 use Rattle.am_model.proofs.Rights.{less_from, with_in_order}
 use Rattle.am_laws.proofs.Tests.{both}
-use Rattle.am_opening.specs.Merging.{is_live_link, is_right, place_right, with_right, merge_one, merge_if, after_grant_right, after_link_right}
+use Rattle.am_opening.specs.Merging.{is_live_link, is_right, place_right, with_right, merge_one, merge_if, after_right, of_grant_row, of_link_row, is_live_grant}
 use Rattle.am_opening.specs.Openings.{grants_after, links_after}
 use Rattle.am_opening.proofs.Merged.{AllBefore, before_next, merged, merged_before}
 
@@ -33,7 +33,7 @@ sorted_with rights r held sorted =
 module _ {R : Type 0} (right : R → Right) (held live : R → Bool) where
   -- the rights after a row
   abbrev follow : List Right → R → List Right
-  follow rights row = cond (live row) (with_right rights (right row) (held row)) rights
+  follow rights row = after_right right held live rights row
 
   -- the first row, if there is one, stands behind what is done
   abbrev pub Leads : List Right → List R → Type 0
@@ -203,14 +203,14 @@ module _ {R : Type 0} (right_of : R → Right) where
 
 -- grants that are made of rights that followed grant rows
 pub grants_made : (packages : List Package) (gs : List Grant) (rows : List GrantRow) (rights after : List Right) (made : List Grant) → rights ≡ rights_granted gs
-    → after ≡ fold (after_grant_right packages) rights rows → made ≡ map (λ (r : Right). record { uid = r.0; permission = r.1 }) after → made ≡ grants_after packages gs rows
+    → after ≡ fold (after_right of_grant_row (λ (row : GrantRow). row.held) (is_live_grant packages)) rights rows → made ≡ map (λ (r : Right). record { uid = r.0; permission = r.1 }) after → made ≡ grants_after packages gs rows
 grants_made packages gs rows rights after made from follows is =
-    made_of of_grant grant_of (λ u t. refl) (λ (row : GrantRow). (row.uid, row.permission)) (λ (row : GrantRow). row.held) (λ (row : GrantRow). is_package_uid packages row.uid)
+    made_of of_grant grant_of (λ u t. refl) of_grant_row (λ (row : GrantRow). row.held) (is_live_grant packages)
     (λ g. refl) gs rows rights after made from follows is
 
 -- and links of rights that followed link rows
 pub links_made : (packages : List Package) (ks : List Link) (rows : List LinkRow) (rights after : List Right) (made : List Link) → rights ≡ rights_approved ks
-    → after ≡ fold (after_link_right packages) rights rows → made ≡ map (λ (r : Right). record { uid = r.0; host = r.1 }) after → made ≡ links_after packages ks rows
+    → after ≡ fold (after_right of_link_row (λ (row : LinkRow). row.approved) (is_live_link packages)) rights rows → made ≡ map (λ (r : Right). record { uid = r.0; host = r.1 }) after → made ≡ links_after packages ks rows
 links_made packages ks rows rights after made from follows is =
-    made_of of_link link_of (λ u t. refl) (λ (row : LinkRow). (row.uid, row.host)) (λ (row : LinkRow). row.approved) (λ (row : LinkRow). is_live_link packages row)
+    made_of of_link link_of (λ u t. refl) of_link_row (λ (row : LinkRow). row.approved) (is_live_link packages)
     (λ k. refl) ks rows rights after made from follows is

@@ -62,16 +62,22 @@ merge_one right held rights =
 abbrev pub merge_if : Bool → Right → Bool → List Right × List Right → List Right × List Right
 merge_if live right held rights = if live then merge_one right held rights else rights
 
--- the rights after a grant row
-abbrev pub after_grant_right : List Package → List Right → GrantRow → List Right
-after_grant_right packages rights row =
-    if is_package_uid packages row.uid then with_right rights (row.uid, row.permission) row.held else rights
+module _ {R : Type 0} (right : R → Right) (held live : R → Bool) where
+  -- the rights after a row of a right, which is held or not held, if the row counts
+  abbrev pub after_right : List Right → R → List Right
+  after_right rights row = if live row then with_right rights (right row) (held row) else rights
+
+-- what a grant row is of, and a link row
+abbrev pub of_grant_row : GrantRow → Right
+of_grant_row row = (row.uid, row.permission)
+
+abbrev pub of_link_row : LinkRow → Right
+of_link_row row = (row.uid, row.host)
+
+-- a grant row counts: its package is there
+abbrev pub is_live_grant : List Package → GrantRow → Bool
+is_live_grant packages row = is_package_uid packages row.uid
 
 -- a link row counts: its package is there, and its host is in lower case
 abbrev pub is_live_link : List Package → LinkRow → Bool
 is_live_link packages row = is_package_uid packages row.uid && is_same (lowered row.host) row.host
-
--- the rights after a link row
-abbrev pub after_link_right : List Package → List Right → LinkRow → List Right
-after_link_right packages rights row =
-    if is_live_link packages row then with_right rights (row.uid, row.host) row.approved else rights

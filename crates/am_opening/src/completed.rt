@@ -1,8 +1,6 @@
 //! The rights that were kept, and the next uid.
 ghost use Rattle.std.specs.Prelude.{◌≡◌, ◌+◌, ◌<◌, ◌==◌, All, IfOk, IsTrue, count_by, option_copied};
 ghost use Rattle.std.specs.List.{find};
-ghost use Rattle.am_types.specs.declared.device.Grant.{Grant};
-ghost use Rattle.am_types.specs.declared.device.Link.{Link};
 ghost use Rattle.am_keeper.specs.declared.rows.PackageRow.{PackageRow};
 ghost use Rattle.am_keeper.specs.Rows.{IsInOrder, by_host, by_permission, rises};
 ghost use Rattle.am_model.specs.Boards.{board_of};
@@ -11,13 +9,13 @@ ghost use Rattle.am_history.specs.Opening.{has_too_many, unless_too_many};
 ghost use Rattle.am_history.specs.Packages.{no_uid};
 ghost use Rattle.am_opening.specs.Openings.{Opens, completed_from, grants_after, links_after, opened_from, state_of};
 
-use crate::lists::take;
 use crate::merging::{grants_after, links_after};
 use crate::opened::{OpenFault, Opened};
 use crate::packages::refused;
 use crate::uids;
+use am_installed::{Right, take};
 use am_keeper::{GrantRow, LinkRow, Rows};
-use am_types::{Device, Grant, Link, List, NoMemory, Package};
+use am_types::{Device, List, NoMemory, Package};
 use std::alloc::Global;
 
 /// What is opened with the grants that were kept.
@@ -33,9 +31,16 @@ fn with_grants(alloc: Global, opened: Opened, rows: &[GrantRow]) -> Result<Opene
     let mut opened = opened;
     let grants = take(&mut opened.device.grants, alloc);
     let packages = opened.device.packages.as_slice();
-    let grants = grants_after(alloc, packages, grants, rows)?;
-    opened.device.grants = List::new(grants);
-    Ok(opened)
+    match grants_after(alloc, packages, grants, rows) {
+        Ok(grants) => {
+            opened.device.grants = List::new(grants);
+            Ok(opened)
+        }
+        Err(error) => {
+            drop(opened);
+            Err(error)
+        }
+    }
 }
 
 /// What is opened with the links that were kept.
@@ -51,9 +56,16 @@ fn with_links(alloc: Global, opened: Opened, rows: &[LinkRow]) -> Result<Opened,
     let mut opened = opened;
     let links = take(&mut opened.device.links, alloc);
     let packages = opened.device.packages.as_slice();
-    let links = links_after(alloc, packages, links, rows)?;
-    opened.device.links = List::new(links);
-    Ok(opened)
+    match links_after(alloc, packages, links, rows) {
+        Ok(links) => {
+            opened.device.links = List::new(links);
+            Ok(opened)
+        }
+        Err(error) => {
+            drop(opened);
+            Err(error)
+        }
+    }
 }
 
 /// What is opened with the rights that were kept and the next uid, where the greatest uid of the
@@ -72,26 +84,13 @@ fn completed(alloc: Global, opened: Opened, greatest: u32, rows: &Rows) -> Resul
     Ok(approved)
 }
 
-/// How many grants are of the uid.
-fn count_grants(grants: &[Grant], uid: u32) -> usize
-    ensures { result ≡ count_by (λ (g : Grant). g.uid == uid) grants.now }
+/// How many rights are of the uid.
+fn count_rights<T: Right>(rights: &[T], uid: u32) -> usize
+    ensures { result ≡ count_by (λ right. (T.right_of right).0 == uid) rights.now }
 {
     let mut count = 0;
-    for grant in grants {
-        if grant.uid == uid {
-            count += 1;
-        }
-    }
-    count
-}
-
-/// How many links are of the uid.
-fn count_links(links: &[Link], uid: u32) -> usize
-    ensures { result ≡ count_by (λ (l : Link). l.uid == uid) links.now }
-{
-    let mut count = 0;
-    for link in links {
-        if link.uid == uid {
+    for right in rights {
+        if right.uid() == uid {
             count += 1;
         }
     }
@@ -103,8 +102,8 @@ fn has_too_many(device: &Device, package: &Package) -> bool
     ensures { result ≡ has_too_many (board_of device.now) «package».now }
 {
     let uid = package.uid;
-    count_grants(device.grants.as_slice(), uid) > 256
-        || count_links(device.links.as_slice(), uid) > 256
+    count_rights(device.grants.as_slice(), uid) > 256
+        || count_rights(device.links.as_slice(), uid) > 256
 }
 
 /// The first package that has too many grants or links.
@@ -124,10 +123,14 @@ fn unless_too_many(opened: Opened) -> Result<Opened, OpenFault>
     ensures { Opens result (unless_too_many (state_of opened)
         (find (has_too_many (board_of opened.device)) opened.device.packages)) }
 {
-    if let Some(package) = first_over(&opened.device) {
-        return Err(refused(&package.name));
+    match first_over(&opened.device) {
+        None => Ok(opened),
+        Some(package) => {
+            let fault = refused(&package.name);
+            drop(opened);
+            Err(fault)
+        }
     }
-    Ok(opened)
 }
 
 /// What is opened, complete, unless some package has too many grants or links; the greatest uid of

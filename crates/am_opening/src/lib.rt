@@ -2,12 +2,12 @@
 #![tactic(auto)]
 
 mod completed;
-mod lists;
 mod merging;
 mod opened;
 mod opening;
 mod packages;
 mod rights;
+mod rows;
 mod uids;
 
 pub use opened::{OpenFault, Opened};

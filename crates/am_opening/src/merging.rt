@@ -1,34 +1,32 @@
 //! Grants and links that are merged with their rows, which stand in the same order.
-ghost use Rattle.std.specs.Prelude.{◌≡◌, ◌==◌, IfOk, IsTrue, OnOk, map, ◌++◌};
-ghost use Rattle.std.specs.Char.{to_ascii_lowercase};
-ghost use Rattle.std.specs.List.{fold, list_all};
+ghost use Rattle.std.specs.Prelude.{◌≡◌, IfOk, IsTrue, OnOk, ◌++◌};
+ghost use Rattle.std.specs.List.{fold};
 ghost use Rattle.std.specs.List.Sorted.{IsStrictlySortedBy};
 ghost use Rattle.am_keeper.specs.Rows.{by_host, by_permission, rises};
-ghost use Rattle.am_model.specs.Boards.{is_package_uid};
 ghost use Rattle.am_model.specs.Sound.{right_cmp, rights_approved, rights_granted};
-ghost use Rattle.am_model.specs.Texts.{is_same, lowered};
-ghost use Rattle.am_opening.specs.Merging.{after_grant_right, after_link_right, is_live_link, merge_if};
+ghost use Rattle.am_opening.specs.Merging.{after_right, merge_if};
 ghost use Rattle.am_opening.specs.Openings.{grants_after, links_after};
 
-use crate::packages::is_package_uid;
 use crate::rights::merge_one;
+use crate::rows::RightRow;
 use am_keeper::{GrantRow, LinkRow};
+use am_manifest::{as_grants, as_links};
 use am_types::{Grant, Link, NoMemory, Package, Text};
 use std::alloc::{AllocError, Global};
 use std::collections::VecDeque;
 
-/// Merges one more grant row, if its package is there.
-fn merge_grant(
+/// Merges one more row, if it counts.
+fn merge_row<R: RightRow>(
     packages: &[Package],
     done: &mut Vec<(u32, Text)>,
     left: &mut VecDeque<(u32, Text)>,
-    row: &GrantRow,
+    row: &R,
 ) -> Result<(), NoMemory>
-    ensures { OnOk result ((done.new.items, left.new.items) ≡ merge_if (is_package_uid packages.now row.now.uid)
-        (row.now.uid, row.now.permission) row.now.held (done.old.items, left.old.items)) }
+    ensures { OnOk result ((done.new.items, left.new.items) ≡ merge_if (R.live packages.now row.now)
+        (R.right_of row.now) (R.held row.now) (done.old.items, left.old.items)) }
 {
-    if is_package_uid(packages, row.uid) {
-        merge_one(done, left, row.uid, &row.permission, row.held)?;
+    if row.is_live(packages) {
+        merge_one(done, left, row.uid(), row.text(), row.is_held())?;
     }
     Ok(())
 }
@@ -43,70 +41,22 @@ fn joined(done: Vec<(u32, Text)>, left: VecDeque<(u32, Text)>) -> Result<Vec<(u3
     Ok(all)
 }
 
-/// The rights after grant rows.
-fn granted(
+/// The rights after rows.
+fn merged<R: RightRow>(
     alloc: Global,
     packages: &[Package],
     rights: Vec<(u32, Text)>,
-    rows: &[GrantRow],
+    rows: &[R],
 ) -> Result<Vec<(u32, Text)>, NoMemory>
     requires sorted { IsStrictlySortedBy right_cmp rights.items }
-    requires order { IsTrue (rises by_permission rows.now) }
-    ensures { IfOk result (λ after. after.items ≡ fold (after_grant_right packages.now) rights.items rows.now) }
+    requires order { IsTrue (rises (λ x y. right_cmp (R.right_of x) (R.right_of y)) rows.now) }
+    ensures { IfOk result
+        (λ after. after.items ≡ fold (after_right R.right_of R.held (R.live packages.now)) rights.items rows.now) }
 {
     let mut done = Vec::new(alloc);
     let mut left = VecDeque::from_vec(rights);
     for row in rows {
-        merge_grant(packages, &mut done, &mut left, row)?;
-    }
-    joined(done, left)
-}
-
-/// Each byte is what it is in lower ASCII case.
-fn all_lowered(text: &str) -> bool
-    ensures { result ≡ list_all (λ b. to_ascii_lowercase b == b) text.now }
-{
-    text.as_bytes().iter().all(|b| b.to_ascii_lowercase() == *b)
-}
-
-/// The text is in lower ASCII case.
-fn is_lowered(text: &str) -> bool
-    ensures { result ≡ is_same (lowered text.now) text.now }
-{
-    all_lowered(text)
-}
-
-/// Merges one more link row, if its package is there and its host is in lower case.
-fn merge_link(
-    packages: &[Package],
-    done: &mut Vec<(u32, Text)>,
-    left: &mut VecDeque<(u32, Text)>,
-    row: &LinkRow,
-) -> Result<(), NoMemory>
-    ensures { OnOk result ((done.new.items, left.new.items) ≡ merge_if (is_live_link packages.now row.now)
-        (row.now.uid, row.now.host) row.now.approved (done.old.items, left.old.items)) }
-{
-    if is_package_uid(packages, row.uid) && is_lowered(row.host.as_str()) {
-        merge_one(done, left, row.uid, &row.host, row.approved)?;
-    }
-    Ok(())
-}
-
-/// The rights after link rows.
-fn approved(
-    alloc: Global,
-    packages: &[Package],
-    rights: Vec<(u32, Text)>,
-    rows: &[LinkRow],
-) -> Result<Vec<(u32, Text)>, NoMemory>
-    requires sorted { IsStrictlySortedBy right_cmp rights.items }
-    requires order { IsTrue (rises by_host rows.now) }
-    ensures { IfOk result (λ after. after.items ≡ fold (after_link_right packages.now) rights.items rows.now) }
-{
-    let mut done = Vec::new(alloc);
-    let mut left = VecDeque::from_vec(rights);
-    for row in rows {
-        merge_link(packages, &mut done, &mut left, row)?;
+        merge_row(packages, &mut done, &mut left, row)?;
     }
     joined(done, left)
 }
@@ -120,30 +70,12 @@ fn rights_granted(alloc: Global, grants: Vec<Grant>) -> Result<Vec<(u32, Text)>,
         .collect(alloc)
 }
 
-fn as_grants(alloc: Global, rights: Vec<(u32, Text)>) -> Result<Vec<Grant>, AllocError>
-    ensures { IfOk result (λ grants. grants.items ≡ map (λ r. record { uid = r.0; permission = r.1 }) rights.items) }
-{
-    rights
-        .into_iter()
-        .map(|(uid, permission)| Grant { uid, permission })
-        .collect(alloc)
-}
-
 fn rights_approved(alloc: Global, links: Vec<Link>) -> Result<Vec<(u32, Text)>, AllocError>
     ensures { IfOk result (λ rights. rights.items ≡ rights_approved links.items) }
 {
     links
         .into_iter()
         .map(|link| (link.uid, link.host))
-        .collect(alloc)
-}
-
-fn as_links(alloc: Global, rights: Vec<(u32, Text)>) -> Result<Vec<Link>, AllocError>
-    ensures { IfOk result (λ links. links.items ≡ map (λ r. record { uid = r.0; host = r.1 }) rights.items) }
-{
-    rights
-        .into_iter()
-        .map(|(uid, host)| Link { uid, host })
         .collect(alloc)
 }
 
@@ -159,7 +91,7 @@ pub(crate) fn grants_after(
     ensures { IfOk result (λ after. after.items ≡ grants_after packages.now grants.items rows.now) }
 {
     let rights = rights_granted(alloc, grants)?;
-    let after = granted(alloc, packages, rights, rows)?;
+    let after = merged(alloc, packages, rights, rows)?;
     Ok(as_grants(alloc, after)?)
 }
 
@@ -175,6 +107,6 @@ pub(crate) fn links_after(
     ensures { IfOk result (λ after. after.items ≡ links_after packages.now links.items rows.now) }
 {
     let rights = rights_approved(alloc, links)?;
-    let after = approved(alloc, packages, rights, rows)?;
+    let after = merged(alloc, packages, rights, rows)?;
     Ok(as_links(alloc, after)?)
 }

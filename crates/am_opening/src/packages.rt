@@ -11,9 +11,9 @@ ghost use Rattle.am_history.specs.Opening.{after_row, after_rows, before_package
 ghost use Rattle.am_history.specs.Packages.{is_key_used, is_name_used, is_root_key, no_uid};
 ghost use Rattle.am_opening.specs.Openings.{Opens, Refuses, state_of};
 
-use crate::lists::take;
 use crate::opened::{OpenFault, Opened};
-use crate::rights::{drop_grants_of, drop_links_of};
+use crate::rights::drop_rights;
+use am_installed::take;
 use am_keeper::PackageRow;
 use am_manifest::{ReadFault, read_package};
 use am_types::{List, Manifest, NoMemory, Package, Text};
@@ -54,7 +54,7 @@ fn drop_package(alloc: Global, packages: &mut List<Package>, uid: u32)
     ensures { packages.new ≡ without_package packages.old uid }
 {
     let mut items = take(packages, alloc);
-    items.retain(|package| package.uid != uid);
+    am_installed::drop_package(&mut items, uid);
     *packages = List::new(items);
 }
 
@@ -70,8 +70,8 @@ fn removed(alloc: Global, opened: Opened, uid: u32) -> Opened
 {
     let mut opened = opened;
     drop_package(alloc, &mut opened.device.packages, uid);
-    drop_grants_of(alloc, &mut opened.device.grants, uid);
-    drop_links_of(alloc, &mut opened.device.links, uid);
+    drop_rights(alloc, &mut opened.device.grants, uid);
+    drop_rights(alloc, &mut opened.device.links, uid);
     opened
 }
 

@@ -1,37 +1,20 @@
 //! Rights, which are a uid with a permission or a host each, in the order of uid and text.
 ghost use Rattle.std.specs.Prelude.{◌≡◌, ◌++◌, OnOk, take, drop};
-ghost use Rattle.am_model.specs.Boards.{grants_without, links_without};
-ghost use Rattle.am_model.specs.Rights.{stands_before};
+ghost use Rattle.am_model.specs.Rights.{rights_without};
 ghost use Rattle.am_opening.specs.Merging.{behind_front, front, is_first, is_first_before, merge_one, unless_first};
 
-use crate::lists::take;
-use am_types::{Grant, Link, List, NoMemory, Text};
+use am_installed::{Right, drop_rights_of, stands_before, take};
+use am_types::{List, NoMemory, Text};
 use std::alloc::Global;
 use std::collections::VecDeque;
 
-/// Takes the grants of the uid out.
-pub(crate) fn drop_grants_of(alloc: Global, grants: &mut List<Grant>, uid: u32)
-    ensures { grants.new ≡ grants_without grants.old uid }
+/// Takes the rights of the uid out.
+pub(crate) fn drop_rights<T: Right>(alloc: Global, rights: &mut List<T>, uid: u32)
+    ensures { rights.new ≡ rights_without T.right_of rights.old uid }
 {
-    let mut items = take(grants, alloc);
-    items.retain(|grant| grant.uid != uid);
-    *grants = List::new(items);
-}
-
-/// Takes the links of the uid out.
-pub(crate) fn drop_links_of(alloc: Global, links: &mut List<Link>, uid: u32)
-    ensures { links.new ≡ links_without links.old uid }
-{
-    let mut items = take(links, alloc);
-    items.retain(|link| link.uid != uid);
-    *links = List::new(items);
-}
-
-/// One uid and text stand before another.
-fn stands_before(uid: u32, text: &Text, other_uid: u32, other: &Text) -> bool
-    ensures { result ≡ stands_before uid text.now other_uid other.now }
-{
-    uid < other_uid || uid == other_uid && text < other
+    let mut items = take(rights, alloc);
+    drop_rights_of(&mut items, uid);
+    *rights = List::new(items);
 }
 
 /// The first right that is left stands before this one.

@@ -1,8 +1,6 @@
 //! The greatest uid that was ever given.
 ghost use Rattle.std.specs.Prelude.{◌≡◌, ◌<◌, ◌∷◌, [], All, map, max};
 ghost use Rattle.std.specs.List.{fold};
-ghost use Rattle.am_keeper.specs.declared.rows.GrantRow.{GrantRow};
-ghost use Rattle.am_keeper.specs.declared.rows.LinkRow.{LinkRow};
 ghost use Rattle.am_keeper.specs.declared.rows.PackageRow.{PackageRow};
 ghost use Rattle.am_model.specs.Sound.{IsSoundPackage};
 ghost use Rattle.am_history.specs.Opening.{row_uids};
@@ -11,7 +9,8 @@ ghost use Rattle.am_history.specs.State.{uids_of};
 ghost use Rattle.am_opening.specs.Openings.{given_uids};
 
 use crate::packages::NO_UID;
-use am_keeper::{GrantRow, LinkRow, PackageRow, Rows};
+use crate::rows::RightRow;
+use am_keeper::{PackageRow, Rows};
 use am_types::Package;
 
 /// The greatest of 9999 and the uids of packages.
@@ -50,28 +49,15 @@ fn greater(uid: u32, other: u32) -> u32
     if other == NO_UID { uid } else { uid.max(other) }
 }
 
-/// The greatest of a uid and those of grant rows, among which the greatest of all counts for nothing.
-fn of_grants(least: u32, rows: &[GrantRow]) -> u32
+/// The greatest of a uid and those of rows of rights, among which the greatest of all counts for nothing.
+fn of_rights<R: RightRow>(least: u32, rows: &[R]) -> u32
     requires { least < no_uid }
-    ensures greatest { result ≡ fold max least (given_uids (map (λ (row : GrantRow). row.uid) rows.now)) }
+    ensures greatest { result ≡ fold max least (given_uids (map (λ row. (R.right_of row).0) rows.now)) }
     ensures below { result < no_uid }
 {
     let mut greatest = least;
     for row in rows {
-        greatest = greater(greatest, row.uid);
-    }
-    greatest
-}
-
-/// The greatest of a uid and those of link rows, among which the greatest of all counts for nothing.
-fn of_links(least: u32, rows: &[LinkRow]) -> u32
-    requires { least < no_uid }
-    ensures greatest { result ≡ fold max least (given_uids (map (λ (row : LinkRow). row.uid) rows.now)) }
-    ensures below { result < no_uid }
-{
-    let mut greatest = least;
-    for row in rows {
-        greatest = greater(greatest, row.uid);
+        greatest = greater(greatest, row.uid());
     }
     greatest
 }
@@ -84,6 +70,6 @@ pub(crate) fn of_rows(least: u32, rows: &Rows) -> u32
     ensures below { result < no_uid }
 {
     let greatest = of_packages(least, rows.packages.as_slice());
-    let greatest = of_grants(greatest, rows.grants.as_slice());
-    of_links(greatest, rows.links.as_slice())
+    let greatest = of_rights(greatest, rows.grants.as_slice());
+    of_rights(greatest, rows.links.as_slice())
 }

@@ -11,6 +11,6 @@ mod outside;
 pub use clock::{Clock, StepClock};
 pub use failure::Failed;
 pub use files::{FileBytes, FileFail, Files};
-pub use memory::{MemorySink, MemorySource};
+pub use memory::{MemorySink, MemorySource, is_failing};
 pub use memory_files::MemoryFiles;
 pub use outside::{Sink, Source};

@@ -10,7 +10,7 @@ use am_types::{List, NoMemory};
 use std::alloc::Global;
 use std::marker::Model;
 
-// Whether the call of that number is one of those that fail.
+/// Whether the call of that number is one of those that fail. Takes no memory.
 pub fn is_failing(failing: &List<u32>, call: u64) -> bool
     ensures { result ≡ fails failing.now call }
 {

@@ -92,11 +92,16 @@ pub fn read_described(alloc: Global, bytes: &[u8]) -> Result<Described, ReadFaul
     ensures each { IfOk result (λ known. length known.queries ≡ length known.device.packages) }
 {
     let device = read_device(alloc, bytes)?;
-    let queries = text_queries(alloc, bytes)?;
-    Ok(Described {
-        device,
-        queries: List::new(queries),
-    })
+    match text_queries(alloc, bytes) {
+        Ok(queries) => Ok(Described {
+            device,
+            queries: List::new(queries),
+        }),
+        Err(fault) => {
+            drop(device);
+            Err(fault)
+        }
+    }
 }
 
 /// Reads what each package of a device file asks to see, in the order of the packages.
@@ -108,6 +113,7 @@ pub fn read_described(alloc: Global, bytes: &[u8]) -> Result<Described, ReadFaul
 pub fn read_queries(alloc: Global, bytes: &[u8]) -> Result<List<Queries>, ReadFault>
     ensures { Gives result (queries_of bytes.now) }
 {
-    let known = read_described(alloc, bytes)?;
-    Ok(known.queries)
+    let Described { device, queries } = read_described(alloc, bytes)?;
+    drop(device);
+    Ok(queries)
 }

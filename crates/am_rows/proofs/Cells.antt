@@ -8,7 +8,7 @@ use Rattle.am_keeper.specs.declared.rows.Row.TheVariants.{Package, Grant, Link}
 use Rattle.am_rows.specs.declared.RowFault.{RowFault}
 use Rattle.am_rows.specs.declared.Cell.{Cell}
 use Rattle.am_rows.specs.declared.Cell.TheVariants.{Whole, Words}
-use Rattle.am_rows.specs.Cells.{◌>>=◌, truth_number, cells_of, whole_in, words_in, whole_at, words_at, uid_from, truth_from, Numbers, Texts, is_empty, has_word_alone, package_from, grant_from, link_from, row_from, numbers_in, texts_in, row_in, IsReading}
+use Rattle.am_rows.specs.Cells.{◌>>=◌, truth_number, word_cells, cells_of, whole_in, words_in, whole_at, words_at, uid_from, truth_from, Numbers, Texts, is_empty, has_word_alone, package_from, grant_from, link_from, row_from, numbers_in, texts_in, row_in, IsReading}
 
 -- a chain that gave something gave it through each step
 through : {A B : Type 0} (o : Option A) (f : A → Option B) (b : B) → (o >>= f) ≡ Some b → (a : A) × (o ≡ Some a) × (f a ≡ Some b)
@@ -70,19 +70,19 @@ word_alone t alone =
     let other = both (is_empty t.access) (is_empty t.manifest) name.1 in
     (empty_is t.name name.0, empty_is t.access other.0, empty_is t.manifest other.1)
 
-grant_from-some : (uid : ℕ) (truth : Bool) (t : Texts) (row : Row) → grant_from uid truth t ≡ Some row → cells_of row ≡ laid (pos 1) uid truth t
-grant_from-some uid truth t row h =
-    let w = passed (has_word_alone t) (Some (Grant (record { uid = uid; permission = t.word; held = truth }))) row h in
-    let is : Grant (record { uid = uid; permission = t.word; held = truth }) ≡ row = (let e = w.1 in cc) in
+-- a row of a kind whose one text is its word
+word_row-some : (kind : ℤ) (uid : ℕ) (truth : Bool) (t : Texts) (made row : Row) → cells_of made ≡ word_cells kind uid t.word truth → (if has_word_alone t then Some made else None) ≡ Some row → cells_of row ≡ laid kind uid truth t
+word_row-some kind uid truth t made row cells h =
+    let w = passed (has_word_alone t) (Some made) row h in
+    let is : made ≡ row = (let e = w.1 in cc) in
     let empty = word_alone t w.0 in
-    rw (← is, empty.0, empty.1, empty.2)
+    rw (← is, cells, empty.0, empty.1, empty.2)
+
+grant_from-some : (uid : ℕ) (truth : Bool) (t : Texts) (row : Row) → grant_from uid truth t ≡ Some row → cells_of row ≡ laid (pos 1) uid truth t
+grant_from-some uid truth t row h = word_row-some (pos 1) uid truth t (Grant (record { uid = uid; permission = t.word; held = truth })) row refl h
 
 link_from-some : (uid : ℕ) (truth : Bool) (t : Texts) (row : Row) → link_from uid truth t ≡ Some row → cells_of row ≡ laid (pos 2) uid truth t
-link_from-some uid truth t row h =
-    let w = passed (has_word_alone t) (Some (Link (record { uid = uid; host = t.word; approved = truth }))) row h in
-    let is : Link (record { uid = uid; host = t.word; approved = truth }) ≡ row = (let e = w.1 in cc) in
-    let empty = word_alone t w.0 in
-    rw (← is, empty.0, empty.1, empty.2)
+link_from-some uid truth t row h = word_row-some (pos 2) uid truth t (Link (record { uid = uid; host = t.word; approved = truth })) row refl h
 
 row_from-some : (k : ℤ) (uid : ℕ) (truth : Bool) (t : Texts) (row : Row) → row_from k uid truth t ≡ Some row → cells_of row ≡ laid k uid truth t
 row_from-some (negsuc n) uid truth t row h = absurd (let e = h in cc)

@@ -10,6 +10,7 @@ use crate::plan::Keeping;
 use crate::task::{Instance, Task, mark_of};
 use am_types::{Component, Intent, Landed, NoMemory, Placed, StartCall};
 use std::alloc::Global;
+use std::mem;
 
 /// A new task for the start.
 pub(crate) fn new_task(
@@ -146,7 +147,7 @@ fn give(instance: &mut Instance, intent: Intent) -> u64
     ensures number { result ≡ instance.old.number }
     ensures given { instance.new ≡ record instance.old { intent = intent } }
 {
-    *instance.intent = intent;
+    drop(mem::replace(&mut *instance.intent, intent));
     instance.number
 }
 

@@ -1,12 +1,12 @@
 //! Rows that are put into a file on the disk and found there again, and files that hold something else.
 
 use crate::disk::{place, remove};
-use crate::puts::put_all;
 use am_keeper::{Attached, KeepFail};
 use am_keeper_sql::{SqlKeeper, attach_sql};
 use am_trials_keeping::lines::show;
+use am_trials_keeping::puts::put_all;
 use am_types::Text;
-use sqlite::{Connection, Error, params};
+use sqlite::{Alter, Connection, Error, params};
 use std::alloc::{AllocError, Global};
 use std::test::Fail;
 
@@ -82,9 +82,9 @@ fn found(rt: &HostRuntime, path: &Text) -> Result<String, KeepFail> {
 /// Runs a statement on the file past the keeper.
 fn run(rt: &HostRuntime, path: &Text, sql: &str) -> Result<usize, Error> {
     let mut conn = Connection::open(rt, path.as_str())?;
-    let count = conn.execute(sql, &[])?;
+    let count = conn.execute(sql, &[]);
     conn.close()?;
-    Ok(count)
+    count
 }
 
 #[test]
@@ -123,15 +123,22 @@ fn so_they_are_without_a_close(rt: HostRuntime) -> Result<(), Fail> {
     remove(&rt, &path)
 }
 
-/// Puts ten thousand grants past the keeper, in one transaction.
-fn put_many(rt: &HostRuntime, path: &Text) -> Result<(), Error> {
-    let mut conn = Connection::open(rt, path.as_str())?;
+/// Puts ten thousand grants, in one transaction.
+fn put_grants<S: Alter>(conn: &mut Connection<S>) -> Result<(), Error> {
     conn.execute("BEGIN", &[])?;
     for uid in 0..10_000i64 {
         conn.execute(GRANT, params![uid, uid % 2])?;
     }
     conn.execute("COMMIT", &[])?;
-    conn.close()
+    Ok(())
+}
+
+/// Puts them into the file past the keeper.
+fn put_many(rt: &HostRuntime, path: &Text) -> Result<(), Error> {
+    let mut conn = Connection::open(rt, path.as_str())?;
+    let done = put_grants(&mut conn);
+    conn.close()?;
+    done
 }
 
 /// The ten thousand grants, a line each.

@@ -8,6 +8,4 @@ mod files;
 #[cfg(test)]
 mod memory;
 #[cfg(test)]
-mod puts;
-#[cfg(test)]
 mod stores;

@@ -1,9 +1,9 @@
 //! Rows that are put and told again by a keeper over a database in memory, and places that can't be opened.
 
-use crate::puts::put;
 use am_keeper::{Attached, KeepFail, Keeper, PackageRow};
 use am_keeper_sql::{SqlKeeper, attach_sql};
 use am_trials_keeping::lines::show;
+use am_trials_keeping::puts::put;
 use am_types::Text;
 use std::alloc::{AllocError, Global};
 use std::process::Abort;

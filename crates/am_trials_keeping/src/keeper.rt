@@ -2,10 +2,11 @@
 ghost use Rattle.std.specs.Prelude.{◌≡◌, IfOk};
 ghost use Rattle.am_keeper.specs.Rows.{IsInOrder};
 
-use crate::lines::{package, row};
+use crate::lines::package;
+use crate::puts::put;
 use am_keeper::{
-    Attached, KeepFail, Keeper, MemoryKeeper, MemoryStore, PackageRow, Row, Rows, RowsBuilder,
-    Store, StoredRows,
+    Attached, KeepFail, Keeper, MemoryKeeper, MemoryStore, PackageRow, Rows, RowsBuilder, Store,
+    StoredRows,
 };
 use am_types::{List, Text};
 use std::alloc::{AllocError, Global};
@@ -58,22 +59,6 @@ fn push_uids(out: &mut String, packages: &[PackageRow]) -> Result<(), AllocError
         write!(out, " {}", row.uid)?;
     }
     Ok(())
-}
-
-fn put_row(keeper: &mut MemoryKeeper, row: &Row) -> Result<(), KeepFail> {
-    match row {
-        Row::Package(row) => keeper.put_package(row),
-        Row::Grant(row) => keeper.put_grant(row),
-        Row::Link(row) => keeper.put_link(row),
-    }
-}
-
-/// Puts the row of a line.
-fn put(alloc: Global, keeper: &mut MemoryKeeper, line: &str) -> Result<(), KeepFail> {
-    let row = row(alloc, line)?;
-    let done = put_row(keeper, &row);
-    drop(row);
-    done
 }
 
 /// Adds the uids of the packages that the keeper has.

@@ -7,13 +7,22 @@ use std::alloc::{AllocError, Global};
 /// `suffix=`, `pattern=`, `type=MAIN/SUB` and `priority=`, each of which but the last may be there many times.
 pub fn filter(alloc: Global, words: &str) -> Result<Filter, AllocError> {
     let mut filter = empty_filter(alloc);
+    match tell(alloc, words, &mut filter) {
+        Ok(()) => Ok(filter),
+        Err(error) => {
+            drop(filter);
+            Err(error)
+        }
+    }
+}
+
+fn tell(alloc: Global, words: &str, filter: &mut Filter) -> Result<(), AllocError> {
     filter.actions = texts(alloc, words, "action=")?;
     filter.categories = texts(alloc, words, "category=")?;
-    tell_data(alloc, words, &mut filter)?;
     if let Some(priority) = last(words, "priority=") {
         filter.priority = priority.parse::<i32>().unwrap_or(0);
     }
-    Ok(filter)
+    tell_data(alloc, words, filter)
 }
 
 fn tell_data(alloc: Global, words: &str, filter: &mut Filter) -> Result<(), AllocError> {

@@ -100,9 +100,18 @@ pub fn empty_intent(alloc: Global) -> Intent {
 /// `path=`, of which the scheme must be there.
 pub fn intent(alloc: Global, words: &str) -> Result<Intent, AllocError> {
     let mut intent = empty_intent(alloc);
-    tell_names(alloc, words, &mut intent)?;
-    tell_data(alloc, words, &mut intent)?;
-    Ok(intent)
+    match tell(alloc, words, &mut intent) {
+        Ok(()) => Ok(intent),
+        Err(error) => {
+            drop(intent);
+            Err(error)
+        }
+    }
+}
+
+fn tell(alloc: Global, words: &str, intent: &mut Intent) -> Result<(), AllocError> {
+    tell_names(alloc, words, intent)?;
+    tell_data(alloc, words, intent)
 }
 
 fn tell_names(alloc: Global, words: &str, intent: &mut Intent) -> Result<(), AllocError> {

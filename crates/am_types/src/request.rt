@@ -1,4 +1,4 @@
-ghost use Rattle.std.specs.Prelude.{◌≡◌};
+ghost use Rattle.std.specs.Prelude.{◌≡◌, IfOk};
 
 use crate::{Answer, Component, Filter, Intent, Kind, Ordered, PendingFlags, Text, copies};
 use std::alloc::AllocError;
@@ -123,6 +123,28 @@ pub enum Request {
     Status,
 }
 
+// A copy of a broadcast to be sent, of whose parts the start of an ordered one is left to be copied.
+fn send_copy(
+    intent: Intent,
+    permission: Option<Text>,
+    ordered: &Option<Ordered>,
+) -> Result<Request, AllocError>
+    ensures { IfOk result (λ copy. copy ≡ Request.Send intent permission ordered.now) }
+{
+    match copies::option(ordered) {
+        Ok(ordered) => Ok(Request::Send {
+            intent,
+            permission,
+            ordered,
+        }),
+        Err(error) => {
+            drop(intent);
+            drop(permission);
+            Err(error)
+        }
+    }
+}
+
 impl Clone for Request {
     ghost is_clone = { λ x y. y ≡ x };
 
@@ -145,10 +167,10 @@ impl Clone for Request {
                 shown,
             } => Ok(Request::Explain {
                 kind: *kind,
-                intent: intent.clone()?,
                 caller: copies::option(caller)?,
                 permission: copies::option(permission)?,
                 shown: copies::option(shown)?,
+                intent: intent.clone()?,
             }),
             Request::Start { intent, source } => Ok(Request::Start {
                 intent: intent.clone()?,
@@ -170,14 +192,13 @@ impl Clone for Request {
                 intent,
                 permission,
                 ordered,
-            } => Ok(Request::Send {
-                intent: intent.clone()?,
-                permission: copies::option(permission)?,
-                ordered: copies::option(ordered)?,
-            }),
+            } => {
+                let permission = copies::option(permission)?;
+                send_copy(intent.clone()?, permission, ordered)
+            }
             Request::Register { filter, permission } => Ok(Request::Register {
-                filter: filter.clone()?,
                 permission: copies::option(permission)?,
+                filter: filter.clone()?,
             }),
             Request::Unregister { number } => Ok(Request::Unregister { number: *number }),
             Request::Inbox => Ok(Request::Inbox),

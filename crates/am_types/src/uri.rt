@@ -23,11 +23,11 @@ impl Clone for Uri {
 
     fn clone(&self) -> Result<Uri, AllocError> {
         Ok(Uri {
-            text: self.text.clone()?,
-            scheme: self.scheme.clone()?,
+            text: copies::value(&self.text)?,
+            scheme: copies::value(&self.scheme)?,
             host: copies::option(&self.host)?,
             port: self.port,
-            path: self.path.clone()?,
+            path: copies::value(&self.path)?,
         })
     }
 }

@@ -4,13 +4,11 @@
 
 mod answers;
 mod fault;
-mod hosts;
 mod meeting;
 mod question;
 mod reply;
 mod seeing;
 mod shown;
-mod types;
 
 pub use answers::{answer, answer_file};
 pub use fault::VisibleFault;

@@ -1,12 +1,11 @@
 //! Whether a filter meets an intent that queries ask for.
 ghost use Rattle.std.specs.Prelude.{◌≡◌, option_copied};
-ghost use Rattle.std.specs.List.{list_all, list_any};
+ghost use Rattle.std.specs.List.{list_any};
 ghost use Rattle.am_model.specs.Filters.{has_host};
 ghost use Rattle.am_model.specs.Texts.{lists, lowered};
 ghost use Rattle.am_model.specs.Visibility.{asked_scheme, is_local_scheme, meets, takes_data, takes_host, takes_no_scheme, takes_no_type, takes_scheme, takes_type};
 
-use crate::hosts::has_host;
-use crate::types::passes_type;
+use am_filter::{has_host, lists, lists_all, passes_type};
 use am_types::{Authority, Filter, List, Mime, Signature, Text};
 
 /// Whether the filter meets the signature: it lists the action and each category, and takes the scheme, the host and
@@ -19,20 +18,6 @@ pub fn meets(filter: &Filter, signature: &Signature) -> bool
     lists(&filter.actions, &signature.action)
         && lists_all(&filter.categories, &signature.categories)
         && takes_data(filter, signature)
-}
-
-/// The text is listed.
-pub(crate) fn lists(texts: &List<Text>, text: &Text) -> bool
-    ensures { result ≡ lists texts.now text.now }
-{
-    texts.as_slice().contains(text)
-}
-
-/// Each text of the second list stands in the first.
-fn lists_all(texts: &List<Text>, wanted: &List<Text>) -> bool
-    ensures { result ≡ list_all (λ text. lists texts.now text) wanted.now }
-{
-    wanted.as_slice().iter().all(|text| lists(texts, text))
 }
 
 /// The filter takes the data that is asked for.

@@ -1,19 +1,13 @@
 //! Which packages a caller sees.
-ghost use Rattle.std.specs.Prelude.{◌≡◌, codes, option_copied};
+ghost use Rattle.std.specs.Prelude.{◌≡◌, option_copied};
 ghost use Rattle.std.specs.List.{list_any};
-ghost use Rattle.am_model.specs.Boards.{is_granted};
-ghost use Rattle.am_model.specs.Gates.{holds, is_privileged};
 ghost use Rattle.am_model.specs.Visibility.{ask_for, is_asked_for, meets, queries_of, sees, shows};
 
-use crate::meeting::{lists, meets};
+use crate::meeting::meets;
+use am_filter::lists;
+use am_gates::{holds_named, is_privileged};
 use am_resolve::Board;
-use am_types::{Decl, Filter, Grant, List, Package, Queries, Signature};
-
-/// The uid of the root.
-const ROOT: u32 = 0;
-
-/// The uid of the system.
-const SYSTEM: u32 = 1000;
+use am_types::{Decl, Filter, List, Package, Queries, Signature};
 
 /// What shows every package to who holds it.
 const QUERY_ALL_PACKAGES: &str = "android.permission.QUERY_ALL_PACKAGES";
@@ -28,33 +22,11 @@ pub fn sees(board: &Board, queries: &List<Queries>, caller: u32, package: u32) -
 {
     is_privileged(caller)
         || caller == package
-        || holds_all(caller, board.grants())
+        || holds_named(caller, QUERY_ALL_PACKAGES, board.grants())
         || ask_for(
             queries_of(board.packages(), queries, caller),
             board.package_at(package),
         )
-}
-
-/// The uid is the system's or the root's.
-fn is_privileged(uid: u32) -> bool
-    ensures { result ≡ is_privileged uid }
-{
-    uid == ROOT || uid == SYSTEM
-}
-
-/// The uid holds the permission that shows every package.
-fn holds_all(uid: u32, grants: &List<Grant>) -> bool
-    ensures { result ≡ holds grants.now uid (codes "android.permission.QUERY_ALL_PACKAGES") }
-{
-    is_privileged(uid) || is_granted_all(uid, grants)
-}
-
-/// The uid was granted the permission that shows every package.
-fn is_granted_all(uid: u32, grants: &List<Grant>) -> bool
-    ensures { result ≡ is_granted grants.now uid (codes "android.permission.QUERY_ALL_PACKAGES") }
-{
-    grants.as_slice().iter().any(|grant| grant.uid == uid
-        && grant.permission.as_str() == QUERY_ALL_PACKAGES)
 }
 
 /// The queries of the package of the uid, if there is one: the n-th queries are those of the n-th package.

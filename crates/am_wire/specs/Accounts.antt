@@ -42,6 +42,14 @@ permission_for Activity body = Ok None
 permission_for Service body = Ok None
 permission_for Receiver body = optional_text Any 1024 (codes "permission") body
 
+-- what is asked besides a kind and an intent
+unfoldable pub asked_with : Kind → Data → Result (Option (List ℕ) × Option (List ℕ) × Option (List ℕ)) WireFault
+asked_with kind body = do
+  caller ← optional_text Any 1024 (codes "as") body
+  permission ← permission_for kind body
+  shown ← optional_text Any 1024 (codes "of") body
+  Ok (caller, permission, shown)
+
 -- a question about that kind and that intent
 unfoldable pub explain_about : Kind → Intent → Data → Result Request WireFault
 explain_about kind intent body = do

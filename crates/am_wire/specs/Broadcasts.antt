@@ -59,6 +59,14 @@ ordered_if true body = do
   ordered ← ordered_in body
   Ok (Some ordered)
 
+-- what a broadcast has besides its intent
+unfoldable pub sent_with : Data → Result (Option (List ℕ) × Option Ordered) WireFault
+sent_with body = do
+  permission ← optional_text Any 1024 (codes "permission") body
+  is_ordered ← optional_truth (codes "ordered") body
+  ordered ← ordered_if is_ordered body
+  Ok (permission, ordered)
+
 -- a broadcast that has no fields but its own
 unfoldable pub send_of : Data → Result Request WireFault
 send_of body = do

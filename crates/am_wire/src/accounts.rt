@@ -4,7 +4,7 @@ ghost use Rattle.serde_json.specs.Find.{as_str};
 ghost use Rattle.serde_json.specs.View.{view};
 ghost use Rattle.am_wire_fields.specs.Reading.{Gives};
 ghost use Rattle.am_wire.specs.Activities.{fields_of};
-ghost use Rattle.am_wire.specs.Accounts.{is_receiver, asks_receivers, explain_fields, permission_for, explain_about, explain_of, explain_in};
+ghost use Rattle.am_wire.specs.Accounts.{is_receiver, asks_receivers, explain_fields, permission_for, asked_with, explain_about, explain_of, explain_in};
 
 use crate::activities::fields_of;
 use crate::words::kind_of;
@@ -59,21 +59,39 @@ fn permission_for(alloc: Global, kind: Kind, body: &Value) -> Result<Option<Text
     }
 }
 
-/// A question about that kind and that intent: perhaps the texts `as`, `permission` and `of`.
-#[tactic(auto, unfolding(crate::specs::Accounts::explain_about))]
-fn explain_about(alloc: Global, kind: Kind, intent: Intent, body: &Value) -> Result<Request, Unread>
-    ensures { Gives result (explain_about kind intent (view body.now)) }
+/// What is asked besides a kind and an intent: perhaps the texts `as`, `permission` and `of`.
+#[tactic(auto, unfolding(crate::specs::Accounts::asked_with))]
+fn asked_with(
+    alloc: Global,
+    kind: Kind,
+    body: &Value,
+) -> Result<(Option<Text>, Option<Text>, Option<Text>), Unread>
+    ensures { Gives result (asked_with kind (view body.now)) }
 {
     let caller = optional_text(alloc, Form::Any, 1024, "as", body)?;
     let permission = permission_for(alloc, kind, body)?;
     let shown = optional_text(alloc, Form::Any, 1024, "of", body)?;
-    Ok(Request::Explain {
-        kind,
-        intent,
-        caller,
-        permission,
-        shown,
-    })
+    Ok((caller, permission, shown))
+}
+
+/// A question about that kind and that intent: perhaps the texts `as`, `permission` and `of`.
+#[tactic(auto, unfolding(crate::specs::Accounts::explain_about, crate::specs::Accounts::asked_with))]
+fn explain_about(alloc: Global, kind: Kind, intent: Intent, body: &Value) -> Result<Request, Unread>
+    ensures { Gives result (explain_about kind intent (view body.now)) }
+{
+    match asked_with(alloc, kind, body) {
+        Ok((caller, permission, shown)) => Ok(Request::Explain {
+            kind,
+            intent,
+            caller,
+            permission,
+            shown,
+        }),
+        Err(fault) => {
+            drop(intent);
+            Err(fault)
+        }
+    }
 }
 
 /// A question that has no fields but its own.

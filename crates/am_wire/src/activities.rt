@@ -24,8 +24,13 @@ pub fn fields_of(alloc: Global, fields: &[&str], body: &Value) -> Result<(), Unr
 pub fn plain_in(alloc: Global, request: Request, body: &Value) -> Result<Request, Unread>
     ensures { Gives result (plain_in request (view body.now)) }
 {
-    fields_of(alloc, &[], body)?;
-    Ok(request)
+    match fields_of(alloc, &[], body) {
+        Ok(()) => Ok(request),
+        Err(fault) => {
+            drop(request);
+            Err(fault)
+        }
+    }
 }
 
 /// What a body says whose only field is a whole number from 0 on.
@@ -61,12 +66,17 @@ pub fn query_in(alloc: Global, body: &Value) -> Result<Request, Unread>
     only_query_fields(alloc, body)?;
     let kind = kind_of(alloc, body)?;
     let intent = required_intent(alloc, "intent", body)?;
-    let default_only = default_only_of(alloc, body)?;
-    Ok(Request::Query {
-        kind,
-        intent,
-        default_only,
-    })
+    match default_only_of(alloc, body) {
+        Ok(default_only) => Ok(Request::Query {
+            kind,
+            intent,
+            default_only,
+        }),
+        Err(fault) => {
+            drop(intent);
+            Err(fault)
+        }
+    }
 }
 
 /// A start of an activity: `intent`, and perhaps the number `source` of an activity instance.
@@ -76,8 +86,13 @@ pub fn start_in(alloc: Global, body: &Value) -> Result<Request, Unread>
 {
     fields_of(alloc, &["intent", "source"], body)?;
     let intent = required_intent(alloc, "intent", body)?;
-    let source = optional_natural(alloc, "source", body)?;
-    Ok(Request::Start { intent, source })
+    match optional_natural(alloc, "source", body) {
+        Ok(source) => Ok(Request::Start { intent, source }),
+        Err(fault) => {
+            drop(intent);
+            Err(fault)
+        }
+    }
 }
 
 /// The end of an activity: the number `instance`.

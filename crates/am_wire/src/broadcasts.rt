@@ -3,10 +3,10 @@ ghost use Rattle.std.specs.Prelude.{◌≡◌};
 ghost use Rattle.serde_json.specs.View.{view};
 ghost use Rattle.am_wire_fields.specs.Reading.{Gives};
 ghost use Rattle.am_wire.specs.Activities.{fields_of};
-ghost use Rattle.am_wire.specs.Broadcasts.{is_ordered, send_fields, ordered_in, ordered_if, send_of, send_in, register_fields, register_in, unregister_in, sets_outcome, finish_fields, outcome_in, outcome_if, finish_of, finish_in};
+ghost use Rattle.am_wire.specs.Broadcasts.{is_ordered, send_fields, ordered_in, ordered_if, sent_with, send_of, send_in, register_fields, register_in, unregister_in, sets_outcome, finish_fields, outcome_in, outcome_if, finish_of, finish_in};
 
 use crate::activities::{fields_of, number_in};
-use am_types::{Answer, Ordered, Outcome, Request};
+use am_types::{Answer, Ordered, Outcome, Request, Text};
 use am_uri::Form;
 use am_wire_fields::{
     Unread, field, optional_text, optional_truth, optional_whole, required_natural, required_whole,
@@ -59,15 +59,18 @@ fn ordered_in(alloc: Global, body: &Value) -> Result<Ordered, Unread>
     let code = optional_whole(alloc, "code", body)?;
     let text = optional_text(alloc, Form::Any, 1024, "data", body)?;
     let extras = optional_extras(alloc, body)?;
-    let wanted = optional_truth(alloc, "result", body)?;
-    Ok(Ordered {
-        initial: Outcome {
-            code: code.unwrap_or(0),
-            text,
-            extras,
-        },
-        wanted,
-    })
+    let initial = Outcome {
+        code: code.unwrap_or(0),
+        text,
+        extras,
+    };
+    match optional_truth(alloc, "result", body) {
+        Ok(wanted) => Ok(Ordered { initial, wanted }),
+        Err(fault) => {
+            drop(initial);
+            Err(fault)
+        }
+    }
 }
 
 /// How a broadcast starts, if it is an ordered one.
@@ -82,20 +85,35 @@ fn ordered_if(alloc: Global, ordered: bool, body: &Value) -> Result<Option<Order
     Ok(Some(start))
 }
 
+/// What a broadcast has besides its intent: the permission that receivers must hold, and how it starts if it is an
+/// ordered one.
+#[tactic(auto, unfolding(crate::specs::Broadcasts::sent_with))]
+fn sent_with(alloc: Global, body: &Value) -> Result<(Option<Text>, Option<Ordered>), Unread>
+    ensures { Gives result (sent_with (view body.now)) }
+{
+    let permission = optional_text(alloc, Form::Any, 1024, "permission", body)?;
+    let is_ordered = optional_truth(alloc, "ordered", body)?;
+    let ordered = ordered_if(alloc, is_ordered, body)?;
+    Ok((permission, ordered))
+}
+
 /// A broadcast that has no fields but its own.
-#[tactic(auto, unfolding(crate::specs::Broadcasts::send_of))]
+#[tactic(auto, unfolding(crate::specs::Broadcasts::send_of, crate::specs::Broadcasts::sent_with))]
 fn send_of(alloc: Global, body: &Value) -> Result<Request, Unread>
     ensures { Gives result (send_of (view body.now)) }
 {
     let intent = required_intent(alloc, "intent", body)?;
-    let permission = optional_text(alloc, Form::Any, 1024, "permission", body)?;
-    let is_ordered = optional_truth(alloc, "ordered", body)?;
-    let ordered = ordered_if(alloc, is_ordered, body)?;
-    Ok(Request::Send {
-        intent,
-        permission,
-        ordered,
-    })
+    match sent_with(alloc, body) {
+        Ok((permission, ordered)) => Ok(Request::Send {
+            intent,
+            permission,
+            ordered,
+        }),
+        Err(fault) => {
+            drop(intent);
+            Err(fault)
+        }
+    }
 }
 
 /// A broadcast: `intent`, perhaps the text `permission`, and `ordered`, which is false where it isn't there. Only where
@@ -123,8 +141,13 @@ pub fn register_in(alloc: Global, body: &Value) -> Result<Request, Unread>
 {
     only_register_fields(alloc, body)?;
     let filter = required_filter(alloc, "filter", body)?;
-    let permission = optional_text(alloc, Form::Any, 1024, "permission", body)?;
-    Ok(Request::Register { filter, permission })
+    match optional_text(alloc, Form::Any, 1024, "permission", body) {
+        Ok(permission) => Ok(Request::Register { filter, permission }),
+        Err(fault) => {
+            drop(filter);
+            Err(fault)
+        }
+    }
 }
 
 /// The receiver to be taken back: its `number`.

@@ -20,13 +20,18 @@ fn get_of(alloc: Global, body: &Value) -> Result<Request, Unread>
     let kind = pending_kind_of(alloc, body)?;
     let code = required_whole(alloc, "code", body)?;
     let intent = required_intent(alloc, "intent", body)?;
-    let flags = pending_flags_of(alloc, body)?;
-    Ok(Request::PendingGet {
-        kind,
-        code,
-        intent,
-        flags,
-    })
+    match pending_flags_of(alloc, body) {
+        Ok(flags) => Ok(Request::PendingGet {
+            kind,
+            code,
+            intent,
+            flags,
+        }),
+        Err(fault) => {
+            drop(intent);
+            Err(fault)
+        }
+    }
 }
 
 /// A request for a pending intent: `kind`, the signed number `code`, `intent` and the list `flags`.

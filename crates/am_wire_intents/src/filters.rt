@@ -63,16 +63,21 @@ fn filter_of(alloc: Global, filter: &Value) -> Result<Filter, Unread>
     let actions = actions_at(alloc, filter)?;
     let categories = categories_of(alloc, Form::Filled, filter)?;
     let rows = rows_at(alloc, filter)?;
-    let priority = priority_at(alloc, filter)?;
-    Ok(Filter {
-        actions,
-        categories,
-        schemes: rows.schemes,
-        authorities: rows.authorities,
-        paths: rows.paths,
-        types: rows.types,
-        priority,
-    })
+    match priority_at(alloc, filter) {
+        Ok(priority) => Ok(Filter {
+            actions,
+            categories,
+            schemes: rows.schemes,
+            authorities: rows.authorities,
+            paths: rows.paths,
+            types: rows.types,
+            priority,
+        }),
+        Err(fault) => {
+            drop(rows);
+            Err(fault)
+        }
+    }
 }
 
 /// The filter that a value is: an object with the field `actions`, of one action or more, and perhaps `categories`,

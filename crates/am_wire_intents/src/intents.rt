@@ -201,8 +201,13 @@ pub fn intent_in(alloc: Global, name: &str, value: &Value) -> Result<Intent, Unr
 {
     only_intent_fields(alloc, name, value)?;
     let asked = asked_in(alloc, value)?;
-    let carried = carried_in(alloc, value)?;
-    Ok(intent_of(asked, carried))
+    match carried_in(alloc, value) {
+        Ok(carried) => Ok(intent_of(asked, carried)),
+        Err(fault) => {
+            drop(asked);
+            Err(fault)
+        }
+    }
 }
 
 /// The intent that a field is, which must be there.

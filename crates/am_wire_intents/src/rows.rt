@@ -145,13 +145,18 @@ fn row_of(alloc: Global, row: &Value) -> Result<DataRow, Unread>
     let scheme = scheme_at(alloc, row)?;
     let authority = authority_at(alloc, row)?;
     let paths = paths_at(alloc, row)?;
-    let mime = type_at(alloc, row)?;
-    Ok(DataRow {
-        scheme,
-        authority,
-        paths,
-        mime,
-    })
+    match type_at(alloc, row) {
+        Ok(mime) => Ok(DataRow {
+            scheme,
+            authority,
+            paths,
+            mime,
+        }),
+        Err(fault) => {
+            drop(paths);
+            Err(fault)
+        }
+    }
 }
 
 /// Refuses a value that is no object with the keys of a row only.

@@ -1,42 +1,46 @@
 //! Whom an intent would reach, and why it doesn't reach the others.
-ghost use Rattle.std.specs.Prelude.{◌≡◌, IfOk, map};
+ghost use Rattle.std.specs.Prelude.{◌≡◌, IfOk};
 ghost use Rattle.serde_json.specs.View.{view};
 ghost use Rattle.am_types.specs.declared.account.Standing.TheVariants.{Filters, Narrowed};
-ghost use Rattle.am_wire_values.specs.Replies.{account_data, reason_data, standing_data};
+ghost use Rattle.am_wire_values.specs.Replies.{standing_data};
 
-use crate::fields::listed;
+use crate::fields::put_word;
 use crate::names::{narrowing_name, why_name};
-use crate::views::{aim_value, skipped_value, verdict_value};
-use am_types::{Account, Aim, Narrowing, Standing, Why};
-use serde_json::{Value, json};
+use crate::shown::{Shown, put_shown};
+use crate::views::{put_judged, skipped_value, verdict_value};
+use am_types::{Account, Aim, List, Narrowing, Standing, Why};
+use serde_json::{Map, Value};
 use std::alloc::{AllocError, Global};
 
-/// Each reason why a filter doesn't pass as a value.
-fn reason_values(alloc: Global, reasons: &[Why]) -> Result<Vec<Value>, AllocError>
-    ensures { IfOk result (λ values. map view values.items ≡ map reason_data reasons.now) }
-{
-    let mut values = Vec::new(alloc);
-    for reason in reasons {
-        values.push(Value::try_from_str(alloc, why_name(*reason))?)?;
+/// Why a filter doesn't pass.
+impl Shown for Why {
+    ghost use Rattle.am_wire_values.specs.Replies.{reason_data};
+
+    ghost as_data = { reason_data };
+
+    fn value(&self, alloc: Global) -> Result<Value, AllocError> {
+        Value::try_from_str(alloc, why_name(*self))
     }
-    Ok(values)
 }
 
 /// A component or a registered receiver whose filters don't pass, with the reason of each.
-fn filters_value(alloc: Global, to: &Aim, reasons: &[Why]) -> Result<Value, AllocError>
+fn filters_value(alloc: Global, to: &Aim, reasons: &List<Why>) -> Result<Value, AllocError>
     ensures { IfOk result (λ value. view value ≡ standing_data to.now (Filters reasons.now)) }
 {
-    let to = aim_value(alloc, to)?;
-    let reasons = listed(reason_values(alloc, reasons)?);
-    json!(in alloc; {"reasons": reasons, "to": to, "verdict": "filters"})
+    let mut members = Map::new(alloc);
+    put_shown(alloc, &mut members, "reasons", reasons)?;
+    put_judged(alloc, &mut members, to, "filters")?;
+    Ok(Value::Object(members))
 }
 
 /// An activity that the narrowing of web intents leaves out.
 fn narrowed_value(alloc: Global, to: &Aim, by: Narrowing) -> Result<Value, AllocError>
     ensures { IfOk result (λ value. view value ≡ standing_data to.now (Narrowed by)) }
 {
-    let to = aim_value(alloc, to)?;
-    json!(in alloc; {"by": narrowing_name(by), "to": to, "verdict": "narrowed"})
+    let mut members = Map::new(alloc);
+    put_word(alloc, &mut members, "by", narrowing_name(by))?;
+    put_judged(alloc, &mut members, to, "narrowed")?;
+    Ok(Value::Object(members))
 }
 
 /// A component or a registered receiver with how it stands.
@@ -47,7 +51,7 @@ fn standing_value(alloc: Global, to: &Aim, standing: &Standing) -> Result<Value,
         Standing::OtherComponent => verdict_value(alloc, to, "other_component"),
         Standing::OtherPackage => verdict_value(alloc, to, "other_package"),
         Standing::Disabled => verdict_value(alloc, to, "disabled"),
-        Standing::Filters(reasons) => filters_value(alloc, to, reasons.as_slice()),
+        Standing::Filters(reasons) => filters_value(alloc, to, reasons),
         Standing::Narrowed(by) => narrowed_value(alloc, to, *by),
         Standing::Outranked => verdict_value(alloc, to, "outranked"),
         Standing::Tied => verdict_value(alloc, to, "tied"),
@@ -56,13 +60,12 @@ fn standing_value(alloc: Global, to: &Aim, standing: &Standing) -> Result<Value,
     }
 }
 
-/// Each account as a value.
-pub(crate) fn account_values(alloc: Global, accounts: &[Account]) -> Result<Vec<Value>, AllocError>
-    ensures { IfOk result (λ values. map view values.items ≡ map account_data accounts.now) }
-{
-    let mut values = Vec::new(alloc);
-    for account in accounts {
-        values.push(standing_value(alloc, &account.to, &account.standing)?)?;
+impl Shown for Account {
+    ghost use Rattle.am_wire_values.specs.Replies.{account_data};
+
+    ghost as_data = { account_data };
+
+    fn value(&self, alloc: Global) -> Result<Value, AllocError> {
+        standing_value(alloc, &self.to, &self.standing)
     }
-    Ok(values)
 }

@@ -1,10 +1,11 @@
 //! Members of an object, of which some may be absent.
-ghost use Rattle.std.specs.Prelude.{◌≡◌, IfOk, OnOk, map, option_map};
+ghost use Rattle.std.specs.Prelude.{◌≡◌, ◌++◌, ◌∷◌, [], IfOk, OnOk, map, option_map};
 ghost use Rattle.serde_json.specs.Data.{string, put as with_member};
 ghost use Rattle.serde_json.specs.View.{view, members_view};
-ghost use Rattle.am_wire_values.specs.Fields.{listed, natural, put_given, some_listed, some_texts, some_truth, some_whole};
+ghost use Rattle.am_wire_values.specs.Fields.{listed, put_given, some_listed, some_texts, some_truth, some_whole};
 ghost use Rattle.am_wire_values.specs.Names.{names_set};
 
+use crate::shown::{put_shown, values};
 use am_types::{List, Text};
 use serde_json::{Map, Value, put};
 use std::alloc::{AllocError, Global};
@@ -27,33 +28,6 @@ pub(crate) fn put_given(
     }
 }
 
-/// Puts a text under a name.
-pub(crate) fn put_text(
-    alloc: Global,
-    members: &mut Members,
-    name: &str,
-    text: &Text,
-) -> Result<(), AllocError>
-    ensures { OnOk result (members_view members.new.entries ≡ with_member name.now (string text.now) (members_view members.old.entries)) }
-{
-    put(members, alloc, name, text_value(alloc, text)?)
-}
-
-/// Puts a text under a name, if there is one.
-pub(crate) fn put_some_text(
-    alloc: Global,
-    members: &mut Members,
-    name: &str,
-    text: &Option<Text>,
-) -> Result<(), AllocError>
-    ensures { OnOk result (members_view members.new.entries ≡ put_given name.now (option_map string text.now) (members_view members.old.entries)) }
-{
-    match text {
-        None => Ok(()),
-        Some(text) => put_text(alloc, members, name, text),
-    }
-}
-
 /// Puts a word under a name.
 pub(crate) fn put_word(
     alloc: Global,
@@ -64,21 +38,6 @@ pub(crate) fn put_word(
     ensures { OnOk result (members_view members.new.entries ≡ with_member name.now (string word.now) (members_view members.old.entries)) }
 {
     put(members, alloc, name, Value::try_from_str(alloc, word)?)
-}
-
-/// Puts a number under a name, if there is one.
-pub(crate) fn put_some_number(
-    alloc: Global,
-    members: &mut Members,
-    name: &str,
-    number: Option<u64>,
-) -> Result<(), AllocError>
-    ensures { OnOk result (members_view members.new.entries ≡ put_given name.now (option_map natural number) (members_view members.old.entries)) }
-{
-    match number {
-        None => Ok(()),
-        Some(number) => put(members, alloc, name, Value::from(number)),
-    }
 }
 
 /// Puts a number under a name, unless it is 0.
@@ -93,7 +52,7 @@ pub(crate) fn put_some_whole(
     if number.unsigned_abs() == 0 {
         Ok(())
     } else {
-        put(members, alloc, name, Value::from(number))
+        put_shown(alloc, members, name, &number)
     }
 }
 
@@ -107,7 +66,7 @@ pub(crate) fn put_some_truth(
     ensures { OnOk result (members_view members.new.entries ≡ put_given name.now (some_truth truth) (members_view members.old.entries)) }
 {
     if truth {
-        put(members, alloc, name, Value::from(true))
+        put_shown(alloc, members, name, &true)
     } else {
         Ok(())
     }
@@ -122,26 +81,8 @@ pub(crate) fn put_some_texts(
 ) -> Result<(), AllocError>
     ensures { OnOk result (members_view members.new.entries ≡ put_given name.now (some_texts texts.now) (members_view members.old.entries)) }
 {
-    let values = text_values(alloc, texts.as_slice())?;
+    let values = values(alloc, texts.as_slice())?;
     put_given(alloc, members, name, some_listed(values))
-}
-
-/// A text as a value.
-pub(crate) fn text_value(alloc: Global, text: &Text) -> Result<Value, AllocError>
-    ensures { IfOk result (λ value. view value ≡ string text.now) }
-{
-    Value::try_from_str(alloc, text.as_str())
-}
-
-/// Each text as a value.
-pub(crate) fn text_values(alloc: Global, texts: &[Text]) -> Result<Vec<Value>, AllocError>
-    ensures { IfOk result (λ values. map view values.items ≡ map string texts.now) }
-{
-    let mut values = Vec::new(alloc);
-    for text in texts {
-        values.push(text_value(alloc, text)?)?;
-    }
-    Ok(values)
 }
 
 /// Values as an array.
@@ -162,6 +103,13 @@ pub(crate) fn some_listed(values: Vec<Value>) -> Option<Value>
     }
 }
 
+/// Adds a word as a value.
+fn push_word(alloc: Global, values: &mut Vec<Value>, word: &str) -> Result<(), AllocError>
+    ensures { OnOk result (map view values.new.items ≡ map view values.old.items ++ string word.now ∷ []) }
+{
+    Ok(values.push(Value::try_from_str(alloc, word)?)?)
+}
+
 /// The names of those that are set, each as a value.
 pub(crate) fn names_set(alloc: Global, named: &[(bool, &str)]) -> Result<Vec<Value>, AllocError>
     ensures { IfOk result (λ values. map view values.items ≡ map string (names_set (map (λ n. (n.0, n.1.now)) named.now))) }
@@ -169,7 +117,7 @@ pub(crate) fn names_set(alloc: Global, named: &[(bool, &str)]) -> Result<Vec<Val
     let mut values = Vec::new(alloc);
     for (is_set, name) in named {
         if *is_set {
-            values.push(Value::try_from_str(alloc, name)?)?;
+            push_word(alloc, &mut values, name)?;
         }
     }
     Ok(values)

@@ -1,17 +1,13 @@
 //! Filters as values.
 ghost use Rattle.std.specs.Prelude.{◌≡◌, ◌++◌, IfOk, OnOk, codes, map};
-ghost use Rattle.serde_json.specs.Data.{string, put as with_member};
 ghost use Rattle.serde_json.specs.View.{view, members_view};
 ghost use Rattle.am_wire_values.specs.Fields.{put_given, some_listed};
-ghost use Rattle.am_wire_values.specs.Filters.{authority_row, filter_data, path_row, row_of, rows_of, scheme_row, type_row};
+ghost use Rattle.am_wire_values.specs.Filters.{filter_data, row_of, rows_of};
 
-use crate::fields::{
-    Members, listed, put_given, put_some_texts, put_some_whole, some_listed, text_value,
-    text_values,
-};
-use crate::intents::mime_value;
-use am_types::{Authority, Filter, Mime, PathRule, Text};
-use serde_json::{Map, Value, json, put};
+use crate::fields::{Members, put_given, put_some_texts, put_some_whole, some_listed};
+use crate::shown::{Shown, one, put_shown, put_some};
+use am_types::{Authority, Filter, PathRule};
+use serde_json::{Map, Value};
 use std::alloc::{AllocError, Global};
 
 /// A filter as a value, with a row for each scheme, authority, path and type. What is none, and a
@@ -21,13 +17,22 @@ pub fn filter_value(alloc: Global, filter: &Filter) -> Result<Value, AllocError>
     ensures { IfOk result (λ value. view value ≡ filter_data filter.now) }
 {
     let mut members = Map::new(alloc);
-    let actions = text_values(alloc, filter.actions.as_slice())?;
-    put(&mut members, alloc, "actions", listed(actions))?;
+    put_shown(alloc, &mut members, "actions", &filter.actions)?;
     put_some_texts(alloc, &mut members, "categories", &filter.categories)?;
     put_rows(alloc, &mut members, filter)?;
     let priority = i64::from(filter.priority);
     put_some_whole(alloc, &mut members, "priority", priority)?;
     Ok(Value::Object(members))
+}
+
+impl Shown for Filter {
+    ghost use Rattle.am_wire_values.specs.Filters.{filter_data};
+
+    ghost as_data = { filter_data };
+
+    fn value(&self, alloc: Global) -> Result<Value, AllocError> {
+        filter_value(alloc, self)
+    }
 }
 
 /// Puts the rows, unless there are none.
@@ -44,86 +49,64 @@ fn rows_of(alloc: Global, filter: &Filter) -> Result<Vec<Value>, AllocError>
     ensures { IfOk result (λ rows. map view rows.items ≡ rows_of filter.now) }
 {
     let mut rows = Vec::new(alloc);
-    add_schemes(alloc, &mut rows, filter.schemes.as_slice())?;
-    add_authorities(alloc, &mut rows, filter.authorities.as_slice())?;
-    add_paths(alloc, &mut rows, filter.paths.as_slice())?;
-    add_types(alloc, &mut rows, filter.types.as_slice())?;
+    add_keyed(alloc, &mut rows, "scheme", filter.schemes.as_slice())?;
+    add(alloc, &mut rows, filter.authorities.as_slice())?;
+    add(alloc, &mut rows, filter.paths.as_slice())?;
+    add_keyed(alloc, &mut rows, "mimeType", filter.types.as_slice())?;
     Ok(rows)
 }
 
-fn add_schemes(alloc: Global, rows: &mut Vec<Value>, schemes: &[Text]) -> Result<(), AllocError>
-    ensures { OnOk result (map view rows.new.items ≡ map view rows.old.items ++ map scheme_row schemes.now) }
+/// Adds a row for each.
+fn add<T: Shown>(alloc: Global, rows: &mut Vec<Value>, shown: &[T]) -> Result<(), AllocError>
+    ensures { OnOk result (map view rows.new.items ≡ map view rows.old.items ++ map T.as_data shown.now) }
 {
-    for scheme in schemes {
-        rows.push(json!(in alloc; {"scheme": scheme.as_str()})?)?;
+    for one in shown {
+        rows.push(one.value(alloc)?)?;
     }
     Ok(())
 }
 
-fn add_authorities(
+/// Adds a row for each, with it under the key.
+fn add_keyed<T: Shown>(
     alloc: Global,
     rows: &mut Vec<Value>,
-    authorities: &[Authority],
+    key: &str,
+    shown: &[T],
 ) -> Result<(), AllocError>
-    ensures { OnOk result (map view rows.new.items ≡ map view rows.old.items ++ map authority_row authorities.now) }
+    ensures { OnOk result (map view rows.new.items ≡ map view rows.old.items ++ map (λ value. row_of key.now (T.as_data value)) shown.now) }
 {
-    for authority in authorities {
-        rows.push(authority_row(alloc, authority)?)?;
-    }
-    Ok(())
-}
-
-fn add_paths(alloc: Global, rows: &mut Vec<Value>, paths: &[PathRule]) -> Result<(), AllocError>
-    ensures { OnOk result (map view rows.new.items ≡ map view rows.old.items ++ map path_row paths.now) }
-{
-    for path in paths {
-        rows.push(path_row(alloc, path)?)?;
-    }
-    Ok(())
-}
-
-fn add_types(alloc: Global, rows: &mut Vec<Value>, types: &[Mime]) -> Result<(), AllocError>
-    ensures { OnOk result (map view rows.new.items ≡ map view rows.old.items ++ map type_row types.now) }
-{
-    for mime in types {
-        rows.push(type_row(alloc, mime)?)?;
+    for value in shown {
+        rows.push(one(alloc, key, value)?)?;
     }
     Ok(())
 }
 
 /// The row of an authority.
-fn authority_row(alloc: Global, authority: &Authority) -> Result<Value, AllocError>
-    ensures { IfOk result (λ row. view row ≡ authority_row authority.now) }
-{
-    let mut members = Map::new(alloc);
-    put(
-        &mut members,
-        alloc,
-        "host",
-        text_value(alloc, &authority.host)?,
-    )?;
-    if let Some(port) = authority.port {
-        put(&mut members, alloc, "port", Value::from(port))?;
+impl Shown for Authority {
+    ghost use Rattle.am_wire_values.specs.Filters.{authority_row};
+
+    ghost as_data = { authority_row };
+
+    fn value(&self, alloc: Global) -> Result<Value, AllocError> {
+        let mut members = Map::new(alloc);
+        put_shown(alloc, &mut members, "host", &self.host)?;
+        put_some(alloc, &mut members, "port", &self.port)?;
+        Ok(Value::Object(members))
     }
-    Ok(Value::Object(members))
 }
 
 /// The row of a path rule.
-fn path_row(alloc: Global, path: &PathRule) -> Result<Value, AllocError>
-    ensures { IfOk result (λ row. view row ≡ path_row path.now) }
-{
-    match path {
-        PathRule::Literal(path) => json!(in alloc; {"path": path.as_str()}),
-        PathRule::Prefix(start) => json!(in alloc; {"pathPrefix": start.as_str()}),
-        PathRule::Suffix(end) => json!(in alloc; {"pathSuffix": end.as_str()}),
-        PathRule::Pattern(glob) => json!(in alloc; {"pathPattern": glob.text().as_str()}),
-    }
-}
+impl Shown for PathRule {
+    ghost use Rattle.am_wire_values.specs.Filters.{path_row};
 
-/// The row of a type.
-fn type_row(alloc: Global, mime: &Mime) -> Result<Value, AllocError>
-    ensures { IfOk result (λ row. view row ≡ type_row mime.now) }
-{
-    let mime = mime_value(alloc, mime)?;
-    json!(in alloc; {"mimeType": mime})
+    ghost as_data = { path_row };
+
+    fn value(&self, alloc: Global) -> Result<Value, AllocError> {
+        match self {
+            PathRule::Literal(path) => one(alloc, "path", path),
+            PathRule::Prefix(start) => one(alloc, "pathPrefix", start),
+            PathRule::Suffix(end) => one(alloc, "pathSuffix", end),
+            PathRule::Pattern(glob) => one(alloc, "pathPattern", glob.text()),
+        }
+    }
 }

@@ -1,12 +1,13 @@
 //! Intents as values.
-ghost use Rattle.std.specs.Prelude.{◌≡◌, IfOk, OnOk, codes, option_map};
-ghost use Rattle.serde_json.specs.Data.{no_members, put as with_member};
+ghost use Rattle.std.specs.Prelude.{◌≡◌, IfOk, OnOk, codes};
+ghost use Rattle.serde_json.specs.Data.{no_members};
 ghost use Rattle.serde_json.specs.View.{view, members_view};
 ghost use Rattle.am_wire_values.specs.Fields.{put_given};
-ghost use Rattle.am_wire_values.specs.Intents.{aimed, asked, carried, component_data, extra_data, extras_data, intent_data, mime_data, some_extras, uri_data, with_extras};
+ghost use Rattle.am_wire_values.specs.Intents.{aimed, asked, carried, extras_data, intent_data, some_extras, with_extras};
 
-use crate::fields::{Members, put_given, put_some_text, put_some_texts, some_listed, text_value};
+use crate::fields::{Members, put_given, put_some_texts, some_listed};
 use crate::names::flag_values;
+use crate::shown::{Shown, put_shown, put_some};
 use am_types::{Component, Extra, Intent, List, Mime, Named, Uri};
 use serde_json::{Map, Value, put};
 use std::alloc::{AllocError, Global};
@@ -23,16 +24,26 @@ pub fn intent_value(alloc: Global, intent: &Intent) -> Result<Value, AllocError>
     Ok(Value::Object(members))
 }
 
+impl Shown for Intent {
+    ghost use Rattle.am_wire_values.specs.Intents.{intent_data};
+
+    ghost as_data = { intent_data };
+
+    fn value(&self, alloc: Global) -> Result<Value, AllocError> {
+        intent_value(alloc, self)
+    }
+}
+
 /// What an intent asks for.
 #[tactic(auto, unfolding(crate::specs::Intents::asked))]
 fn put_asked(alloc: Global, members: &mut Members, intent: &Intent) -> Result<(), AllocError>
     requires { members_view members.old.entries ≡ no_members }
     ensures { OnOk result (members_view members.new.entries ≡ asked intent.now) }
 {
-    put_some_text(alloc, members, "action", &intent.action)?;
+    put_some(alloc, members, "action", &intent.action)?;
     put_some_texts(alloc, members, "categories", &intent.categories)?;
-    put_uri(alloc, members, &intent.uri)?;
-    put_mime(alloc, members, &intent.mime)
+    put_some(alloc, members, "data", &intent.uri)?;
+    put_some(alloc, members, "type", &intent.mime)
 }
 
 /// And who may get it.
@@ -40,9 +51,9 @@ fn put_asked(alloc: Global, members: &mut Members, intent: &Intent) -> Result<()
 fn put_aimed(alloc: Global, members: &mut Members, intent: &Intent) -> Result<(), AllocError>
     ensures { OnOk result (members_view members.new.entries ≡ aimed intent.now (members_view members.old.entries)) }
 {
-    put_component(alloc, members, &intent.component)?;
-    put_some_text(alloc, members, "identifier", &intent.identifier)?;
-    put_some_text(alloc, members, "package", &intent.package)
+    put_some(alloc, members, "component", &intent.component)?;
+    put_some(alloc, members, "identifier", &intent.identifier)?;
+    put_some(alloc, members, "package", &intent.package)
 }
 
 /// And what goes with it.
@@ -53,42 +64,6 @@ fn put_carried(alloc: Global, members: &mut Members, intent: &Intent) -> Result<
     put_some_extras(alloc, members, &intent.extras)?;
     let flags = flag_values(alloc, intent.flags)?;
     put_given(alloc, members, "flags", some_listed(flags))
-}
-
-fn put_uri(alloc: Global, members: &mut Members, uri: &Option<Uri>) -> Result<(), AllocError>
-    ensures { OnOk result (members_view members.new.entries ≡ put_given (codes "data") (option_map uri_data uri.now) (members_view members.old.entries)) }
-{
-    match uri {
-        None => Ok(()),
-        Some(uri) => put(members, alloc, "data", text_value(alloc, &uri.text)?),
-    }
-}
-
-fn put_mime(alloc: Global, members: &mut Members, mime: &Option<Mime>) -> Result<(), AllocError>
-    ensures { OnOk result (members_view members.new.entries ≡ put_given (codes "type") (option_map mime_data mime.now) (members_view members.old.entries)) }
-{
-    match mime {
-        None => Ok(()),
-        Some(mime) => put(members, alloc, "type", mime_value(alloc, mime)?),
-    }
-}
-
-fn put_component(
-    alloc: Global,
-    members: &mut Members,
-    component: &Option<Component>,
-) -> Result<(), AllocError>
-    ensures { OnOk result (members_view members.new.entries ≡ put_given (codes "component") (option_map component_data component.now) (members_view members.old.entries)) }
-{
-    match component {
-        None => Ok(()),
-        Some(component) => put(
-            members,
-            alloc,
-            "component",
-            component_value(alloc, component)?,
-        ),
-    }
 }
 
 /// Puts extras, unless there are none.
@@ -106,22 +81,41 @@ pub(crate) fn put_some_extras(
     }
 }
 
-/// A MIME type as a value: main/sub.
-pub(crate) fn mime_value(alloc: Global, mime: &Mime) -> Result<Value, AllocError>
-    ensures { IfOk result (λ value. view value ≡ mime_data mime.now) }
-{
-    let main = mime.main.as_str();
-    let sub = mime.sub.as_str();
-    Ok(Value::String(format!(in alloc; "{main}/{sub}")?))
+/// A URI, as it was written.
+impl Shown for Uri {
+    ghost use Rattle.am_wire_values.specs.Intents.{uri_data};
+
+    ghost as_data = { uri_data };
+
+    fn value(&self, alloc: Global) -> Result<Value, AllocError> {
+        self.text.value(alloc)
+    }
 }
 
-/// A component as a value: package/class.
-pub(crate) fn component_value(alloc: Global, component: &Component) -> Result<Value, AllocError>
-    ensures { IfOk result (λ value. view value ≡ component_data component.now) }
-{
-    let package = component.package.as_str();
-    let class = component.class.as_str();
-    Ok(Value::String(format!(in alloc; "{package}/{class}")?))
+/// A MIME type: main/sub.
+impl Shown for Mime {
+    ghost use Rattle.am_wire_values.specs.Intents.{mime_data};
+
+    ghost as_data = { mime_data };
+
+    fn value(&self, alloc: Global) -> Result<Value, AllocError> {
+        let main = self.main.as_str();
+        let sub = self.sub.as_str();
+        Ok(Value::String(format!(in alloc; "{main}/{sub}")?))
+    }
+}
+
+/// A component: package/class.
+impl Shown for Component {
+    ghost use Rattle.am_wire_values.specs.Intents.{component_data};
+
+    ghost as_data = { component_data };
+
+    fn value(&self, alloc: Global) -> Result<Value, AllocError> {
+        let package = self.package.as_str();
+        let class = self.class.as_str();
+        Ok(Value::String(format!(in alloc; "{package}/{class}")?))
+    }
 }
 
 /// Extras as an object.
@@ -138,19 +132,21 @@ fn put_extras(alloc: Global, members: &mut Members, extras: &[Named]) -> Result<
     ensures { OnOk result (members_view members.new.entries ≡ with_extras extras.now (members_view members.old.entries)) }
 {
     for named in extras {
-        let value = extra_value(alloc, &named.value)?;
-        put(members, alloc, named.key.as_str(), value)?;
+        put_shown(alloc, members, named.key.as_str(), &named.value)?;
     }
     Ok(())
 }
 
-/// The value of an extra.
-fn extra_value(alloc: Global, extra: &Extra) -> Result<Value, AllocError>
-    ensures { IfOk result (λ value. view value ≡ extra_data extra.now) }
-{
-    match extra {
-        Extra::Word(text) => text_value(alloc, text),
-        Extra::Whole(number) => Ok(Value::from(*number)),
-        Extra::Truth(truth) => Ok(Value::from(*truth)),
+impl Shown for Extra {
+    ghost use Rattle.am_wire_values.specs.Intents.{extra_data};
+
+    ghost as_data = { extra_data };
+
+    fn value(&self, alloc: Global) -> Result<Value, AllocError> {
+        match self {
+            Extra::Word(text) => text.value(alloc),
+            Extra::Whole(number) => number.value(alloc),
+            Extra::Truth(truth) => truth.value(alloc),
+        }
     }
 }

@@ -11,6 +11,7 @@ mod replies;
 mod requests;
 mod routes;
 mod rules;
+mod shown;
 mod views;
 
 pub use filters::filter_value;

@@ -3,10 +3,10 @@ ghost use Rattle.std.specs.Prelude.{◌≡◌, OnOk};
 ghost use Rattle.serde_json.specs.View.{members_view};
 ghost use Rattle.am_wire_values.specs.Requests.{with_order, with_ordered, with_outcome, with_set};
 
-use crate::fields::{Members, put_some_text, put_some_truth, put_some_whole};
+use crate::fields::{Members, put_some_truth, put_some_whole};
 use crate::intents::put_some_extras;
+use crate::shown::{put_shown, put_some};
 use am_types::{Ordered, Outcome};
-use serde_json::{Value, put};
 use std::alloc::{AllocError, Global};
 
 /// Puts what an outcome has beside its code.
@@ -14,7 +14,7 @@ use std::alloc::{AllocError, Global};
 fn put_outcome(alloc: Global, members: &mut Members, outcome: &Outcome) -> Result<(), AllocError>
     ensures { OnOk result (members_view members.new.entries ≡ with_outcome outcome.now (members_view members.old.entries)) }
 {
-    put_some_text(alloc, members, "data", &outcome.text)?;
+    put_some(alloc, members, "data", &outcome.text)?;
     put_some_extras(alloc, members, &outcome.extras)
 }
 
@@ -23,7 +23,7 @@ fn put_outcome(alloc: Global, members: &mut Members, outcome: &Outcome) -> Resul
 fn put_ordered(alloc: Global, members: &mut Members, ordered: &Ordered) -> Result<(), AllocError>
     ensures { OnOk result (members_view members.new.entries ≡ with_ordered ordered.now (members_view members.old.entries)) }
 {
-    put(members, alloc, "ordered", Value::from(true))?;
+    put_shown(alloc, members, "ordered", &true)?;
     put_outcome(alloc, members, &ordered.initial)?;
     put_some_whole(alloc, members, "code", ordered.initial.code)?;
     put_some_truth(alloc, members, "result", ordered.wanted)
@@ -54,7 +54,7 @@ pub(crate) fn put_set(
     match set {
         None => Ok(()),
         Some(outcome) => {
-            put(members, alloc, "code", Value::from(outcome.code))?;
+            put_shown(alloc, members, "code", &outcome.code)?;
             put_outcome(alloc, members, outcome)
         }
     }

@@ -1,20 +1,27 @@
 //! Refusals: their names, values and statuses.
-ghost use Rattle.std.specs.Prelude.{◌≡◌, IfOk, option_map, string_bytes};
+ghost use Rattle.std.specs.Prelude.{◌≡◌, IfOk, OnOk, option_map, string_bytes};
 ghost use Rattle.std.specs.Option.{option_copied};
-ghost use Rattle.serde_json.specs.View.{view};
+ghost use Rattle.serde_json.specs.Data.{object, no_members};
+ghost use Rattle.serde_json.specs.View.{view, members_view};
 ghost use Rattle.am_wire_values.specs.Rules.{error_data, limit_name, named_by, refusal_data, rule_name, rule_status};
 
+use crate::fields::{Members, put_word};
 use am_types::{Limit, Rule};
-use serde_json::{Value, json};
+use serde_json::{Map, Value};
 use std::alloc::{AllocError, Global};
 
-/// A refusal as a value: its name, and what it names.
-pub(crate) fn refusal_value(alloc: Global, rule: &Rule) -> Result<Value, AllocError>
-    ensures { IfOk result (λ value. view value ≡ refusal_data rule.now) }
+/// Puts a refusal: its name, and what it names.
+pub(crate) fn put_refusal(
+    alloc: Global,
+    members: &mut Members,
+    rule: &Rule,
+) -> Result<(), AllocError>
+    requires { members_view members.old.entries ≡ no_members }
+    ensures { OnOk result (object (members_view members.new.entries) ≡ refusal_data rule.now) }
 {
     match named_by(alloc, rule)? {
-        None => error_value(alloc, rule_name(rule), None),
-        Some(name) => error_value(alloc, rule_name(rule), Some(name.as_str())),
+        None => put_error(alloc, members, rule_name(rule), None),
+        Some(name) => put_error(alloc, members, rule_name(rule), Some(name.as_str())),
     }
 }
 
@@ -22,9 +29,25 @@ pub(crate) fn refusal_value(alloc: Global, rule: &Rule) -> Result<Value, AllocEr
 pub fn error_value(alloc: Global, error: &str, name: Option<&str>) -> Result<Value, AllocError>
     ensures { IfOk result (λ value. view value ≡ error_data error.now (option_copied name.entry)) }
 {
+    let mut members = Map::new(alloc);
+    put_error(alloc, &mut members, error, name)?;
+    Ok(Value::Object(members))
+}
+
+/// Puts an error, and a name if there is one.
+fn put_error(
+    alloc: Global,
+    members: &mut Members,
+    error: &str,
+    name: Option<&str>,
+) -> Result<(), AllocError>
+    requires { members_view members.old.entries ≡ no_members }
+    ensures { OnOk result (object (members_view members.new.entries) ≡ error_data error.now (option_copied name.entry)) }
+{
+    put_word(alloc, members, "error", error)?;
     match name {
-        None => json!(in alloc; {"error": error}),
-        Some(name) => json!(in alloc; {"error": error, "name": name}),
+        None => Ok(()),
+        Some(name) => put_word(alloc, members, "name", name),
     }
 }
 

@@ -1,126 +1,105 @@
 //! What replies show: tasks, services, receivers, items and stored calls.
-ghost use Rattle.std.specs.Prelude.{◌≡◌, IfOk, map};
-ghost use Rattle.serde_json.specs.Data.{object};
-ghost use Rattle.serde_json.specs.View.{view};
+ghost use Rattle.std.specs.Prelude.{◌≡◌, IfOk, OnOk, codes, map};
+ghost use Rattle.serde_json.specs.Data.{object, no_members, string, put as with_member};
+ghost use Rattle.serde_json.specs.View.{view, members_view};
 ghost use Rattle.am_types.specs.declared.broadcast.ItemKind.TheVariants.{Normal, InOrder, Final};
-ghost use Rattle.am_wire_values.specs.Intents.{component_data};
-ghost use Rattle.am_wire_values.specs.Replies.{aim_data, entries_data, entry_data, instance_data, item_data, landed_data, number_after, judged, offered_data, receiving_data, service_data, skipped_data, task_data, text_or_null, waiting_data};
+ghost use Rattle.am_wire_values.specs.Fields.{natural, whole};
+ghost use Rattle.am_wire_values.specs.Intents.{extras_data};
+ghost use Rattle.am_wire_values.specs.Replies.{aim_data, entries_data, entry_data, instance_data, item_data, landed_data, number_after, judged, service_data, skipped_data, text_or_null};
 ghost use Rattle.am_wire_values.specs.Rules.{named_by, rule_name};
 
-use crate::fields::{listed, text_value};
-use crate::intents::{component_value, extras_value, intent_value};
+use crate::fields::{Members, put_word};
+use crate::intents::extras_value;
 use crate::names::placed_name;
-use crate::requests::request_value;
 use crate::routes::route_of;
 use crate::rules::{named_by, rule_name};
+use crate::shown::{Shown, put_shown, two};
 use am_types::{
-    Aim, Component, Entry, InstanceView, Intent, Item, ItemKind, Landed, Outcome, Receiving, Rule,
-    ServiceView, TaskView, Text,
+    Aim, Entry, InstanceView, Intent, Item, ItemKind, Landed, Outcome, Receiving, Rule,
+    ServiceView, TaskView,
 };
-use serde_json::{Value, json};
+use serde_json::{Map, Value, put};
 use std::alloc::{AllocError, Global};
 
-/// Each component as a value.
-pub(crate) fn component_values(alloc: Global, found: &[Component]) -> Result<Vec<Value>, AllocError>
-    ensures { IfOk result (λ values. map view values.items ≡ map component_data found.now) }
-{
-    let mut values = Vec::new(alloc);
-    for component in found {
-        values.push(component_value(alloc, component)?)?;
-    }
-    Ok(values)
-}
-
-/// Where a start landed.
-pub(crate) fn landed_value(alloc: Global, landed: Landed) -> Result<Value, AllocError>
-    ensures { IfOk result (λ value. view value ≡ landed_data landed) }
-{
-    json!(in alloc; {
-        "instance": landed.instance,
-        "placed": placed_name(landed.how),
-        "task": landed.task,
-    })
-}
-
-/// A text, or `null`.
-fn text_or_null(alloc: Global, text: &Option<Text>) -> Result<Value, AllocError>
-    ensures { IfOk result (λ value. view value ≡ text_or_null text.now) }
-{
-    match text {
-        None => Ok(Value::Null),
-        Some(text) => text_value(alloc, text),
-    }
-}
-
-/// An instance of an activity.
-fn instance_value(alloc: Global, seen: &InstanceView) -> Result<Value, AllocError>
-    ensures { IfOk result (λ value. view value ≡ instance_data seen.now) }
-{
-    let component = component_value(alloc, &seen.component)?;
-    let intent = intent_value(alloc, &seen.intent)?;
-    json!(in alloc; {"component": component, "instance": seen.instance, "intent": intent})
-}
-
-/// Each instance as a value.
-fn instance_values(alloc: Global, seen: &[InstanceView]) -> Result<Vec<Value>, AllocError>
-    ensures { IfOk result (λ values. map view values.items ≡ map instance_data seen.now) }
-{
-    let mut values = Vec::new(alloc);
-    for instance in seen {
-        values.push(instance_value(alloc, instance)?)?;
-    }
-    Ok(values)
-}
-
-/// A task.
-fn task_value(alloc: Global, seen: &TaskView) -> Result<Value, AllocError>
-    ensures { IfOk result (λ value. view value ≡ task_data seen.now) }
-{
-    let instances = listed(instance_values(alloc, seen.instances.as_slice())?);
-    json!(in alloc; {"instances": instances, "task": seen.task})
-}
-
-/// Each task as a value.
-pub(crate) fn task_values(alloc: Global, tasks: &[TaskView]) -> Result<Vec<Value>, AllocError>
-    ensures { IfOk result (λ values. map view values.items ≡ map task_data tasks.now) }
-{
-    let mut values = Vec::new(alloc);
-    for task in tasks {
-        values.push(task_value(alloc, task)?)?;
-    }
-    Ok(values)
-}
-
-/// A running service.
-fn service_value(alloc: Global, seen: &ServiceView) -> Result<Value, AllocError>
-    ensures { IfOk result (λ value. view value ≡ service_data seen.now) }
-{
-    let component = component_value(alloc, &seen.component)?;
-    let intent = intent_value(alloc, &seen.intent)?;
-    json!(in alloc; {"component": component, "intent": intent, "starts": seen.starts})
-}
-
-/// Each service as a value.
-pub(crate) fn service_values(
+/// Puts where a start landed.
+pub(crate) fn put_landed(
     alloc: Global,
-    services: &[ServiceView],
-) -> Result<Vec<Value>, AllocError>
-    ensures { IfOk result (λ values. map view values.items ≡ map service_data services.now) }
+    members: &mut Members,
+    landed: Landed,
+) -> Result<(), AllocError>
+    requires { members_view members.old.entries ≡ no_members }
+    ensures { OnOk result (object (members_view members.new.entries) ≡ landed_data landed) }
 {
-    let mut values = Vec::new(alloc);
-    for service in services {
-        values.push(service_value(alloc, service)?)?;
+    put_shown(alloc, members, "instance", &landed.instance)?;
+    put_word(alloc, members, "placed", placed_name(landed.how))?;
+    put_shown(alloc, members, "task", &landed.task)
+}
+
+/// Puts what an instance of an activity shows.
+fn put_instance(alloc: Global, members: &mut Members, seen: &InstanceView) -> Result<(), AllocError>
+    requires { members_view members.old.entries ≡ no_members }
+    ensures { OnOk result (object (members_view members.new.entries) ≡ instance_data seen.now) }
+{
+    put_shown(alloc, members, "component", &seen.component)?;
+    put_shown(alloc, members, "instance", &seen.instance)?;
+    put_shown(alloc, members, "intent", &seen.intent)
+}
+
+impl Shown for InstanceView {
+    ghost use Rattle.am_wire_values.specs.Replies.{instance_data};
+
+    ghost as_data = { instance_data };
+
+    fn value(&self, alloc: Global) -> Result<Value, AllocError> {
+        let mut members = Map::new(alloc);
+        put_instance(alloc, &mut members, self)?;
+        Ok(Value::Object(members))
     }
-    Ok(values)
+}
+
+impl Shown for TaskView {
+    ghost use Rattle.am_wire_values.specs.Replies.{task_data};
+
+    ghost as_data = { task_data };
+
+    fn value(&self, alloc: Global) -> Result<Value, AllocError> {
+        two(alloc, "instances", &self.instances, "task", &self.task)
+    }
+}
+
+/// Puts what a running service shows.
+fn put_service(alloc: Global, members: &mut Members, seen: &ServiceView) -> Result<(), AllocError>
+    requires { members_view members.old.entries ≡ no_members }
+    ensures { OnOk result (object (members_view members.new.entries) ≡ service_data seen.now) }
+{
+    put_shown(alloc, members, "component", &seen.component)?;
+    put_shown(alloc, members, "intent", &seen.intent)?;
+    put_shown(alloc, members, "starts", &seen.starts)
+}
+
+impl Shown for ServiceView {
+    ghost use Rattle.am_wire_values.specs.Replies.{service_data};
+
+    ghost as_data = { service_data };
+
+    fn value(&self, alloc: Global) -> Result<Value, AllocError> {
+        let mut members = Map::new(alloc);
+        put_service(alloc, &mut members, self)?;
+        Ok(Value::Object(members))
+    }
 }
 
 /// A receiver: a component, or the number of a registered one.
-pub(crate) fn aim_value(alloc: Global, aim: &Aim) -> Result<Value, AllocError>
-    ensures { IfOk result (λ value. view value ≡ aim_data aim.now) }
-{
-    match aim {
-        Aim::Declared(component) => component_value(alloc, component),
-        Aim::Registered(number) => Ok(Value::from(*number)),
+impl Shown for Aim {
+    ghost use Rattle.am_wire_values.specs.Replies.{aim_data};
+
+    ghost as_data = { aim_data };
+
+    fn value(&self, alloc: Global) -> Result<Value, AllocError> {
+        match self {
+            Aim::Declared(component) => component.value(alloc),
+            Aim::Registered(number) => number.value(alloc),
+        }
     }
 }
 
@@ -128,58 +107,91 @@ pub(crate) fn aim_value(alloc: Global, aim: &Aim) -> Result<Value, AllocError>
 pub(crate) fn verdict_value(alloc: Global, aim: &Aim, verdict: &str) -> Result<Value, AllocError>
     ensures { IfOk result (λ value. view value ≡ object (judged aim.now verdict.now)) }
 {
-    let to = aim_value(alloc, aim)?;
-    json!(in alloc; {"to": to, "verdict": verdict})
+    let mut members = Map::new(alloc);
+    put_judged(alloc, &mut members, aim, verdict)?;
+    Ok(Value::Object(members))
+}
+
+/// Puts whom the verdict is on, and the verdict.
+pub(crate) fn put_judged(
+    alloc: Global,
+    members: &mut Members,
+    aim: &Aim,
+    verdict: &str,
+) -> Result<(), AllocError>
+    ensures { OnOk result (members_view members.new.entries ≡ with_member (codes "verdict") (string verdict.now) (with_member (codes "to") (aim_data aim.now) (members_view members.old.entries))) }
+{
+    put_shown(alloc, members, "to", aim)?;
+    put_word(alloc, members, "verdict", verdict)
 }
 
 /// A receiver that was left out by a rule.
 pub(crate) fn skipped_value(alloc: Global, aim: &Aim, rule: &Rule) -> Result<Value, AllocError>
     ensures { IfOk result (λ value. view value ≡ skipped_data aim.now (rule_name rule.now) (named_by rule.now)) }
 {
-    let to = aim_value(alloc, aim)?;
+    let mut members = Map::new(alloc);
+    put_skipped(alloc, &mut members, aim, rule)?;
+    Ok(Value::Object(members))
+}
+
+/// Puts which receiver was left out, by which rule, and what that names.
+fn put_skipped(
+    alloc: Global,
+    members: &mut Members,
+    aim: &Aim,
+    rule: &Rule,
+) -> Result<(), AllocError>
+    requires { members_view members.old.entries ≡ no_members }
+    ensures { OnOk result (object (members_view members.new.entries) ≡ skipped_data aim.now (rule_name rule.now) (named_by rule.now)) }
+{
     match named_by(alloc, rule)? {
-        None => json!(in alloc; {"to": to, "verdict": rule_name(rule)}),
-        Some(name) => json!(in alloc; {"name": &name, "to": to, "verdict": rule_name(rule)}),
+        None => put_judged(alloc, members, aim, rule_name(rule)),
+        Some(name) => {
+            put(members, alloc, "name", Value::String(name))?;
+            put_judged(alloc, members, aim, rule_name(rule))
+        }
     }
 }
 
 /// A receiver with what became of it.
-fn offered_value(alloc: Global, aim: &Aim, skip: &Option<Rule>) -> Result<Value, AllocError>
-    ensures { IfOk result (λ value. view value ≡ offered_data aim.now skip.now) }
-{
-    match skip {
-        None => verdict_value(alloc, aim, "admitted"),
-        Some(rule) => skipped_value(alloc, aim, rule),
-    }
-}
+impl Shown for Receiving {
+    ghost use Rattle.am_wire_values.specs.Replies.{receiving_data};
 
-/// Each receiver that a broadcast was offered to as a value.
-pub(crate) fn receiving_values(
-    alloc: Global,
-    receivers: &[Receiving],
-) -> Result<Vec<Value>, AllocError>
-    ensures { IfOk result (λ values. map view values.items ≡ map receiving_data receivers.now) }
-{
-    let mut values = Vec::new(alloc);
-    for offered in receivers {
-        values.push(offered_value(alloc, &offered.aim, &offered.skip)?)?;
+    ghost as_data = { receiving_data };
+
+    fn value(&self, alloc: Global) -> Result<Value, AllocError> {
+        match &self.skip {
+            None => verdict_value(alloc, &self.aim, "admitted"),
+            Some(rule) => skipped_value(alloc, &self.aim, rule),
+        }
     }
-    Ok(values)
 }
 
 /// A delivery of a normal broadcast.
 fn normal_value(alloc: Global, item: &Item, aim: &Aim, intent: &Intent) -> Result<Value, AllocError>
     ensures { IfOk result (λ value. view value ≡ item_data item.now.broadcast item.now.delivery (Normal aim.now intent.now)) }
 {
-    let intent = intent_value(alloc, intent)?;
-    let to = aim_value(alloc, aim)?;
-    json!(in alloc; {
-        "broadcast": item.broadcast,
-        "delivery": item.delivery,
-        "intent": intent,
-        "ordered": false,
-        "to": to,
-    })
+    let mut members = Map::new(alloc);
+    put_normal(alloc, &mut members, item, aim, intent)?;
+    Ok(Value::Object(members))
+}
+
+/// Puts what a delivery of a normal broadcast says.
+fn put_normal(
+    alloc: Global,
+    members: &mut Members,
+    item: &Item,
+    aim: &Aim,
+    intent: &Intent,
+) -> Result<(), AllocError>
+    requires { members_view members.old.entries ≡ no_members }
+    ensures { OnOk result (object (members_view members.new.entries) ≡ item_data item.now.broadcast item.now.delivery (Normal aim.now intent.now)) }
+{
+    put_shown(alloc, members, "broadcast", &item.broadcast)?;
+    put_shown(alloc, members, "delivery", &item.delivery)?;
+    put_shown(alloc, members, "intent", intent)?;
+    put_shown(alloc, members, "ordered", &false)?;
+    put_shown(alloc, members, "to", aim)
 }
 
 /// A delivery of an ordered broadcast, with the result so far.
@@ -192,61 +204,73 @@ fn ordered_value(
 ) -> Result<Value, AllocError>
     ensures { IfOk result (λ value. view value ≡ item_data item.now.broadcast item.now.delivery (InOrder aim.now intent.now outcome.now)) }
 {
-    let data = text_or_null(alloc, &outcome.text)?;
+    let mut members = Map::new(alloc);
+    put_ordered(alloc, &mut members, item, aim, intent, outcome)?;
+    Ok(Value::Object(members))
+}
+
+/// Puts what a delivery of an ordered broadcast says.
+fn put_ordered(
+    alloc: Global,
+    members: &mut Members,
+    item: &Item,
+    aim: &Aim,
+    intent: &Intent,
+    outcome: &Outcome,
+) -> Result<(), AllocError>
+    requires { members_view members.old.entries ≡ no_members }
+    ensures { OnOk result (object (members_view members.new.entries) ≡ item_data item.now.broadcast item.now.delivery (InOrder aim.now intent.now outcome.now)) }
+{
+    put_shown(alloc, members, "broadcast", &item.broadcast)?;
+    put_outcome(alloc, members, item, outcome)?;
+    put_shown(alloc, members, "intent", intent)?;
+    put_shown(alloc, members, "ordered", &true)?;
+    put_shown(alloc, members, "to", aim)
+}
+
+/// Puts the result of an ordered broadcast so far.
+fn put_outcome(
+    alloc: Global,
+    members: &mut Members,
+    item: &Item,
+    outcome: &Outcome,
+) -> Result<(), AllocError>
+    ensures { OnOk result (members_view members.new.entries ≡ with_member (codes "extras") (extras_data outcome.now.extras) (with_member (codes "delivery") (natural item.now.delivery) (with_member (codes "data") (text_or_null outcome.now.text) (with_member (codes "code") (whole outcome.now.code) (members_view members.old.entries))))) }
+{
+    put_shown(alloc, members, "code", &outcome.code)?;
+    put_shown(alloc, members, "data", &outcome.text)?;
+    put_shown(alloc, members, "delivery", &item.delivery)?;
     let extras = extras_value(alloc, &outcome.extras)?;
-    let intent = intent_value(alloc, intent)?;
-    let to = aim_value(alloc, aim)?;
-    json!(in alloc; {
-        "broadcast": item.broadcast,
-        "code": outcome.code,
-        "data": data,
-        "delivery": item.delivery,
-        "extras": extras,
-        "intent": intent,
-        "ordered": true,
-        "to": to,
-    })
+    put(members, alloc, "extras", extras)
 }
 
 /// The result of an ordered broadcast, for its sender.
 fn final_value(alloc: Global, item: &Item, outcome: &Outcome) -> Result<Value, AllocError>
     ensures { IfOk result (λ value. view value ≡ item_data item.now.broadcast item.now.delivery (Final outcome.now)) }
 {
-    let data = text_or_null(alloc, &outcome.text)?;
-    let extras = extras_value(alloc, &outcome.extras)?;
-    json!(in alloc; {
-        "code": outcome.code,
-        "data": data,
-        "delivery": item.delivery,
-        "extras": extras,
-        "result": item.broadcast,
-    })
+    let mut members = Map::new(alloc);
+    put_outcome(alloc, &mut members, item, outcome)?;
+    put_shown(alloc, &mut members, "result", &item.broadcast)?;
+    Ok(Value::Object(members))
 }
 
 /// An item of an inbox.
-fn item_value(alloc: Global, item: &Item) -> Result<Value, AllocError>
-    ensures { IfOk result (λ value. view value ≡ waiting_data item.now) }
-{
-    match &item.what {
-        ItemKind::Normal { aim, intent } => normal_value(alloc, item, aim, intent),
-        ItemKind::InOrder {
-            aim,
-            intent,
-            outcome,
-        } => ordered_value(alloc, item, aim, intent, outcome),
-        ItemKind::Final { outcome } => final_value(alloc, item, outcome),
-    }
-}
+impl Shown for Item {
+    ghost use Rattle.am_wire_values.specs.Replies.{waiting_data};
 
-/// Each item of an inbox as a value.
-pub(crate) fn item_values(alloc: Global, items: &[Item]) -> Result<Vec<Value>, AllocError>
-    ensures { IfOk result (λ values. map view values.items ≡ map waiting_data items.now) }
-{
-    let mut values = Vec::new(alloc);
-    for item in items {
-        values.push(item_value(alloc, item)?)?;
+    ghost as_data = { waiting_data };
+
+    fn value(&self, alloc: Global) -> Result<Value, AllocError> {
+        match &self.what {
+            ItemKind::Normal { aim, intent } => normal_value(alloc, self, aim, intent),
+            ItemKind::InOrder {
+                aim,
+                intent,
+                outcome,
+            } => ordered_value(alloc, self, aim, intent, outcome),
+            ItemKind::Final { outcome } => final_value(alloc, self, outcome),
+        }
     }
-    Ok(values)
 }
 
 /// The number behind one; the greatest 64-bit number stays.
@@ -258,21 +282,28 @@ fn number_after(at: u64) -> u64
 }
 
 /// A stored call with its number.
-#[tactic(auto, unfolding(crate::specs::Replies::entry_data))]
 fn entry_value(alloc: Global, at: u64, call: &Entry) -> Result<Value, AllocError>
     ensures { IfOk result (λ value. view value ≡ entry_data at call.entry.now) }
 {
-    let request = request_value(alloc, &call.request)?;
-    json!(in alloc; {
-        "at": at,
-        "desk": call.desk,
-        "kept": call.kept,
-        "now": call.now,
-        "request": request,
-        "route": route_of(&call.request),
-        "uid": call.uid,
-        "weight": call.weight,
-    })
+    let mut members = Map::new(alloc);
+    put_entry(alloc, &mut members, at, call)?;
+    Ok(Value::Object(members))
+}
+
+/// Puts what a stored call says.
+#[tactic(auto, unfolding(crate::specs::Replies::entry_data))]
+fn put_entry(alloc: Global, members: &mut Members, at: u64, call: &Entry) -> Result<(), AllocError>
+    requires { members_view members.old.entries ≡ no_members }
+    ensures { OnOk result (object (members_view members.new.entries) ≡ entry_data at call.entry.now) }
+{
+    put_shown(alloc, members, "at", &at)?;
+    put_shown(alloc, members, "desk", &call.desk)?;
+    put_shown(alloc, members, "kept", &call.kept)?;
+    put_shown(alloc, members, "now", &call.now)?;
+    put_shown(alloc, members, "request", &call.request)?;
+    put_word(alloc, members, "route", route_of(&call.request))?;
+    put_shown(alloc, members, "uid", &call.uid)?;
+    put_shown(alloc, members, "weight", &call.weight)
 }
 
 /// Stored calls that follow each other, each as a value.

@@ -15,8 +15,8 @@ returns-clause-greatest c =
     let packages = λ (l : List PackageRow). map (λ (row : PackageRow). row.uid) l in
     let grants = λ (l : List GrantRow). map (λ (row : GrantRow). row.uid) l in
     let links = λ (l : List LinkRow). map (λ (row : LinkRow). row.uid) l in
-    c.of_links.ensures.greatest
-    ∙ ap (λ (l : List LinkRow). fold max c.of_grants-greatest.result (filter given (links l))) c.as_slice-3.ensures
-    ∙ greatest_through given c.args.least c.of_packages-greatest.result c.of_grants-greatest.result (packages rows.packages) (grants rows.grants) (links rows.links)
+    c.of_rights.ensures.greatest
+    ∙ ap (λ (l : List LinkRow). fold max c.of_rights-greatest.result (filter given (links l))) c.as_slice-3.ensures
+    ∙ greatest_through given c.args.least c.of_packages-greatest.result c.of_rights-greatest.result (packages rows.packages) (grants rows.grants) (links rows.links)
     (c.of_packages-greatest.ensures.greatest ∙ ap (λ (l : List PackageRow). fold max c.args.least (packages l)) c.as_slice.ensures)
-    (c.of_grants-greatest.ensures.greatest ∙ ap (λ (l : List GrantRow). fold max c.of_packages-greatest.result (filter given (grants l))) c.as_slice-2.ensures)
+    (c.of_rights-greatest.ensures.greatest ∙ ap (λ (l : List GrantRow). fold max c.of_packages-greatest.result (filter given (grants l))) c.as_slice-2.ensures)
