@@ -6,7 +6,7 @@ ghost use Rattle.am_audit_answers.specs.Judged.{IsMade, ShowsAs, ShowsFirst};
 
 use crate::requests::key_text;
 use crate::texts::{begins, want_after};
-use am_audit_calls::Replayed;
+use am_audit_calls::{Call, Replayed};
 use am_http::frame::WholeFrame;
 use am_http::response_bytes;
 use am_types::{NoMemory, Request, Shown};
@@ -78,7 +78,14 @@ pub(crate) fn make_call(
         }
     };
     let weight = frame.body.len() as u32;
-    let (replayed, shown) = replayed.call(making.desk, &key, making.now, weight, request)?;
+    let call = Call {
+        desk: making.desk,
+        key: &key,
+        now: making.now,
+        weight,
+        request,
+    };
+    let (replayed, shown) = replayed.call(call)?;
     let taken = length_as(alloc, making.stored, &shown, left);
     drop(shown);
     match taken {

@@ -13,7 +13,7 @@ use Rattle.am_history.proofs.Places.{replay_more}
 use Rattle.am_history.proofs.Callers.{uid_has_caller}
 use Rattle.am_audit_callers.specs.Callers.{callers_of, change_of, followed, key_in}
 use Rattle.am_audit_callers.specs.Laws.{CallersFollow, KeysAreKnown}
-use Rattle.am_audit_calls.specs.Replays.{Advances, GoesOnWith, Replay, ShowsKept, state_of}
+use Rattle.am_audit_calls.specs.Replays.{Advances, GoesOnWith, Replay, ShowsKept, call_with, state_of}
 
 some_is : {A : Type 0} {x y : A} → ◌≡◌ {A = Option A} (Some x) (Some y) → x ≡ y
 some_is e = cc
@@ -71,10 +71,6 @@ callers_behind law before after call shown shows = by shown.stored shows.stored 
         ∙ ap (λ (e : Entry). callers_of (step state before.history e).1) (entry_is state call entry follows.1)
         ∙ law due before.history entry.uid call.request
         ∙ ap (followed (callers_of state) (change_of call.request)) (sym reply)
-
--- an entry as a call with a key
-abbrev pub call_with : List ℕ → Entry → Call
-call_with key entry = record { desk = entry.desk; key = key; now = entry.now; weight = entry.weight; request = entry.request }
 
 -- the history goes on with the entry if its call is stored
 pub goes_on : (before after : Replay) (key : List ℕ) (entry : Entry) (shown : Shown) → uid_of (state_of before) key ≡ Some entry.uid → entry.kept ≡ true

@@ -11,7 +11,7 @@ use Rattle.am_wire_values.specs.Requests.{request_data}
 use Rattle.am_wire_values.specs.Routes.{route_of}
 use Rattle.am_wire_written.specs.Written.{endpoint_at}
 use Rattle.am_audit_lines.specs.Lines.{IsReadAgain, IsWritten, number_in}
-use Rattle.am_audit_lines.proofs.Entries.{desk_is, now_is, request_said, route_asks, route_said, some_is, uid_is, weight_is}
+use Rattle.am_audit_lines.proofs.Entries.{request_said, route_asks, route_said, says, some_is}
 use Rattle.am_audit_calls.specs.Reading.{TakesLine}
 use Rattle.am_audit_calls.specs.Replays.{GoesOnWith, Replay, state_of}
 
@@ -26,10 +26,10 @@ pub same_entry : (at : ℕ) (line : List ℕ) (one other : Entry) → IsWritten 
 same_entry at line one other first second =
     let text : first.text ≡ second.text = append_cancel_right first.text second.text (codes "\n") (sym first.ends ∙ second.ends) in
     let same : entry_data at one ≡ entry_data at other = cc (text, first.says.value, second.says.value) in
-    let desk : one.desk ≡ other.desk = some_is (sym (desk_is at one) ∙ ap (number_in (codes "desk")) same ∙ desk_is at other) in
-    let uid : one.uid ≡ other.uid = some_is (sym (uid_is at one) ∙ ap (number_in (codes "uid")) same ∙ uid_is at other) in
-    let now : one.now ≡ other.now = some_is (sym (now_is at one) ∙ ap (number_in (codes "now")) same ∙ now_is at other) in
-    let weight : one.weight ≡ other.weight = some_is (sym (weight_is at one) ∙ ap (number_in (codes "weight")) same ∙ weight_is at other) in
+    let desk : one.desk ≡ other.desk = some_is (sym (says at one).desk ∙ ap (number_in (codes "desk")) same ∙ (says at other).desk) in
+    let uid : one.uid ≡ other.uid = some_is (sym (says at one).uid ∙ ap (number_in (codes "uid")) same ∙ (says at other).uid) in
+    let now : one.now ≡ other.now = some_is (sym (says at one).now ∙ ap (number_in (codes "now")) same ∙ (says at other).now) in
+    let weight : one.weight ≡ other.weight = some_is (sym (says at one).weight ∙ ap (number_in (codes "weight")) same ∙ (says at other).weight) in
     let route : route_of one.request ≡ route_of other.request =
     some_is (sym (route_said (entry_data at one) at one refl) ∙ route_said (entry_data at one) at other same) in
     let value : request_data one.request ≡ request_data other.request =

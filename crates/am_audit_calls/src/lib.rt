@@ -6,4 +6,4 @@ mod keeper;
 mod replayed;
 
 pub use history::{lines_in, read_history};
-pub use replayed::Replayed;
+pub use replayed::{Call, Replayed};

@@ -2,13 +2,12 @@
 ghost use Rattle.std.specs.Prelude.{◌≡◌, [], true, false, IfOk, IsTrue, MatchOption, OnOk, length, if◌then◌else◌};
 ghost use Rattle.std.specs.Option.{option_copied};
 ghost use Rattle.am_model.specs.Sound.{IsSound};
-ghost use Rattle.am_history.specs.Desks.{opening_of};
 ghost use Rattle.am_history.specs.History.{IsLegal};
 ghost use Rattle.am_history.specs.State.{opening};
 ghost use Rattle.am_history.specs.Steps.{is_formed};
 ghost use Rattle.am_audit_callers.specs.Callers.{callers_of, followed, key_in};
 ghost use Rattle.am_audit_callers.specs.Laws.{KeysAreKnown};
-ghost use Rattle.am_audit_calls.specs.Replays.{Advances, ShowsKept, state_of};
+ghost use Rattle.am_audit_calls.specs.Replays.{Advances, ShowsKept, call_held, call_with, replay_from, state_of};
 
 use crate::keeper::NoKeeper;
 use am_audit_callers::{CallerChange, Callers, callers_follow, change_of, keys_are_exact};
@@ -17,6 +16,16 @@ use am_machine::Manager;
 use am_types::{Device, Entry, NoMemory, Request, Shown, Text};
 use std::alloc::Global;
 use std::marker::Model;
+
+/// A call as it is made: on which desk, with which key, at which moment, how much its body weighs, and what it asks.
+#[derive(Drop)]
+pub struct Call<'k> {
+    pub desk: u32,
+    pub key: &'k Text,
+    pub now: u64,
+    pub weight: u32,
+    pub request: Request,
+}
 
 /// A history that is replayed from the opening of a device without kept rows. Contracts see the state with
 /// which it begins, and its entries so far.
@@ -29,38 +38,33 @@ pub struct Replayed {
 
 impl Model for Replayed {
     ghost use Rattle.std.specs.Prelude.{◌≡◌};
-    ghost use Rattle.am_history.specs.Desks.{opening_of};
-    ghost use Rattle.am_history.specs.History.{replay};
     ghost use Rattle.am_model.specs.Sound.{IsSound};
     ghost use Rattle.am_audit_callers.specs.Callers.{callers_of};
-    ghost use Rattle.am_audit_calls.specs.Replays.{Replay};
+    ghost use Rattle.am_audit_calls.specs.Replays.{Replay, replay_from, state_of};
 
     ghost Value = { Replay };
 
-    ghost view = { λ r. record { start = opening_of r.manager.origin; history = r.manager.history } };
+    ghost view = { λ r. replay_from r.manager.origin r.manager.history };
 
     // The device is sound, and the callers are those of the state that the history leaves.
     ghost invariant = { λ r. IsSound r.manager.origin.device
-        × (r.callers ≡ callers_of (replay (opening_of r.manager.origin) r.manager.history)) };
+        × (r.callers ≡ callers_of (state_of (replay_from r.manager.origin r.manager.history))) };
 }
 
 // One call of a manager whose keeper never fails: what is stored is kept.
-fn kept_call(
-    manager: &mut Manager<NoKeeper>,
-    desk: u32,
-    key: &Text,
-    now: u64,
-    weight: u32,
-    request: Request,
-) -> Result<Shown, NoMemory>
-    requires formed { IsTrue (is_formed request) }
+fn kept_call(manager: &mut Manager<NoKeeper>, call: Call<'_>) -> Result<Shown, NoMemory>
+    requires formed { IsTrue (is_formed call.request) }
     ensures origin { manager.new.origin ≡ manager.old.origin }
-    ensures shown { IfOk result (λ shown. ShowsKept
-        (record { start = opening_of manager.old.origin; history = manager.old.history })
-        (record { desk = desk; key = key.now; now = now; weight = weight; request = request })
-        (record { start = opening_of manager.old.origin; history = manager.new.history })
-        shown) }
+    ensures shown { IfOk result (λ shown. ShowsKept (replay_from manager.old.origin manager.old.history)
+        (call_held call.entry) (replay_from manager.old.origin manager.new.history) shown) }
 {
+    let Call {
+        desk,
+        key,
+        now,
+        weight,
+        request,
+    } = call;
     manager.step(desk, key, now, weight, request)
 }
 
@@ -146,23 +150,14 @@ impl Replayed {
     }
 
     /// One call at the end of the history. What is stored is kept.
-    pub fn call(
-        self,
-        desk: u32,
-        key: &Text,
-        now: u64,
-        weight: u32,
-        request: Request,
-    ) -> Result<(Replayed, Shown), NoMemory>
-        requires formed { IsTrue (is_formed request) }
-        ensures shown { IfOk result (λ done. ShowsKept self
-            (record { desk = desk; key = key.now; now = now; weight = weight; request = request })
-            done.0 done.1) }
+    pub fn call(self, call: Call<'_>) -> Result<(Replayed, Shown), NoMemory>
+        requires formed { IsTrue (is_formed call.request) }
+        ensures shown { IfOk result (λ done. ShowsKept self (call_held call.entry) done.0 done.1) }
     {
-        let change = match change_of(self.alloc, &request) {
+        let change = match change_of(self.alloc, &call.request) {
             Ok(change) => change,
             Err(error) => {
-                drop(request);
+                drop(call);
                 drop(self);
                 return Err(error);
             }
@@ -172,7 +167,7 @@ impl Replayed {
             mut manager,
             mut callers,
         } = self;
-        let shown = match kept_call(&mut manager, desk, key, now, weight, request) {
+        let shown = match kept_call(&mut manager, call) {
             Ok(shown) => shown,
             Err(error) => {
                 drop(change);
@@ -199,18 +194,16 @@ impl Replayed {
     // The entry as a call with that key.
     fn call_of(self, key: &Text, entry: &Entry) -> Result<(Replayed, Shown), NoMemory>
         requires formed { IsTrue (is_formed entry.now.request) }
-        ensures shown { IfOk result (λ done. ShowsKept self
-            (record {
-              desk = entry.entry.now.desk;
-              key = key.now;
-              now = entry.entry.now.now;
-              weight = entry.entry.now.weight;
-              request = entry.entry.now.request;
-            })
-            done.0 done.1) }
+        ensures shown { IfOk result (λ done. ShowsKept self (call_with key.now entry.entry.now) done.0 done.1) }
     {
         match entry.request.clone() {
-            Ok(request) => self.call(entry.desk, key, entry.now, entry.weight, request),
+            Ok(request) => self.call(Call {
+                desk: entry.desk,
+                key,
+                now: entry.now,
+                weight: entry.weight,
+                request,
+            }),
             Err(error) => {
                 drop(self);
                 Err(NoMemory::from(error))

@@ -97,28 +97,7 @@ body_is_at at.ListTasks body = refl
 body_is_at at.Services body = refl
 body_is_at at.Inbox body = refl
 body_is_at at.Status body = refl
-body_is_at at.Query body = posted_is_at at.Query body
-body_is_at at.Explain body = posted_is_at at.Explain body
-body_is_at at.Start body = posted_is_at at.Start body
-body_is_at at.FinishActivity body = posted_is_at at.FinishActivity body
-body_is_at at.Back body = posted_is_at at.Back body
-body_is_at at.StartService body = posted_is_at at.StartService body
-body_is_at at.StopService body = posted_is_at at.StopService body
-body_is_at at.Send body = posted_is_at at.Send body
-body_is_at at.Register body = posted_is_at at.Register body
-body_is_at at.Unregister body = posted_is_at at.Unregister body
-body_is_at at.Finish body = posted_is_at at.Finish body
-body_is_at at.PendingGet body = posted_is_at at.PendingGet body
-body_is_at at.PendingSend body = posted_is_at at.PendingSend body
-body_is_at at.PendingCancel body = posted_is_at at.PendingCancel body
-body_is_at at.PendingGive body = posted_is_at at.PendingGive body
-body_is_at at.Install body = posted_is_at at.Install body
-body_is_at at.Uninstall body = posted_is_at at.Uninstall body
-body_is_at at.Grant body = posted_is_at at.Grant body
-body_is_at at.Link body = posted_is_at at.Link body
-body_is_at at.ForceStop body = posted_is_at at.ForceStop body
-body_is_at at.Tick body = posted_is_at at.Tick body
-body_is_at at.History body = posted_is_at at.History body
+body_is_at endpoint body = posted_is_at endpoint body
 
 -- a request that was read is asked at the endpoint at which it was
 pub read_is_at : (endpoint : Endpoint) (body : List ℕ) (request : Request) → request_of endpoint body ≡ Ok request → endpoint_at request ≡ endpoint

@@ -26,30 +26,18 @@ use Rattle.am_wire_written.specs.Written.{HasFewRows}
 use Rattle.am_audit_lines.specs.Lines.{IsReadAgain, IsTextOf, number_in}
 use Rattle.am_wire_written.proofs.Depths.{shallow}
 
--- the fields of an entry's value
-pub desk_is : (at : ℕ) (e : Entry) → number_in (codes "desk") (entry_data at e) ≡ Some e.desk
-unfolding entry_data
-desk_is at e = refl
+-- the value says the fields of the entry
+pub record Says (value : Data) (e : Entry) : Type 0 where
+  pub desk : number_in (codes "desk") value ≡ Some e.desk
+  pub uid : number_in (codes "uid") value ≡ Some e.uid
+  pub now : number_in (codes "now") value ≡ Some e.now
+  pub weight : number_in (codes "weight") value ≡ Some e.weight
+  pub route : get (codes "route") value ≡ Some (string (route_of e.request))
+  pub request : get (codes "request") value ≡ Some (request_data e.request)
 
-pub uid_is : (at : ℕ) (e : Entry) → number_in (codes "uid") (entry_data at e) ≡ Some e.uid
+pub says : (at : ℕ) (e : Entry) → Says (entry_data at e) e
 unfolding entry_data
-uid_is at e = refl
-
-pub now_is : (at : ℕ) (e : Entry) → number_in (codes "now") (entry_data at e) ≡ Some e.now
-unfolding entry_data
-now_is at e = refl
-
-pub weight_is : (at : ℕ) (e : Entry) → number_in (codes "weight") (entry_data at e) ≡ Some e.weight
-unfolding entry_data
-weight_is at e = refl
-
-pub route_is : (at : ℕ) (e : Entry) → get (codes "route") (entry_data at e) ≡ Some (string (route_of e.request))
-unfolding entry_data
-route_is at e = refl
-
-pub request_is : (at : ℕ) (e : Entry) → get (codes "request") (entry_data at e) ≡ Some (request_data e.request)
-unfolding entry_data
-request_is at e = refl
+says at e = record { desk = refl; uid = refl; now = refl; weight = refl; route = refl; request = refl }
 
 -- it has no float, and nests at most five deep
 either_none : (b : Bool) → b ≡ false → b || false ≡ false
@@ -80,35 +68,11 @@ written_is text value at e is compact reads =
       compact = compact (ap has_float is ∙ no_float at e) ∙ ap compact_text is;
     }
 
--- the endpoint at the route of a request is the request's
+-- the endpoint at the route of a request is the request's, in each case
 pub route_asks : (r : Request) → endpoint_with (route_of r) ≡ Some (endpoint_at r)
 unfolding endpoint_with
-route_asks (asks.Query kind intent default_only) = refl
-route_asks (asks.Explain kind intent caller permission shown) = refl
-route_asks (asks.Start intent source) = refl
-route_asks (asks.FinishActivity instance) = refl
-route_asks asks.Back = refl
-route_asks asks.ListTasks = refl
-route_asks (asks.StartService intent) = refl
-route_asks (asks.StopService component) = refl
-route_asks asks.Services = refl
-route_asks (asks.Send intent permission ordered) = refl
-route_asks (asks.Register filter permission) = refl
-route_asks (asks.Unregister registered) = refl
-route_asks asks.Inbox = refl
-route_asks (asks.Finish delivery answer) = refl
-route_asks (asks.PendingGet kind code intent flags) = refl
-route_asks (asks.PendingSend token fill) = refl
-route_asks (asks.PendingCancel token) = refl
-route_asks (asks.PendingGive token name) = refl
-route_asks (asks.Install text key) = refl
-route_asks (asks.Uninstall name) = refl
-route_asks (asks.Grant name permission held) = refl
-route_asks (asks.Link name host approved) = refl
-route_asks (asks.ForceStop name) = refl
-route_asks asks.Tick = refl
-route_asks (asks.History from) = refl
 route_asks asks.Status = refl
+route_asks _ = refl
 
 -- a request that is read again is read of the text of its value
 reread : (endpoint : Endpoint) (text : List ℕ) (value : Data) (request : Request) → endpoint ≡ endpoint_at request → value ≡ request_data request
@@ -144,10 +108,10 @@ not_refused endpoint text value request fault at is again compact fails =
 
 -- the route that the value of an entry says, and its request
 pub route_said : (value : Data) (at : ℕ) (e : Entry) → value ≡ entry_data at e → option_and_then as_str (get (codes "route") value) ≡ Some (route_of e.request)
-route_said value at e is = ap (λ v. option_and_then as_str (get (codes "route") v)) is ∙ ap (option_and_then as_str) (route_is at e)
+route_said value at e is = ap (λ v. option_and_then as_str (get (codes "route") v)) is ∙ ap (option_and_then as_str) (says at e).route
 
 pub request_said : (value : Data) (at : ℕ) (e : Entry) → value ≡ entry_data at e → get (codes "request") value ≡ Some (request_data e.request)
-request_said value at e is = ap (get (codes "request")) is ∙ request_is at e
+request_said value at e is = ap (get (codes "request")) is ∙ (says at e).request
 
 pub some_is : {A : Type 0} {x y : A} → ◌≡◌ {A = Option A} (Some x) (Some y) → x ≡ y
 some_is e = cc

@@ -9,11 +9,13 @@ use Rattle.am_history.specs.State.{State, opening}
 use Rattle.am_manifest.specs.Devices.{device_of}
 use Rattle.am_audit_calls.specs.Histories.{IsHistory, IsReadAs}
 use Rattle.am_audit_answers.specs.Matching.{IsRecord}
-use Rattle.am_audit_frames.specs.declared.audit.Verdict.{Verdict}
-use Rattle.am_audit_shell.specs.declared.setback.Setback.{Setback}
-use Rattle.am_audit_shell.specs.declared.setback.Setback.TheVariants as setbacks
+use Rattle.am_setback.specs.declared.setback.Setback.{Setback}
+use Rattle.am_setback.specs.declared.setback.Setback.TheVariants as setbacks
+use Rattle.am_setback.specs.Files.{Holds, Shelf}
+use Rattle.am_audit_shell.specs.declared.finding.Finding.{Finding}
+use Rattle.am_audit_shell.specs.declared.finding.Finding.TheVariants as findings
 use Rattle.am_audit_shell.specs.Audits.{Happens}
-use Rattle.am_audit_shell.specs.Contents.{AreHeld, Contents, Holds, IsGiven, Shelf, ground_of, over_limit}
+use Rattle.am_audit_shell.specs.Contents.{AreHeld, Contents, IsGiven, ground_of, over_limit}
 use Rattle.am_audit_shell.specs.Held.{ComesTo, Judges}
 use Rattle.am_audit_shell.specs.Words.{Named}
 use Rattle.am_audit_shell.proofs.Records.{is_record}
@@ -39,17 +41,14 @@ record_of text bytes device read history slice describes is found same other als
     (subst (λ entries. IsRecord (ground_of device entries)) (sym same) (is_record device bytes history (history_of (opening device) bytes read history is found)))
 
 -- the verdict by that history is what the contents come to
-comes_to : (result : Result Verdict Setback) (device : Device) (c : Contents) (history : List Entry)
+comes_to : (result : Result Finding Setback) (device : Device) (c : Contents) (history : List Entry)
     → over_limit c ≡ None → IsHistory (opening device) c.history history → Judges result device history c → ComesTo result device c
-comes_to (Ok verdict) device c history within read judged =
+comes_to (Ok (findings.Judged verdict)) device c history within read judged =
     record { within = within; history = history; read = read; judged = judged }
-comes_to (Err (setbacks.DeviceRefused line)) device c history within read judged = absurd judged
-comes_to (Err setbacks.FileFault) device c history within read judged = absurd judged
-comes_to (Err (setbacks.OverLimit part)) device c history within read judged = absurd judged
-comes_to (Err (setbacks.HistoryRefused line)) device c history within read judged = absurd judged
 comes_to (Err setbacks.NoMemory) device c history within read judged = tt
+comes_to _ device c history within read judged = absurd judged
 
-pub judged_of : (result : Result Verdict Setback) (text bytes : List ℕ) (device : Device) (c : Contents) (read : Result (List Entry) ℕ) (history slice : List Entry)
+pub judged_of : (result : Result Finding Setback) (text bytes : List ℕ) (device : Device) (c : Contents) (read : Result (List Entry) ℕ) (history slice : List Entry)
     → device_of text ≡ Ok device → None ≡ over_limit c → bytes ≡ c.history → IsReadAs (opening device) bytes read → read ≡ Ok history → slice ≡ history
     → ((other : Device) → device_of text ≡ Ok other → Judges result other slice c) → ComesTo result device c
 judged_of result text bytes device c read history slice describes within held is found same judges =
@@ -67,17 +66,16 @@ held view None name old new read answer = tt
 held view (Some files) name old new read answer = told view (bytes_of name files) old new read answer
 
 -- what the contents come to is what the audit comes to
-happens : (result : Result Verdict Setback) (named : Named) (before after : Shelf) (device : Device) (c : Contents)
+happens : (result : Result Finding Setback) (named : Named) (before after : Shelf) (device : Device) (c : Contents)
     → IsGiven before.files named device c → ComesTo result device c → Happens result named before after
-happens (Ok verdict) named before after device c given comes = record { device = device; contents = c; given = given; judged = comes }
-happens (Err (setbacks.DeviceRefused line)) named before after device c given comes = absurd comes
-happens (Err setbacks.FileFault) named before after device c given comes = absurd comes
-happens (Err (setbacks.OverLimit part)) named before after device c given comes = record { device = device; contents = c; given = given; over = comes }
-happens (Err (setbacks.HistoryRefused line)) named before after device c given comes =
+happens (Ok (findings.OverLimit part)) named before after device c given comes = record { device = device; contents = c; given = given; over = comes }
+happens (Ok (findings.HistoryRefused line)) named before after device c given comes =
     (comes.0, record { device = device; contents = c; given = given; refused = comes.1 }, comes.2)
+happens (Ok (findings.Judged verdict)) named before after device c given comes = record { device = device; contents = c; given = given; judged = comes }
 happens (Err setbacks.NoMemory) named before after device c given comes = tt
+happens _ named before after device c given comes = absurd comes
 
-pub went : {V : Type 0} (view : V → List ℕ) (result : Result Verdict Setback) (named : Named) (before after : Shelf) (middle : Option (List FileBytes)) (new : ℕ)
+pub went : {V : Type 0} (view : V → List ℕ) (result : Result Finding Setback) (named : Named) (before after : Shelf) (middle : Option (List FileBytes)) (new : ℕ)
     (read : V) (text : List ℕ) (device : Device) (c : Contents)
     → ReadsFile view before.files named.device before.faults new (Ok read) → text ≡ view read → device_of text ≡ Ok device → middle ≡ before.files
     → AreHeld middle named c → ComesTo result device c → Happens result named before after

@@ -2,7 +2,7 @@
 use Rattle.std.proofs.Common.{◌≡◌, ◌<◌, ◌≤◌, ◌&&◌, Bool, true, false, get_or, if◌then◌else◌, List, [], ◌∷◌, length, Some, None, refl, sym, ap, ◌∙◌, arith}
 use Rattle.am_types.specs.declared.text.Text.{Text}
 use Rattle.std.specs.Prelude.{codes}
-use Rattle.am_audit_shell.specs.Words.{is_option, named_by}
+use Rattle.am_audit_shell.specs.Words.{Named, is_option, named_by}
 
 -- a list of eight, by what stands at each place
 pub eight : (words : List Text) (a device b history c frames d responses : Text) → 8 ≤ length words → length words < 9
@@ -43,30 +43,37 @@ by_fourth true true false s x h = refl
 by_fourth true false r s x h = refl
 by_fourth false q r s x h = refl
 
--- the files that the eight words name
-pub named : (words : List Text) (a device b history c frames d responses : Text) → words ≡ a ∷ device ∷ b ∷ history ∷ c ∷ frames ∷ d ∷ responses ∷ []
-    → is_option a (codes "--device") device ≡ true → is_option b (codes "--history") history ≡ true
-    → is_option c (codes "--frames") frames ≡ true → is_option d (codes "--responses") responses ≡ true
-    → Some (record { device = device; history = history; frames = frames; responses = responses }) ≡ named_by words
-named words a device b history c frames d responses is h0 h1 h2 h3 =
-    chosen (is_option a (codes "--device") device) (is_option b (codes "--history") history) (is_option c (codes "--frames") frames) (is_option d (codes "--responses") responses) (record { device = device; history = history; frames = frames; responses = responses }) h0 h1 h2 h3 ∙ ap named_by (sym is)
+module _ (words : List Text) (a device b history c frames d responses : Text)
+    (is : words ≡ a ∷ device ∷ b ∷ history ∷ c ∷ frames ∷ d ∷ responses ∷ []) where
+  -- the four tests of eight words, and the files that they name
+  abbrev first : Bool
+  first = is_option a (codes "--device") device
 
-pub not_first : (words : List Text) (a device b history c frames d responses : Text) → words ≡ a ∷ device ∷ b ∷ history ∷ c ∷ frames ∷ d ∷ responses ∷ []
-    → is_option a (codes "--device") device ≡ false → None ≡ named_by words
-not_first words a device b history c frames d responses is h =
-    by_first (is_option a (codes "--device") device) (is_option b (codes "--history") history) (is_option c (codes "--frames") frames) (is_option d (codes "--responses") responses) (record { device = device; history = history; frames = frames; responses = responses }) h ∙ ap named_by (sym is)
+  abbrev second : Bool
+  second = is_option b (codes "--history") history
 
-pub not_second : (words : List Text) (a device b history c frames d responses : Text) → words ≡ a ∷ device ∷ b ∷ history ∷ c ∷ frames ∷ d ∷ responses ∷ []
-    → is_option b (codes "--history") history ≡ false → None ≡ named_by words
-not_second words a device b history c frames d responses is h =
-    by_second (is_option a (codes "--device") device) (is_option b (codes "--history") history) (is_option c (codes "--frames") frames) (is_option d (codes "--responses") responses) (record { device = device; history = history; frames = frames; responses = responses }) h ∙ ap named_by (sym is)
+  abbrev third : Bool
+  third = is_option c (codes "--frames") frames
 
-pub not_third : (words : List Text) (a device b history c frames d responses : Text) → words ≡ a ∷ device ∷ b ∷ history ∷ c ∷ frames ∷ d ∷ responses ∷ []
-    → is_option c (codes "--frames") frames ≡ false → None ≡ named_by words
-not_third words a device b history c frames d responses is h =
-    by_third (is_option a (codes "--device") device) (is_option b (codes "--history") history) (is_option c (codes "--frames") frames) (is_option d (codes "--responses") responses) (record { device = device; history = history; frames = frames; responses = responses }) h ∙ ap named_by (sym is)
+  abbrev fourth : Bool
+  fourth = is_option d (codes "--responses") responses
 
-pub not_fourth : (words : List Text) (a device b history c frames d responses : Text) → words ≡ a ∷ device ∷ b ∷ history ∷ c ∷ frames ∷ d ∷ responses ∷ []
-    → is_option d (codes "--responses") responses ≡ false → None ≡ named_by words
-not_fourth words a device b history c frames d responses is h =
-    by_fourth (is_option a (codes "--device") device) (is_option b (codes "--history") history) (is_option c (codes "--frames") frames) (is_option d (codes "--responses") responses) (record { device = device; history = history; frames = frames; responses = responses }) h ∙ ap named_by (sym is)
+  abbrev files : Named
+  files = record { device = device; history = history; frames = frames; responses = responses }
+
+  -- the words name them where the tests pass
+  pub named : first ≡ true → second ≡ true → third ≡ true → fourth ≡ true → Some files ≡ named_by words
+  named h0 h1 h2 h3 = chosen first second third fourth files h0 h1 h2 h3 ∙ ap named_by (sym is)
+
+  -- and none where one of them fails
+  pub not_first : first ≡ false → None ≡ named_by words
+  not_first h = by_first first second third fourth files h ∙ ap named_by (sym is)
+
+  pub not_second : second ≡ false → None ≡ named_by words
+  not_second h = by_second first second third fourth files h ∙ ap named_by (sym is)
+
+  pub not_third : third ≡ false → None ≡ named_by words
+  not_third h = by_third first second third fourth files h ∙ ap named_by (sym is)
+
+  pub not_fourth : fourth ≡ false → None ≡ named_by words
+  not_fourth h = by_fourth first second third fourth files h ∙ ap named_by (sym is)

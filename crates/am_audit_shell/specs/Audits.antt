@@ -1,35 +1,56 @@
 -- A run of an audit, as its status, its files, its output and its errors show it.
-use Rattle.std.specs.Prelude.{◌≡◌, ℕ, ◌⊎◌, List, Option, Some, None, Result, Ok, Err, ⊤}
+use Rattle.std.specs.Prelude.{◌≡◌, ℕ, ◌⊎◌, codes, List, Option, Some, None, Result, Ok, Err, ⊤}
 use Rattle.am_types.specs.declared.manifest.ManifestFault.{ManifestFault}
-use Rattle.am_audit_frames.specs.declared.audit.Verdict.{Verdict}
-use Rattle.am_audit_shell.specs.declared.setback.Setback.{Setback}
-use Rattle.am_audit_shell.specs.declared.setback.Setback.TheVariants as setbacks
-use Rattle.am_audit_shell.specs.Contents.{Describes, IsHistoryRefused, IsJudged, IsOverLimit, IsUnread, Shelf}
-use Rattle.am_audit_shell.specs.Lines.{Prints, Tells, Voices, history_line, line_of, refusal_line, status_of, usage_line, verdict_line, verdict_status, want_line}
+use Rattle.am_setback.specs.declared.setback.Setback.{Setback}
+use Rattle.am_setback.specs.declared.setback.Setback.TheVariants as setbacks
+use Rattle.am_setback.specs.Devices.{Describes, refusal_line}
+use Rattle.am_setback.specs.Files.{Shelf}
+use Rattle.am_setback.specs.Setbacks.{setback_status}
+use Rattle.am_audit_shell.specs.declared.finding.Finding.{Finding}
+use Rattle.am_audit_shell.specs.declared.finding.Finding.TheVariants as findings
+use Rattle.am_audit_shell.specs.Contents.{IsHistoryRefused, IsJudged, IsOverLimit, IsUnread}
+use Rattle.am_audit_shell.specs.Lines.{Prints, Tells, Voices, history_line, limit_line, setback_line, usage_line, verdict_line, verdict_status, want_line}
 use Rattle.am_audit_shell.specs.Words.{Named, named_by}
 
--- why there is no verdict; running out of memory has no cause
+-- why nothing is found; running out of memory has no cause
 abbrev pub HasCause : Setback → Named → Shelf → Shelf → Type 0
 HasCause (setbacks.DeviceRefused line) named before after =
-    (fault : ManifestFault) × Describes before.files named.device (Err fault) × (line ≡ refusal_line fault)
+    (fault : ManifestFault) × Describes before.files named.device (Err fault)
+    × (line ≡ refusal_line (codes "am_audit") fault)
 HasCause setbacks.FileFault named before after = IsUnread before after named
-HasCause (setbacks.OverLimit part) named before after = IsOverLimit before.files named part
-HasCause (setbacks.HistoryRefused line) named before after =
-    (number : ℕ) × IsHistoryRefused before.files named number × (line ≡ history_line number)
 HasCause setbacks.NoMemory named before after = ⊤
 
--- the verdict on what the files hold, or why there is none
-abbrev pub Happens : Result Verdict Setback → Named → Shelf → Shelf → Type 0
-Happens (Ok verdict) named before after = IsJudged before.files named verdict
+-- what is found of the named files
+abbrev pub IsFound : Finding → Named → Shelf → Type 0
+IsFound (findings.OverLimit part) named before = IsOverLimit before.files named part
+IsFound (findings.HistoryRefused line) named before =
+    (number : ℕ) × IsHistoryRefused before.files named number × (line ≡ history_line number)
+IsFound (findings.Judged verdict) named before = IsJudged before.files named verdict
+
+-- what is found, or why nothing is
+abbrev pub Happens : Result Finding Setback → Named → Shelf → Shelf → Type 0
+Happens (Ok finding) named before after = IsFound finding named before
 Happens (Err setback) named before after = HasCause setback named before after
 
--- how an audit is told: a verdict is printed, unless memory runs out for its line, and a setback told on the errors
-abbrev pub TellsWork : Result Verdict Setback → Voices → Voices → ℕ → Type 0
-TellsWork (Ok verdict) before after status =
+-- a line was told on the errors, with its status, and the output took nothing
+abbrev pub OnlyTold : List ℕ → ℕ → Voices → Voices → ℕ → Type 0
+OnlyTold line code before after status =
+    (after.output ≡ before.output) × Tells line code before.errors after.errors status
+
+-- how a finding is told: a verdict is printed, unless memory runs out for its line, and what else is found is told on
+-- the errors
+abbrev pub TellsFinding : Finding → Voices → Voices → ℕ → Type 0
+TellsFinding (findings.OverLimit part) before after status = OnlyTold (limit_line part) 7 before after status
+TellsFinding (findings.HistoryRefused line) before after status = OnlyTold line 5 before after status
+TellsFinding (findings.Judged verdict) before after status =
     Prints (verdict_line verdict) (verdict_status verdict) before after status
-    ⊎ ((after.output ≡ before.output) × Tells want_line 8 before.errors after.errors status)
+    ⊎ OnlyTold want_line 8 before after status
+
+-- how an audit is told: by what is found, or by the setback, on the errors
+abbrev pub TellsWork : Result Finding Setback → Voices → Voices → ℕ → Type 0
+TellsWork (Ok finding) before after status = TellsFinding finding before after status
 TellsWork (Err setback) before after status =
-    (after.output ≡ before.output) × Tells (line_of setback) (status_of setback) before.errors after.errors status
+    OnlyTold (setback_line setback) (setback_status setback) before after status
 
 -- all that an audit may touch: the files, the output and the errors
 pub record World : Type 0 where
@@ -38,7 +59,7 @@ pub record World : Type 0 where
 
 -- an audit of the named files: what it comes to, and that the output, the errors and the status tell it
 pub record Went (named : Named) (before after : World) (status : ℕ) : Type 0 where
-  pub work : Result Verdict Setback
+  pub work : Result Finding Setback
   pub happened : Happens work named before.files after.files
   pub told : TellsWork work before.voices after.voices status
 

@@ -1,39 +1,19 @@
 -- What the files of an audit hold, and what it comes to.
-use Rattle.std.specs.Prelude.{◌≡◌, ℕ, ◌||◌, ◌⊎◌, nat_lt, List, length, if◌then◌else◌, Option, Some, None, Result, Ok, ⊤}
+use Rattle.std.specs.Prelude.{◌≡◌, ℕ, ◌||◌, ◌⊎◌, nat_lt, List, length, if◌then◌else◌, Option, Some, None, Ok}
 use Rattle.am_types.specs.declared.device.Device.{Device}
 use Rattle.am_types.specs.declared.history.Entry.{Entry}
-use Rattle.am_types.specs.declared.manifest.ManifestFault.{ManifestFault}
 use Rattle.am_outside.specs.Counts.{HasRisen}
-use Rattle.am_outside.specs.Files.{bytes_of}
 use Rattle.am_outside.specs.declared.files.FileBytes.{FileBytes}
-use Rattle.am_outside.specs.declared.files.Files.{Ghosts as FilesGhosts}
 use Rattle.am_history.specs.State.{opening}
-use Rattle.am_manifest.specs.Devices.{device_of}
 use Rattle.am_audit_calls.specs.Histories.{IsHistory, IsRefusedAt, lines_in}
 use Rattle.am_audit_frames.specs.declared.audit.Verdict.{Verdict}
 use Rattle.am_audit_answers.specs.Audits.{Ground}
 use Rattle.am_audit_frames.specs.Verdicts.{IsVerdict, Transcript}
-use Rattle.am_audit_shell.specs.declared.setback.Part.{Part}
-use Rattle.am_audit_shell.specs.declared.setback.Part.TheVariants as parts
+use Rattle.am_setback.specs.Devices.{Describes}
+use Rattle.am_setback.specs.Files.{Holds, IsMissing, Shelf}
+use Rattle.am_audit_shell.specs.declared.finding.Part.{Part}
+use Rattle.am_audit_shell.specs.declared.finding.Part.TheVariants as parts
 use Rattle.am_audit_shell.specs.Words.{Named}
-
--- of a reader of files the files, where it tells them, and its count of faults
-pub record Shelf : Type 0 where
-  pub files : Option (List FileBytes)
-  pub faults : ℕ
-
-abbrev pub shelf_of : {F : Type 0} → FilesGhosts F → F → Shelf
-shelf_of g files = record { files = g.files files; faults = g.faults files }
-
--- the file of that name has those bytes, where the files are told
-abbrev pub Holds : Option (List FileBytes) → List ℕ → List ℕ → Type 0
-Holds None name bytes = ⊤
-Holds (Some files) name bytes = bytes_of name files ≡ Some bytes
-
--- the files are told, and none has that name
-abbrev pub IsMissing : Option (List FileBytes) → List ℕ → Type 0
-IsMissing None name = ⊥
-IsMissing (Some files) name = bytes_of name files ≡ None
 
 -- what a history file and a transcript hold
 pub record Contents : Type 0 where
@@ -46,12 +26,6 @@ pub record AreHeld (files : Option (List FileBytes)) (named : Named) (c : Conten
   pub history : Holds files named.history c.history
   pub frames : Holds files named.frames c.frames
   pub responses : Holds files named.responses c.responses
-
--- the device file of that name describes that device, or has that fault
-pub record Describes (files : Option (List FileBytes)) (name : List ℕ) (read : Result Device ManifestFault) : Type 0 where
-  pub bytes : List ℕ
-  pub held : Holds files name bytes
-  pub reads : device_of bytes ≡ read
 
 -- the most bytes that a file may have, and the most lines of a history
 abbrev pub most_bytes : ℕ

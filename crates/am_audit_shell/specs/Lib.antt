@@ -3,6 +3,4 @@ pub mod Contents
 pub mod Lines
 pub mod Audits
 pub mod Naming
-pub mod Fails
-pub mod Devices
 pub mod Held

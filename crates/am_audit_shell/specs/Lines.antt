@@ -1,17 +1,15 @@
 -- The lines that tell what an audit comes to.
 use Rattle.std.specs.Prelude.{◌≡◌, ℕ, ◌⊎◌, codes, decimal, List, ◌++◌}
 use Rattle.std.specs.Io.KnownBytes.{Appends}
-use Rattle.am_types.specs.declared.manifest.ManifestFault.{ManifestFault}
-use Rattle.am_types.specs.Printing.{printed}
 use Rattle.am_outside.specs.Counts.{HasRisen}
 use Rattle.am_http.specs.Links.{SinkView}
 use Rattle.am_http.specs.Sending.{WritesPart}
 use Rattle.am_audit_frames.specs.declared.audit.Verdict.{Verdict}
 use Rattle.am_audit_frames.specs.declared.audit.Verdict.TheVariants as verdicts
-use Rattle.am_audit_shell.specs.declared.setback.Part.{Part}
-use Rattle.am_audit_shell.specs.declared.setback.Part.TheVariants as parts
-use Rattle.am_audit_shell.specs.declared.setback.Setback.{Setback}
-use Rattle.am_audit_shell.specs.declared.setback.Setback.TheVariants as setbacks
+use Rattle.am_setback.specs.declared.setback.Setback.{Setback}
+use Rattle.am_setback.specs.declared.setback.Setback.TheVariants as setbacks
+use Rattle.am_audit_shell.specs.declared.finding.Part.{Part}
+use Rattle.am_audit_shell.specs.declared.finding.Part.TheVariants as parts
 
 -- what an audit is told on: the output and the errors
 pub record Voices : Type 0 where
@@ -41,10 +39,7 @@ Prints text status before after result =
     ⊎ (HasRisen before.output.faults after.output.faults × WritesPart before.output.taken after.output.taken text
     × Tells write_line 6 before.errors after.errors result)
 
--- the line of a device file that has a fault, and that of a history that is refused
-abbrev pub refusal_line : ManifestFault → List ℕ
-refusal_line fault = codes "am_audit: device refused: " ++ printed fault ++ codes "\n"
-
+-- the line of a history that is refused
 abbrev pub history_line : ℕ → List ℕ
 history_line line = codes "am_audit: history refused: " ++ decimal line ++ codes "\n"
 
@@ -54,20 +49,11 @@ limit_line parts.History = codes "am_audit: over limit: history\n"
 limit_line parts.Frames = codes "am_audit: over limit: frames\n"
 limit_line parts.Responses = codes "am_audit: over limit: responses\n"
 
--- the line and the status of a setback
-abbrev pub line_of : Setback → List ℕ
-line_of (setbacks.DeviceRefused line) = line
-line_of setbacks.FileFault = codes "am_audit: file fault\n"
-line_of (setbacks.OverLimit part) = limit_line part
-line_of (setbacks.HistoryRefused line) = line
-line_of setbacks.NoMemory = want_line
-
-abbrev pub status_of : Setback → ℕ
-status_of (setbacks.DeviceRefused line) = 3
-status_of setbacks.FileFault = 4
-status_of (setbacks.OverLimit part) = 7
-status_of (setbacks.HistoryRefused line) = 5
-status_of setbacks.NoMemory = 8
+-- the line of a setback
+abbrev pub setback_line : Setback → List ℕ
+setback_line (setbacks.DeviceRefused line) = line
+setback_line setbacks.FileFault = codes "am_audit: file fault\n"
+setback_line setbacks.NoMemory = want_line
 
 -- the line and the status of a verdict
 abbrev pub verdict_line : Verdict → List ℕ

@@ -2,12 +2,11 @@
 #![tactic(auto)]
 
 mod contents;
-mod device;
+mod finding;
 mod program;
-mod setback;
 mod telling;
 mod words;
 
+pub use finding::{Finding, Part};
 pub use program::audit;
-pub use setback::{Part, Setback};
 pub use telling::tell_want;

@@ -5,20 +5,21 @@ ghost use Rattle.am_manifest.specs.Devices.{device_of};
 ghost use Rattle.am_model.specs.Sound.{IsSound};
 ghost use Rattle.am_types.specs.declared.device.Device.{Device as Described};
 ghost use Rattle.am_audit_answers.specs.Matching.{IsRecord};
-ghost use Rattle.am_audit_shell.specs.Audits.{Audits, Happens, TellsWork};
-ghost use Rattle.am_audit_shell.specs.Contents.{ground_of, shelf_of};
+ghost use Rattle.am_setback.specs.Files.{shelf_of};
+ghost use Rattle.am_audit_shell.specs.Audits.{Audits, Happens, TellsFinding};
+ghost use Rattle.am_audit_shell.specs.Contents.{ground_of};
 ghost use Rattle.am_audit_shell.specs.Held.{ComesTo, Judges, contents_of};
 ghost use Rattle.am_audit_shell.specs.Lines.{history_line, verdict_line, verdict_status};
 ghost use Rattle.am_audit_shell.specs.Naming.{named_at};
 
 use crate::contents::{Held, over_limit, read_files};
-use crate::device::parse_device;
-use crate::setback::Setback;
-use crate::telling::{print, tell, tell_want};
+use crate::finding::{Finding, limit_line};
+use crate::telling::{print, setback_line, tell, tell_want};
 use crate::words::{NamedFiles, named_by};
 use am_audit_calls::read_history;
 use am_audit_frames::{Verdict, audit_frames};
 use am_outside::{Files, Sink};
+use am_setback::{Setback, parse_device};
 use am_types::{Device, Entry, NoMemory, Text};
 use std::alloc::Global;
 
@@ -55,42 +56,43 @@ fn judge_held(
     text: &[u8],
     history: &[Entry],
     held: &Held,
-) -> Result<Verdict, Setback>
+) -> Result<Finding, Setback>
     requires record { (device : Described) → device_of text.now ≡ Ok device → IsRecord (ground_of device history.now) }
     ensures { (device : Described) → device_of text.now ≡ Ok device
         → Judges result device history.now (contents_of held.now) }
 {
-    let device = parse_device(alloc, text)?;
-    Ok(audit_frames(alloc, device, history, &held.frames, &held.responses)?)
+    let device = parse_device(alloc, "am_audit", text)?;
+    let verdict = audit_frames(alloc, device, history, &held.frames, &held.responses)?;
+    Ok(Finding::Judged(verdict))
 }
 
-// The verdict on what the files hold, of the device that the text describes. The device is read twice, since the
+// What is found of what the files hold, of the device that the text describes. The device is read twice, since the
 // history is replayed twice.
-fn audit_held(alloc: Global, device: Device, text: &[u8], held: &Held) -> Result<Verdict, Setback>
+fn audit_held(alloc: Global, device: Device, text: &[u8], held: &Held) -> Result<Finding, Setback>
     requires sound { IsSound device }
     requires described { device_of text.now ≡ Ok device }
     ensures { ComesTo result device (contents_of held.now) }
 {
     if let Some(part) = over_limit(held) {
         drop(device);
-        return Err(Setback::OverLimit(part));
+        return Ok(Finding::OverLimit(part));
     }
     match read_history(alloc, device, &held.history)? {
         Ok(history) => judge_held(alloc, text, history.as_slice(), held),
-        Err(line) => Err(Setback::HistoryRefused(history_line(alloc, line)?)),
+        Err(line) => Ok(Finding::HistoryRefused(history_line(alloc, line)?)),
     }
 }
 
-// The verdict on what the named files hold.
+// What is found of what the named files hold.
 fn audit_files<F: Files>(
     alloc: Global,
     files: &mut F,
     named: NamedFiles<'_>,
-) -> Result<Verdict, Setback>
+) -> Result<Finding, Setback>
     ensures { Happens result (named_at named.entry) (shelf_of F.Files files.old) (shelf_of F.Files files.new) }
 {
     let text = files.read_file(named.device)?;
-    let device = parse_device(alloc, &text)?;
+    let device = parse_device(alloc, "am_audit", &text)?;
     match read_files(files, named) {
         Ok(held) => audit_held(alloc, device, &text, &held),
         Err(setback) => {
@@ -100,26 +102,30 @@ fn audit_files<F: Files>(
     }
 }
 
-// Prints the verdict.
-fn tell_verdict<W: Sink, E: Sink>(
+// Tells what was found: prints a verdict, and writes anything else on the errors.
+fn tell_finding<W: Sink, E: Sink>(
     alloc: Global,
-    verdict: Verdict,
+    finding: Finding,
     output: &mut W,
     errors: &mut E,
 ) -> u8
-    ensures { TellsWork (Ok verdict)
+    ensures { TellsFinding finding
         (record { output = sink_of W.Sink output.old; errors = sink_of E.Sink errors.old })
         (record { output = sink_of W.Sink output.new; errors = sink_of E.Sink errors.new })
         result }
 {
-    match verdict_line(alloc, verdict) {
-        Ok(line) => print(
-            line.as_str().as_bytes(),
-            verdict_status(verdict),
-            output,
-            errors,
-        ),
-        Err(NoMemory) => tell_want(errors),
+    match finding {
+        Finding::OverLimit(part) => tell(limit_line(part), 7, errors),
+        Finding::HistoryRefused(line) => tell(line.as_str(), 5, errors),
+        Finding::Judged(verdict) => match verdict_line(alloc, verdict) {
+            Ok(line) => print(
+                line.as_str().as_bytes(),
+                verdict_status(verdict),
+                output,
+                errors,
+            ),
+            Err(NoMemory) => tell_want(errors),
+        },
     }
 }
 
@@ -162,7 +168,7 @@ pub fn audit<F: Files, W: Sink, E: Sink>(
         return tell("am_audit: usage\n", 2, errors);
     };
     match audit_files(alloc, files, named) {
-        Ok(verdict) => tell_verdict(alloc, verdict, output, errors),
-        Err(setback) => tell(setback.line(), setback.status(), errors),
+        Ok(finding) => tell_finding(alloc, finding, output, errors),
+        Err(setback) => tell(setback_line(&setback), setback.status(), errors),
     }
 }

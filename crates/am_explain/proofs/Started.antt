@@ -94,6 +94,12 @@ nothing : (b : Bool) → no_account ≡ cond b no_account no_account
 nothing true = refl
 nothing false = refl
 
+-- what is told with a standing of one and of others
+of_one_more : (test : Standing → Bool) (account : Account) (others : List Account) {told : List Account} → standing_at test others ≡ told
+    → standing_at test (account ∷ others) ≡ standing_at test (account ∷ []) ++ told
+of_one_more test account others is =
+    filter-append (λ (a : Account). test a.standing) (account ∷ []) others ∙ ap (λ l. standing_at test (account ∷ []) ++ l) is
+
 module _ (board : Board) (caller : ℕ) (intent : Intent) (required : Option (List ℕ)) where
   abbrev asked : Question
   asked = record { caller = caller; kind = Activity; intent = intent; required = required }
@@ -117,8 +123,7 @@ module _ (board : Board) (caller : ℕ) (intent : Intent) (required : Option (Li
       → standing_at is_tied (map (met_account board asked None) rs) ≡ cond (is_choice (target board intent)) (map tied_account (filter leads rs)) []
   tied_of [] = nothing (is_choice (target board intent))
   tied_of (r ∷ rs) =
-      filter-append (λ (a : Account). is_tied a.standing) (met_account board asked None r ∷ []) (map (met_account board asked None) rs)
-      ∙ ap (λ l. standing_at is_tied (met_account board asked None r ∷ []) ++ l) (tied_of rs)
+      of_one_more is_tied (met_account board asked None r) (map (met_account board asked None) rs) (tied_of rs)
       ∙ by (left_out board (host_to_view intent) r.owner (is_some_approved board intent (host_to_view intent)) (list_any (takes_any_host intent) r.decl.filters))
       (is_outranked r.priority (start_hits board intent)) (is_choice (target board intent))
       (rule_of (verdict board.grants caller r.owner.uid r.decl.exported r.decl.permission))
@@ -142,8 +147,7 @@ module _ (board : Board) (caller : ℕ) (intent : Intent) (required : Option (Li
       → standing_at is_decided (map (met_account board asked None) rs) ≡ cond (is_choice (target board intent)) [] (map started_account (filter leads rs))
   decided_of [] = nothing (is_choice (target board intent))
   decided_of (r ∷ rs) =
-      filter-append (λ (a : Account). is_decided a.standing) (met_account board asked None r ∷ []) (map (met_account board asked None) rs)
-      ∙ ap (λ l. standing_at is_decided (met_account board asked None r ∷ []) ++ l) (decided_of rs)
+      of_one_more is_decided (met_account board asked None r) (map (met_account board asked None) rs) (decided_of rs)
       ∙ by (left_out board (host_to_view intent) r.owner (is_some_approved board intent (host_to_view intent)) (list_any (takes_any_host intent) r.decl.filters))
       (is_outranked r.priority (start_hits board intent)) (is_choice (target board intent))
     where

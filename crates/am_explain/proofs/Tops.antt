@@ -4,6 +4,7 @@ use Rattle.std.specs.Prelude.{int_lt}
 use Rattle.std.specs.List.{AllByRecursion, filter}
 use Rattle.std.specs.Ordering.{is_eq}
 use Rattle.std.specs.declared.cmp.Ordering.TheVariants.{Less, Equal, Greater}
+use Rattle.std.proofs.Math.Path.{fun_ext}
 use Rattle.std.proofs.lemmas.Bool.{false≢true}
 use Rattle.std.proofs.lemmas.Bool.Decides.{Decides-int_eq}
 use Rattle.std.proofs.lemmas.Int.{ints}
@@ -28,18 +29,15 @@ filter_both p q (x ∷ xs) = by (p x) (filter_both p q xs)
     by false e = e
 
 -- in either order
+and_turned : (a b : Bool) → a && b ≡ b && a
+and_turned true true = refl
+and_turned true false = refl
+and_turned false true = refl
+and_turned false false = refl
+
 filter_turned : {X : Type 0} (p q : X → Bool) (xs : List X) → filter q (filter p xs) ≡ filter p (filter q xs)
-filter_turned p q [] = refl
-filter_turned p q (x ∷ xs) = by (p x) (q x) refl refl (filter_turned p q xs)
-  where
-    by : (a b : Bool) → p x ≡ a → q x ≡ b → filter q (filter p xs) ≡ filter p (filter q xs)
-        → filter q (cond a (x ∷ filter p xs) (filter p xs)) ≡ filter p (cond b (x ∷ filter q xs) (filter q xs))
-    by true true isp isq e =
-        ap (λ c. cond c (x ∷ filter q (filter p xs)) (filter q (filter p xs))) isq
-        ∙ ap (λ l. x ∷ l) e ∙ sym (ap (λ c. cond c (x ∷ filter p (filter q xs)) (filter p (filter q xs))) isp)
-    by true false isp isq e = ap (λ c. cond c (x ∷ filter q (filter p xs)) (filter q (filter p xs))) isq ∙ e
-    by false true isp isq e = e ∙ sym (ap (λ c. cond c (x ∷ filter p (filter q xs)) (filter p (filter q xs))) isp)
-    by false false isp isq e = e
+filter_turned {X} p q xs =
+    filter_both p q xs ∙ ap (λ (test : X → Bool). filter test xs) (fun_ext (λ x. and_turned (p x) (q x))) ∙ sym (filter_both q p xs)
 
 -- tests that answer alike keep the same
 pub filter_alike : {X : Type 0} (p q : X → Bool) (xs : List X) → AllByRecursion (λ x. p x ≡ q x) xs → filter p xs ≡ filter q xs

@@ -1,7 +1,7 @@
 -- What rows of grants and links make of a board.
 use Rattle.std.proofs.Common.{◌≡◌, ℕ, Bool, true, false, not, ◌&&◌, cond, eqb, List, [], ◌∷◌, map, refl, sym, ap, ◌∙◌, subst}
 use Rattle.std.specs.Prelude.{IsTrue, ◌==◌}
-use Rattle.std.specs.List.{AllByRecursion, fold}
+use Rattle.std.specs.List.{AllByRecursion, filter, fold}
 use Rattle.std.specs.List.Sorted.{IsStrictlySortedBy}
 use Rattle.std.proofs.lemmas.Bool.{and_left, eqb-true, not_from_true, not_from_false}
 use Rattle.am_types.specs.declared.device.Package.{Package}
@@ -11,31 +11,94 @@ use Rattle.am_keeper.specs.declared.rows.GrantRow.{GrantRow}
 use Rattle.am_keeper.specs.declared.rows.LinkRow.{LinkRow}
 use Rattle.am_keeper.specs.declared.rows.Rows.{Rows}
 use Rattle.am_keeper.specs.Rows.{by_permission, by_host, put_in, rises}
-use Rattle.am_model.specs.Rights.{Right, before_right, of_grant, of_link}
+use Rattle.am_model.proofs.Rights.{fewer_in_order, with_in_order}
+use Rattle.am_model.specs.Lists.{inserted}
+use Rattle.am_model.specs.Rights.{Right, before_right, has_right, of_grant, of_link, with_right}
+use Rattle.am_model.specs.Rights as makes
 use Rattle.am_model.specs.Boards.{Board, is_package_uid, with_grant, with_link, grants_without, links_without, without_package}
 use Rattle.am_model.specs.Sound.{right_cmp, rights_approved, rights_granted}
 use Rattle.am_model.specs.Texts.{is_same, lowered}
-use Rattle.am_installed.proofs.Orders.{fewer_grants, fewer_links, grants_in_order, links_in_order}
 use Rattle.am_history.specs.Opening.{after_grant, after_link, with_rights}
 use Rattle.am_found.proofs.Placed.{all_weaker, any_left, any_out}
 use Rattle.am_found.proofs.Rights.{given}
-use Rattle.am_found.proofs.RightRows.{after_right, made_with_put, made_without, same_after}
+use Rattle.am_found.proofs.RightRows.{after_right, by_right, made_with_put, made_without, same_after}
 
--- the order of grants, and of links
-abbrev before_grant : Grant → Grant → Bool
-before_grant = before_right of_grant
+-- a kind of right: what one is to, how it is made of that, and the rows that give and take it
+module _ {X Row : Type 0} (as_right : X → Right) (make : ℕ → List ℕ → X) (is_made : (x : X) → make (as_right x).0 (as_right x).1 ≡ x)
+    (is_right : (uid : ℕ) (text : List ℕ) → as_right (make uid text) ≡ (uid, text)) (key : Row → X) (held : Row → Bool) where
+  abbrev AreSorted : List X → Type 0
+  AreSorted xs = IsStrictlySortedBy right_cmp (map as_right xs)
 
-abbrev before_link : Link → Link → Bool
-before_link = before_right of_link
+  -- what rows make of such rights, where some count
+  abbrev made_by : (Row → Bool) → List X → List Row → List X
+  made_by lives xs rows = fold (after_right as_right (before_right as_right) key held lives) xs rows
 
--- a grant given or taken
-given_grant : (g : Grant) (held : Bool) (gs : List Grant) → given of_grant before_grant g held gs ≡ with_grant gs g.uid g.permission held
-given_grant g true gs = refl
-given_grant g false gs = refl
+  -- one given or taken
+  given_is : (x : X) (gives : Bool) (xs : List X)
+      → given as_right (before_right as_right) x gives xs ≡ with_right as_right make xs (as_right x).0 (as_right x).1 gives
+  given_is x true xs =
+      ap (λ (y : X). cond (has_right as_right xs (as_right x).0 (as_right x).1) xs (inserted (before_right as_right) y xs)) (sym (is_made x))
+  given_is x false xs = refl
 
-given_link : (l : Link) (held : Bool) (ls : List Link) → given of_link before_link l held ls ≡ with_link ls l.uid l.host held
-given_link l true ls = refl
-given_link l false ls = refl
+  -- leaves them in order
+  given_in_order : (x : X) (gives : Bool) (xs : List X) → AreSorted xs → AreSorted (given as_right (before_right as_right) x gives xs)
+  given_in_order x gives xs up =
+      subst AreSorted (sym (given_is x gives xs)) (with_in_order as_right make is_right xs (as_right x).0 (as_right x).1 gives up)
+
+  -- and so do rows
+  made_in_order : (lives : Row → Bool) (xs : List X) (rows : List Row) → AreSorted xs → AreSorted (made_by lives xs rows)
+  made_in_order lives xs [] up = up
+  made_in_order lives xs (row ∷ rows) up = made_in_order lives (after_right as_right (before_right as_right) key held lives xs row) rows (by (lives row))
+    where
+      by : (b : Bool) → AreSorted (cond b (given as_right (before_right as_right) (key row) (held row) xs) xs)
+      by true = given_in_order (key row) (held row) xs up
+      by false = up
+
+  -- those that are to the same are the same
+  made_again : (xs : List X) → map (λ (r : Right). make r.0 r.1) (map as_right xs) ≡ xs
+  made_again [] = refl
+  made_again (x ∷ xs) = ap (λ (y : X). y ∷ map (λ (r : Right). make r.0 r.1) (map as_right xs)) (is_made x) ∙ ap (λ (l : List X). x ∷ l) (made_again xs)
+
+  same_from : (xs ys : List X) → map as_right xs ≡ map as_right ys → xs ≡ ys
+  same_from xs ys same = sym (made_again xs) ∙ ap (map (λ (r : Right). make r.0 r.1)) same ∙ made_again ys
+
+  -- with a row that is put its right is given or taken
+  with_put : (lives : Row → Bool) (xs : List X) (row : Row) (rows : List Row) → lives row ≡ true
+      → IsTrue (rises (by_right (λ r. as_right (key r)) held) rows) → AreSorted xs
+      → made_by lives xs (put_in (by_right (λ r. as_right (key r)) held) row rows)
+      ≡ with_right as_right make (made_by lives xs rows) (as_right (key row)).0 (as_right (key row)).1 (held row)
+  with_put lives xs row rows live rise up =
+      same_from _ _
+      (made_with_put as_right (before_right as_right) key held lives row xs rows live rise
+      (made_in_order lives xs (put_in (by_right (λ r. as_right (key r)) held) row rows) up)
+      (given_in_order (key row) (held row) (made_by lives xs rows) (made_in_order lives xs rows up)))
+      ∙ given_is (key row) (held row) (made_by lives xs rows)
+
+  -- where the rows of a uid count no more, its rights are gone
+  without_uid : (lives others : Row → Bool) (gone : ℕ) (xs : List X) (rows : List Row)
+      → ((row : Row) → eqb (as_right (key row)).0 gone ≡ true → others row ≡ false)
+      → ((row : Row) → eqb (as_right (key row)).0 gone ≡ false → others row ≡ lives row) → AreSorted xs
+      → made_by others (filter (λ (x : X). not ((as_right x).0 == gone)) xs) rows ≡ filter (λ (x : X). not ((as_right x).0 == gone)) (made_by lives xs rows)
+  without_uid lives others gone xs rows goes stays up =
+      same_from _ _
+      (made_without as_right (before_right as_right) key held lives others gone xs rows goes stays
+      (made_in_order others (filter (λ (x : X). not ((as_right x).0 == gone)) xs) rows (fewer_in_order as_right (λ (x : X). not ((as_right x).0 == gone)) xs up))
+      (fewer_in_order as_right (λ (x : X). not ((as_right x).0 == gone)) (made_by lives xs rows) (made_in_order lives xs rows up)))
+
+  -- rows that each set a field of a board so set it together
+  set_by : (lives : Row → Bool) (set : List X → Board) (step : Board → Row → Board)
+      → ((xs : List X) (row : Row) → step (set xs) row
+      ≡ cond (lives row) (set (with_right as_right make xs (as_right (key row)).0 (as_right (key row)).1 (held row))) (set xs))
+      → (xs : List X) (rows : List Row) → fold step (set xs) rows ≡ set (made_by lives xs rows)
+  set_by lives set step each xs [] = refl
+  set_by lives set step each xs (row ∷ rows) =
+      ap (λ (b : Board). fold step b rows) (each xs row ∙ by (lives row))
+      ∙ set_by lives set step each (after_right as_right (before_right as_right) key held lives xs row) rows
+    where
+      by : (b : Bool) → cond b (set (with_right as_right make xs (as_right (key row)).0 (as_right (key row)).1 (held row))) (set xs)
+          ≡ set (cond b (given as_right (before_right as_right) (key row) (held row) xs) xs)
+      by true = ap set (sym (given_is (key row) (held row) xs))
+      by false = refl
 
 -- the grant and the link of a row
 abbrev grant_of : GrantRow → Grant
@@ -53,34 +116,22 @@ link_counts packages row = is_package_uid packages row.uid && is_same (lowered r
 
 -- what rows make of grants where some packages are installed, and of links
 abbrev pub granted_after : List Package → List Grant → List GrantRow → List Grant
-granted_after packages grants rows = fold (after_right of_grant before_grant grant_of (λ (row : GrantRow). row.held) (grant_counts packages)) grants rows
+granted_after packages grants rows = fold (after_right of_grant (before_right of_grant) grant_of (λ (row : GrantRow). row.held) (grant_counts packages)) grants rows
 
 abbrev pub approved_after : List Package → List Link → List LinkRow → List Link
-approved_after packages links rows = fold (after_right of_link before_link link_of (λ (row : LinkRow). row.approved) (link_counts packages)) links rows
+approved_after packages links rows = fold (after_right of_link (before_right of_link) link_of (λ (row : LinkRow). row.approved) (link_counts packages)) links rows
 
 -- rows of grants make grants alone
 grants_after : (board : Board) (rows : List GrantRow) → fold after_grant board rows ≡ record board { grants = granted_after board.packages board.grants rows }
-grants_after board [] = refl
-grants_after board (row ∷ rows) =
-    ap (λ (b : Board). fold after_grant b rows) (by (grant_counts board.packages row))
-    ∙ grants_after (record board { grants = after_right of_grant before_grant grant_of (λ (row : GrantRow). row.held) (grant_counts board.packages) board.grants row }) rows
-  where
-    by : (b : Bool) → cond b (record board { grants = with_grant board.grants row.uid row.permission row.held }) board
-        ≡ record board { grants = cond b (given of_grant before_grant (grant_of row) row.held board.grants) board.grants }
-    by true = ap (λ (gs : List Grant). record board { grants = gs }) (sym (given_grant (grant_of row) row.held board.grants))
-    by false = refl
+grants_after board rows =
+    set_by of_grant makes.grant_of (λ g. refl) (λ u t. refl) grant_of (λ (row : GrantRow). row.held) (grant_counts board.packages)
+    (λ (gs : List Grant). record board { grants = gs }) after_grant (λ gs row. refl) board.grants rows
 
 -- and rows of links links alone
 links_after : (board : Board) (rows : List LinkRow) → fold after_link board rows ≡ record board { links = approved_after board.packages board.links rows }
-links_after board [] = refl
-links_after board (row ∷ rows) =
-    ap (λ (b : Board). fold after_link b rows) (by (link_counts board.packages row))
-    ∙ links_after (record board { links = after_right of_link before_link link_of (λ (row : LinkRow). row.approved) (link_counts board.packages) board.links row }) rows
-  where
-    by : (b : Bool) → cond b (record board { links = with_link board.links row.uid row.host row.approved }) board
-        ≡ record board { links = cond b (given of_link before_link (link_of row) row.approved board.links) board.links }
-    by true = ap (λ (ls : List Link). record board { links = ls }) (sym (given_link (link_of row) row.approved board.links))
-    by false = refl
+links_after board rows =
+    set_by of_link makes.link_of (λ l. refl) (λ u t. refl) link_of (λ (row : LinkRow). row.approved) (link_counts board.packages)
+    (λ (ls : List Link). record board { links = ls }) after_link (λ ls row. refl) board.links rows
 
 -- the board after all rows of grants and links
 pub rights_after : (board : Board) (rows : Rows) → with_rights board rows
@@ -89,72 +140,19 @@ rights_after board rows =
     ap (λ (b : Board). fold after_link b rows.links) (grants_after board rows.grants)
     ∙ links_after (record board { grants = granted_after board.packages board.grants rows.grants }) rows.links
 
--- rows leave grants in order
-granted_in_order : (packages : List Package) (grants : List Grant) (rows : List GrantRow) → IsStrictlySortedBy right_cmp (rights_granted grants)
-    → IsStrictlySortedBy right_cmp (rights_granted (granted_after packages grants rows))
-granted_in_order packages grants [] up = up
-granted_in_order packages grants (row ∷ rows) up =
-    granted_in_order packages (cond (grant_counts packages row) (given of_grant before_grant (grant_of row) row.held grants) grants) rows (by (grant_counts packages row))
-  where
-    by : (b : Bool) → IsStrictlySortedBy right_cmp (rights_granted (cond b (given of_grant before_grant (grant_of row) row.held grants) grants))
-    by true =
-        subst (λ (gs : List Grant). IsStrictlySortedBy right_cmp (rights_granted gs)) (sym (given_grant (grant_of row) row.held grants))
-        (grants_in_order grants row.uid row.permission row.held up)
-    by false = up
-
--- and links
-approved_in_order : (packages : List Package) (links : List Link) (rows : List LinkRow) → IsStrictlySortedBy right_cmp (rights_approved links)
-    → IsStrictlySortedBy right_cmp (rights_approved (approved_after packages links rows))
-approved_in_order packages links [] up = up
-approved_in_order packages links (row ∷ rows) up =
-    approved_in_order packages (cond (link_counts packages row) (given of_link before_link (link_of row) row.approved links) links) rows (by (link_counts packages row))
-  where
-    by : (b : Bool) → IsStrictlySortedBy right_cmp (rights_approved (cond b (given of_link before_link (link_of row) row.approved links) links))
-    by true =
-        subst (λ (ls : List Link). IsStrictlySortedBy right_cmp (rights_approved ls)) (sym (given_link (link_of row) row.approved links))
-        (links_in_order links row.uid row.host row.approved up)
-    by false = up
-
--- grants with the same rights are the same, and so are links
-grants_from : (gs : List Grant) → map (λ (r : Right). let g : Grant = record { uid = r.0; permission = r.1 } in g) (rights_granted gs) ≡ gs
-grants_from [] = refl
-grants_from (g ∷ gs) = ap (λ l. g ∷ l) (grants_from gs)
-
-links_from : (ls : List Link) → map (λ (r : Right). let l : Link = record { uid = r.0; host = r.1 } in l) (rights_approved ls) ≡ ls
-links_from [] = refl
-links_from (l ∷ ls) = ap (λ m. l ∷ m) (links_from ls)
-
-same_grants : (gs hs : List Grant) → rights_granted gs ≡ rights_granted hs → gs ≡ hs
-same_grants gs hs same =
-    sym (grants_from gs) ∙ ap (map (λ (r : Right). let g : Grant = record { uid = r.0; permission = r.1 } in g)) same ∙ grants_from hs
-
-same_links : (ls ms : List Link) → rights_approved ls ≡ rights_approved ms → ls ≡ ms
-same_links ls ms same =
-    sym (links_from ls) ∙ ap (map (λ (r : Right). let l : Link = record { uid = r.0; host = r.1 } in l)) same ∙ links_from ms
-
 -- with a row that is put a permission is given or taken
 pub granted_with_put : (packages : List Package) (grants : List Grant) (row : GrantRow) (rows : List GrantRow) → is_package_uid packages row.uid ≡ true
     → IsTrue (rises by_permission rows) → IsStrictlySortedBy right_cmp (rights_granted grants)
     → granted_after packages grants (put_in by_permission row rows) ≡ with_grant (granted_after packages grants rows) row.uid row.permission row.held
-granted_with_put packages grants row rows live rise up =
-    same_grants _ _
-    (made_with_put of_grant before_grant grant_of (λ (r : GrantRow). r.held) (grant_counts packages) row grants rows live rise
-    (granted_in_order packages grants (put_in by_permission row rows) up)
-    (subst (λ (gs : List Grant). IsStrictlySortedBy right_cmp (rights_granted gs)) (sym (given_grant (grant_of row) row.held (granted_after packages grants rows)))
-    (grants_in_order (granted_after packages grants rows) row.uid row.permission row.held (granted_in_order packages grants rows up))))
-    ∙ given_grant (grant_of row) row.held (granted_after packages grants rows)
+granted_with_put packages =
+    with_put of_grant makes.grant_of (λ g. refl) (λ u t. refl) grant_of (λ (r : GrantRow). r.held) (grant_counts packages)
 
 -- and a host approved or not
 pub approved_with_put : (packages : List Package) (links : List Link) (row : LinkRow) (rows : List LinkRow) → is_package_uid packages row.uid && is_same (lowered row.host) row.host ≡ true
     → IsTrue (rises by_host rows) → IsStrictlySortedBy right_cmp (rights_approved links)
     → approved_after packages links (put_in by_host row rows) ≡ with_link (approved_after packages links rows) row.uid row.host row.approved
-approved_with_put packages links row rows live rise up =
-    same_links _ _
-    (made_with_put of_link before_link link_of (λ (r : LinkRow). r.approved) (link_counts packages) row links rows live rise
-    (approved_in_order packages links (put_in by_host row rows) up)
-    (subst (λ (ls : List Link). IsStrictlySortedBy right_cmp (rights_approved ls)) (sym (given_link (link_of row) row.approved (approved_after packages links rows)))
-    (links_in_order (approved_after packages links rows) row.uid row.host row.approved (approved_in_order packages links rows up))))
-    ∙ given_link (link_of row) row.approved (approved_after packages links rows)
+approved_with_put packages =
+    with_put of_link makes.link_of (λ l. refl) (λ u t. refl) link_of (λ (r : LinkRow). r.approved) (link_counts packages)
 
 -- a uid of a package that is gone isn't installed any more
 gone_is_gone : (packages : List Package) (gone uid : ℕ) → eqb uid gone ≡ true → is_package_uid (without_package packages gone) uid ≡ false
@@ -172,32 +170,26 @@ others_stay packages gone uid is =
 pub granted_without : (packages : List Package) (grants : List Grant) (gone : ℕ) (rows : List GrantRow) → IsStrictlySortedBy right_cmp (rights_granted grants)
     → granted_after (without_package packages gone) (grants_without grants gone) rows ≡ grants_without (granted_after packages grants rows) gone
 granted_without packages grants gone rows up =
-    same_grants _ _
-    (made_without of_grant before_grant grant_of (λ (r : GrantRow). r.held) (grant_counts packages) (grant_counts (without_package packages gone)) gone grants rows
-    (λ row is. gone_is_gone packages gone row.uid is) (λ row is. others_stay packages gone row.uid is)
-    (granted_in_order (without_package packages gone) (grants_without grants gone) rows (fewer_grants (λ (g : Grant). not (g.uid == gone)) grants up))
-    (fewer_grants (λ (g : Grant). not (g.uid == gone)) (granted_after packages grants rows) (granted_in_order packages grants rows up)))
+    without_uid of_grant makes.grant_of (λ g. refl) (λ u t. refl) grant_of (λ (r : GrantRow). r.held) (grant_counts packages) (grant_counts (without_package packages gone))
+    gone grants rows (λ row is. gone_is_gone packages gone row.uid is) (λ row is. others_stay packages gone row.uid is) up
 
 -- and its links
 pub approved_without : (packages : List Package) (links : List Link) (gone : ℕ) (rows : List LinkRow) → IsStrictlySortedBy right_cmp (rights_approved links)
     → approved_after (without_package packages gone) (links_without links gone) rows ≡ links_without (approved_after packages links rows) gone
 approved_without packages links gone rows up =
-    same_links _ _
-    (made_without of_link before_link link_of (λ (r : LinkRow). r.approved) (link_counts packages) (link_counts (without_package packages gone)) gone links rows
-    (λ row is. and_left _ _ (gone_is_gone packages gone row.uid is))
-    (λ row is. ap (λ b. b && is_same (lowered row.host) row.host) (others_stay packages gone row.uid is))
-    (approved_in_order (without_package packages gone) (links_without links gone) rows (fewer_links (λ (l : Link). not (l.uid == gone)) links up))
-    (fewer_links (λ (l : Link). not (l.uid == gone)) (approved_after packages links rows) (approved_in_order packages links rows up)))
+    without_uid of_link makes.link_of (λ l. refl) (λ u t. refl) link_of (λ (r : LinkRow). r.approved) (link_counts packages) (link_counts (without_package packages gone))
+    gone links rows (λ row is. and_left _ _ (gone_is_gone packages gone row.uid is))
+    (λ row is. ap (λ b. b && is_same (lowered row.host) row.host) (others_stay packages gone row.uid is)) up
 
 -- rows make the same where the same of their uids are installed
 pub granted_same : (packages others : List Package) (grants : List Grant) (rows : List GrantRow)
     → AllByRecursion (λ (row : GrantRow). is_package_uid packages row.uid ≡ is_package_uid others row.uid) rows → granted_after packages grants rows ≡ granted_after others grants rows
 granted_same packages others grants rows all =
-    same_after of_grant before_grant grant_of (λ (r : GrantRow). r.held) (grant_counts packages) (grant_counts others) grants rows all
+    same_after of_grant (before_right of_grant) grant_of (λ (r : GrantRow). r.held) (grant_counts packages) (grant_counts others) grants rows all
 
 pub approved_same : (packages others : List Package) (links : List Link) (rows : List LinkRow)
     → AllByRecursion (λ (row : LinkRow). is_package_uid packages row.uid ≡ is_package_uid others row.uid) rows → approved_after packages links rows ≡ approved_after others links rows
 approved_same packages others links rows all =
-    same_after of_link before_link link_of (λ (r : LinkRow). r.approved) (link_counts packages) (link_counts others) links rows
+    same_after of_link (before_right of_link) link_of (λ (r : LinkRow). r.approved) (link_counts packages) (link_counts others) links rows
     (all_weaker (λ (row : LinkRow). is_package_uid packages row.uid ≡ is_package_uid others row.uid) (λ (row : LinkRow). link_counts packages row ≡ link_counts others row)
     (λ row same. ap (λ b. b && is_same (lowered row.host) row.host) same) rows all)

@@ -158,71 +158,74 @@ first_tie Less p e = cc
 first_tie Equal p e = refl
 first_tie Greater p e = cc
 
+-- so have rights that tie
+right_tie : (uid other : ℕ) (text others : List ℕ) → ordering_then (nat_cmp other uid) (slice_cmp nat_cmp others text) ≡ Equal → other ≡ uid
+right_tie uid other text others tie = exact_unsigned other uid (first_tie (nat_cmp other uid) (slice_cmp nat_cmp others text) tie)
+
+module _ {R : Type 0} (order : R → R → Ordering) (uid_of : R → ℕ) (n : ℕ) where
+  -- those that count are below a number
+  abbrev AreCountedBelow : List R → Type 0
+  AreCountedBelow = AllByRecursion (λ (row : R). counts (uid_of row) ≡ true → uid_of row < n)
+
+  -- with one that is put, if it is too
+  counted_put : (row : R) (rows : List R) → uid_of row < n → AreCountedBelow rows → AreCountedBelow (put_in order row rows)
+  counted_put row rows below all = all_put order (λ (r : R). counts (uid_of r) ≡ true → uid_of r < n) row rows (λ is. below) all
+
+  -- and without it, if what it came over was of its uid
+  counted_others : (row : R) (rows : List R) → ((r : R) → order r row ≡ Equal → uid_of r ≡ uid_of row) → AreCountedBelow (put_in order row rows) → AreCountedBelow rows
+  counted_others row rows ties all =
+      of_others order (λ (r : R). counts (uid_of r) ≡ true → uid_of r < n) row
+      (λ r tie less. subst (λ (u : ℕ). counts u ≡ true → u < n) (sym (ties r tie)) less) rows all
+
+-- rows have the same next uid where that of each is above what the others have
+same_next : (device : Device) (rows others : Rows) → AreBelow (next_after device rows) device others → AreBelow (next_after device others) device rows
+    → next_after device others ≡ next_after device rows
+same_next device rows others there here =
+    let low : next_after device others ≤ next_after device rows = next_is_least device others (next_after device rows) (next_is_high device rows) there in
+    let high : next_after device rows ≤ next_after device others = next_is_least device rows (next_after device others) (next_is_high device others) here in
+    omega arith
+
+-- all are below a number if the device's uids are and those of each kind of row
+of_parts : (n : ℕ) (device : Device) (rows : Rows) → AllByRecursion (λ (p : Package). p.uid < n) device.packages
+    → AllByRecursion (λ (row : PackageRow). row.uid < n) rows.packages
+    → AllByRecursion (λ (row : GrantRow). counts row.uid ≡ true → row.uid < n) rows.grants
+    → AllByRecursion (λ (row : LinkRow). counts row.uid ≡ true → row.uid < n) rows.links → AreBelow n device rows
+of_parts n device rows own packages grants links = record { own = own; packages = packages; grants = grants; links = links }
+
 -- the row of a uid that is below the next one leaves it the next one
 pub next_with_package : (device : Device) (rows : Rows) (row : PackageRow) → row.uid < next_after device rows → next_after device (with_package rows row) ≡ next_after device rows
 next_with_package device rows row below =
     let before = below_next device rows in
     let after = below_next device (with_package rows row) in
-    let low : next_after device (with_package rows row) ≤ next_after device rows =
-    next_is_least device (with_package rows row) (next_after device rows) (next_is_high device rows) (record {
-      own = before.own;
-      packages = all_put by_uid (λ (other : PackageRow). other.uid < next_after device rows) row rows.packages below before.packages;
-      grants = before.grants;
-      links = before.links;
-    }) in
-    let high : next_after device rows ≤ next_after device (with_package rows row) =
-    next_is_least device rows (next_after device (with_package rows row)) (next_is_high device (with_package rows row)) (record {
-      own = after.own;
-      packages = of_others by_uid (λ (other : PackageRow). other.uid < next_after device (with_package rows row)) row
-          (λ other tie less. subst (λ (u : ℕ). u < next_after device (with_package rows row)) (sym (exact_unsigned other.uid row.uid tie)) less) rows.packages after.packages;
-      grants = after.grants;
-      links = after.links;
-    }) in
-    omega arith
+    same_next device rows (with_package rows row)
+    (of_parts (next_after device rows) device (with_package rows row) before.own
+    (all_put by_uid (λ (other : PackageRow). other.uid < next_after device rows) row rows.packages below before.packages) before.grants before.links)
+    (of_parts (next_after device (with_package rows row)) device rows after.own
+    (of_others by_uid (λ (other : PackageRow). other.uid < next_after device (with_package rows row)) row
+    (λ other tie less. subst (λ (u : ℕ). u < next_after device (with_package rows row)) (sym (exact_unsigned other.uid row.uid tie)) less) rows.packages after.packages)
+    after.grants after.links)
 
 pub next_with_grant : (device : Device) (rows : Rows) (row : GrantRow) → row.uid < next_after device rows → next_after device (with_grant rows row) ≡ next_after device rows
 next_with_grant device rows row below =
     let before = below_next device rows in
     let after = below_next device (with_grant rows row) in
-    let low : next_after device (with_grant rows row) ≤ next_after device rows =
-    next_is_least device (with_grant rows row) (next_after device rows) (next_is_high device rows) (record {
-      own = before.own;
-      packages = before.packages;
-      grants = all_put by_permission (λ (other : GrantRow). counts other.uid ≡ true → other.uid < next_after device rows) row rows.grants (λ is. below) before.grants;
-      links = before.links;
-    }) in
-    let high : next_after device rows ≤ next_after device (with_grant rows row) =
-    next_is_least device rows (next_after device (with_grant rows row)) (next_is_high device (with_grant rows row)) (record {
-      own = after.own;
-      packages = after.packages;
-      grants = of_others by_permission (λ (other : GrantRow). counts other.uid ≡ true → other.uid < next_after device (with_grant rows row)) row
-          (λ other tie less. subst (λ (u : ℕ). counts u ≡ true → u < next_after device (with_grant rows row))
-          (sym (exact_unsigned other.uid row.uid (first_tie (nat_cmp other.uid row.uid) (slice_cmp nat_cmp other.permission row.permission) tie))) less) rows.grants after.grants;
-      links = after.links;
-    }) in
-    omega arith
+    same_next device rows (with_grant rows row)
+    (of_parts (next_after device rows) device (with_grant rows row) before.own before.packages
+    (counted_put by_permission (λ (r : GrantRow). r.uid) (next_after device rows) row rows.grants below before.grants) before.links)
+    (of_parts (next_after device (with_grant rows row)) device rows after.own after.packages
+    (counted_others by_permission (λ (r : GrantRow). r.uid) (next_after device (with_grant rows row)) row rows.grants
+    (λ r tie. right_tie row.uid r.uid row.permission r.permission tie) after.grants) after.links)
 
 pub next_with_link : (device : Device) (rows : Rows) (row : LinkRow) → row.uid < next_after device rows → next_after device (with_link rows row) ≡ next_after device rows
 next_with_link device rows row below =
     let before = below_next device rows in
     let after = below_next device (with_link rows row) in
-    let low : next_after device (with_link rows row) ≤ next_after device rows =
-    next_is_least device (with_link rows row) (next_after device rows) (next_is_high device rows) (record {
-      own = before.own;
-      packages = before.packages;
-      grants = before.grants;
-      links = all_put by_host (λ (other : LinkRow). counts other.uid ≡ true → other.uid < next_after device rows) row rows.links (λ is. below) before.links;
-    }) in
-    let high : next_after device rows ≤ next_after device (with_link rows row) =
-    next_is_least device rows (next_after device (with_link rows row)) (next_is_high device (with_link rows row)) (record {
-      own = after.own;
-      packages = after.packages;
-      grants = after.grants;
-      links = of_others by_host (λ (other : LinkRow). counts other.uid ≡ true → other.uid < next_after device (with_link rows row)) row
-          (λ other tie less. subst (λ (u : ℕ). counts u ≡ true → u < next_after device (with_link rows row))
-          (sym (exact_unsigned other.uid row.uid (first_tie (nat_cmp other.uid row.uid) (slice_cmp nat_cmp other.host row.host) tie))) less) rows.links after.links;
-    }) in
-    omega arith
+    same_next device rows (with_link rows row)
+    (of_parts (next_after device rows) device (with_link rows row) before.own before.packages before.grants
+    (counted_put by_host (λ (r : LinkRow). r.uid) (next_after device rows) row rows.links below before.links))
+    (of_parts (next_after device (with_link rows row)) device rows after.own after.packages after.grants
+    (counted_others by_host (λ (r : LinkRow). r.uid) (next_after device (with_link rows row)) row rows.links
+    (λ r tie. right_tie row.uid r.uid row.host r.host tie) after.links))
 
 -- and with the row of the next uid it is one more
 pub next_with_next : (device : Device) (rows : Rows) (row : PackageRow) → row.uid ≡ next_after device rows → next_after device (with_package rows row) ≡ next_after device rows + 1

@@ -1,4 +1,4 @@
-//! Readers and writers, as the standard streams.
+//! Readers and writers, as the standard streams and those of a connection.
 ghost use Rattle.std.specs.Prelude.{◌≡◌, None, ◌<◌, ◌≤◌, length};
 ghost use Rattle.std.specs.Io.{ReadsAtMost, WritesAtMost};
 
@@ -36,13 +36,21 @@ fn write_some<W: Write>(writer: &mut W, from: &[u8]) -> io::Result<usize>
 #[derive(Drop)]
 pub struct ReaderSource<R> {
     reader: R,
-    faults: u64,
+    /// How many reads failed. It stays at the greatest 64-bit number.
+    pub faults: u64,
 }
 
 impl<R> ReaderSource<R> {
     /// A source of what the reader gives.
-    pub fn new(reader: R) -> ReaderSource<R> {
+    pub fn new(reader: R) -> ReaderSource<R>
+        ensures { result.faults ≡ 0 }
+    {
         ReaderSource { reader, faults: 0 }
+    }
+
+    /// The reader.
+    pub fn get_ref(&self) -> &R {
+        &self.reader
     }
 }
 
@@ -70,13 +78,21 @@ impl<R: Read> Source for ReaderSource<R> {
 #[derive(Drop)]
 pub struct WriterSink<W> {
     writer: W,
-    faults: u64,
+    /// How many writes failed. It stays at the greatest 64-bit number.
+    pub faults: u64,
 }
 
 impl<W> WriterSink<W> {
     /// A sink whose bytes go to the writer.
-    pub fn new(writer: W) -> WriterSink<W> {
+    pub fn new(writer: W) -> WriterSink<W>
+        ensures { result.faults ≡ 0 }
+    {
         WriterSink { writer, faults: 0 }
+    }
+
+    /// The writer.
+    pub fn get_ref(&self) -> &W {
+        &self.writer
     }
 }
 

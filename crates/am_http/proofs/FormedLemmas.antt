@@ -159,28 +159,7 @@ body_is_formed at.ListTasks body = refl
 body_is_formed at.Services body = refl
 body_is_formed at.Inbox body = refl
 body_is_formed at.Status body = refl
-body_is_formed at.Query body = posted_is_formed at.Query body
-body_is_formed at.Explain body = posted_is_formed at.Explain body
-body_is_formed at.Start body = posted_is_formed at.Start body
-body_is_formed at.FinishActivity body = posted_is_formed at.FinishActivity body
-body_is_formed at.Back body = posted_is_formed at.Back body
-body_is_formed at.StartService body = posted_is_formed at.StartService body
-body_is_formed at.StopService body = posted_is_formed at.StopService body
-body_is_formed at.Send body = posted_is_formed at.Send body
-body_is_formed at.Register body = posted_is_formed at.Register body
-body_is_formed at.Unregister body = posted_is_formed at.Unregister body
-body_is_formed at.Finish body = posted_is_formed at.Finish body
-body_is_formed at.PendingGet body = posted_is_formed at.PendingGet body
-body_is_formed at.PendingSend body = posted_is_formed at.PendingSend body
-body_is_formed at.PendingCancel body = posted_is_formed at.PendingCancel body
-body_is_formed at.PendingGive body = posted_is_formed at.PendingGive body
-body_is_formed at.Install body = posted_is_formed at.Install body
-body_is_formed at.Uninstall body = posted_is_formed at.Uninstall body
-body_is_formed at.Grant body = posted_is_formed at.Grant body
-body_is_formed at.Link body = posted_is_formed at.Link body
-body_is_formed at.ForceStop body = posted_is_formed at.ForceStop body
-body_is_formed at.Tick body = posted_is_formed at.Tick body
-body_is_formed at.History body = posted_is_formed at.History body
+body_is_formed endpoint body = posted_is_formed endpoint body
 
 -- so is what was read, where it was read
 formed_or : (read : Result Request WireFault) (request : Request) → IfOk read IsFormed → request_or read ≡ Ok request → IsFormed request

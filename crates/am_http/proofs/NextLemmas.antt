@@ -41,6 +41,11 @@ pub gives_window : (old new : List ℕ) (left left' : Option (List ℕ)) → Rea
 gives_window old new left left' reads fits =
     (reads.0, reads.2, omega (arith, ap length reads.1, length-append old reads.0, fits))
 
+-- and what it gives while more is read twice
+pub gives_read : (old mid new : List ℕ) (a b c : Option (List ℕ)) → Reads old mid a b → Reads mid new b c → length new ≤ 73728
+    → GivesAtMost 73728 a c
+gives_read old mid new a b c first next fits = gives_window old new a c (reads_more old mid new a b c first next) fits
+
 pub gives_none : (left : Option (List ℕ)) → GivesAtMost 0 left left
 gives_none None = ([], tt, omega arith)
 gives_none (Some left) = ([], refl, omega arith)

@@ -5,6 +5,7 @@ use Rattle.std.specs.Io.KnownBytes.{Appends, Keeps, prepend_known}
 use Rattle.std.proofs.lemmas.List.{drop-append-le}
 use Rattle.am_outside.specs.declared.failure.Failed.{Failed}
 use Rattle.am_outside.specs.Clock.{IsTold}
+use Rattle.am_types.specs.declared.history.Shown.{Shown}
 use Rattle.am_history.specs.History.{entries_of}
 use Rattle.am_http.specs.declared.frame.Defect.{Defect}
 use Rattle.am_http.specs.declared.frame.FrameSpans.{FrameSpans}
@@ -13,7 +14,7 @@ use Rattle.am_http.specs.declared.frame.Found.TheVariants as Spans
 use Rattle.am_http.specs.declared.answer.Answer.{Answer}
 use Rattle.am_http.specs.declared.answer.Answer.TheVariants.{Refused, Shown as Reply, Want}
 use Rattle.am_http.specs.Answering.{AnswersAt, AnswersFrame, Says}
-use Rattle.am_http.specs.Exchanges.{Exchange, refused_at_once, replied, wanted, wanted_late}
+use Rattle.am_http.specs.Exchanges.{Answered, Exchange, ShowsIn, refused_at_once, replied, wanted, wanted_late}
 use Rattle.am_http.specs.FrameSpans.{outcome_at, frame_at}
 use Rattle.am_http.specs.Frames.{Drops}
 use Rattle.am_http.specs.Framing.{IsFraming}
@@ -86,6 +87,22 @@ answered_at old new f now (Refused refusal) answers told next = absurd answers
 answered_at old new f now (Reply shown) answers told next = (now, answers.0, answers.1, answers.2, (told, next))
 answered_at old new f now Want answers told next = (answers, (Some now, (told, next)))
 
+-- a call that was shown is an exchange, whichever text says so
+shown_exchange : (old new : Server) (f : Frame) (shown : Shown) (bytes : List ℕ) → AnswersFrame old new f (Reply shown)
+    → ((e : Exchange) → ShowsIn old.desk new.desk e shown → e.bytes ≡ bytes → Answered old.desk new.desk e)
+    → (e : Exchange) × Serves old new e × (e.frame ≡ f) × (e.bytes ≡ bytes)
+shown_exchange old new f shown bytes answers says = (
+  record { frame = f; now = Some answers.0; point = Some (record { at = shown.at; stored = shown.stored }); bytes = bytes },
+  record {
+    answer = says
+        (record { frame = f; now = Some answers.0; point = Some (record { at = shown.at; stored = shown.stored }); bytes = bytes })
+        (record { request = answers.1; asks = answers.2; now = answers.0; asked = refl; placed = refl; shows = answers.3 }) refl;
+    moment = answers.4;
+  },
+  refl,
+  refl,
+)
+
 -- an answer with its text is an exchange
 exchange_of : (old new : Server) (f : Frame) (answer : Answer) (bytes : List ℕ) → AnswersFrame old new f answer → Says answer bytes
     → (e : Exchange) × Serves old new e × (e.frame ≡ f) × (e.bytes ≡ bytes)
@@ -110,26 +127,10 @@ exchange_of old new f (Refused refusal) bytes answers (inr said) = (
   refl,
   refl,
 )
-exchange_of old new f (Reply shown) bytes answers (inl said) = (
-  record { frame = f; now = Some answers.0; point = Some (record { at = shown.at; stored = shown.stored }); bytes = bytes },
-  record {
-    answer = replied shown
-        (record { request = answers.1; asks = answers.2; now = answers.0; asked = refl; placed = refl; shows = answers.3 }) said;
-    moment = answers.4;
-  },
-  refl,
-  refl,
-)
-exchange_of old new f (Reply shown) bytes answers (inr said) = (
-  record { frame = f; now = Some answers.0; point = Some (record { at = shown.at; stored = shown.stored }); bytes = bytes },
-  record {
-    answer = wanted_late shown
-        (record { request = answers.1; asks = answers.2; now = answers.0; asked = refl; placed = refl; shows = answers.3 }) said;
-    moment = answers.4;
-  },
-  refl,
-  refl,
-)
+exchange_of old new f (Reply shown) bytes answers (inl said) =
+    shown_exchange old new f shown bytes answers (λ e shows same. replied shown shows (same ∙ said))
+exchange_of old new f (Reply shown) bytes answers (inr said) =
+    shown_exchange old new f shown bytes answers (λ e shows same. wanted_late shown shows (same ∙ said))
 exchange_of old new f Want bytes answers said = (
   record { frame = f; now = answers.1.0; point = None; bytes = bytes },
   record { answer = wanted answers.0 refl said; moment = answers.1.1 },
@@ -189,6 +190,16 @@ sends_err old new text (Err e) failed sent = sent
 pub sends_ok : (old new : Option (List ℕ)) (text : List ℕ) (r : Result (Unit {0}) Failed) → false ≡ is_err r → Sends old new text r → Appends old new text
 sends_ok old new text (Ok done) fine sent = sent
 sends_ok old new text (Err e) fine sent = absurd cc
+
+-- the frame that slices of the window hold was answered, its response written, and the window used up to behind it
+pub turn_held : (close : Bool) (old new : Midway) (w bytes : List ℕ) (found : Found) (spans : FrameSpans) (f : Frame) (answer : Answer) (text : List ℕ) (r : Result (Unit {0}) Failed)
+    → Keeps (rest_of old) (prepend_known w new.link.source.left) → Finds w new.link.source.left found → found ≡ Spans.Whole spans → bytes ≡ w → f ≡ frame_at bytes spans
+    → new.window ≡ drop spans.length w → AnswersFrame old.link.server new.link.server f answer → Says answer text
+    → false ≡ is_err r → Sends old.link.sink.taken new.link.sink.taken text r → spans.close ≡ close → Replies close old new
+turn_held close old new w bytes found spans f answer text r keeps finds is same held used answers said fine sent closes =
+    turn_replied close old new w f answer text keeps (held_frame w bytes new.link.source.left found spans f finds is same held)
+    (ap (λ n. drop n w) (ap (λ (x : Frame). x.length) held) ∙ sym used) answers said
+    (sends_ok old.link.sink.taken new.link.sink.taken text r fine sent) (ap (λ (x : Frame). x.close) held ∙ closes)
 
 -- an empty window leaves what the source tells
 pub nothing_before : (w : List ℕ) (left : Option (List ℕ)) → w ≡ [] → left ≡ prepend_known w left

@@ -1,7 +1,9 @@
 //! The bytes of responses.
-ghost use Rattle.std.specs.Prelude.{◌≡◌, ◌+◌, ◌≤◌, ◌++◌, None, IfOk, codes, length, string_bytes, option_copied, vec_len, vec_capacity};
+ghost use Rattle.std.specs.Prelude.{◌≡◌, ◌+◌, ◌≤◌, ◌++◌, IfOk, length, string_bytes, option_copied, vec_len, vec_capacity};
+ghost use Rattle.am_http.specs.Sessions.{defect_text};
 ghost use Rattle.am_http.specs.Responses.{HasPhrase, phrase, head, digit, place_lines, message, response, refusal, want_before, want_after};
 
+use crate::frame::Defect;
 use am_types::{NoMemory, Shown};
 use am_wire_values::{error_value, reply_status, reply_text};
 use itoa::Buffer;
@@ -105,44 +107,28 @@ fn phrase(status: u16) -> &'static str
     }
 }
 
-/// The refusal of a head that can't be read. Takes no memory.
+/// The text for a defect of a frame, which ends a connection. Takes no memory.
 #[tactic(auto, unfolding(crate::proofs::Literals::responses_on_literals))]
-pub fn bad_head() -> &'static [u8]
-    ensures { result.now ≡ refusal 400 (codes "bad_head") None }
+pub fn defect_bytes(defect: Defect) -> &'static [u8]
+    ensures { result.now ≡ defect_text defect }
 {
-    b"HTTP/1.1 400 Bad Request\r\nContent-Type: application/json\r\nContent-Length: 20\r\n\r\n{\"error\":\"bad_head\"}"
-}
-
-/// The refusal of a head of more than 8,192 bytes. Takes no memory.
-#[tactic(auto, unfolding(crate::proofs::Literals::responses_on_literals))]
-pub fn head_too_large() -> &'static [u8]
-    ensures { result.now ≡ refusal 431 (codes "head_too_large") None }
-{
-    b"HTTP/1.1 431 Request Header Fields Too Large\r\nContent-Type: application/json\r\nContent-Length: 26\r\n\r\n{\"error\":\"head_too_large\"}"
-}
-
-/// The refusal of a body whose length isn't said beforehand. Takes no memory.
-#[tactic(auto, unfolding(crate::proofs::Literals::responses_on_literals))]
-pub fn transfer_encoding() -> &'static [u8]
-    ensures { result.now ≡ refusal 501 (codes "transfer_encoding") None }
-{
-    b"HTTP/1.1 501 Not Implemented\r\nContent-Type: application/json\r\nContent-Length: 29\r\n\r\n{\"error\":\"transfer_encoding\"}"
-}
-
-/// The refusal of a POST without a length. Takes no memory.
-#[tactic(auto, unfolding(crate::proofs::Literals::responses_on_literals))]
-pub fn length_required() -> &'static [u8]
-    ensures { result.now ≡ refusal 411 (codes "length_required") None }
-{
-    b"HTTP/1.1 411 Length Required\r\nContent-Type: application/json\r\nContent-Length: 27\r\n\r\n{\"error\":\"length_required\"}"
-}
-
-/// The refusal of a body of more than 65,536 bytes. Takes no memory.
-#[tactic(auto, unfolding(crate::proofs::Literals::responses_on_literals))]
-pub fn body_too_large() -> &'static [u8]
-    ensures { result.now ≡ refusal 413 (codes "body_too_large") None }
-{
-    b"HTTP/1.1 413 Payload Too Large\r\nContent-Type: application/json\r\nContent-Length: 26\r\n\r\n{\"error\":\"body_too_large\"}"
+    match defect {
+        Defect::BadHead => {
+            b"HTTP/1.1 400 Bad Request\r\nContent-Type: application/json\r\nContent-Length: 20\r\n\r\n{\"error\":\"bad_head\"}"
+        }
+        Defect::HeadTooLarge => {
+            b"HTTP/1.1 431 Request Header Fields Too Large\r\nContent-Type: application/json\r\nContent-Length: 26\r\n\r\n{\"error\":\"head_too_large\"}"
+        }
+        Defect::TransferEncoding => {
+            b"HTTP/1.1 501 Not Implemented\r\nContent-Type: application/json\r\nContent-Length: 29\r\n\r\n{\"error\":\"transfer_encoding\"}"
+        }
+        Defect::LengthRequired => {
+            b"HTTP/1.1 411 Length Required\r\nContent-Type: application/json\r\nContent-Length: 27\r\n\r\n{\"error\":\"length_required\"}"
+        }
+        Defect::BodyTooLarge => {
+            b"HTTP/1.1 413 Payload Too Large\r\nContent-Type: application/json\r\nContent-Length: 26\r\n\r\n{\"error\":\"body_too_large\"}"
+        }
+    }
 }
 
 /// The response where memory ran out before the call was made. Takes no memory.

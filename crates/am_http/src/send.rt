@@ -8,10 +8,7 @@ ghost use Rattle.am_http.specs.Sessions.{defect_text};
 
 use crate::answer::{Answer, Refusal};
 use crate::frame::Defect;
-use crate::response::{
-    bad_head, body_too_large, head_too_large, length_required, put_want_after, refusal_bytes,
-    response_bytes, transfer_encoding, want_before,
-};
+use crate::response::{defect_bytes, put_want_after, refusal_bytes, response_bytes, want_before};
 use am_outside::{Failed, Sink};
 use am_types::NoMemory;
 use std::alloc::Global;
@@ -94,17 +91,5 @@ pub fn write_defect<W: Sink>(sink: &mut W, defect: Defect) -> Result<(), Failed>
     ensures failed { OnErr result (HasRisen (W.faults sink.old) (W.faults sink.new)) }
     ensures mark { W.mark sink.new ≡ W.mark sink.old }
 {
-    write_all(sink, text_for(defect))
-}
-
-fn text_for(defect: Defect) -> &'static [u8]
-    ensures { result.now ≡ defect_text defect }
-{
-    match defect {
-        Defect::BadHead => bad_head(),
-        Defect::HeadTooLarge => head_too_large(),
-        Defect::TransferEncoding => transfer_encoding(),
-        Defect::LengthRequired => length_required(),
-        Defect::BodyTooLarge => body_too_large(),
-    }
+    write_all(sink, defect_bytes(defect))
 }

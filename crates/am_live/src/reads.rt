@@ -1,7 +1,5 @@
 //! What is read of the state.
 ghost use Rattle.std.specs.Prelude.{◌≡◌, ◌≤◌, length, option_copied, IfOk, OnOk, OnErr};
-ghost use Rattle.am_types.specs.declared.reply.Reply.TheVariants.{Accounts};
-ghost use Rattle.am_model.specs.Accounts.{accounts};
 ghost use Rattle.am_model.specs.Candidates.{hits};
 ghost use Rattle.am_model.specs.Gates.{is_privileged};
 ghost use Rattle.am_model.specs.Sending.{inbox};
@@ -81,26 +79,14 @@ impl Live {
         ensures { IfOk result
             (λ reply. reply ≡ told self.now.board (question_of question.now) (option_copied shown.entry)) }
     {
-        match shown {
-            None => self.accounts(question, None, steps),
-            Some(name) => match uid_named(self.board.packages(), name) {
-                None => Ok(Reply::Refused(Rule::NoPackage)),
-                Some(uid) => self.accounts(question, Some(uid), steps),
-            },
-        }
-    }
-
-    /// All accounts, or those of one uid.
-    fn accounts<L: Ledger>(
-        &self,
-        question: &Question,
-        shown: Option<u32>,
-        steps: &mut Steps<L>,
-    ) -> Result<Reply, NoMemory>
-        ensures { IfOk result
-            (λ reply. reply ≡ Accounts (accounts self.now.board (question_of question.now) shown)) }
-    {
-        let told = accounts(self.alloc, &self.board, question, shown, steps)?;
+        let Some(name) = shown else {
+            let told = accounts(self.alloc, &self.board, question, None, steps)?;
+            return Ok(Reply::Accounts(told));
+        };
+        let Some(uid) = uid_named(self.board.packages(), name) else {
+            return Ok(Reply::Refused(Rule::NoPackage));
+        };
+        let told = accounts(self.alloc, &self.board, question, Some(uid), steps)?;
         Ok(Reply::Accounts(told))
     }
 

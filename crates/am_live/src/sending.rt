@@ -124,28 +124,10 @@ pub(crate) fn send_at<L: Ledger>(
     ensures left { IfErr result (λ fault. fault ≢ SendFault.NoMemory → queues.new ≡ expired queues.old call.now) }
     ensures same { result ≡ Err SendFault.NoMemory → queues.new ≡ queues.old }
 {
-    if queues.due(call.now, steps) {
-        send_due(queues, call, steps)
-    } else {
-        queues.send(call)
+    if !queues.due(call.now, steps) {
+        return queues.send(call);
     }
-}
-
-/// Sends a broadcast where some deadline is due at its moment: first on a copy, since handled deadlines
-/// can't be taken back.
-fn send_due<L: Ledger>(
-    queues: &mut Queues,
-    call: Sending,
-    steps: &mut Steps<L>,
-) -> Result<u64, SendFault>
-    requires broadcasts { queues.old.next_broadcast ≤ 1125899906842624 }
-    requires moment { call.now ≤ 4611686018427387904 }
-    ensures sent { IfOk result (λ number. send (expired queues.old call.now) call ≡ Ok (number, queues.new)) }
-    ensures refused { IfErr result (λ fault. fault ≢ SendFault.NoMemory
-        → send (expired queues.old call.now) call ≡ Err fault) }
-    ensures left { IfErr result (λ fault. fault ≢ SendFault.NoMemory → queues.new ≡ expired queues.old call.now) }
-    ensures same { result ≡ Err SendFault.NoMemory → queues.new ≡ queues.old }
-{
+    // First on a copy, since handled deadlines can't be taken back.
     let Ok(mut copy) = queues.copy() else {
         drop(call);
         return Err(SendFault::NoMemory);

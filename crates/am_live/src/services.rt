@@ -1,9 +1,8 @@
 //! Starting and stopping services.
-ghost use Rattle.std.specs.Prelude.{◌≡◌, ◌≤◌, false, length, All, IfOk, OnErr};
-ghost use Rattle.am_model.specs.Candidates.{hits};
+ghost use Rattle.std.specs.Prelude.{◌≡◌, ◌≤◌, length, All, IfOk, OnErr};
 ghost use Rattle.am_model.specs.Receivers.{declared};
 ghost use Rattle.am_history.specs.Numbers.{HasNumbers};
-ghost use Rattle.am_history.specs.Services.{running, start_first, start_maybe, start_service, started, stop_service};
+ghost use Rattle.am_history.specs.Services.{start_maybe, start_service, stop_service};
 ghost use Rattle.am_history.specs.State.{Service, State};
 ghost use Rattle.am_history.specs.Steps.{at_moment};
 
@@ -94,44 +93,25 @@ fn start_service<L: Ledger>(
             component,
             Rule::NoComponent,
         ),
-        (None, Some(_)) => start_first(alloc, board, services, caller, intent, steps),
+        (None, Some(_)) => {
+            let found = board.query(alloc, Kind::Service, intent, false, steps)?;
+            match found.as_slice().first() {
+                None => Ok(Reply::Refused(Rule::NoService)),
+                Some(hit) => start_component(
+                    board,
+                    services,
+                    caller,
+                    intent,
+                    &hit.component,
+                    Rule::NoService,
+                ),
+            }
+        }
         (None, None) => Ok(Reply::Refused(Rule::ImplicitService)),
     }
 }
 
-/// Starts the first service that the intent finds.
-fn start_first<L: Ledger>(
-    alloc: Global,
-    board: &mut Board,
-    services: &mut Services,
-    caller: u32,
-    intent: &Intent,
-    steps: &mut Steps<L>,
-) -> Result<Reply, NoMemory>
-    requires { All (λ (service : Service). service.starts ≤ 1125899906842624) services.old }
-    ensures done { IfOk result (λ reply. (s : State) →
-        start_first (record s { board = board.old; services = services.old }) caller intent.now
-        (hits board.old.packages Kind.Service intent.now false)
-        ≡ (reply, record s { board = board.new; services = services.new })) }
-    ensures count { length board.new.packages ≡ length board.old.packages }
-    ensures same_board { OnErr result (board.new ≡ board.old) }
-    ensures same_services { OnErr result (services.new ≡ services.old) }
-{
-    let found = board.query(alloc, Kind::Service, intent, false, steps)?;
-    match found.as_slice().first() {
-        None => Ok(Reply::Refused(Rule::NoService)),
-        Some(hit) => start_component(
-            board,
-            services,
-            caller,
-            intent,
-            &hit.component,
-            Rule::NoService,
-        ),
-    }
-}
-
-/// Starts the service, or refuses by the rule `missing` if it isn't declared.
+/// Starts the service, whose package isn't stopped any more, or refuses by the rule `missing` if it isn't declared.
 fn start_component(
     board: &mut Board,
     services: &mut Services,
@@ -153,29 +133,9 @@ fn start_component(
         return Ok(Reply::Refused(missing));
     };
     drop(missing);
-    match gate(board, caller, uid, decl)? {
-        Some(rule) => Ok(Reply::Refused(rule)),
-        None => start_admitted(board, services, intent, component, uid),
+    if let Some(rule) = gate(board, caller, uid, decl)? {
+        return Ok(Reply::Refused(rule));
     }
-}
-
-/// Starts a service whose caller passed the gate. Its package isn't stopped any more.
-fn start_admitted(
-    board: &mut Board,
-    services: &mut Services,
-    intent: &Intent,
-    component: &Component,
-    uid: u32,
-) -> Result<Reply, NoMemory>
-    requires { All (λ (service : Service). service.starts ≤ 1125899906842624) services.old }
-    ensures done { IfOk result (λ reply. (s : State) →
-        started (record s { board = board.old; services = services.old }) intent.now component.now uid
-        (running services.old component.now)
-        ≡ (reply, record s { board = board.new; services = services.new })) }
-    ensures count { length board.new.packages ≡ length board.old.packages }
-    ensures same_board { OnErr result (board.new ≡ board.old) }
-    ensures same_services { OnErr result (services.new ≡ services.old) }
-{
     if services.is_full_for(component) {
         return Ok(Reply::Refused(Rule::OverLimit(Limit::Services)));
     }

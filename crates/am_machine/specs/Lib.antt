@@ -1,3 +1,2 @@
 pub mod Managed
 pub mod Keeping
-pub mod Subjects

@@ -1,14 +1,14 @@
 //! What the requests do to the live state, and what they are answered.
-ghost use Rattle.std.specs.Prelude.{◌≡◌, ◌≤◌, false, List as Items, IfOk, OnErr, IsOk, IsTrue};
-ghost use Rattle.am_types.specs.declared.history.Entry.{Entry};
+ghost use Rattle.std.specs.Prelude.{◌≡◌, false, if◌then◌else◌, IfOk, OnErr, IsOk, IsTrue};
+ghost use Rattle.am_types.specs.declared.reply.Reply.TheVariants.{Plain, Refused};
+ghost use Rattle.am_types.specs.declared.rule.Rule.TheVariants.{AdminOnly};
+ghost use Rattle.am_model.specs.Gates.{is_privileged};
 ghost use Rattle.am_history.specs.Numbers.{HasNumbers};
-ghost use Rattle.am_history.specs.Steps.{act, after_due, at_moment, is_calm, keeps_row};
-ghost use Rattle.am_machine.specs.Subjects.{subject_of};
+ghost use Rattle.am_history.specs.Steps.{act, after_due, is_calm, keeps_row};
 
 use crate::reads::read_at;
-use crate::subject::{Subject, subject_of};
 use am_live::Live;
-use am_types::{Entry, NoMemory, Reply, Request, Steps};
+use am_types::{Entry, NoMemory, Reply, Request, Rule, Steps};
 use std::alloc::Global;
 use std::sync::ledger::Ledger;
 
@@ -18,95 +18,26 @@ pub(crate) fn act<L: Ledger>(
     alloc: Global,
     live: &mut Live,
     history: &[Entry],
-    caller: u32,
-    now: u64,
-    request: &Request,
+    call: &Entry,
     steps: &mut Steps<L>,
 ) -> Result<Reply, NoMemory>
-    requires rowless { keeps_row request.now ≡ false }
+    requires rowless { keeps_row call.now.request ≡ false }
     requires numbers { HasNumbers live.old }
-    ensures done { IfOk result (λ reply.
-        act (after_due live.old now) history.now caller request.now ≡ (reply, live.new)) }
+    ensures done { IfOk result (λ reply. act (after_due live.old call.entry.now.now) history.now
+        call.entry.now.uid call.entry.now.request ≡ (reply, live.new)) }
     ensures same { OnErr result (live.new ≡ live.old) }
-    ensures calm { IsTrue (is_calm request.now) → IsOk result }
+    ensures calm { IsTrue (is_calm call.entry.now.request) → IsOk result }
 {
-    let moment = live.moment_after(now);
-    match subject_of(request) {
-        Subject::Reads => read_at(alloc, live, history, caller, moment, request, steps),
-        Subject::Activities => activities(live, caller, moment, request, steps),
-        Subject::Services => services(live, caller, moment, request, steps),
-        Subject::Broadcasts => broadcasts(live, caller, moment, request, steps),
-        Subject::PendingIntents => pending_intents(live, caller, moment, request, steps),
-        Subject::Packages => packages(live, caller, moment, request, steps),
-    }
-}
-
-/// Starts and ends activities. After `NoMemory` the state is as before.
-fn activities<L: Ledger>(
-    live: &mut Live,
-    caller: u32,
-    moment: u64,
-    request: &Request,
-    steps: &mut Steps<L>,
-) -> Result<Reply, NoMemory>
-    requires subject { subject_of request.now ≡ Subject.Activities }
-    requires moment { moment ≤ 4611686018427387904 }
-    requires numbers { HasNumbers live.old }
-    ensures done { IfOk result (λ reply. (before : Items Entry) →
-        act (at_moment live.old moment) before caller request.now ≡ (reply, live.new)) }
-    ensures same { OnErr result (live.new ≡ live.old) }
-    ensures calm { IsTrue (is_calm request.now) → IsOk result }
-{
-    match request {
+    let caller = call.uid;
+    let moment = live.moment_after(call.now);
+    match &call.request {
         Request::Start { intent, source } => live.start(caller, intent, *source, moment, steps),
         Request::FinishActivity { instance } => {
             Ok(live.finish_activity(caller, *instance, moment, steps))
         }
         Request::Back => Ok(live.back(caller, moment, steps)),
-        _ => unreachable!(),
-    }
-}
-
-/// Starts and stops services. After `NoMemory` the state is as before.
-fn services<L: Ledger>(
-    live: &mut Live,
-    caller: u32,
-    moment: u64,
-    request: &Request,
-    steps: &mut Steps<L>,
-) -> Result<Reply, NoMemory>
-    requires subject { subject_of request.now ≡ Subject.Services }
-    requires moment { moment ≤ 4611686018427387904 }
-    requires numbers { HasNumbers live.old }
-    ensures done { IfOk result (λ reply. (before : Items Entry) →
-        act (at_moment live.old moment) before caller request.now ≡ (reply, live.new)) }
-    ensures same { OnErr result (live.new ≡ live.old) }
-    ensures calm { IsTrue (is_calm request.now) → IsOk result }
-{
-    match request {
         Request::StartService { intent } => live.start_service(caller, intent, moment, steps),
         Request::StopService { component } => live.stop_service(caller, component, moment, steps),
-        _ => unreachable!(),
-    }
-}
-
-/// Sends broadcasts, registers receivers and finishes deliveries. After `NoMemory` the state is as before.
-fn broadcasts<L: Ledger>(
-    live: &mut Live,
-    caller: u32,
-    moment: u64,
-    request: &Request,
-    steps: &mut Steps<L>,
-) -> Result<Reply, NoMemory>
-    requires subject { subject_of request.now ≡ Subject.Broadcasts }
-    requires moment { moment ≤ 4611686018427387904 }
-    requires numbers { HasNumbers live.old }
-    ensures done { IfOk result (λ reply. (before : Items Entry) →
-        act (at_moment live.old moment) before caller request.now ≡ (reply, live.new)) }
-    ensures same { OnErr result (live.new ≡ live.old) }
-    ensures calm { IsTrue (is_calm request.now) → IsOk result }
-{
-    match request {
         Request::Send {
             intent,
             permission,
@@ -123,27 +54,6 @@ fn broadcasts<L: Ledger>(
         Request::Finish { delivery, answer } => {
             live.finish(caller, *delivery, answer, moment, steps)
         }
-        _ => unreachable!(),
-    }
-}
-
-/// Makes, lends, cancels and gives pending intents. After `NoMemory` the state is as before.
-fn pending_intents<L: Ledger>(
-    live: &mut Live,
-    caller: u32,
-    moment: u64,
-    request: &Request,
-    steps: &mut Steps<L>,
-) -> Result<Reply, NoMemory>
-    requires subject { subject_of request.now ≡ Subject.PendingIntents }
-    requires moment { moment ≤ 4611686018427387904 }
-    requires numbers { HasNumbers live.old }
-    ensures done { IfOk result (λ reply. (before : Items Entry) →
-        act (at_moment live.old moment) before caller request.now ≡ (reply, live.new)) }
-    ensures same { OnErr result (live.new ≡ live.old) }
-    ensures calm { IsTrue (is_calm request.now) → IsOk result }
-{
-    match request {
         Request::PendingGet {
             kind,
             code,
@@ -157,28 +67,22 @@ fn pending_intents<L: Ledger>(
         Request::PendingGive { token, package } => {
             live.pending_give(caller, *token, package, moment, steps)
         }
-        _ => unreachable!(),
+        Request::ForceStop { package } => Ok(live.force_stop(caller, package, moment, steps)),
+        Request::Tick => {
+            live.settle(moment, steps);
+            Ok(tick(caller))
+        }
+        _ => read_at(alloc, live, history, caller, moment, &call.request, steps),
     }
 }
 
-/// Stops packages. Takes no memory.
-fn packages<L: Ledger>(
-    live: &mut Live,
-    caller: u32,
-    moment: u64,
-    request: &Request,
-    steps: &mut Steps<L>,
-) -> Result<Reply, NoMemory>
-    requires subject { subject_of request.now ≡ Subject.Packages }
-    requires rowless { keeps_row request.now ≡ false }
-    requires moment { moment ≤ 4611686018427387904 }
-    ensures done { IfOk result (λ reply. (before : Items Entry) →
-        act (at_moment live.old moment) before caller request.now ≡ (reply, live.new)) }
-    ensures same { OnErr result (live.new ≡ live.old) }
-    ensures calm { IsTrue (is_calm request.now) → IsOk result }
+/// The answer to a tick, which lets time pass and does nothing more.
+fn tick(caller: u32) -> Reply
+    ensures { result ≡ (if is_privileged caller then Plain else Refused AdminOnly) }
 {
-    match request {
-        Request::ForceStop { package } => Ok(live.force_stop(caller, package, moment, steps)),
-        _ => unreachable!(),
+    if Live::is_privileged(caller) {
+        Reply::Plain
+    } else {
+        Reply::Refused(Rule::AdminOnly)
     }
 }

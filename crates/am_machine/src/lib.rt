@@ -2,6 +2,7 @@
 #![tactic(auto)]
 
 mod acts;
+mod class;
 mod history;
 mod keeping;
 mod laws;
@@ -10,7 +11,6 @@ mod opened;
 mod reads;
 mod sole;
 mod step;
-mod subject;
 
 pub use manager::{Manager, begin};
 pub use sole::SoleDesk;

@@ -1,16 +1,14 @@
 //! What is read of the live state and of the history, also as time passes.
 ghost use Rattle.std.specs.Prelude.{◌≡◌, ◌≤◌, ℕ, false, if◌then◌else◌, IfOk, OnErr, IsOk, IsTrue};
-ghost use Rattle.am_types.specs.declared.reply.Reply.TheVariants.{Entries, Plain, Refused};
+ghost use Rattle.am_types.specs.declared.reply.Reply.TheVariants.{Entries, Refused};
 ghost use Rattle.am_types.specs.declared.request.Request.TheVariants as asks;
 ghost use Rattle.am_types.specs.declared.rule.Rule.TheVariants.{AdminOnly};
 ghost use Rattle.am_model.specs.Broadcasts.{Broadcasts};
 ghost use Rattle.am_model.specs.Gates.{is_privileged};
 ghost use Rattle.am_history.specs.Explaining.{explain};
 ghost use Rattle.am_history.specs.Steps.{act, at_moment, is_calm, is_changing, is_steady, page};
-ghost use Rattle.am_machine.specs.Subjects.{subject_of};
 
 use crate::history::page;
-use crate::subject::Subject;
 use am_explain::Question;
 use am_live::Live;
 use am_types::{Entry, Intent, Kind, NoMemory, Reply, Request, Rule, Steps, Text};
@@ -22,20 +20,20 @@ pub(crate) fn read<L: Ledger>(
     alloc: Global,
     live: &Live,
     history: &[Entry],
-    caller: u32,
-    request: &Request,
+    call: &Entry,
     steps: &mut Steps<L>,
 ) -> Result<Reply, NoMemory>
-    requires reads { is_changing request.now ≡ false }
-    ensures { IfOk result (λ reply. act live.now history.now caller request.now ≡ (reply, live.now)) }
+    requires reads { is_changing call.now.request ≡ false }
+    ensures { IfOk result (λ reply. act live.now history.now call.entry.now.uid call.entry.now.request
+        ≡ (reply, live.now)) }
 {
-    match request {
+    match &call.request {
         Request::Inbox => {
-            let items = live.inbox(caller)?;
+            let items = live.inbox(call.uid)?;
             Ok(Reply::Items(items))
         }
-        Request::Status => Ok(status(live, history, caller)),
-        _ => steady(alloc, live, history, caller, request, steps),
+        Request::Status => Ok(status(live, history, call.uid)),
+        _ => steady(alloc, live, history, call.uid, &call.request, steps),
     }
 }
 
@@ -50,7 +48,7 @@ pub(crate) fn read_at<L: Ledger>(
     request: &Request,
     steps: &mut Steps<L>,
 ) -> Result<Reply, NoMemory>
-    requires subject { subject_of request.now ≡ Subject.Reads }
+    requires reads { is_changing request.now ≡ false }
     requires moment { moment ≤ 4611686018427387904 }
     ensures done { IfOk result (λ reply.
         act (at_moment live.old moment) history.now caller request.now ≡ (reply, live.new)) }
@@ -66,26 +64,11 @@ pub(crate) fn read_at<L: Ledger>(
             live.settle(moment, steps);
             Ok(status(live, history, caller))
         }
-        Request::Tick => {
-            live.settle(moment, steps);
-            Ok(tick(caller))
-        }
         _ => {
             let reply = steady(alloc, live, history, caller, request, steps)?;
             live.settle(moment, steps);
             Ok(reply)
         }
-    }
-}
-
-/// The answer to a tick, which lets time pass and does nothing more.
-fn tick(caller: u32) -> Reply
-    ensures { result ≡ (if is_privileged caller then Plain else Refused AdminOnly) }
-{
-    if Live::is_privileged(caller) {
-        Reply::Plain
-    } else {
-        Reply::Refused(Rule::AdminOnly)
     }
 }
 

@@ -12,10 +12,10 @@ ghost use Rattle.am_laws_state.specs.Sound.{IsSoundState};
 ghost use Rattle.am_machine.specs.Keeping.{AddsUnkept, GoesOn, told_after, with_kept};
 
 use crate::acts::act;
+use crate::class::{is_changing, keeps_row};
 use crate::keeping::{Answered, keep};
 use crate::manager::Manager;
 use crate::reads::read;
-use crate::subject::{is_changing, keeps_row};
 use am_keeper::Keeper;
 use am_live::Live;
 use am_types::{Entry, NoMemory, Reply, Request, Rule, Shown, Steps, Text};
@@ -116,14 +116,7 @@ impl<K: Keeper> Manager<K> {
         let mut steps = Steps::<L>::new(blank);
         let may_change = is_changing(&entry.request) || self.live.is_due(entry.now, &mut steps);
         if !may_change {
-            let reply = read(
-                self.alloc,
-                &self.live,
-                &self.history,
-                entry.uid,
-                &entry.request,
-                &mut steps,
-            );
+            let reply = read(self.alloc, &self.live, &self.history, &entry, &mut steps);
             drop(entry);
             return Ok(self.unstored(reply?));
         }
@@ -243,14 +236,6 @@ fn answer<K: Keeper, L: Ledger>(
     if keeps_row(&call.request) {
         return keep(live, keeper, call, steps);
     }
-    let reply = act(
-        alloc,
-        live,
-        history,
-        call.uid,
-        call.now,
-        &call.request,
-        steps,
-    )?;
+    let reply = act(alloc, live, history, call, steps)?;
     Ok(Answered { reply, kept: true })
 }

@@ -4,6 +4,8 @@ use Rattle.std.specs.Prelude.{Result, Ok}
 use Rattle.std.specs.List.{fold, find}
 use Rattle.std.proofs.lemmas.List.Sums.{fold-append}
 use Rattle.am_types.specs.declared.device.Device.{Device}
+use Rattle.am_types.specs.declared.device.Grant.{Grant}
+use Rattle.am_types.specs.declared.device.Link.{Link}
 use Rattle.am_keeper.specs.declared.rows.GrantRow.{GrantRow}
 use Rattle.am_keeper.specs.declared.rows.LinkRow.{LinkRow}
 use Rattle.am_keeper.specs.declared.rows.Rows.{Rows}
@@ -16,35 +18,30 @@ use Rattle.am_opening.specs.declared.opened.OpenFault.{OpenFault}
 use Rattle.am_opening.specs.declared.opened.OpenFault.TheVariants as faults
 use Rattle.am_opening.specs.Openings.{Opens, Refuses, after_grant_row, after_link_row, completed_from, grants_after, links_after, opened_from, state_of}
 
--- a grant row changes the grants alone
-one_grant : (board : Board) (row : GrantRow) → after_grant board row ≡ record board { grants = after_grant_row board.packages board.grants row }
-one_grant board row = by (is_package_uid board.packages row.uid)
-  where
-    by : (b : Bool) → cond b (record board { grants = with_grant board.grants row.uid row.permission row.held }) board
-        ≡ record board { grants = cond b (with_grant board.grants row.uid row.permission row.held) board.grants }
-    by true = refl
-    by false = refl
+-- a field is set to what a test makes or leaves of it
+set_if : {A : Type 0} (set : A → Board) (b : Bool) (made own : A) → cond b (set made) (set own) ≡ set (cond b made own)
+set_if set true made own = refl
+set_if set false made own = refl
 
+-- and by rows to what they make of it one after the other
+set_rows : {A R : Type 0} (set : A → Board) (step : Board → R → Board) (own : A → R → A) → ((x : A) (row : R) → step (set x) row ≡ set (own x row))
+    → (x : A) (rows : List R) → fold step (set x) rows ≡ set (fold own x rows)
+set_rows set step own each x [] = refl
+set_rows set step own each x (row ∷ rows) = ap (λ (b : Board). fold step b rows) (each x row) ∙ set_rows set step own each (own x row) rows
+
+-- grant rows set the grants alone
 grant_rows : (board : Board) (rows : List GrantRow) → fold after_grant board rows ≡ record board { grants = grants_after board.packages board.grants rows }
-grant_rows board [] = refl
-grant_rows board (row ∷ rows) =
-    ap (λ b. fold after_grant b rows) (one_grant board row)
-    ∙ grant_rows (record board { grants = after_grant_row board.packages board.grants row }) rows
+grant_rows board rows =
+    set_rows (λ (gs : List Grant). record board { grants = gs }) after_grant (after_grant_row board.packages)
+    (λ gs row. set_if (λ (made : List Grant). record board { grants = made }) (is_package_uid board.packages row.uid) (with_grant gs row.uid row.permission row.held) gs)
+    board.grants rows
 
--- and a link row the links
-one_link : (board : Board) (row : LinkRow) → after_link board row ≡ record board { links = after_link_row board.packages board.links row }
-one_link board row = by (is_package_uid board.packages row.uid && is_same (lowered row.host) row.host)
-  where
-    by : (b : Bool) → cond b (record board { links = with_link board.links row.uid row.host row.approved }) board
-        ≡ record board { links = cond b (with_link board.links row.uid row.host row.approved) board.links }
-    by true = refl
-    by false = refl
-
+-- and link rows the links
 link_rows : (board : Board) (rows : List LinkRow) → fold after_link board rows ≡ record board { links = links_after board.packages board.links rows }
-link_rows board [] = refl
-link_rows board (row ∷ rows) =
-    ap (λ b. fold after_link b rows) (one_link board row)
-    ∙ link_rows (record board { links = after_link_row board.packages board.links row }) rows
+link_rows board rows =
+    set_rows (λ (ls : List Link). record board { links = ls }) after_link (after_link_row board.packages)
+    (λ ls row. set_if (λ (made : List Link). record board { links = made }) (is_package_uid board.packages row.uid && is_same (lowered row.host) row.host)
+    (with_link ls row.uid row.host row.approved) ls) board.links rows
 
 -- rows of rights change grants and links alone
 pub rights_are : (board : Board) (rows : Rows) → with_rights board rows

@@ -37,19 +37,15 @@ never_itself : (r : Right) → right_cmp r r ≡ Less → ⊥
 never_itself r e = let turned : Less ≡ Greater = sym e ∙ right_total.antisymm r r ∙ ap ordering_reverse e in cc
 
 -- what stands before isn't the same
+isnt : (b : Bool) → (b ≡ true → ⊥) → b ≡ false
+isnt true never = absurd (never refl)
+isnt false never = refl
+
 apart : (r s : Right) → right_cmp r s ≡ Less → is_right r s ≡ false
-apart r s l = by (is_right r s) refl
-  where
-    by : (b : Bool) → is_right r s ≡ b → b ≡ false
-    by true e = absurd (never_itself r (subst (λ (t : Right). right_cmp r t ≡ Less) (same_is r s e) l))
-    by false e = refl
+apart r s l = isnt (is_right r s) (λ e. never_itself r (subst (λ (t : Right). right_cmp r t ≡ Less) (same_is r s e) l))
 
 apart_back : (r s : Right) → right_cmp s r ≡ Less → is_right r s ≡ false
-apart_back r s l = by (is_right r s) refl
-  where
-    by : (b : Bool) → is_right r s ≡ b → b ≡ false
-    by true e = absurd (never_itself r (subst (λ (t : Right). right_cmp t r ≡ Less) (same_is r s e) l))
-    by false e = refl
+apart_back r s l = isnt (is_right r s) (λ e. never_itself r (subst (λ (t : Right). right_cmp t r ≡ Less) (same_is r s e) l))
 
 not_before : (r s : Right) → right_cmp s r ≡ Less → is_before r s ≡ false
 not_before r s l = before_is_less r s ∙ ap is_lt (right_total.antisymm r s) ∙ ap (λ o. is_lt (ordering_reverse o)) l

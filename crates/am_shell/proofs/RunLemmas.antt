@@ -10,14 +10,17 @@ use Rattle.am_manifest.specs.Devices.{device_of}
 use Rattle.am_http.specs.declared.end.End.{End}
 use Rattle.am_http.specs.declared.end.End.TheVariants.{Input, Close, Refused, Cut, Limit, ReadFault, WriteFault}
 use Rattle.am_http.specs.Links.{SinkView}
-use Rattle.am_shell.specs.declared.setback.Setback.{Setback}
-use Rattle.am_shell.specs.declared.setback.Setback.TheVariants.{DeviceRefused, FileFault, StoreFault, RowsRefused, NoMemory}
-use Rattle.am_shell.specs.Devices.{Describes, IsRefused, IsUnread}
+use Rattle.am_setback.specs.declared.setback.Setback.TheVariants as setbacks
+use Rattle.am_setback.specs.Devices.{Describes}
+use Rattle.am_setback.specs.Files.{IsMissing}
+use Rattle.am_shell.specs.declared.undone.Undone.{Undone}
+use Rattle.am_shell.specs.declared.undone.Undone.TheVariants as undone
+use Rattle.am_shell.specs.Devices.{IsRefused, IsUnread}
 use Rattle.am_shell.specs.Kept.{RefusesRows}
-use Rattle.am_shell.specs.Lines.{Tells, end_status, session_line, session_status, want_line}
+use Rattle.am_shell.specs.Lines.{Tells, end_status, session_line, session_status, status_of, want_line}
 use Rattle.am_shell.specs.declared.session.Asked.{Asked}
 use Rattle.am_shell.specs.Sessions.{Happens, Worked, Works, Unattached, Unopened}
-use Rattle.am_shell.specs.Outside.{Outside, Surroundings, IsMissing}
+use Rattle.am_shell.specs.Outside.{Outside, Surroundings}
 use Rattle.am_shell.specs.Runs.{HasCause, Completes, RunsSession}
 
 some_is : {A : Type 0} {x y : A} → Some x ≡ Some y → x ≡ y
@@ -26,128 +29,83 @@ some_is e = cc
 same_device : (read : Result Device ManifestFault) (x y : Device) → read ≡ Ok x → read ≡ Ok y → x ≡ y
 same_device read x y e f = cc
 
-worked : (o : Result End Setback) (asked : Asked) (before after : Outside) → session_status o ≡ 0 → Happens o asked before after
+-- the statuses of ends, and of what wasn't done
+no_end_has : (end : End) (status : ℕ) → (status ≡ 2) ⊎ (status ≡ 3) ⊎ (status ≡ 4) ⊎ (status ≡ 7) ⊎ (status ≡ 10) → end_status end ≡ status → ⊥
+no_end_has Input status one e = grind arith
+no_end_has end status one e = grind arith
+
+nothing_undone_has : (why : Undone) (status : ℕ) → (status ≡ 0) ⊎ (status ≡ 1) ⊎ (status ≡ 2) ⊎ (status ≡ 6) → status_of why ≡ status → ⊥
+nothing_undone_has (undone.Setback setbacks.FileFault) status one e = grind arith
+nothing_undone_has why status one e = grind arith
+
+-- the cause of each status
+worked : (o : Result End Undone) (asked : Asked) (before after : Outside) → session_status o ≡ 0 → Happens o asked before after
     → Worked asked before after Input ⊎ Worked asked before after Close
-worked (Err (DeviceRefused text)) asked before after s h = absurd (omega arith)
-worked (Err FileFault) asked before after s h = absurd (omega arith)
-worked (Err StoreFault) asked before after s h = absurd (omega arith)
-worked (Err (RowsRefused text)) asked before after s h = absurd (omega arith)
-worked (Err NoMemory) asked before after s h = absurd (omega arith)
 worked (Ok Input) asked before after s h = inl h
 worked (Ok Close) asked before after s h = inr h
-worked (Ok Refused) asked before after s h = absurd (omega arith)
-worked (Ok Cut) asked before after s h = absurd (omega arith)
-worked (Ok Limit) asked before after s h = absurd (omega arith)
-worked (Ok ReadFault) asked before after s h = absurd (omega arith)
-worked (Ok WriteFault) asked before after s h = absurd (omega arith)
+worked (Ok end) asked before after s h = absurd (omega arith)
+worked (Err why) asked before after s h = absurd (nothing_undone_has why 0 (inl refl) s)
 
-stopped : (o : Result End Setback) (asked : Asked) (before after : Outside) → session_status o ≡ 1 → Happens o asked before after
+stopped : (o : Result End Undone) (asked : Asked) (before after : Outside) → session_status o ≡ 1 → Happens o asked before after
     → Worked asked before after Refused ⊎ Worked asked before after Cut ⊎ Worked asked before after Limit
-stopped (Err (DeviceRefused text)) asked before after s h = absurd (omega arith)
-stopped (Err FileFault) asked before after s h = absurd (omega arith)
-stopped (Err StoreFault) asked before after s h = absurd (omega arith)
-stopped (Err (RowsRefused text)) asked before after s h = absurd (omega arith)
-stopped (Err NoMemory) asked before after s h = absurd (omega arith)
-stopped (Ok Input) asked before after s h = absurd (omega arith)
-stopped (Ok Close) asked before after s h = absurd (omega arith)
 stopped (Ok Refused) asked before after s h = inl h
 stopped (Ok Cut) asked before after s h = inr (inl h)
 stopped (Ok Limit) asked before after s h = inr (inr h)
-stopped (Ok ReadFault) asked before after s h = absurd (omega arith)
-stopped (Ok WriteFault) asked before after s h = absurd (omega arith)
+stopped (Ok end) asked before after s h = absurd (omega arith)
+stopped (Err why) asked before after s h = absurd (nothing_undone_has why 1 (inr (inl refl)) s)
 
--- the statuses of ends
-no_end_has : (end : End) (status : ℕ) → (status ≡ 2) ⊎ (status ≡ 3) ⊎ (status ≡ 4) ⊎ (status ≡ 7) ⊎ (status ≡ 10) → end_status end ≡ status → ⊥
-no_end_has Input status one e = grind arith
-no_end_has Close status one e = grind arith
-no_end_has Refused status one e = grind arith
-no_end_has Cut status one e = grind arith
-no_end_has Limit status one e = grind arith
-no_end_has ReadFault status one e = grind arith
-no_end_has WriteFault status one e = grind arith
+used : (o : Result End Undone) → session_status o ≡ 2 → ⊥
+used (Ok end) s = no_end_has end 2 (inl refl) s
+used (Err why) s = nothing_undone_has why 2 (inr (inr (inl refl))) s
 
-used : (o : Result End Setback) (asked : Asked) (before after : Outside) → session_status o ≡ 2 → Happens o asked before after → ⊥
-used (Err (DeviceRefused text)) asked before after s h = absurd (omega arith)
-used (Err FileFault) asked before after s h = absurd (omega arith)
-used (Err StoreFault) asked before after s h = absurd (omega arith)
-used (Err (RowsRefused text)) asked before after s h = absurd (omega arith)
-used (Err NoMemory) asked before after s h = absurd (omega arith)
-used (Ok end) asked before after s h = no_end_has end 2 (inl refl) s
-
-refused : (o : Result End Setback) (asked : Asked) (before after : Outside) → session_status o ≡ 3 → Happens o asked before after
+refused : (o : Result End Undone) (asked : Asked) (before after : Outside) → session_status o ≡ 3 → Happens o asked before after
     → IsRefused device_of before.files.files asked.device (session_line o)
-refused (Err (DeviceRefused text)) asked before after s h = h.0
-refused (Err FileFault) asked before after s h = absurd (omega arith)
-refused (Err StoreFault) asked before after s h = absurd (omega arith)
-refused (Err (RowsRefused text)) asked before after s h = absurd (omega arith)
-refused (Err NoMemory) asked before after s h = absurd (omega arith)
+refused (Err (undone.Setback (setbacks.DeviceRefused line))) asked before after s h = h.0
+refused (Err why) asked before after s h = absurd (omega arith)
 refused (Ok end) asked before after s h = absurd (no_end_has end 3 (inr (inl refl)) s)
 
-unread : (o : Result End Setback) (asked : Asked) (before after : Outside) → session_status o ≡ 4 → Happens o asked before after
+unread : (o : Result End Undone) (asked : Asked) (before after : Outside) → session_status o ≡ 4 → Happens o asked before after
     → IsUnread asked.device before.files after.files
-unread (Err (DeviceRefused text)) asked before after s h = absurd (omega arith)
-unread (Err FileFault) asked before after s h = h.0
-unread (Err StoreFault) asked before after s h = absurd (omega arith)
-unread (Err (RowsRefused text)) asked before after s h = absurd (omega arith)
-unread (Err NoMemory) asked before after s h = absurd (omega arith)
+unread (Err (undone.Setback setbacks.FileFault)) asked before after s h = h.0
+unread (Err why) asked before after s h = absurd (omega arith)
 unread (Ok end) asked before after s h = absurd (no_end_has end 4 (inr (inr (inl refl))) s)
 
-read_fault : (o : Result End Setback) (asked : Asked) (before after : Outside) → session_status o ≡ 5 → Happens o asked before after
+read_fault : (o : Result End Undone) (asked : Asked) (before after : Outside) → session_status o ≡ 5 → Happens o asked before after
     → HasRisen before.work.streams.input.faults after.work.streams.input.faults
-read_fault (Err (DeviceRefused text)) asked before after s h = absurd (omega arith)
-read_fault (Err FileFault) asked before after s h = absurd (omega arith)
-read_fault (Err StoreFault) asked before after s h = absurd (omega arith)
-read_fault (Err (RowsRefused text)) asked before after s h = absurd (omega arith)
-read_fault (Err NoMemory) asked before after s h = absurd (omega arith)
-read_fault (Ok Input) asked before after s h = absurd (omega arith)
-read_fault (Ok Close) asked before after s h = absurd (omega arith)
-read_fault (Ok Refused) asked before after s h = absurd (omega arith)
-read_fault (Ok Cut) asked before after s h = absurd (omega arith)
-read_fault (Ok Limit) asked before after s h = absurd (omega arith)
 read_fault (Ok ReadFault) asked before after s h = h.works.session.fault
-read_fault (Ok WriteFault) asked before after s h = absurd (omega arith)
+read_fault (Ok end) asked before after s h = absurd (omega arith)
+read_fault (Err undone.InputFault) asked before after s h = absurd h
+read_fault (Err (undone.Setback setbacks.FileFault)) asked before after s h = absurd (omega arith)
+read_fault (Err why) asked before after s h = absurd (omega arith)
 
-write_fault : (o : Result End Setback) (asked : Asked) (before after : Outside) → session_status o ≡ 6 → Happens o asked before after
+write_fault : (o : Result End Undone) (asked : Asked) (before after : Outside) → session_status o ≡ 6 → Happens o asked before after
     → HasRisen before.work.streams.output.faults after.work.streams.output.faults
-write_fault (Err (DeviceRefused text)) asked before after s h = absurd (omega arith)
-write_fault (Err FileFault) asked before after s h = absurd (omega arith)
-write_fault (Err StoreFault) asked before after s h = absurd (omega arith)
-write_fault (Err (RowsRefused text)) asked before after s h = absurd (omega arith)
-write_fault (Err NoMemory) asked before after s h = absurd (omega arith)
-write_fault (Ok Input) asked before after s h = absurd (omega arith)
-write_fault (Ok Close) asked before after s h = absurd (omega arith)
-write_fault (Ok Refused) asked before after s h = absurd (omega arith)
-write_fault (Ok Cut) asked before after s h = absurd (omega arith)
-write_fault (Ok Limit) asked before after s h = absurd (omega arith)
-write_fault (Ok ReadFault) asked before after s h = absurd (omega arith)
 write_fault (Ok WriteFault) asked before after s h = h.works.session.fault
+write_fault (Ok end) asked before after s h = absurd (omega arith)
+write_fault (Err why) asked before after s h = absurd (nothing_undone_has why 6 (inr (inr (inr refl))) s)
 
-unattached : (o : Result End Setback) (asked : Asked) (before after : Outside) → session_status o ≡ 7 → Happens o asked before after
+unattached : (o : Result End Undone) (asked : Asked) (before after : Outside) → session_status o ≡ 7 → Happens o asked before after
     → Unattached asked before after
-unattached (Err (DeviceRefused text)) asked before after s h = absurd (omega arith)
-unattached (Err FileFault) asked before after s h = absurd (omega arith)
-unattached (Err StoreFault) asked before after s h = h.0
-unattached (Err (RowsRefused text)) asked before after s h = absurd (omega arith)
-unattached (Err NoMemory) asked before after s h = absurd (omega arith)
+unattached (Err undone.StoreFault) asked before after s h = h.0
+unattached (Err (undone.Setback setbacks.FileFault)) asked before after s h = absurd (omega arith)
+unattached (Err why) asked before after s h = absurd (omega arith)
 unattached (Ok end) asked before after s h = absurd (no_end_has end 7 (inr (inr (inr (inl refl)))) s)
 
-unopened : (o : Result End Setback) (asked : Asked) (before after : Outside) → session_status o ≡ 10 → Happens o asked before after
+unopened : (o : Result End Undone) (asked : Asked) (before after : Outside) → session_status o ≡ 10 → Happens o asked before after
     → Unopened asked before (session_line o)
-unopened (Err (DeviceRefused text)) asked before after s h = absurd (omega arith)
-unopened (Err FileFault) asked before after s h = absurd (omega arith)
-unopened (Err StoreFault) asked before after s h = absurd (omega arith)
-unopened (Err (RowsRefused text)) asked before after s h = h.0
-unopened (Err NoMemory) asked before after s h = absurd (omega arith)
+unopened (Err (undone.RowsRefused line)) asked before after s h = h.0
+unopened (Err (undone.Setback setbacks.FileFault)) asked before after s h = absurd (omega arith)
+unopened (Err why) asked before after s h = absurd (omega arith)
 unopened (Ok end) asked before after s h = absurd (no_end_has end 10 (inr (inr (inr (inr refl)))) s)
 
 -- a run whose line was written whole
-told_whole : (o : Result End Setback) (asked : Asked) (before after : Surroundings) (status : ℕ)
+told_whole : (o : Result End Undone) (asked : Asked) (before after : Surroundings) (status : ℕ)
     → Happens o asked before.outside after.outside → status ≡ session_status o → Appends before.errors.taken after.errors.taken (session_line o)
     → HasCause asked before after status
 told_whole o asked before after status h s a = record {
   worked = λ e. worked o asked before.outside after.outside (sym s ∙ e) h;
   stopped = λ e. stopped o asked before.outside after.outside (sym s ∙ e) h;
-  used = λ e. used o asked before.outside after.outside (sym s ∙ e) h;
+  used = λ e. used o (sym s ∙ e);
   refused = λ e. (session_line o, refused o asked before.outside after.outside (sym s ∙ e) h, a);
   unread = λ e. unread o asked before.outside after.outside (sym s ∙ e) h;
   read_fault = λ e. read_fault o asked before.outside after.outside (sym s ∙ e) h;
@@ -172,7 +130,7 @@ told_partly asked before after status s f = record {
 }
 
 -- how a run went tells the cause of its status
-causes : (o : Result End Setback) (asked : Asked) (before after : Surroundings) (status : ℕ)
+causes : (o : Result End Undone) (asked : Asked) (before after : Surroundings) (status : ℕ)
     → Happens o asked before.outside after.outside → Tells (session_line o) (session_status o) before.errors after.errors status → HasCause asked before after status
 causes o asked before after status h (inl (s, a)) = told_whole o asked before after status h s a
 causes o asked before after status h (inr (s, f, p)) = told_partly asked before after status s f
@@ -215,26 +173,27 @@ begun asked before files bytes device' device file f b d =
     (reads_so before.files.files files asked.device asked.device bytes (Ok device') file f refl b) d
 
 -- how a session went tells that a good device file gave the work
-completes : (o : Result End Setback) (asked : Asked) (before after : Surroundings) (status : ℕ)
+completes : (o : Result End Undone) (asked : Asked) (before after : Surroundings) (status : ℕ)
     → Happens o asked before.outside after.outside → Tells (session_line o) (session_status o) before.errors after.errors status → Completes asked before after status
-completes (Err (DeviceRefused line)) asked before after status h t files bytes device f b d =
+completes (Err (undone.Setback (setbacks.DeviceRefused line))) asked before after status h t files bytes device f b d =
     let clash : Ok device ≡ Err h.0.fault =
     sym d ∙ reads_so before.outside.files.files files asked.device asked.device bytes (Err h.0.fault) h.0.file f refl b in cc
-completes (Err FileFault) asked before after status h t files bytes device f b d =
+completes (Err (undone.Setback setbacks.FileFault)) asked before after status h t files bytes device f b d =
     inr (inl (unread_fault files asked.device asked.device bytes before.outside after.outside h.0 f refl b))
-completes (Err StoreFault) asked before after status h t files bytes device f b d =
+completes (Err (undone.Setback setbacks.NoMemory)) asked before after status h t files bytes device f b d =
+    inr (inr (inr (inr (wanted before.errors after.errors status t))))
+completes (Err undone.StoreFault) asked before after status h t files bytes device f b d =
     inr (inr (inl h.0.risen))
-completes (Err (RowsRefused line)) asked before after status h t files bytes device f b d =
+completes (Err (undone.RowsRefused line)) asked before after status h t files bytes device f b d =
     let made : h.0.device ≡ device = begun asked before.outside files bytes h.0.device device h.0.file f b d in
     inr (inr (inr (inl (line, subst (λ (one : Device). RefusesRows one asked.store before.outside.work.store line) made h.0.refused))))
-completes (Err NoMemory) asked before after status h t files bytes device f b d =
-    inr (inr (inr (inr (wanted before.errors after.errors status t))))
+completes (Err why) asked before after status h t files bytes device f b d = absurd h
 completes (Ok end) asked before after status h t files bytes device f b d =
     let made : h.device ≡ device = begun asked before.outside files bytes h.device device h.file f b d in
     inl (end, subst (λ (one : Device). Works asked one before.outside.work after.outside.work end) made h.works)
 
 -- a whole session
-runs : (o : Result End Setback) (asked : Asked) (before after : Surroundings) (status : ℕ)
+runs : (o : Result End Undone) (asked : Asked) (before after : Surroundings) (status : ℕ)
     → Happens o asked before.outside after.outside → Tells (session_line o) (session_status o) before.errors after.errors status → RunsSession asked before after status
 runs o asked before after status h t = record {
   went = record { work = o; happened = h; told = t };
@@ -243,7 +202,7 @@ runs o asked before after status h t = record {
 }
 
 -- a whole session, told by the line and the status that go with it
-pub runs_told : (o made : Result End Setback) (asked : Asked) (before after : Surroundings) (line : List ℕ) (code status : ℕ) → o ≡ made
+pub runs_told : (o made : Result End Undone) (asked : Asked) (before after : Surroundings) (line : List ℕ) (code status : ℕ) → o ≡ made
     → line ≡ session_line made → code ≡ session_status made → Happens o asked before.outside after.outside
     → Tells line code before.errors after.errors status → RunsSession asked before after status
 runs_told o made asked before after line code status is says means h t =

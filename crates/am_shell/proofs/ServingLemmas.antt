@@ -7,8 +7,6 @@ use Rattle.am_model.specs.Sound.{IsSound}
 use Rattle.std.specs.Io.KnownBytes.{Appends}
 use Rattle.am_outside.specs.declared.failure.Failed.{Failed}
 use Rattle.am_outside.specs.Counts.{HasRisen}
-use Rattle.am_network.specs.declared.network.ListenFail.{ListenFail}
-use Rattle.am_network.specs.declared.network.ListenFail.TheVariants as listens
 use Rattle.am_network.specs.Links.{Listening, listening_at}
 use Rattle.am_history.specs.Desks.{Origin}
 use Rattle.am_found.specs.Laws.{KeptIsFound}
@@ -16,15 +14,11 @@ use Rattle.am_machine.specs.Managed as machine
 use Rattle.am_workers.specs.Serving.{Ended, IsFormed, MayReleaseAll, NetworkView, ServesAll}
 use Rattle.am_shell.specs.declared.serving.Done.{Done}
 use Rattle.am_shell.specs.declared.serving.Serving.{Serving}
-use Rattle.am_shell.specs.declared.serving.Unserved.{Unserved}
-use Rattle.am_shell.specs.declared.serving.Unserved.TheVariants as unserved
 use Rattle.am_http.specs.Sending.{Sends, WritesPart}
 use Rattle.am_http.proofs.SendLemmas.{appends_trans}
-use Rattle.am_shell.specs.Fails.{unserved_of}
 use Rattle.am_shell.specs.Kept.{IsOrigin, IsUnchanged, Leaves}
 use Rattle.am_shell.specs.Outside.{StoreView}
-use Rattle.am_shell.specs.Lines.{Tells}
-use Rattle.am_shell.specs.Servings.{FailsToServe, Happens, IsLeft, Premises, RunsServing, Site, Works, listened, network_line}
+use Rattle.am_shell.specs.Servings.{IsLeft, Site, Works, listened}
 use Rattle.am_shell.proofs.ServeLemmas.{found}
 use Rattle.am_shell.proofs.StoreLemmas.{leaves_asked}
 
@@ -100,17 +94,6 @@ left_again {K} asked device before now after place manager asks begun fresh same
           (subst (λ (h : List Entry). Leaves manager.origin manager.origin.place h now after) fresh left);
     }
 
--- why a serving didn't begin, where the network didn't listen
-pub unheard : (fail : ListenFail) (why : Unserved) (asked : Serving) (device : Device) (before after : Site) → why ≡ unserved_of fail
-    → (fail ≡ listens.Failed → HasRisen before.network.faults after.network.faults) → IsLeft asked device before.store after.store
-    → FailsToServe why asked device before after
-unheard listens.Failed why asked device before after is risen left =
-    let P : Unserved → Type 0 = λ (w : Unserved). FailsToServe w asked device before after in
-    subst P (sym is) (risen refl, left)
-unheard listens.NoMemory why asked device before after is risen left =
-    let P : Unserved → Type 0 = λ (w : Unserved). FailsToServe w asked device before after in
-    subst P (sym is) (record { fails = tt; store = inr left; network = inl refl })
-
 -- a part of what comes first is a part of the whole
 pub cut : (old new : Option (List ℕ)) (xs ys : List ℕ) → WritesPart old new xs → WritesPart old new (xs ++ ys)
 cut old new xs ys part = (
@@ -135,13 +118,3 @@ behind old mid new xs ys first part = (
 pub sends_behind : (old mid new : Option (List ℕ)) (xs ys : List ℕ) (result : Result (Unit {0}) Failed) → Appends old mid xs → Sends mid new ys result → Sends old new (xs ++ ys) result
 sends_behind old mid new xs ys (Ok done) first sent = appends_trans old mid new xs ys first sent
 sends_behind old mid new xs ys (Err e) first sent = behind old mid new xs ys first sent
-
--- a serving whose network didn't listen
-pub network_failed : (why : Unserved) (asked : Serving) (before after : Premises) (status : ℕ) → why ≡ unserved.NetworkFault → Happens (Err why) asked before.grounds after.grounds
-    → after.voices.output ≡ before.voices.output → Tells network_line 9 before.voices.errors after.voices.errors status → RunsServing asked before after status
-network_failed why asked before after status is happened quiet told =
-    record {
-      work = Err unserved.NetworkFault;
-      happened = subst (λ (w : Unserved). Happens (Err w) asked before.grounds after.grounds) is happened;
-      told = (quiet, told);
-    }

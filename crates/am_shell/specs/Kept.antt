@@ -3,6 +3,8 @@ use Rattle.std.specs.Prelude.{◌≡◌, ◌≢◌, ℕ, ◌≤◌, List, count_
 use Rattle.am_outside.specs.Counts.{HasRisen}
 use Rattle.am_types.specs.declared.device.Device.{Device}
 use Rattle.am_types.specs.declared.history.Entry.{Entry}
+use Rattle.am_keeper.specs.declared.failure.KeepFail.{KeepFail}
+use Rattle.am_keeper.specs.declared.failure.KeepFail.TheVariants as keeps
 use Rattle.am_keeper.specs.declared.rows.Rows.{Rows}
 use Rattle.am_keeper.specs.Rows.{IsInOrder, no_rows}
 use Rattle.am_keeper.specs.Keeping.{raised_by}
@@ -10,8 +12,9 @@ use Rattle.am_history.specs.Opening.{opening_with}
 use Rattle.am_history.specs.Desks.{Origin, opening_of}
 use Rattle.am_found.specs.Found.{rows_after}
 use Rattle.am_machine.specs.Managed.{is_unkept}
-use Rattle.am_shell.specs.declared.setback.Setback.{Setback}
-use Rattle.am_shell.specs.declared.setback.Setback.TheVariants.{DeviceRefused, FileFault, StoreFault, RowsRefused, NoMemory}
+use Rattle.am_setback.specs.declared.setback.Setback.TheVariants as setbacks
+use Rattle.am_shell.specs.declared.undone.Undone.{Undone}
+use Rattle.am_shell.specs.declared.undone.Undone.TheVariants as undone
 use Rattle.am_shell.specs.Lines.{rows_line}
 use Rattle.am_shell.specs.Outside.{StoreView}
 
@@ -52,18 +55,14 @@ pub record Leaves
       → new.rows at ≡ rows_after (opening_of origin) origin.rows history
   pub unkept : raised_by (count_by is_unkept history) old.faults ≤ new.faults
 
--- the setback of a package of that name whose row is refused: the line that names it, or memory ran out
-abbrev pub IsRowRefusal : Setback → List ℕ → Type 0
-IsRowRefusal (DeviceRefused line) name = ⊥
-IsRowRefusal FileFault name = ⊥
-IsRowRefusal StoreFault name = ⊥
-IsRowRefusal (RowsRefused line) name = line ≡ rows_line name
-IsRowRefusal NoMemory name = ⊤
+-- what the failure of a store that attached no rows makes of a run
+abbrev pub unattached_of : KeepFail → Undone
+unattached_of keeps.Failed = undone.StoreFault
+unattached_of keeps.NoMemory = undone.Setback setbacks.NoMemory
 
--- why no manager of the device began with the rows that were kept at the place
-abbrev pub FailsToOpenRows : Setback → Device → Option (List ℕ) → StoreView → StoreView → Type 0
-FailsToOpenRows (DeviceRefused line) device place old new = ⊥
-FailsToOpenRows FileFault device place old new = ⊥
-FailsToOpenRows StoreFault device place old new = HasRisen old.failed new.failed
-FailsToOpenRows (RowsRefused line) device place old new = RefusesRows device place old line
-FailsToOpenRows NoMemory device place old new = ⊤
+-- why no manager of the device began with the rows that were kept at the place: the store, a row, or memory ran out
+abbrev pub FailsToOpenRows : Undone → Device → Option (List ℕ) → StoreView → StoreView → Type 0
+FailsToOpenRows undone.StoreFault device place old new = HasRisen old.failed new.failed
+FailsToOpenRows (undone.RowsRefused line) device place old new = RefusesRows device place old line
+FailsToOpenRows (undone.Setback setbacks.NoMemory) device place old new = ⊤
+FailsToOpenRows _ device place old new = ⊥

@@ -1,7 +1,6 @@
 pub mod Clocks
 pub mod Devices
 pub mod Drillings
-pub mod Fails
 pub mod Kept
 pub mod Lines
 pub mod Outside

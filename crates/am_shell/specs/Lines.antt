@@ -1,15 +1,15 @@
 -- The lines that tell on the errors how a run went, and the statuses.
 use Rattle.std.specs.Prelude.{◌≡◌, ℕ, ◌⊎◌, codes, List, [], ◌++◌, Result, Ok, Err}
 use Rattle.std.specs.Io.KnownBytes.{Appends}
-use Rattle.am_types.specs.declared.manifest.ManifestFault.{ManifestFault}
-use Rattle.am_types.specs.Printing.{printed}
 use Rattle.am_outside.specs.Counts.{HasRisen}
 use Rattle.am_http.specs.declared.end.End.{End}
 use Rattle.am_http.specs.declared.end.End.TheVariants.{Input, Close, Refused, Cut, Limit, ReadFault, WriteFault}
 use Rattle.am_http.specs.Links.{SinkView}
 use Rattle.am_http.specs.Sending.{WritesPart}
-use Rattle.am_shell.specs.declared.setback.Setback.{Setback}
-use Rattle.am_shell.specs.declared.setback.Setback.TheVariants.{DeviceRefused, FileFault, StoreFault, RowsRefused, NoMemory}
+use Rattle.am_setback.specs.declared.setback.Setback.TheVariants as setbacks
+use Rattle.am_setback.specs.Setbacks.{setback_status}
+use Rattle.am_shell.specs.declared.undone.Undone.{Undone}
+use Rattle.am_shell.specs.declared.undone.Undone.TheVariants as undone
 
 -- the line was written whole and the status is the one that goes with it, or the errors failed and took a part of it
 abbrev pub Tells : List ℕ → ℕ → SinkView → SinkView → ℕ → Type 0
@@ -40,29 +40,35 @@ usage_line = codes "am: usage\n"
 abbrev pub want_line : List ℕ
 want_line = codes "am: out of memory\n"
 
--- the line of a device file that has a fault
-abbrev pub refusal_line : ManifestFault → List ℕ
-refusal_line fault = codes "am: device refused: " ++ printed fault ++ codes "\n"
-
 -- the line of a kept row that is refused, with the name of its package
 abbrev pub rows_line : List ℕ → List ℕ
 rows_line name = codes "am: kept rows refused: " ++ name ++ codes "\n"
 
--- the line of a setback
-abbrev pub line_of : Setback → List ℕ
-line_of (DeviceRefused text) = text
-line_of FileFault = codes "am: file fault\n"
-line_of StoreFault = codes "am: store fault\n"
-line_of (RowsRefused text) = text
-line_of NoMemory = want_line
+-- the line of a network that failed
+abbrev pub network_line : List ℕ
+network_line = codes "am: network fault\n"
 
--- the status of a setback
-abbrev pub status_of : Setback → ℕ
-status_of (DeviceRefused text) = 3
-status_of FileFault = 4
-status_of StoreFault = 7
-status_of (RowsRefused text) = 10
-status_of NoMemory = 8
+-- the line of what wasn't done
+abbrev pub line_of : Undone → List ℕ
+line_of (undone.Setback (setbacks.DeviceRefused line)) = line
+line_of (undone.Setback setbacks.FileFault) = codes "am: file fault\n"
+line_of (undone.Setback setbacks.NoMemory) = want_line
+line_of undone.StoreFault = codes "am: store fault\n"
+line_of (undone.RowsRefused line) = line
+line_of undone.NetworkFault = network_line
+line_of undone.NoPackage = codes "am: no package\n"
+line_of undone.InputFault = codes "am: read fault\n"
+line_of (undone.QueryRefused line) = line
+
+-- the status of what wasn't done
+abbrev pub status_of : Undone → ℕ
+status_of (undone.Setback setback) = setback_status setback
+status_of undone.StoreFault = 7
+status_of (undone.RowsRefused line) = 10
+status_of undone.NetworkFault = 9
+status_of undone.NoPackage = 12
+status_of undone.InputFault = 5
+status_of (undone.QueryRefused line) = 11
 
 -- the line of a session's end; none where it ended well
 abbrev pub end_line : End → List ℕ
@@ -85,10 +91,10 @@ end_status ReadFault = 5
 end_status WriteFault = 6
 
 -- the line and the status of a session that ended so, or didn't begin
-abbrev pub session_line : Result End Setback → List ℕ
+abbrev pub session_line : Result End Undone → List ℕ
 session_line (Ok end) = end_line end
-session_line (Err setback) = line_of setback
+session_line (Err why) = line_of why
 
-abbrev pub session_status : Result End Setback → ℕ
+abbrev pub session_status : Result End Undone → ℕ
 session_status (Ok end) = end_status end
-session_status (Err setback) = status_of setback
+session_status (Err why) = status_of why

@@ -9,13 +9,14 @@ use Rattle.am_queries.specs.declared.device.Described.{Described}
 use Rattle.am_queries.specs.Queries.{described}
 use Rattle.am_visible.specs.Answers.{answer_to}
 use Rattle.am_http.specs.Links.{SourceView}
-use Rattle.am_shell.specs.declared.setback.Setback.{Setback}
+use Rattle.am_setback.specs.declared.setback.Setback.TheVariants as setbacks
+use Rattle.am_setback.specs.Devices.{ReadsAs}
+use Rattle.am_setback.specs.Files.{Shelf}
 use Rattle.am_shell.specs.declared.question.Question.{Question}
-use Rattle.am_shell.specs.declared.question.Unanswered.{Unanswered}
-use Rattle.am_shell.specs.declared.question.Unanswered.TheVariants as unanswered
-use Rattle.am_shell.specs.Devices.{FailsToOpen, ReadsAs}
+use Rattle.am_shell.specs.declared.undone.Undone.{Undone}
+use Rattle.am_shell.specs.declared.undone.Undone.TheVariants as undone
+use Rattle.am_shell.specs.Devices.{FailsToOpen}
 use Rattle.am_shell.specs.Lines.{Prints, Tells, Voices, line_of, status_of}
-use Rattle.am_shell.specs.Outside.{Shelf}
 
 -- what a question is answered from: the files, and the input
 pub record Desk : Type 0 where
@@ -47,12 +48,10 @@ pub record ReadsMore (before after : SourceView) (old new : List ℕ) (count : �
   pub end : count ≡ 0 → IsAtEnd after.left
 
 -- why the input wasn't read: it failed, or memory ran out
-abbrev pub FailsToRead : Unanswered → SourceView → SourceView → Type 0
-FailsToRead (unanswered.Setback setback) before after = ⊥
-FailsToRead unanswered.NoPackage before after = ⊥
-FailsToRead unanswered.InputFault before after = HasRisen before.faults after.faults
-FailsToRead (unanswered.QueryRefused line) before after = ⊥
-FailsToRead unanswered.NoMemory before after = ⊤
+abbrev pub FailsToRead : Undone → SourceView → SourceView → Type 0
+FailsToRead undone.InputFault before after = HasRisen before.faults after.faults
+FailsToRead (undone.Setback setbacks.NoMemory) before after = ⊤
+FailsToRead _ before after = ⊥
 
 -- the device file describes a device with its queries, in which the package that asks is that caller
 pub record IsAsked (asked : Question) (files : Shelf) (known : Described) (caller : ℕ) : Type 0 where
@@ -64,13 +63,10 @@ abbrev pub query_line : WireFault → List ℕ
 query_line fault = codes "am: query refused: " ++ printed fault ++ codes "\n"
 
 -- why a question that has this reply isn't answered: it is a fault, which the line names, or memory ran out
-abbrev pub IsNoReply : Unanswered → Result (List ℕ) WireFault → Type 0
-IsNoReply (unanswered.Setback setback) reply = ⊥
-IsNoReply unanswered.NoPackage reply = ⊥
-IsNoReply unanswered.InputFault reply = ⊥
-IsNoReply (unanswered.QueryRefused line) reply =
-    (fault : WireFault) × (reply ≡ Err fault) × (line ≡ query_line fault)
-IsNoReply unanswered.NoMemory reply = ⊤
+abbrev pub IsNoReply : Undone → Result (List ℕ) WireFault → Type 0
+IsNoReply (undone.QueryRefused line) reply = (fault : WireFault) × (reply ≡ Err fault) × (line ≡ query_line fault)
+IsNoReply (undone.Setback setbacks.NoMemory) reply = ⊤
+IsNoReply _ reply = ⊥
 
 -- what the caller is answered of the input, as text or by the first fault
 pub record Replies (asked : Question) (before after : Desk) (reply : Result (List ℕ) WireFault) : Type 0 where
@@ -82,46 +78,31 @@ pub record Replies (asked : Question) (before after : Desk) (reply : Result (Lis
   pub answers : answer_to known caller bytes ≡ reply
 
 -- why a question isn't answered: the device file, the name, the input, or what was asked; else memory ran out
-abbrev pub FailsToAnswer : Unanswered → Question → Desk → Desk → Type 0
-FailsToAnswer (unanswered.Setback setback) asked before after =
-    FailsToOpen setback described asked.device before.files after.files × (after.input ≡ before.input)
-FailsToAnswer unanswered.NoPackage asked before after =
+abbrev pub FailsToAnswer : Undone → Question → Desk → Desk → Type 0
+FailsToAnswer (undone.Setback setback) asked before after =
+    (setback ≡ setbacks.NoMemory)
+    ⊎ (FailsToOpen setback described asked.device before.files after.files × (after.input ≡ before.input))
+FailsToAnswer undone.NoPackage asked before after =
     ((known : Described) × ReadsAs described before.files.files asked.device (Ok known)
     × (caller_of known.device.packages asked.«package» ≡ None)) × (after.input ≡ before.input)
-FailsToAnswer unanswered.InputFault asked before after = HasRisen before.input.faults after.input.faults
-FailsToAnswer (unanswered.QueryRefused line) asked before after =
+FailsToAnswer undone.InputFault asked before after = HasRisen before.input.faults after.input.faults
+FailsToAnswer (undone.QueryRefused line) asked before after =
     (fault : WireFault) × Replies asked before after (Err fault) × (line ≡ query_line fault)
-FailsToAnswer unanswered.NoMemory asked before after = ⊤
+FailsToAnswer _ asked before after = ⊥
 
 -- the text that answers the question, or why it isn't answered
-abbrev pub Happens : Result (List ℕ) Unanswered → Question → Desk → Desk → Type 0
+abbrev pub Happens : Result (List ℕ) Undone → Question → Desk → Desk → Type 0
 Happens (Ok text) asked before after = Replies asked before after (Ok text)
 Happens (Err why) asked before after = FailsToAnswer why asked before after
 
--- the line and the status of a question that isn't answered
-abbrev pub unanswered_line : Unanswered → List ℕ
-unanswered_line (unanswered.Setback setback) = line_of setback
-unanswered_line unanswered.NoPackage = codes "am: no package\n"
-unanswered_line unanswered.InputFault = codes "am: read fault\n"
-unanswered_line (unanswered.QueryRefused line) = line
-unanswered_line unanswered.NoMemory = codes "am: out of memory\n"
-
-abbrev pub unanswered_status : Unanswered → ℕ
-unanswered_status (unanswered.Setback setback) = status_of setback
-unanswered_status unanswered.NoPackage = 12
-unanswered_status unanswered.InputFault = 5
-unanswered_status (unanswered.QueryRefused line) = 11
-unanswered_status unanswered.NoMemory = 8
-
 -- how a question is told, on the output and the errors and by the status: the text of its answer is printed
-abbrev pub TellsAnswer : Result (List ℕ) Unanswered → Voices → Voices → ℕ → Type 0
+abbrev pub TellsAnswer : Result (List ℕ) Undone → Voices → Voices → ℕ → Type 0
 TellsAnswer (Ok text) before after status = Prints text before after status
 TellsAnswer (Err why) before after status =
-    (after.output ≡ before.output)
-    × Tells (unanswered_line why) (unanswered_status why) before.errors after.errors status
+    (after.output ≡ before.output) × Tells (line_of why) (status_of why) before.errors after.errors status
 
 -- a run of a question that is asked: how it went, and that the output, the errors and the status tell it
 pub record RunsQuestion (asked : Question) (before after : Booth) (status : ℕ) : Type 0 where
-  pub work : Result (List ℕ) Unanswered
+  pub work : Result (List ℕ) Undone
   pub happened : Happens work asked before.desk after.desk
   pub told : TellsAnswer work before.voices after.voices status

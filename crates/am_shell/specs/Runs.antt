@@ -13,20 +13,21 @@ use Rattle.am_words.specs.Grammar.{read_command}
 use Rattle.am_workers.specs.Serving.{NetworkView}
 use Rattle.am_words.specs.declared.command.Command.{Command}
 use Rattle.am_words.specs.declared.command.Command.TheVariants.{Session, Serve, Drill, Visible}
-use Rattle.am_shell.specs.declared.setback.Setback.{Setback}
+use Rattle.am_setback.specs.Files.{Shelf}
 use Rattle.am_shell.specs.declared.session.Asked.{Asked}
+use Rattle.am_shell.specs.declared.undone.Undone.{Undone}
 use Rattle.am_shell.specs.Devices.{IsRefused, IsUnread}
 use Rattle.am_shell.specs.Drillings.{RunsDrill}
 use Rattle.am_shell.specs.Kept.{RefusesRows}
 use Rattle.am_shell.specs.Lines.{Tells, Voices, session_line, session_status, usage_line, want_line}
 use Rattle.am_shell.specs.Sessions.{Happens, Worked, Works, Unattached, Unopened}
-use Rattle.am_shell.specs.Outside.{Shelf, StoreView, Surroundings}
+use Rattle.am_shell.specs.Outside.{StoreView, Surroundings}
 use Rattle.am_shell.specs.Questions.{Booth, RunsQuestion}
 use Rattle.am_shell.specs.Servings.{Premises, RunsServing}
 
 -- how a session went, and that the errors and the status tell it
 pub record Went (asked : Asked) (before after : Surroundings) (status : ℕ) : Type 0 where
-  pub work : Result End Setback
+  pub work : Result End Undone
   pub happened : Happens work asked before.outside after.outside
   pub told : Tells (session_line work) (session_status work) before.errors after.errors status
 

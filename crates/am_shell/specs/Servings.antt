@@ -10,14 +10,16 @@ use Rattle.am_manifest.specs.Devices.{device_of}
 use Rattle.am_workers.specs.Serving.{Ended, NetworkView, ServesAll}
 use Rattle.am_shell.specs.declared.serving.Done.{Done}
 use Rattle.am_shell.specs.declared.serving.Serving.{Serving}
-use Rattle.am_shell.specs.declared.setback.Setback.{Setback}
-use Rattle.am_shell.specs.declared.setback.Setback.TheVariants.{NoMemory}
-use Rattle.am_shell.specs.declared.serving.Unserved.{Unserved}
-use Rattle.am_shell.specs.declared.serving.Unserved.TheVariants as unserved
-use Rattle.am_shell.specs.Devices.{Describes, FailsToOpen}
+use Rattle.am_setback.specs.declared.setback.Setback.{Setback}
+use Rattle.am_setback.specs.declared.setback.Setback.TheVariants as setbacks
+use Rattle.am_setback.specs.Devices.{Describes}
+use Rattle.am_setback.specs.Files.{Shelf}
+use Rattle.am_shell.specs.declared.undone.Undone.{Undone}
+use Rattle.am_shell.specs.declared.undone.Undone.TheVariants as undone
+use Rattle.am_shell.specs.Devices.{FailsToOpen}
 use Rattle.am_shell.specs.Kept.{FailsToOpenRows, IsOrigin, IsUnchanged, Leaves}
-use Rattle.am_shell.specs.Lines.{Prints, Tells, Voices, line_of, status_of}
-use Rattle.am_shell.specs.Outside.{Shelf, StoreView}
+use Rattle.am_shell.specs.Lines.{Prints, Tells, Voices, line_of, network_line, status_of}
+use Rattle.am_shell.specs.Outside.{StoreView}
 
 -- the numbers that words ask for lie in their ranges
 abbrev pub IsInRange : Serving → Type 0
@@ -68,47 +70,44 @@ pub record IsLeft (asked : Serving) (device : Device) (before after : StoreView)
   pub store : Leaves origin asked.store [] before after
 
 -- no manager began, or memory ran out; the rows stay, and nothing was asked of the network unless memory ran out
-pub record IsUnbegun (setback : Setback) (asked : Serving) (device : Device) (before after : Site) : Type 0 where
-  pub fails : FailsToOpenRows setback device asked.store before.store after.store
+pub record IsUnbegun (why : Undone) (asked : Serving) (device : Device) (before after : Site) : Type 0 where
+  pub fails : FailsToOpenRows why device asked.store before.store after.store
   pub store : IsUnchanged before.store after.store ⊎ IsLeft asked device before.store after.store
-  pub network : (setback ≡ NoMemory) ⊎ (after.network ≡ before.network)
+  pub network : (why ≡ undone.Setback setbacks.NoMemory) ⊎ (after.network ≡ before.network)
 
--- why a serving that is asked for, of that device, didn't begin
-abbrev pub FailsToServe : Unserved → Serving → Device → Site → Site → Type 0
-FailsToServe (unserved.Setback setback) asked device before after = IsUnbegun setback asked device before after
-FailsToServe unserved.NetworkFault asked device before after =
-    HasRisen before.network.faults after.network.faults × IsLeft asked device before.store after.store
+-- the network failed to listen, and the keeper of the manager that began came back
+pub record IsUnheard (why : Undone) (asked : Serving) (device : Device) (before after : Site) : Type 0 where
+  pub is : why ≡ undone.NetworkFault
+  pub risen : HasRisen before.network.faults after.network.faults
+  pub store : IsLeft asked device before.store after.store
 
 -- the serving that is asked for, of that device, or why it didn't begin
-abbrev pub ServesOr : Result Done Unserved → Serving → Device → Site → Site → Type 0
+abbrev pub ServesOr : Result Done Undone → Serving → Device → Site → Site → Type 0
 ServesOr (Ok done) asked device before after = Works asked device before after done
-ServesOr (Err why) asked device before after = FailsToServe why asked device before after
+ServesOr (Err why) asked device before after =
+    IsUnbegun why asked device before after ⊎ IsUnheard why asked device before after
 
 -- the serving that is asked for, of the device that its file describes, or why it didn't begin
-pub record ServesFile (work : Result Done Unserved) (asked : Serving) (before after : Grounds) : Type 0 where
+pub record ServesFile (work : Result Done Undone) (asked : Serving) (before after : Grounds) : Type 0 where
   pub device : Device
   pub file : Describes before.files.files asked.device (Ok device)
   pub serves : ServesOr work asked device before.site after.site
 
 -- the device file describes no device, or memory ran out as it was read, and nothing else was done
-pub record LacksDevice (work : Result Done Unserved) (asked : Serving) (before after : Grounds) : Type 0 where
+pub record LacksDevice (work : Result Done Undone) (asked : Serving) (before after : Grounds) : Type 0 where
   pub setback : Setback
-  pub is : work ≡ Err (unserved.Setback setback)
+  pub is : work ≡ Err (undone.Setback setback)
   pub fails : FailsToOpen setback device_of asked.device before.files after.files
   pub site : after.site ≡ before.site
 
 -- how a serving that is asked for went
-abbrev pub Happens : Result Done Unserved → Serving → Grounds → Grounds → Type 0
+abbrev pub Happens : Result Done Undone → Serving → Grounds → Grounds → Type 0
 Happens work asked before after = ServesFile work asked before after ⊎ LacksDevice work asked before after
 
 -- the line of a serving that ended: how long its history is, and how many links were served
 abbrev pub done_line : Done → List ℕ
 done_line done =
     codes "history " ++ (decimal done.history ++ (codes " served " ++ (decimal done.totals.served ++ codes "\n")))
-
--- the line of a network that failed
-abbrev pub network_line : List ℕ
-network_line = codes "am: network fault\n"
 
 -- a line was told on the errors, with its status, and the output took nothing
 abbrev pub OnlyTold : List ℕ → ℕ → Voices → Voices → ℕ → Type 0
@@ -121,14 +120,12 @@ TellsDone true done before after status = OnlyTold network_line 9 before after s
 TellsDone false done before after status = Prints (done_line done) before after status
 
 -- how a serving is told, on the output and the errors and by the status
-abbrev pub TellsServing : Result Done Unserved → Voices → Voices → ℕ → Type 0
+abbrev pub TellsServing : Result Done Undone → Voices → Voices → ℕ → Type 0
 TellsServing (Ok done) before after status = TellsDone done.totals.failed done before after status
-TellsServing (Err (unserved.Setback setback)) before after status =
-    OnlyTold (line_of setback) (status_of setback) before after status
-TellsServing (Err unserved.NetworkFault) before after status = OnlyTold network_line 9 before after status
+TellsServing (Err why) before after status = OnlyTold (line_of why) (status_of why) before after status
 
 -- a run of a serving that is asked for: how it went, and that the output, the errors and the status tell it
 pub record RunsServing (asked : Serving) (before after : Premises) (status : ℕ) : Type 0 where
-  pub work : Result Done Unserved
+  pub work : Result Done Undone
   pub happened : Happens work asked before.grounds after.grounds
   pub told : TellsServing work before.voices after.voices status

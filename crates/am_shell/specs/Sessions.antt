@@ -13,12 +13,13 @@ use Rattle.am_http.specs.Exchanges.{stored_entries}
 use Rattle.am_http.specs.Links.{IsSameLink, Moments, Streams, link_of}
 use Rattle.am_http.specs.Sessions.{Session, HasFault}
 use Rattle.am_words.specs.declared.command.StepWords.{StepWords}
+use Rattle.am_setback.specs.Devices.{Describes}
 use Rattle.am_shell.specs.declared.session.Asked.{Asked}
-use Rattle.am_shell.specs.declared.setback.Setback.{Setback}
-use Rattle.am_shell.specs.declared.setback.Setback.TheVariants.{DeviceRefused, FileFault, StoreFault, RowsRefused, NoMemory}
+use Rattle.am_shell.specs.declared.undone.Undone.{Undone}
+use Rattle.am_shell.specs.declared.undone.Undone.TheVariants as undone
 use Rattle.am_shell.specs.Clocks.{left_of, timed, with_clock}
-use Rattle.am_shell.specs.Devices.{Describes, IsRefused, IsUnread}
-use Rattle.am_shell.specs.Kept.{IsOrigin, IsUnchanged, Leaves, RefusesRows}
+use Rattle.am_shell.specs.Devices.{FailsToOpen}
+use Rattle.am_shell.specs.Kept.{FailsToOpenRows, IsOrigin, IsUnchanged, Leaves, RefusesRows}
 use Rattle.am_shell.specs.Outside.{Outside, Workplace}
 
 -- the only desk of a manager of that origin, which has seen that history
@@ -84,31 +85,21 @@ pub record Worked (asked : Asked) (before after : Outside) (end : End) : Type 0 
   pub file : Describes before.files.files asked.device (Ok device)
   pub works : Works asked device before.work after.work end
 
--- why a session that is asked for didn't begin
-abbrev pub FailsToBegin : Setback → Asked → Outside → Outside → Type 0
-FailsToBegin (DeviceRefused line) asked before after =
-    IsRefused device_of before.files.files asked.device line × IsIdle before.work after.work
-FailsToBegin FileFault asked before after = IsUnread asked.device before.files after.files × IsIdle before.work after.work
-FailsToBegin StoreFault asked before after = Unattached asked before after × IsIdle before.work after.work
-FailsToBegin (RowsRefused line) asked before after = Unopened asked before line × IsIdle before.work after.work
-FailsToBegin NoMemory asked before after = IsIdle before.work after.work
+-- why a session that is asked for didn't begin: the device file, the store, a row, or memory ran out
+abbrev pub FailsToBegin : Undone → Asked → Outside → Outside → Type 0
+FailsToBegin (undone.Setback setback) asked before after =
+    FailsToOpen setback device_of asked.device before.files after.files × IsIdle before.work after.work
+FailsToBegin undone.StoreFault asked before after = Unattached asked before after × IsIdle before.work after.work
+FailsToBegin (undone.RowsRefused line) asked before after = Unopened asked before line × IsIdle before.work after.work
+FailsToBegin _ asked before after = ⊥
 
 -- how a session that is asked for went
-abbrev pub Happens : Result End Setback → Asked → Outside → Outside → Type 0
+abbrev pub Happens : Result End Undone → Asked → Outside → Outside → Type 0
 Happens (Ok end) asked before after = Worked asked before after end
-Happens (Err setback) asked before after = FailsToBegin setback asked before after
-
--- why a session that is asked for, of that device, didn't begin
-abbrev pub FailsToServe : Setback → Asked → Device → Workplace → Workplace → Type 0
-FailsToServe (DeviceRefused line) asked device before after = ⊥
-FailsToServe FileFault asked device before after = ⊥
-FailsToServe StoreFault asked device before after =
-    HasRisen before.store.failed after.store.failed × IsIdle before after
-FailsToServe (RowsRefused line) asked device before after =
-    RefusesRows device asked.store before.store line × IsIdle before after
-FailsToServe NoMemory asked device before after = IsIdle before after
+Happens (Err why) asked before after = FailsToBegin why asked before after
 
 -- the session that is asked for, of that device, or why it didn't begin
-abbrev pub ServesOr : Result End Setback → Asked → Device → Workplace → Workplace → Type 0
+abbrev pub ServesOr : Result End Undone → Asked → Device → Workplace → Workplace → Type 0
 ServesOr (Ok end) asked device before after = Works asked device before after end
-ServesOr (Err setback) asked device before after = FailsToServe setback asked device before after
+ServesOr (Err why) asked device before after =
+    FailsToOpenRows why device asked.store before.store after.store × IsIdle before after

@@ -2,14 +2,15 @@
 ghost use Rattle.std.specs.Prelude.{◌≡◌, ◌≤◌, ℕ, List as Items, [], Some, IfOk, OnOk, IfErr, IsTrue};
 ghost use Rattle.std.specs.Option.{option_copied};
 ghost use Rattle.am_model.specs.Sound.{IsSound};
-ghost use Rattle.am_shell.specs.Kept.{FailsToOpenRows, IsOrigin, IsRowRefusal, IsUnchanged, Leaves};
+ghost use Rattle.am_shell.specs.Kept.{FailsToOpenRows, IsOrigin, IsUnchanged, Leaves, unattached_of};
 ghost use Rattle.am_shell.specs.Lines.{rows_line};
 ghost use Rattle.am_shell.specs.Outside.{store_of};
 
-use crate::setback::Setback;
-use am_keeper::{Attached, Keeper, Store};
+use crate::undone::Undone;
+use am_keeper::{Attached, KeepFail, Keeper, Store};
 use am_machine::{Manager, begin};
 use am_opening::OpenFault;
+use am_setback::Setback;
 use am_types::{Device, NoMemory, Text};
 use std::alloc::Global;
 
@@ -19,7 +20,7 @@ pub fn open_manager<T: Store>(
     store: &mut T,
     device: Device,
     place: Option<&Text>,
-) -> Result<Manager<T::Kept>, Setback>
+) -> Result<Manager<T::Kept>, Undone>
     requires sound { IsSound device }
     ensures origin { IfOk result (λ manager. IsOrigin manager.origin device (option_copied place.entry)
         (store_of T.Store store.old)) }
@@ -27,24 +28,30 @@ pub fn open_manager<T: Store>(
     ensures attached { IsTrue (T.tells store.old) → OnOk result ((at : Items ℕ) →
         option_copied place.entry ≡ Some at → T.has_attached store.new at) }
     ensures unchanged { IsUnchanged (store_of T.Store store.old) (store_of T.Store store.new) }
-    ensures failed { IfErr result (λ setback. FailsToOpenRows setback device (option_copied place.entry)
+    ensures failed { IfErr result (λ why. FailsToOpenRows why device (option_copied place.entry)
         (store_of T.Store store.old) (store_of T.Store store.new)) }
 {
-    let attached = store.attach(place)?;
+    let attached = match store.attach(place) {
+        Ok(attached) => attached,
+        Err(fail) => {
+            drop(device);
+            return Err(unattached(fail));
+        }
+    };
     match begin(alloc, device, attached) {
         Ok(manager) => Ok(manager),
-        Err(OpenFault::NoMemory) => Err(Setback::NoMemory),
-        Err(OpenFault::Rows(name)) => Err(refusal(alloc, &name)),
+        Err(OpenFault::NoMemory) => Err(Undone::Setback(Setback::NoMemory)),
+        Err(OpenFault::Rows(name)) => Err(Undone::RowsRefused(rows_line(alloc, &name)?)),
     }
 }
 
-// The setback of a package of that name whose row is refused.
-fn refusal(alloc: Global, name: &Text) -> Setback
-    ensures { IsRowRefusal result name.now }
+// Why no manager began where the store attached no rows.
+fn unattached(fail: KeepFail) -> Undone
+    ensures { result ≡ unattached_of fail }
 {
-    match rows_line(alloc, name) {
-        Ok(line) => Setback::RowsRefused(line),
-        Err(NoMemory) => Setback::NoMemory,
+    match fail {
+        KeepFail::Failed => Undone::StoreFault,
+        KeepFail::NoMemory => Undone::Setback(Setback::NoMemory),
     }
 }
 

@@ -9,8 +9,8 @@ mod program;
 mod question;
 mod serving;
 mod session;
-mod setback;
 mod telling;
+mod undone;
 
 pub use program::run;
 pub use telling::tell_want;

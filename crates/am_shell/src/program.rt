@@ -1,7 +1,8 @@
 //! The top call.
 ghost use Rattle.am_http.specs.Links.{source_of, sink_of};
 ghost use Rattle.am_workers.specs.Serving.{network_of};
-ghost use Rattle.am_shell.specs.Outside.{shelf_of, store_of};
+ghost use Rattle.am_setback.specs.Files.{shelf_of};
+ghost use Rattle.am_shell.specs.Outside.{store_of};
 ghost use Rattle.am_shell.specs.Runs.{Runs};
 
 use crate::drilling::{Drilling, run_drill};

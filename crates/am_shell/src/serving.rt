@@ -5,19 +5,21 @@ ghost use Rattle.am_model.specs.Sound.{IsSound};
 ghost use Rattle.am_http.specs.Links.{sink_of};
 ghost use Rattle.am_http.specs.Sending.{Sends};
 ghost use Rattle.am_workers.specs.Serving.{network_of};
-ghost use Rattle.am_shell.specs.Outside.{shelf_of, store_of};
+ghost use Rattle.am_setback.specs.Files.{shelf_of};
+ghost use Rattle.am_shell.specs.Outside.{store_of};
 ghost use Rattle.am_shell.specs.Servings.{Happens, IsInRange, RunsServing, ServesOr, TellsDone, done_line};
 
 use crate::device::open_device;
 use crate::kept::{hand_back, open_manager};
-use crate::setback::Setback;
 use crate::telling::tell;
+use crate::undone::Undone;
 use am_found::kept_is_found;
 use am_http::write_all;
 use am_keeper::Store;
 use am_network::{Acceptor, ListenFail, Network};
 use am_outside::{Clock, Failed, Files, Sink};
-use am_types::{Device, NoMemory, Text};
+use am_setback::Setback;
+use am_types::{Device, Text};
 use am_workers::{Totals, serve};
 use itoa::Buffer;
 use std::alloc::Global;
@@ -46,52 +48,6 @@ pub struct Done {
     pub history: u64,
     /// What the workers did.
     pub totals: Totals,
-}
-
-/// Why a serving didn't begin.
-#[derive(Drop)]
-pub enum Unserved {
-    /// No work on the device began.
-    Setback(Setback),
-    /// The network failed to listen.
-    NetworkFault,
-}
-
-impl From<Setback> for Unserved {
-    ghost use Rattle.std.specs.Prelude.{◌≡◌};
-    ghost use Rattle.am_shell.specs.declared.serving.Unserved.TheVariants as unserved;
-
-    ghost from_gives = { λ setback why. why ≡ unserved.Setback setback };
-
-    fn from(setback: Setback) -> Unserved {
-        Unserved::Setback(setback)
-    }
-}
-
-impl From<NoMemory> for Unserved {
-    ghost use Rattle.std.specs.Prelude.{◌≡◌};
-    ghost use Rattle.am_shell.specs.declared.setback.Setback.TheVariants as setbacks;
-    ghost use Rattle.am_shell.specs.declared.serving.Unserved.TheVariants as unserved;
-
-    ghost from_gives = { λ _ why. why ≡ unserved.Setback setbacks.NoMemory };
-
-    fn from(_want: NoMemory) -> Unserved {
-        Unserved::Setback(Setback::NoMemory)
-    }
-}
-
-impl From<ListenFail> for Unserved {
-    ghost use Rattle.std.specs.Prelude.{◌≡◌};
-    ghost use Rattle.am_shell.specs.Fails.{unserved_of};
-
-    ghost from_gives = { λ fail why. why ≡ unserved_of fail };
-
-    fn from(fail: ListenFail) -> Unserved {
-        match fail {
-            ListenFail::Failed => Unserved::NetworkFault,
-            ListenFail::NoMemory => Unserved::Setback(Setback::NoMemory),
-        }
-    }
 }
 
 /// Runs the serving that is asked for: its workers serve the device over the network, beginning with the rows that the
@@ -134,8 +90,7 @@ where
 {
     match open_serving(rt, alloc, asked, files, network, store, clock) {
         Ok(done) => tell_done(done, output, errors),
-        Err(Unserved::Setback(setback)) => tell(setback.line(), setback.status(), errors),
-        Err(Unserved::NetworkFault) => tell("am: network fault\n", 9, errors),
+        Err(why) => tell(why.line(), why.status(), errors),
     }
 }
 
@@ -148,7 +103,7 @@ fn open_serving<R, F: Files, N: Network, T: Store, C: Clock>(
     network: &mut N,
     store: &mut T,
     clock: &C,
-) -> Result<Done, Unserved>
+) -> Result<Done, Undone>
 where
     R: Threads + Wait + Clone + Drop + Send + Sync,
     N::Gate: Send,
@@ -179,7 +134,7 @@ fn serve_device<R, N: Network, T: Store, C: Clock>(
     network: &mut N,
     store: &mut T,
     clock: &C,
-) -> Result<Done, Unserved>
+) -> Result<Done, Undone>
 where
     R: Threads + Wait + Clone + Drop + Send + Sync,
     N::Gate: Send,
@@ -210,7 +165,10 @@ where
         }
         Err(fail) => {
             hand_back(store, manager);
-            Err(fail.into())
+            match fail {
+                ListenFail::Failed => Err(Undone::NetworkFault),
+                ListenFail::NoMemory => Err(Undone::Setback(Setback::NoMemory)),
+            }
         }
     }
 }

@@ -2,16 +2,17 @@
 ghost use Rattle.std.specs.Prelude.{◌≡◌, ◌≤◌, [], IfOk, OnErr};
 ghost use Rattle.am_model.specs.Sound.{IsSound};
 ghost use Rattle.am_http.specs.Links.{link_of, sink_of, source_of, streams_of};
+ghost use Rattle.am_setback.specs.Files.{shelf_of};
 ghost use Rattle.am_shell.specs.Clocks.{ServesOn};
 ghost use Rattle.am_shell.specs.Sessions.{Happens, ServesOr};
 ghost use Rattle.am_shell.specs.Lines.{end_line, end_status};
-ghost use Rattle.am_shell.specs.Outside.{shelf_of, store_of};
+ghost use Rattle.am_shell.specs.Outside.{store_of};
 ghost use Rattle.am_shell.specs.Runs.{RunsSession};
 
 use crate::device::open_device;
 use crate::kept::{hand_back, open_manager};
-use crate::setback::Setback;
 use crate::telling::tell;
+use crate::undone::Undone;
 use am_desk::Desk;
 use am_found::kept_is_found;
 use am_http::{Buffers, End, serve_connection};
@@ -72,7 +73,7 @@ pub fn run_session<F: Files, S: Source, W: Sink, E: Sink, T: Store, C: Clock>(
 {
     match open_session(alloc, asked, files, input, output, store, clock) {
         Ok(end) => tell(end_line(end), end_status(end), errors),
-        Err(setback) => tell(setback.line(), setback.status(), errors),
+        Err(why) => tell(why.line(), why.status(), errors),
     }
 }
 
@@ -85,7 +86,7 @@ fn open_session<F: Files, S: Source, W: Sink, T: Store, C: Clock>(
     output: &mut W,
     store: &mut T,
     clock: &mut C,
-) -> Result<End, Setback>
+) -> Result<End, Undone>
     ensures { Happens result asked
         (record {
           files = shelf_of F.Files files.old;
@@ -116,7 +117,7 @@ fn serve_session<S: Source, W: Sink, T: Store, C: Clock>(
     output: &mut W,
     store: &mut T,
     clock: &mut C,
-) -> Result<End, Setback>
+) -> Result<End, Undone>
     requires sound { IsSound device }
     ensures { ServesOr result asked device
         (record {

@@ -6,11 +6,11 @@ ghost use Rattle.am_wire_fields.specs.Reading.{Gives};
 ghost use Rattle.am_wire.specs.Activities.{fields_of};
 ghost use Rattle.am_wire.specs.Accounts.{is_receiver, asks_receivers, explain_fields, permission_for, asked_with, explain_about, explain_of, explain_in};
 
-use crate::activities::fields_of;
+use crate::activities::fields_where;
 use crate::words::kind_of;
 use am_types::{Intent, Kind, Request, Text};
 use am_uri::Form;
-use am_wire_fields::{Unread, optional_text};
+use am_wire_fields::{Unread, optional_text, or_drop};
 use am_wire_intents::required_intent;
 use serde_json::Value;
 use std::alloc::Global;
@@ -41,11 +41,13 @@ fn asks_receivers(body: &Value) -> bool
 fn only_explain_fields(alloc: Global, receivers: bool, body: &Value) -> Result<(), Unread>
     ensures { Gives result (fields_of (explain_fields receivers) (view body.now)) }
 {
-    if receivers {
-        fields_of(alloc, &["kind", "intent", "as", "permission", "of"], body)
-    } else {
-        fields_of(alloc, &["kind", "intent", "as", "of"], body)
-    }
+    fields_where(
+        alloc,
+        receivers,
+        &["kind", "intent", "as", "permission", "of"],
+        &["kind", "intent", "as", "of"],
+        body,
+    )
 }
 
 /// The permission that receivers must hold, if the text `permission` says one.
@@ -79,19 +81,14 @@ fn asked_with(
 fn explain_about(alloc: Global, kind: Kind, intent: Intent, body: &Value) -> Result<Request, Unread>
     ensures { Gives result (explain_about kind intent (view body.now)) }
 {
-    match asked_with(alloc, kind, body) {
-        Ok((caller, permission, shown)) => Ok(Request::Explain {
-            kind,
-            intent,
-            caller,
-            permission,
-            shown,
-        }),
-        Err(fault) => {
-            drop(intent);
-            Err(fault)
-        }
-    }
+    let (caller, permission, shown) = or_drop!(asked_with(alloc, kind, body), intent);
+    Ok(Request::Explain {
+        kind,
+        intent,
+        caller,
+        permission,
+        shown,
+    })
 }
 
 /// A question that has no fields but its own.

@@ -1,12 +1,14 @@
 //! Queries, activities and services.
-ghost use Rattle.std.specs.Prelude.{map};
+ghost use Rattle.std.specs.Prelude.{map, if◌then◌else◌};
 ghost use Rattle.serde_json.specs.View.{view};
 ghost use Rattle.am_wire_fields.specs.Reading.{Gives};
 ghost use Rattle.am_wire.specs.Activities.{fields_of, plain_in, number_in, query_fields, default_only_of, query_in, start_in, finish_activity_in, start_service_in, stop_service_in, history_in};
 
 use crate::words::kind_of;
 use am_types::Request;
-use am_wire_fields::{Unread, only_fields, optional_natural, optional_truth, required_natural};
+use am_wire_fields::{
+    Unread, only_fields, optional_natural, optional_truth, or_drop, required_natural,
+};
 use am_wire_intents::{required_component, required_intent};
 use serde_json::Value;
 use std::alloc::Global;
@@ -19,18 +21,32 @@ pub fn fields_of(alloc: Global, fields: &[&str], body: &Value) -> Result<(), Unr
     only_fields(alloc, "body", fields, body)
 }
 
+/// Refuses a body that is no object with these fields only: those of the long list where there may be more, else those
+/// of the short one.
+pub fn fields_where(
+    alloc: Global,
+    more: bool,
+    long: &[&str],
+    short: &[&str],
+    body: &Value,
+) -> Result<(), Unread>
+    ensures { Gives result (fields_of (if more then map (λ listed. listed.now) long.now
+        else map (λ listed. listed.now) short.now) (view body.now)) }
+{
+    if more {
+        fields_of(alloc, long, body)
+    } else {
+        fields_of(alloc, short, body)
+    }
+}
+
 /// The request, which has no fields.
 #[tactic(auto, unfolding(crate::specs::Activities::plain_in))]
 pub fn plain_in(alloc: Global, request: Request, body: &Value) -> Result<Request, Unread>
     ensures { Gives result (plain_in request (view body.now)) }
 {
-    match fields_of(alloc, &[], body) {
-        Ok(()) => Ok(request),
-        Err(fault) => {
-            drop(request);
-            Err(fault)
-        }
-    }
+    or_drop!(fields_of(alloc, &[], body), request);
+    Ok(request)
 }
 
 /// What a body says whose only field is a whole number from 0 on.
@@ -66,17 +82,12 @@ pub fn query_in(alloc: Global, body: &Value) -> Result<Request, Unread>
     only_query_fields(alloc, body)?;
     let kind = kind_of(alloc, body)?;
     let intent = required_intent(alloc, "intent", body)?;
-    match default_only_of(alloc, body) {
-        Ok(default_only) => Ok(Request::Query {
-            kind,
-            intent,
-            default_only,
-        }),
-        Err(fault) => {
-            drop(intent);
-            Err(fault)
-        }
-    }
+    let default_only = or_drop!(default_only_of(alloc, body), intent);
+    Ok(Request::Query {
+        kind,
+        intent,
+        default_only,
+    })
 }
 
 /// A start of an activity: `intent`, and perhaps the number `source` of an activity instance.
@@ -86,13 +97,8 @@ pub fn start_in(alloc: Global, body: &Value) -> Result<Request, Unread>
 {
     fields_of(alloc, &["intent", "source"], body)?;
     let intent = required_intent(alloc, "intent", body)?;
-    match optional_natural(alloc, "source", body) {
-        Ok(source) => Ok(Request::Start { intent, source }),
-        Err(fault) => {
-            drop(intent);
-            Err(fault)
-        }
-    }
+    let source = or_drop!(optional_natural(alloc, "source", body), intent);
+    Ok(Request::Start { intent, source })
 }
 
 /// The end of an activity: the number `instance`.

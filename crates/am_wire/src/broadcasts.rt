@@ -5,11 +5,12 @@ ghost use Rattle.am_wire_fields.specs.Reading.{Gives};
 ghost use Rattle.am_wire.specs.Activities.{fields_of};
 ghost use Rattle.am_wire.specs.Broadcasts.{is_ordered, send_fields, ordered_in, ordered_if, sent_with, send_of, send_in, register_fields, register_in, unregister_in, sets_outcome, finish_fields, outcome_in, outcome_if, finish_of, finish_in};
 
-use crate::activities::{fields_of, number_in};
+use crate::activities::{fields_of, fields_where, number_in};
 use am_types::{Answer, Ordered, Outcome, Request, Text};
 use am_uri::Form;
 use am_wire_fields::{
-    Unread, field, optional_text, optional_truth, optional_whole, required_natural, required_whole,
+    Unread, field, optional_text, optional_truth, optional_whole, or_drop, required_natural,
+    required_whole,
 };
 use am_wire_intents::{optional_extras, required_filter, required_intent};
 use serde_json::Value;
@@ -31,23 +32,21 @@ fn is_ordered(body: &Value) -> bool
 fn only_send_fields(alloc: Global, ordered: bool, body: &Value) -> Result<(), Unread>
     ensures { Gives result (fields_of (send_fields ordered) (view body.now)) }
 {
-    if ordered {
-        fields_of(
-            alloc,
-            &[
-                "intent",
-                "permission",
-                "ordered",
-                "code",
-                "data",
-                "extras",
-                "result",
-            ],
-            body,
-        )
-    } else {
-        fields_of(alloc, &["intent", "permission", "ordered"], body)
-    }
+    fields_where(
+        alloc,
+        ordered,
+        &[
+            "intent",
+            "permission",
+            "ordered",
+            "code",
+            "data",
+            "extras",
+            "result",
+        ],
+        &["intent", "permission", "ordered"],
+        body,
+    )
 }
 
 /// How an ordered broadcast starts: `code`, which is 0 where it isn't there, perhaps the text `data` and `extras`, and
@@ -64,13 +63,8 @@ fn ordered_in(alloc: Global, body: &Value) -> Result<Ordered, Unread>
         text,
         extras,
     };
-    match optional_truth(alloc, "result", body) {
-        Ok(wanted) => Ok(Ordered { initial, wanted }),
-        Err(fault) => {
-            drop(initial);
-            Err(fault)
-        }
-    }
+    let wanted = or_drop!(optional_truth(alloc, "result", body), initial);
+    Ok(Ordered { initial, wanted })
 }
 
 /// How a broadcast starts, if it is an ordered one.
@@ -103,17 +97,12 @@ fn send_of(alloc: Global, body: &Value) -> Result<Request, Unread>
     ensures { Gives result (send_of (view body.now)) }
 {
     let intent = required_intent(alloc, "intent", body)?;
-    match sent_with(alloc, body) {
-        Ok((permission, ordered)) => Ok(Request::Send {
-            intent,
-            permission,
-            ordered,
-        }),
-        Err(fault) => {
-            drop(intent);
-            Err(fault)
-        }
-    }
+    let (permission, ordered) = or_drop!(sent_with(alloc, body), intent);
+    Ok(Request::Send {
+        intent,
+        permission,
+        ordered,
+    })
 }
 
 /// A broadcast: `intent`, perhaps the text `permission`, and `ordered`, which is false where it isn't there. Only where
@@ -141,13 +130,11 @@ pub fn register_in(alloc: Global, body: &Value) -> Result<Request, Unread>
 {
     only_register_fields(alloc, body)?;
     let filter = required_filter(alloc, "filter", body)?;
-    match optional_text(alloc, Form::Any, 1024, "permission", body) {
-        Ok(permission) => Ok(Request::Register { filter, permission }),
-        Err(fault) => {
-            drop(filter);
-            Err(fault)
-        }
-    }
+    let permission = or_drop!(
+        optional_text(alloc, Form::Any, 1024, "permission", body),
+        filter
+    );
+    Ok(Request::Register { filter, permission })
 }
 
 /// The receiver to be taken back: its `number`.
@@ -172,15 +159,13 @@ fn sets_outcome(body: &Value) -> bool
 fn only_finish_fields(alloc: Global, sets: bool, body: &Value) -> Result<(), Unread>
     ensures { Gives result (fields_of (finish_fields sets) (view body.now)) }
 {
-    if sets {
-        fields_of(
-            alloc,
-            &["delivery", "abort", "code", "data", "extras"],
-            body,
-        )
-    } else {
-        fields_of(alloc, &["delivery", "abort", "code"], body)
-    }
+    fields_where(
+        alloc,
+        sets,
+        &["delivery", "abort", "code", "data", "extras"],
+        &["delivery", "abort", "code"],
+        body,
+    )
 }
 
 /// The outcome that an answer sets: `code`, and perhaps the text `data` and `extras`.

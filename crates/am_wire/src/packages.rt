@@ -11,7 +11,7 @@ ghost use Rattle.am_wire.specs.Packages.{key_of, key_in, install_in, package_in,
 use crate::activities::fields_of;
 use am_types::{Request, Text};
 use am_uri::Form;
-use am_wire_fields::{Unread, required, required_text, required_truth, too_long, wrong_kind};
+use am_wire_fields::{Unread, required, required_text, required_truth, text_within, wrong_kind};
 use serde_json::Value;
 use std::alloc::{AllocError, Global};
 
@@ -36,10 +36,7 @@ fn key_of(alloc: Global, value: &Value) -> Result<Text, Unread>
     if !is_visible(text) {
         return Err(wrong_kind(alloc, "key"));
     }
-    if text.len() > 255 {
-        return Err(too_long(alloc, "key"));
-    }
-    Ok(Text::of(alloc, text)?)
+    text_within(alloc, 255, "key", text)
 }
 
 /// The field `key`, which must be there: 1 to 255 visible ASCII characters.

@@ -7,7 +7,7 @@ use crate::activities::{fields_of, number_in};
 use crate::words::{pending_flags_of, pending_kind_of};
 use am_types::Request;
 use am_uri::Form;
-use am_wire_fields::{Unread, required_natural, required_text, required_whole};
+use am_wire_fields::{Unread, or_drop, required_natural, required_text, required_whole};
 use am_wire_intents::{optional_intent, required_intent};
 use serde_json::Value;
 use std::alloc::Global;
@@ -20,18 +20,13 @@ fn get_of(alloc: Global, body: &Value) -> Result<Request, Unread>
     let kind = pending_kind_of(alloc, body)?;
     let code = required_whole(alloc, "code", body)?;
     let intent = required_intent(alloc, "intent", body)?;
-    match pending_flags_of(alloc, body) {
-        Ok(flags) => Ok(Request::PendingGet {
-            kind,
-            code,
-            intent,
-            flags,
-        }),
-        Err(fault) => {
-            drop(intent);
-            Err(fault)
-        }
-    }
+    let flags = or_drop!(pending_flags_of(alloc, body), intent);
+    Ok(Request::PendingGet {
+        kind,
+        code,
+        intent,
+        flags,
+    })
 }
 
 /// A request for a pending intent: `kind`, the signed number `code`, `intent` and the list `flags`.

@@ -9,11 +9,14 @@ use Rattle.am_wire_fields.specs.declared.fault.WireFault.TheVariants.{WrongKind,
 use Rattle.am_wire_fields.specs.Fields.{field, if_said, required}
 use Rattle.am_wire_fields.specs.Reading.{◌>>=◌}
 
+-- the text, unless it has more bytes than so many
+abbrev pub text_within : ℕ → List ℕ → List ℕ → Result (List ℕ) WireFault
+text_within limit name text = if nat_lt limit (length text) then Err (TooLong name) else Ok text
+
 -- a text of the form with at most so many bytes; none stands for a value that is no text
 unfoldable pub text_of : Form → ℕ → List ℕ → Option (List ℕ) → Result (List ℕ) WireFault
 text_of form limit name None = Err (WrongKind name)
-text_of form limit name (Some text) =
-    if fits form text then (if nat_lt limit (length text) then Err (TooLong name) else Ok text) else Err (WrongKind name)
+text_of form limit name (Some text) = if fits form text then text_within limit name text else Err (WrongKind name)
 
 -- the text that a value says
 unfoldable pub text_in : Form → ℕ → List ℕ → Data → Result (List ℕ) WireFault

@@ -6,6 +6,7 @@ mod body;
 mod fault;
 mod fields;
 mod lists;
+mod macros;
 mod naming;
 mod numbers;
 mod print;
@@ -19,4 +20,4 @@ pub use naming::{missing, too_long, unknown_field, wrong_kind};
 pub use numbers::{
     natural_in, optional_natural, optional_whole, required_natural, required_whole, whole_in,
 };
-pub use texts::{optional_text, required_text, text_in};
+pub use texts::{optional_text, required_text, text_in, text_within};

@@ -3,9 +3,9 @@ ghost use Rattle.serde_json.specs.View.{view};
 ghost use Rattle.am_wire_fields.specs.Reading.{Gives};
 ghost use Rattle.am_wire_fields.specs.Numbers.{natural_in, optional_natural, optional_whole, required_natural, required_whole, whole_in};
 
-use crate::Unread;
-use crate::fields::{field, required};
+use crate::fields::required;
 use crate::naming::wrong_kind;
+use crate::{Unread, if_said};
 use serde_json::Value;
 use std::alloc::Global;
 
@@ -74,11 +74,7 @@ pub fn required_whole(alloc: Global, name: &str, object: &Value) -> Result<i64, 
 pub fn optional_natural(alloc: Global, name: &str, object: &Value) -> Result<Option<u64>, Unread>
     ensures { Gives result (optional_natural name.now (view object.now)) }
 {
-    let Some(value) = field(name, object) else {
-        return Ok(None);
-    };
-    let number = natural_in(alloc, name, value)?;
-    Ok(Some(number))
+    if_said!(name, object, |value| natural_in(alloc, name, value))
 }
 
 /// The signed number that a field says: none where it isn't there or is null.
@@ -90,9 +86,5 @@ pub fn optional_natural(alloc: Global, name: &str, object: &Value) -> Result<Opt
 pub fn optional_whole(alloc: Global, name: &str, object: &Value) -> Result<Option<i64>, Unread>
     ensures { Gives result (optional_whole name.now (view object.now)) }
 {
-    let Some(value) = field(name, object) else {
-        return Ok(None);
-    };
-    let number = whole_in(alloc, name, value)?;
-    Ok(Some(number))
+    if_said!(name, object, |value| whole_in(alloc, name, value))
 }

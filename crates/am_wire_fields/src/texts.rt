@@ -2,15 +2,29 @@
 ghost use Rattle.std.specs.Prelude.{Some};
 ghost use Rattle.serde_json.specs.View.{view};
 ghost use Rattle.am_wire_fields.specs.Reading.{Gives};
-ghost use Rattle.am_wire_fields.specs.Texts.{optional_text, required_text, text_in, text_of};
+ghost use Rattle.am_wire_fields.specs.Texts.{optional_text, required_text, text_in, text_of, text_within};
 
-use crate::Unread;
-use crate::fields::{field, required};
+use crate::fields::required;
 use crate::naming::{too_long, wrong_kind};
+use crate::{Unread, if_said};
 use am_types::Text;
 use am_uri::Form;
 use serde_json::Value;
 use std::alloc::Global;
+
+/// The text, unless it has more than `limit` bytes. `name` is what a fault calls it.
+///
+/// # Errors
+///
+/// Where the text is too long.
+pub fn text_within(alloc: Global, limit: usize, name: &str, text: &str) -> Result<Text, Unread>
+    ensures { Gives result (text_within limit name.now text.now) }
+{
+    if text.len() > limit {
+        return Err(too_long(alloc, name));
+    }
+    Ok(Text::of(alloc, text)?)
+}
 
 /// The text, if it may stand there.
 #[tactic(auto, unfolding(crate::specs::Texts::text_of))]
@@ -20,10 +34,7 @@ fn fitting(alloc: Global, form: Form, limit: usize, name: &str, text: &str) -> R
     if !form.fits(text) {
         return Err(wrong_kind(alloc, name));
     }
-    if text.len() > limit {
-        return Err(too_long(alloc, name));
-    }
-    Ok(Text::of(alloc, text)?)
+    text_within(alloc, limit, name, text)
 }
 
 /// The text of the form that a value says, of at most `limit` bytes. `name` is what a fault calls the value.
@@ -81,9 +92,9 @@ pub fn optional_text(
 ) -> Result<Option<Text>, Unread>
     ensures { Gives result (optional_text form limit name.now (view object.now)) }
 {
-    let Some(value) = field(name, object) else {
-        return Ok(None);
-    };
-    let text = text_in(alloc, form, limit, name, value)?;
-    Ok(Some(text))
+    if_said!(
+        name,
+        object,
+        |value| text_in(alloc, form, limit, name, value)
+    )
 }

@@ -7,7 +7,7 @@ ghost use Rattle.am_wire_intents.specs.Components.{component_in, full_class, mea
 
 use am_types::{Component, Text};
 use am_uri::{Form, starts_with_dot};
-use am_wire_fields::{Unread, field, required, too_long, wrong_kind};
+use am_wire_fields::{Unread, if_said, required, too_long, wrong_kind};
 use serde_json::Value;
 use std::alloc::{AllocError, Global};
 
@@ -113,9 +113,5 @@ pub fn optional_component(
 ) -> Result<Option<Component>, Unread>
     ensures { Gives result (optional_component name.now (view object.now)) }
 {
-    let Some(value) = field(name, object) else {
-        return Ok(None);
-    };
-    let component = component_in(alloc, name, value)?;
-    Ok(Some(component))
+    if_said!(name, object, |value| component_in(alloc, name, value))
 }

@@ -5,7 +5,7 @@ ghost use Rattle.am_wire_fields.specs.Reading.{Gives, GivesBy};
 ghost use Rattle.am_wire_intents.specs.Extras.{each_named, extra_in, extras_in, few_extras, named_in, optional_extras, short};
 
 use am_types::{Extra, List, Named, Text};
-use am_wire_fields::{Unread, field, too_long, wrong_kind};
+use am_wire_fields::{Unread, field, text_within, too_long, wrong_kind};
 use serde_json::{Map, Value};
 use std::alloc::Global;
 
@@ -14,10 +14,7 @@ use std::alloc::Global;
 fn short(alloc: Global, text: &str) -> Result<Text, Unread>
     ensures { Gives result (short text.now) }
 {
-    if text.len() > 1024 {
-        return Err(too_long(alloc, "extras"));
-    }
-    Ok(Text::of(alloc, text)?)
+    text_within(alloc, 1024, "extras", text)
 }
 
 /// The extra that a value is.

@@ -8,7 +8,9 @@ use crate::intents::categories_of;
 use crate::rows::rows_at;
 use am_types::{Filter, List, Text};
 use am_uri::{Form, sorted};
-use am_wire_fields::{Unread, field, list_in, only_fields, required, texts_in, wrong_kind};
+use am_wire_fields::{
+    Unread, field, list_in, only_fields, or_drop, required, texts_in, wrong_kind,
+};
 use serde_json::Value;
 use std::alloc::Global;
 
@@ -63,21 +65,16 @@ fn filter_of(alloc: Global, filter: &Value) -> Result<Filter, Unread>
     let actions = actions_at(alloc, filter)?;
     let categories = categories_of(alloc, Form::Filled, filter)?;
     let rows = rows_at(alloc, filter)?;
-    match priority_at(alloc, filter) {
-        Ok(priority) => Ok(Filter {
-            actions,
-            categories,
-            schemes: rows.schemes,
-            authorities: rows.authorities,
-            paths: rows.paths,
-            types: rows.types,
-            priority,
-        }),
-        Err(fault) => {
-            drop(rows);
-            Err(fault)
-        }
-    }
+    let priority = or_drop!(priority_at(alloc, filter), rows);
+    Ok(Filter {
+        actions,
+        categories,
+        schemes: rows.schemes,
+        authorities: rows.authorities,
+        paths: rows.paths,
+        types: rows.types,
+        priority,
+    })
 }
 
 /// The filter that a value is: an object with the field `actions`, of one action or more, and perhaps `categories`,

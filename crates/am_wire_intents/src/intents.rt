@@ -13,7 +13,8 @@ use crate::flags::flags_of;
 use am_types::{Component, Flags, Intent, List, Mime, MimeFault, Named, Text, Uri, UriFault};
 use am_uri::{Form, parse_mime, parse_uri, sorted};
 use am_wire_fields::{
-    Unread, WireFault, field, only_fields, optional_text, optional_texts, required, text_in,
+    Unread, WireFault, if_said, only_fields, optional_text, optional_texts, or_drop, required,
+    text_in,
 };
 use serde_json::Value;
 use std::alloc::Global;
@@ -44,11 +45,7 @@ fn uri_in(alloc: Global, name: &str, value: &Value) -> Result<Uri, Unread>
 fn optional_uri(alloc: Global, name: &str, object: &Value) -> Result<Option<Uri>, Unread>
     ensures { Gives result (optional_uri name.now (view object.now)) }
 {
-    let Some(value) = field(name, object) else {
-        return Ok(None);
-    };
-    let uri = uri_in(alloc, name, value)?;
-    Ok(Some(uri))
+    if_said!(name, object, |value| uri_in(alloc, name, value))
 }
 
 /// The MIME type that a text is.
@@ -77,11 +74,7 @@ fn mime_in(alloc: Global, name: &str, value: &Value) -> Result<Mime, Unread>
 fn optional_mime(alloc: Global, name: &str, object: &Value) -> Result<Option<Mime>, Unread>
     ensures { Gives result (optional_mime name.now (view object.now)) }
 {
-    let Some(value) = field(name, object) else {
-        return Ok(None);
-    };
-    let mime = mime_in(alloc, name, value)?;
-    Ok(Some(mime))
+    if_said!(name, object, |value| mime_in(alloc, name, value))
 }
 
 /// The categories that an intent or a filter lists, each of the form, sorted by bytes, each once.
@@ -201,13 +194,8 @@ pub fn intent_in(alloc: Global, name: &str, value: &Value) -> Result<Intent, Unr
 {
     only_intent_fields(alloc, name, value)?;
     let asked = asked_in(alloc, value)?;
-    match carried_in(alloc, value) {
-        Ok(carried) => Ok(intent_of(asked, carried)),
-        Err(fault) => {
-            drop(asked);
-            Err(fault)
-        }
-    }
+    let carried = or_drop!(carried_in(alloc, value), asked);
+    Ok(intent_of(asked, carried))
 }
 
 /// The intent that a field is, which must be there.
@@ -232,9 +220,5 @@ pub fn required_intent(alloc: Global, name: &str, object: &Value) -> Result<Inte
 pub fn optional_intent(alloc: Global, name: &str, object: &Value) -> Result<Option<Intent>, Unread>
     ensures { Gives result (optional_intent name.now (view object.now)) }
 {
-    let Some(value) = field(name, object) else {
-        return Ok(None);
-    };
-    let intent = intent_in(alloc, name, value)?;
-    Ok(Some(intent))
+    if_said!(name, object, |value| intent_in(alloc, name, value))
 }

@@ -14,7 +14,8 @@ use am_filter::{DataRow, DataRows, Paths, merge_rows};
 use am_types::{Authority, Glob, Mime, Text};
 use am_uri::{Form, is_scheme};
 use am_wire_fields::{
-    Unread, field, only_fields, optional_list, optional_text, text_in, too_long, wrong_kind,
+    Unread, field, if_said, only_fields, optional_list, optional_text, or_drop, text_in,
+    text_within, wrong_kind,
 };
 use serde_json::Value;
 use std::alloc::Global;
@@ -27,10 +28,7 @@ fn scheme_of(alloc: Global, text: &str) -> Result<Text, Unread>
     if !is_scheme(text) {
         return Err(wrong_kind(alloc, "scheme"));
     }
-    if text.len() > 1024 {
-        return Err(too_long(alloc, "scheme"));
-    }
-    Ok(Text::of(alloc, text)?)
+    text_within(alloc, 1024, "scheme", text)
 }
 
 /// The scheme that a value says.
@@ -49,11 +47,7 @@ fn scheme_in(alloc: Global, value: &Value) -> Result<Text, Unread>
 fn scheme_at(alloc: Global, row: &Value) -> Result<Option<Text>, Unread>
     ensures { Gives result (scheme_at (view row.now)) }
 {
-    let Some(value) = field("scheme", row) else {
-        return Ok(None);
-    };
-    let scheme = scheme_in(alloc, value)?;
-    Ok(Some(scheme))
+    if_said!("scheme", row, |value| scheme_in(alloc, value))
 }
 
 /// The port of a row, from 0 to 99,999.
@@ -130,11 +124,7 @@ fn row_type(alloc: Global, value: &Value) -> Result<Mime, Unread>
 fn type_at(alloc: Global, row: &Value) -> Result<Option<Mime>, Unread>
     ensures { Gives result (type_at (view row.now)) }
 {
-    let Some(value) = field("mimeType", row) else {
-        return Ok(None);
-    };
-    let mime = row_type(alloc, value)?;
-    Ok(Some(mime))
+    if_said!("mimeType", row, |value| row_type(alloc, value))
 }
 
 /// What the keys of a row say.
@@ -145,18 +135,13 @@ fn row_of(alloc: Global, row: &Value) -> Result<DataRow, Unread>
     let scheme = scheme_at(alloc, row)?;
     let authority = authority_at(alloc, row)?;
     let paths = paths_at(alloc, row)?;
-    match type_at(alloc, row) {
-        Ok(mime) => Ok(DataRow {
-            scheme,
-            authority,
-            paths,
-            mime,
-        }),
-        Err(fault) => {
-            drop(paths);
-            Err(fault)
-        }
-    }
+    let mime = or_drop!(type_at(alloc, row), paths);
+    Ok(DataRow {
+        scheme,
+        authority,
+        paths,
+        mime,
+    })
 }
 
 /// Refuses a value that is no object with the keys of a row only.

@@ -2,7 +2,7 @@
 ghost use Rattle.std.specs.Prelude.{◌≡◌, IfOk};
 ghost use Rattle.serde_json.specs.View.{view};
 ghost use Rattle.am_types.specs.declared.account.Standing.TheVariants.{Filters, Narrowed};
-ghost use Rattle.am_wire_values.specs.Replies.{standing_data};
+ghost use Rattle.am_wire_values.specs.Replies.{account_data, reason_data, standing_data};
 
 use crate::fields::put_word;
 use crate::names::{narrowing_name, why_name};
@@ -14,8 +14,6 @@ use std::alloc::{AllocError, Global};
 
 /// Why a filter doesn't pass.
 impl Shown for Why {
-    ghost use Rattle.am_wire_values.specs.Replies.{reason_data};
-
     ghost as_data = { reason_data };
 
     fn value(&self, alloc: Global) -> Result<Value, AllocError> {
@@ -61,8 +59,6 @@ fn standing_value(alloc: Global, to: &Aim, standing: &Standing) -> Result<Value,
 }
 
 impl Shown for Account {
-    ghost use Rattle.am_wire_values.specs.Replies.{account_data};
-
     ghost as_data = { account_data };
 
     fn value(&self, alloc: Global) -> Result<Value, AllocError> {

@@ -2,7 +2,7 @@
 ghost use Rattle.std.specs.Prelude.{◌≡◌, ◌++◌, IfOk, OnOk, codes, map};
 ghost use Rattle.serde_json.specs.View.{view, members_view};
 ghost use Rattle.am_wire_values.specs.Fields.{put_given, some_listed};
-ghost use Rattle.am_wire_values.specs.Filters.{filter_data, row_of, rows_of};
+ghost use Rattle.am_wire_values.specs.Filters.{authority_row, filter_data, path_row, row_of, rows_of};
 
 use crate::fields::{Members, put_given, put_some_texts, put_some_whole, some_listed};
 use crate::shown::{Shown, one, put_shown, put_some};
@@ -26,8 +26,6 @@ pub fn filter_value(alloc: Global, filter: &Filter) -> Result<Value, AllocError>
 }
 
 impl Shown for Filter {
-    ghost use Rattle.am_wire_values.specs.Filters.{filter_data};
-
     ghost as_data = { filter_data };
 
     fn value(&self, alloc: Global) -> Result<Value, AllocError> {
@@ -83,8 +81,6 @@ fn add_keyed<T: Shown>(
 
 /// The row of an authority.
 impl Shown for Authority {
-    ghost use Rattle.am_wire_values.specs.Filters.{authority_row};
-
     ghost as_data = { authority_row };
 
     fn value(&self, alloc: Global) -> Result<Value, AllocError> {
@@ -97,8 +93,6 @@ impl Shown for Authority {
 
 /// The row of a path rule.
 impl Shown for PathRule {
-    ghost use Rattle.am_wire_values.specs.Filters.{path_row};
-
     ghost as_data = { path_row };
 
     fn value(&self, alloc: Global) -> Result<Value, AllocError> {

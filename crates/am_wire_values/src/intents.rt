@@ -3,7 +3,7 @@ ghost use Rattle.std.specs.Prelude.{◌≡◌, IfOk, OnOk, codes};
 ghost use Rattle.serde_json.specs.Data.{no_members};
 ghost use Rattle.serde_json.specs.View.{view, members_view};
 ghost use Rattle.am_wire_values.specs.Fields.{put_given};
-ghost use Rattle.am_wire_values.specs.Intents.{aimed, asked, carried, extras_data, intent_data, some_extras, with_extras};
+ghost use Rattle.am_wire_values.specs.Intents.{aimed, asked, carried, component_data, extra_data, extras_data, intent_data, mime_data, some_extras, uri_data, with_extras};
 
 use crate::fields::{Members, put_given, put_some_texts, some_listed};
 use crate::names::flag_values;
@@ -25,8 +25,6 @@ pub fn intent_value(alloc: Global, intent: &Intent) -> Result<Value, AllocError>
 }
 
 impl Shown for Intent {
-    ghost use Rattle.am_wire_values.specs.Intents.{intent_data};
-
     ghost as_data = { intent_data };
 
     fn value(&self, alloc: Global) -> Result<Value, AllocError> {
@@ -83,8 +81,6 @@ pub(crate) fn put_some_extras(
 
 /// A URI, as it was written.
 impl Shown for Uri {
-    ghost use Rattle.am_wire_values.specs.Intents.{uri_data};
-
     ghost as_data = { uri_data };
 
     fn value(&self, alloc: Global) -> Result<Value, AllocError> {
@@ -94,8 +90,6 @@ impl Shown for Uri {
 
 /// A MIME type: main/sub.
 impl Shown for Mime {
-    ghost use Rattle.am_wire_values.specs.Intents.{mime_data};
-
     ghost as_data = { mime_data };
 
     fn value(&self, alloc: Global) -> Result<Value, AllocError> {
@@ -107,8 +101,6 @@ impl Shown for Mime {
 
 /// A component: package/class.
 impl Shown for Component {
-    ghost use Rattle.am_wire_values.specs.Intents.{component_data};
-
     ghost as_data = { component_data };
 
     fn value(&self, alloc: Global) -> Result<Value, AllocError> {
@@ -138,8 +130,6 @@ fn put_extras(alloc: Global, members: &mut Members, extras: &[Named]) -> Result<
 }
 
 impl Shown for Extra {
-    ghost use Rattle.am_wire_values.specs.Intents.{extra_data};
-
     ghost as_data = { extra_data };
 
     fn value(&self, alloc: Global) -> Result<Value, AllocError> {

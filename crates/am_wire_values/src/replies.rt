@@ -3,12 +3,12 @@ ghost use Rattle.std.specs.Prelude.{◌≡◌, IfOk, OnOk, string_bytes};
 ghost use Rattle.serde_json.specs.Data.{object, no_members};
 ghost use Rattle.serde_json.specs.View.{view, members_view};
 ghost use Rattle.serde_json.specs.Written.{compact_text};
-ghost use Rattle.am_types.specs.declared.reply.Reply.TheVariants.{Entries, Status};
+ghost use Rattle.am_types.specs.declared.reply.Reply.TheVariants.{Entries};
 ghost use Rattle.am_wire_values.specs.Replies.{reply_data, status_of};
 
 use crate::fields::{Members, listed};
 use crate::rules::{put_refusal, rule_status};
-use crate::shown::{put_shown, put_two};
+use crate::shown::{put_shown, put_three, put_two};
 use crate::views::{entry_values, put_landed};
 use am_types::{Entry, NoMemory, Reply};
 use serde_json::{Map, Value, put};
@@ -78,7 +78,9 @@ fn put_reply(alloc: Global, members: &mut Members, reply: &Reply) -> Result<(), 
             history,
             moment,
             packages,
-        } => put_status(alloc, members, *history, *moment, *packages),
+        } => put_three(
+            alloc, members, "history", history, "moment", moment, "packages", packages,
+        ),
         Reply::Plain => Ok(()),
     }
 }
@@ -96,22 +98,6 @@ fn put_stored(
     let entries = listed(entry_values(alloc, from, entries)?);
     put(members, alloc, "entries", entries)?;
     put_shown(alloc, members, "from", &from)
-}
-
-#[tactic(auto, unfolding(crate::specs::Replies::reply_data))]
-fn put_status(
-    alloc: Global,
-    members: &mut Members,
-    history: u64,
-    moment: u64,
-    packages: u32,
-) -> Result<(), AllocError>
-    requires { members_view members.old.entries ≡ no_members }
-    ensures { OnOk result (object (members_view members.new.entries) ≡ reply_data (Status history moment packages)) }
-{
-    put_shown(alloc, members, "history", &history)?;
-    put_shown(alloc, members, "moment", &moment)?;
-    put_shown(alloc, members, "packages", &packages)
 }
 
 /// The status of the reply. Takes no memory.

@@ -2,13 +2,13 @@
 ghost use Rattle.std.specs.Prelude.{◌≡◌, IfOk, OnOk};
 ghost use Rattle.serde_json.specs.Data.{object, no_members};
 ghost use Rattle.serde_json.specs.View.{view, members_view};
-ghost use Rattle.am_wire_values.specs.Requests.{explain_data, finish_data, get_data, grant_data, link_data, pending_send_data, query_data, register_data, request_data, send_data, start_data};
+ghost use Rattle.am_wire_values.specs.Requests.{explain_data, finish_data, get_data, query_data, request_data, send_data};
 
 use crate::fields::{Members, listed, put_some_truth, put_word};
 use crate::names::{kind_name, pending_flag_values, pending_name};
 use crate::outcomes::{put_order, put_set};
-use crate::shown::{Shown, put_shown, put_some, put_two};
-use am_types::{Answer, Filter, Intent, Kind, Ordered, PendingFlags, Request, Text};
+use crate::shown::{Shown, put_shown, put_some, put_three, put_two, put_with};
+use am_types::{Answer, Intent, Kind, Ordered, PendingFlags, Request, Text};
 use serde_json::{Map, Value, put};
 use std::alloc::{AllocError, Global};
 
@@ -23,8 +23,6 @@ pub fn request_value(alloc: Global, request: &Request) -> Result<Value, AllocErr
 }
 
 impl Shown for Request {
-    ghost use Rattle.am_wire_values.specs.Requests.{request_data};
-
     ghost as_data = { request_data };
 
     fn value(&self, alloc: Global) -> Result<Value, AllocError> {
@@ -33,7 +31,7 @@ impl Shown for Request {
 }
 
 /// Puts what the body of a request says.
-#[tactic(auto, unfolding(crate::specs::Requests::request_data))]
+#[tactic(auto, unfolding(crate::specs::Requests::request_data, crate::specs::Requests::start_data, crate::specs::Requests::register_data, crate::specs::Requests::pending_send_data, crate::specs::Requests::grant_data, crate::specs::Requests::link_data))]
 fn put_request(alloc: Global, members: &mut Members, request: &Request) -> Result<(), AllocError>
     requires { members_view members.old.entries ≡ no_members }
     ensures { OnOk result (object (members_view members.new.entries) ≡ request_data request.now) }
@@ -51,7 +49,9 @@ fn put_request(alloc: Global, members: &mut Members, request: &Request) -> Resul
             permission,
             shown,
         } => put_explain(alloc, members, *kind, intent, caller, permission, shown),
-        Request::Start { intent, source } => put_start(alloc, members, intent, *source),
+        Request::Start { intent, source } => put_with(
+            alloc, members, "intent", intent, "source", source,
+        ),
         Request::FinishActivity { instance } => put_shown(alloc, members, "instance", instance),
         Request::StartService { intent } => put_shown(alloc, members, "intent", intent),
         Request::StopService { component } => put_shown(alloc, members, "component", component),
@@ -60,8 +60,13 @@ fn put_request(alloc: Global, members: &mut Members, request: &Request) -> Resul
             permission,
             ordered,
         } => put_send(alloc, members, intent, permission, ordered),
-        Request::Register { filter, permission } => put_register(
-            alloc, members, filter, permission,
+        Request::Register { filter, permission } => put_with(
+            alloc,
+            members,
+            "filter",
+            filter,
+            "permission",
+            permission,
         ),
         Request::Unregister { number } => put_shown(alloc, members, "number", number),
         Request::Finish { delivery, answer } => put_finish(alloc, members, *delivery, answer),
@@ -71,7 +76,9 @@ fn put_request(alloc: Global, members: &mut Members, request: &Request) -> Resul
             intent,
             flags,
         } => put_get(alloc, members, *kind, *code, intent, *flags),
-        Request::PendingSend { token, fill } => put_pending_send(alloc, members, *token, fill),
+        Request::PendingSend { token, fill } => put_with(
+            alloc, members, "token", token, "fill", fill,
+        ),
         Request::PendingCancel { token } => put_shown(alloc, members, "token", token),
         Request::PendingGive { token, package } => put_two(
             alloc, members, "package", package, "token", token,
@@ -82,12 +89,23 @@ fn put_request(alloc: Global, members: &mut Members, request: &Request) -> Resul
             package,
             permission,
             held,
-        } => put_grant(alloc, members, package, permission, *held),
+        } => put_three(
+            alloc,
+            members,
+            "package",
+            package,
+            "permission",
+            permission,
+            "held",
+            held,
+        ),
         Request::Link {
             package,
             host,
             approved,
-        } => put_link(alloc, members, package, host, *approved),
+        } => put_three(
+            alloc, members, "package", package, "host", host, "approved", approved,
+        ),
         Request::ForceStop { package } => put_shown(alloc, members, "package", package),
         Request::History { from } => put_shown(alloc, members, "from", from),
         Request::Back
@@ -135,20 +153,6 @@ fn put_explain(
     put_some(alloc, members, "of", shown)
 }
 
-#[tactic(auto, unfolding(crate::specs::Requests::start_data))]
-fn put_start(
-    alloc: Global,
-    members: &mut Members,
-    intent: &Intent,
-    source: Option<u64>,
-) -> Result<(), AllocError>
-    requires { members_view members.old.entries ≡ no_members }
-    ensures { OnOk result (object (members_view members.new.entries) ≡ start_data intent.now source) }
-{
-    put_shown(alloc, members, "intent", intent)?;
-    put_some(alloc, members, "source", &source)
-}
-
 #[tactic(auto, unfolding(crate::specs::Requests::send_data))]
 fn put_send(
     alloc: Global,
@@ -160,23 +164,8 @@ fn put_send(
     requires { members_view members.old.entries ≡ no_members }
     ensures { OnOk result (object (members_view members.new.entries) ≡ send_data intent.now permission.now ordered.now) }
 {
-    put_shown(alloc, members, "intent", intent)?;
-    put_some(alloc, members, "permission", permission)?;
+    put_with(alloc, members, "intent", intent, "permission", permission)?;
     put_order(alloc, members, ordered)
-}
-
-#[tactic(auto, unfolding(crate::specs::Requests::register_data))]
-fn put_register(
-    alloc: Global,
-    members: &mut Members,
-    filter: &Filter,
-    permission: &Option<Text>,
-) -> Result<(), AllocError>
-    requires { members_view members.old.entries ≡ no_members }
-    ensures { OnOk result (object (members_view members.new.entries) ≡ register_data filter.now permission.now) }
-{
-    put_shown(alloc, members, "filter", filter)?;
-    put_some(alloc, members, "permission", permission)
 }
 
 #[tactic(auto, unfolding(crate::specs::Requests::finish_data))]
@@ -211,50 +200,4 @@ fn put_get(
     put_shown(alloc, members, "intent", intent)?;
     let flags = pending_flag_values(alloc, flags)?;
     put(members, alloc, "flags", listed(flags))
-}
-
-#[tactic(auto, unfolding(crate::specs::Requests::pending_send_data))]
-fn put_pending_send(
-    alloc: Global,
-    members: &mut Members,
-    token: u64,
-    fill: &Option<Intent>,
-) -> Result<(), AllocError>
-    requires { members_view members.old.entries ≡ no_members }
-    ensures { OnOk result (object (members_view members.new.entries) ≡ pending_send_data token fill.now) }
-{
-    put_shown(alloc, members, "token", &token)?;
-    put_some(alloc, members, "fill", fill)
-}
-
-#[tactic(auto, unfolding(crate::specs::Requests::grant_data))]
-fn put_grant(
-    alloc: Global,
-    members: &mut Members,
-    package: &Text,
-    permission: &Text,
-    held: bool,
-) -> Result<(), AllocError>
-    requires { members_view members.old.entries ≡ no_members }
-    ensures { OnOk result (object (members_view members.new.entries) ≡ grant_data «package».now permission.now held) }
-{
-    put_shown(alloc, members, "package", package)?;
-    put_shown(alloc, members, "permission", permission)?;
-    put_shown(alloc, members, "held", &held)
-}
-
-#[tactic(auto, unfolding(crate::specs::Requests::link_data))]
-fn put_link(
-    alloc: Global,
-    members: &mut Members,
-    package: &Text,
-    host: &Text,
-    approved: bool,
-) -> Result<(), AllocError>
-    requires { members_view members.old.entries ≡ no_members }
-    ensures { OnOk result (object (members_view members.new.entries) ≡ link_data «package».now host.now approved) }
-{
-    put_shown(alloc, members, "package", package)?;
-    put_shown(alloc, members, "host", host)?;
-    put_shown(alloc, members, "approved", &approved)
 }

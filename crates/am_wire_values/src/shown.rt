@@ -1,8 +1,9 @@
 //! What is shown as a JSON value: alone, in an array, or under a name.
 ghost use Rattle.std.specs.Prelude.{◌≡◌, IfOk, OnOk, map, option_map};
-ghost use Rattle.serde_json.specs.Data.{put as with_member};
+ghost use Rattle.serde_json.specs.Data.{boolean, no_members, object, put as with_member, string};
 ghost use Rattle.serde_json.specs.View.{view, members_view};
-ghost use Rattle.am_wire_values.specs.Fields.{put_given};
+ghost use Rattle.am_wire_values.specs.Fields.{listed, natural, put_given, whole};
+ghost use Rattle.am_wire_values.specs.Replies.{number_or_null, text_or_null};
 ghost use Rattle.am_wire_values.specs.Requests.{with_one, with_two};
 
 use crate::fields::{Members, listed};
@@ -24,8 +25,6 @@ pub(crate) trait Shown {
 }
 
 impl Shown for bool {
-    ghost use Rattle.serde_json.specs.Data.{boolean};
-
     ghost as_data = { boolean };
 
     fn value(&self, _alloc: Global) -> Result<Value, AllocError> {
@@ -34,8 +33,6 @@ impl Shown for bool {
 }
 
 impl Shown for u32 {
-    ghost use Rattle.am_wire_values.specs.Fields.{natural};
-
     ghost as_data = { natural };
 
     fn value(&self, _alloc: Global) -> Result<Value, AllocError> {
@@ -44,8 +41,6 @@ impl Shown for u32 {
 }
 
 impl Shown for u64 {
-    ghost use Rattle.am_wire_values.specs.Fields.{natural};
-
     ghost as_data = { natural };
 
     fn value(&self, _alloc: Global) -> Result<Value, AllocError> {
@@ -54,8 +49,6 @@ impl Shown for u64 {
 }
 
 impl Shown for i64 {
-    ghost use Rattle.am_wire_values.specs.Fields.{whole};
-
     ghost as_data = { whole };
 
     fn value(&self, _alloc: Global) -> Result<Value, AllocError> {
@@ -64,8 +57,6 @@ impl Shown for i64 {
 }
 
 impl Shown for Text {
-    ghost use Rattle.serde_json.specs.Data.{string};
-
     ghost as_data = { string };
 
     fn value(&self, alloc: Global) -> Result<Value, AllocError> {
@@ -75,8 +66,6 @@ impl Shown for Text {
 
 /// A number, or `null`.
 impl Shown for Option<u64> {
-    ghost use Rattle.am_wire_values.specs.Replies.{number_or_null};
-
     ghost as_data = { number_or_null };
 
     fn value(&self, alloc: Global) -> Result<Value, AllocError> {
@@ -89,8 +78,6 @@ impl Shown for Option<u64> {
 
 /// A text, or `null`.
 impl Shown for Option<Text> {
-    ghost use Rattle.am_wire_values.specs.Replies.{text_or_null};
-
     ghost as_data = { text_or_null };
 
     fn value(&self, alloc: Global) -> Result<Value, AllocError> {
@@ -114,9 +101,6 @@ pub(crate) fn values<T: Shown>(alloc: Global, shown: &[T]) -> Result<Vec<Value>,
 
 /// An array.
 impl<T: Shown> Shown for List<T> {
-    ghost use Rattle.std.specs.Prelude.{map};
-    ghost use Rattle.am_wire_values.specs.Fields.{listed};
-
     ghost as_data = { λ items. listed (map T.as_data items) };
 
     fn value(&self, alloc: Global) -> Result<Value, AllocError> {
@@ -166,6 +150,38 @@ pub(crate) fn put_two<T: Shown, U: Shown>(
     put_shown(alloc, members, other, more)
 }
 
+/// Puts three that are shown, each under its name.
+pub(crate) fn put_three<T: Shown, U: Shown, V: Shown>(
+    alloc: Global,
+    members: &mut Members,
+    name: &str,
+    shown: &T,
+    other: &str,
+    more: &U,
+    last: &str,
+    rest: &V,
+) -> Result<(), AllocError>
+    ensures { OnOk result (members_view members.new.entries ≡ with_member last.now (V.as_data rest.now) (with_member other.now (U.as_data more.now) (with_member name.now (T.as_data shown.now) (members_view members.old.entries)))) }
+{
+    put_two(alloc, members, name, shown, other, more)?;
+    put_shown(alloc, members, last, rest)
+}
+
+/// Puts what is shown, and another if there is one, each under its name.
+pub(crate) fn put_with<T: Shown, U: Shown>(
+    alloc: Global,
+    members: &mut Members,
+    name: &str,
+    shown: &T,
+    other: &str,
+    more: &Option<U>,
+) -> Result<(), AllocError>
+    ensures { OnOk result (members_view members.new.entries ≡ put_given other.now (option_map U.as_data more.now) (with_member name.now (T.as_data shown.now) (members_view members.old.entries))) }
+{
+    put_shown(alloc, members, name, shown)?;
+    put_some(alloc, members, other, more)
+}
+
 /// An object with one field.
 pub(crate) fn one<T: Shown>(alloc: Global, name: &str, shown: &T) -> Result<Value, AllocError>
     ensures { IfOk result (λ value. view value ≡ with_one name.now (T.as_data shown.now)) }
@@ -187,5 +203,22 @@ pub(crate) fn two<T: Shown, U: Shown>(
 {
     let mut members = Map::new(alloc);
     put_two(alloc, &mut members, name, shown, other, more)?;
+    Ok(Value::Object(members))
+}
+
+/// An object with three fields.
+pub(crate) fn three<T: Shown, U: Shown, V: Shown>(
+    alloc: Global,
+    name: &str,
+    shown: &T,
+    other: &str,
+    more: &U,
+    last: &str,
+    rest: &V,
+) -> Result<Value, AllocError>
+    ensures { IfOk result (λ value. view value ≡ object (with_member last.now (V.as_data rest.now) (with_member other.now (U.as_data more.now) (with_member name.now (T.as_data shown.now) no_members)))) }
+{
+    let mut members = Map::new(alloc);
+    put_three(alloc, &mut members, name, shown, other, more, last, rest)?;
     Ok(Value::Object(members))
 }

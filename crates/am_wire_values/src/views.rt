@@ -5,7 +5,7 @@ ghost use Rattle.serde_json.specs.View.{view, members_view};
 ghost use Rattle.am_types.specs.declared.broadcast.ItemKind.TheVariants.{Normal, InOrder, Final};
 ghost use Rattle.am_wire_values.specs.Fields.{natural, whole};
 ghost use Rattle.am_wire_values.specs.Intents.{extras_data};
-ghost use Rattle.am_wire_values.specs.Replies.{aim_data, entries_data, entry_data, instance_data, item_data, landed_data, number_after, judged, service_data, skipped_data, text_or_null};
+ghost use Rattle.am_wire_values.specs.Replies.{aim_data, entries_data, entry_data, instance_data, item_data, judged, landed_data, number_after, receiving_data, service_data, skipped_data, task_data, text_or_null, waiting_data};
 ghost use Rattle.am_wire_values.specs.Rules.{named_by, rule_name};
 
 use crate::fields::{Members, put_word};
@@ -13,7 +13,7 @@ use crate::intents::extras_value;
 use crate::names::placed_name;
 use crate::routes::route_of;
 use crate::rules::{named_by, rule_name};
-use crate::shown::{Shown, put_shown, two};
+use crate::shown::{Shown, put_shown, three, two};
 use am_types::{
     Aim, Entry, InstanceView, Intent, Item, ItemKind, Landed, Outcome, Receiving, Rule,
     ServiceView, TaskView,
@@ -35,31 +35,23 @@ pub(crate) fn put_landed(
     put_shown(alloc, members, "task", &landed.task)
 }
 
-/// Puts what an instance of an activity shows.
-fn put_instance(alloc: Global, members: &mut Members, seen: &InstanceView) -> Result<(), AllocError>
-    requires { members_view members.old.entries ≡ no_members }
-    ensures { OnOk result (object (members_view members.new.entries) ≡ instance_data seen.now) }
-{
-    put_shown(alloc, members, "component", &seen.component)?;
-    put_shown(alloc, members, "instance", &seen.instance)?;
-    put_shown(alloc, members, "intent", &seen.intent)
-}
-
 impl Shown for InstanceView {
-    ghost use Rattle.am_wire_values.specs.Replies.{instance_data};
-
     ghost as_data = { instance_data };
 
     fn value(&self, alloc: Global) -> Result<Value, AllocError> {
-        let mut members = Map::new(alloc);
-        put_instance(alloc, &mut members, self)?;
-        Ok(Value::Object(members))
+        three(
+            alloc,
+            "component",
+            &self.component,
+            "instance",
+            &self.instance,
+            "intent",
+            &self.intent,
+        )
     }
 }
 
 impl Shown for TaskView {
-    ghost use Rattle.am_wire_values.specs.Replies.{task_data};
-
     ghost as_data = { task_data };
 
     fn value(&self, alloc: Global) -> Result<Value, AllocError> {
@@ -67,32 +59,24 @@ impl Shown for TaskView {
     }
 }
 
-/// Puts what a running service shows.
-fn put_service(alloc: Global, members: &mut Members, seen: &ServiceView) -> Result<(), AllocError>
-    requires { members_view members.old.entries ≡ no_members }
-    ensures { OnOk result (object (members_view members.new.entries) ≡ service_data seen.now) }
-{
-    put_shown(alloc, members, "component", &seen.component)?;
-    put_shown(alloc, members, "intent", &seen.intent)?;
-    put_shown(alloc, members, "starts", &seen.starts)
-}
-
 impl Shown for ServiceView {
-    ghost use Rattle.am_wire_values.specs.Replies.{service_data};
-
     ghost as_data = { service_data };
 
     fn value(&self, alloc: Global) -> Result<Value, AllocError> {
-        let mut members = Map::new(alloc);
-        put_service(alloc, &mut members, self)?;
-        Ok(Value::Object(members))
+        three(
+            alloc,
+            "component",
+            &self.component,
+            "intent",
+            &self.intent,
+            "starts",
+            &self.starts,
+        )
     }
 }
 
 /// A receiver: a component, or the number of a registered one.
 impl Shown for Aim {
-    ghost use Rattle.am_wire_values.specs.Replies.{aim_data};
-
     ghost as_data = { aim_data };
 
     fn value(&self, alloc: Global) -> Result<Value, AllocError> {
@@ -155,8 +139,6 @@ fn put_skipped(
 
 /// A receiver with what became of it.
 impl Shown for Receiving {
-    ghost use Rattle.am_wire_values.specs.Replies.{receiving_data};
-
     ghost as_data = { receiving_data };
 
     fn value(&self, alloc: Global) -> Result<Value, AllocError> {
@@ -256,8 +238,6 @@ fn final_value(alloc: Global, item: &Item, outcome: &Outcome) -> Result<Value, A
 
 /// An item of an inbox.
 impl Shown for Item {
-    ghost use Rattle.am_wire_values.specs.Replies.{waiting_data};
-
     ghost as_data = { waiting_data };
 
     fn value(&self, alloc: Global) -> Result<Value, AllocError> {

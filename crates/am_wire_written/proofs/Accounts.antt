@@ -16,10 +16,11 @@ use Rattle.am_wire.specs.Words.{kind_of}
 use Rattle.am_wire_values.specs.Intents.{intent_data}
 use Rattle.am_wire_values.specs.Names.{kind_name}
 use Rattle.am_wire_values.specs.Requests.{explain_data, request_data}
-use Rattle.am_wire_written.proofs.Activities.{fields_known, kind_at}
+use Rattle.am_wire_written.proofs.Activities.{kind_at}
 use Rattle.am_wire_written.proofs.Intents.{required_intent_again}
 use Rattle.am_wire_written.proofs.Kept.{IsKept}
 use Rattle.am_wire_written.proofs.Objects.{Entry, members_with, value_at, are_apart, found_at}
+use Rattle.am_wire_written.proofs.Parts.{fields_known}
 use Rattle.am_wire_written.proofs.Steps.{step, steps, same_ok}
 use Rattle.am_wire_written.proofs.Texts.{text_field}
 
@@ -61,21 +62,25 @@ fields_again value kind intent caller permission shown es k said-intent said-as 
     (steps (permission_for kind d) _ permission got required
     (steps (optional_text Any 1024 (codes "of") d) _ shown got (text_field Any 1024 (codes "of") value shown es k said-of apart at-of) refl)))))
 
+-- a question about a kind that isn't receivers
+other_again : (kind : Kind) → is_receiver (Some (kind_name kind)) ≡ false → ((d : Data) → permission_for kind d ≡ Ok None)
+    → (value : Data) (intent : Intent) (caller shown : Option (List ℕ)) → IsKept value
+    → required_intent (codes "intent") value ≡ Ok intent → optional_text Any 1024 (codes "as") value ≡ Ok caller → optional_text Any 1024 (codes "of") value ≡ Ok shown
+    → explain_in (object (members_with (other_entries kind intent caller shown))) ≡ Ok (asks.Explain kind intent caller None shown)
+unfolding explain_fields
+other_again kind is none value intent caller shown k one two four =
+    let es = other_entries kind intent caller shown in
+    let d = object (members_with es) in
+    let known : fields_of (explain_fields (asks_receivers d)) d ≡ Ok tt = ap (λ b. fields_of (explain_fields b) d) (asks_at es kind refl refl ∙ is) ∙ fields_known (explain_fields false) es refl in
+    fields_again value kind intent caller None shown es k one two four refl refl refl refl refl known (none d)
+
 explain_of_again : (value : Data) (kind : Kind) (intent : Intent) (caller permission shown : Option (List ℕ)) → IsKept value
     → required_intent (codes "intent") value ≡ Ok intent → optional_text Any 1024 (codes "as") value ≡ Ok caller → permission_for kind value ≡ Ok permission
     → optional_text Any 1024 (codes "of") value ≡ Ok shown → explain_in (explain_data kind intent caller permission shown) ≡ Ok (asks.Explain kind intent caller permission shown)
 unfolding explain_fields permission_for explain_data
-explain_of_again value Activity intent caller None shown k one two three four =
-    let es = other_entries Activity intent caller shown in
-    let d = object (members_with es) in
-    let known : fields_of (explain_fields (asks_receivers d)) d ≡ Ok tt = ap (λ b. fields_of (explain_fields b) d) (asks_at es Activity refl refl) ∙ fields_known (explain_fields false) es refl in
-    fields_again value Activity intent caller None shown es k one two four refl refl refl refl refl known refl
+explain_of_again value Activity intent caller None shown k one two three four = other_again Activity refl (λ d. refl) value intent caller shown k one two four
 explain_of_again value Activity intent caller (Some permission) shown k one two three four = absurd (cc)
-explain_of_again value Service intent caller None shown k one two three four =
-    let es = other_entries Service intent caller shown in
-    let d = object (members_with es) in
-    let known : fields_of (explain_fields (asks_receivers d)) d ≡ Ok tt = ap (λ b. fields_of (explain_fields b) d) (asks_at es Service refl refl) ∙ fields_known (explain_fields false) es refl in
-    fields_again value Service intent caller None shown es k one two four refl refl refl refl refl known refl
+explain_of_again value Service intent caller None shown k one two three four = other_again Service refl (λ d. refl) value intent caller shown k one two four
 explain_of_again value Service intent caller (Some permission) shown k one two three four = absurd (cc)
 explain_of_again value Receiver intent caller permission shown k one two three four =
     let es = explain_entries Receiver intent caller permission shown in

@@ -1,5 +1,5 @@
 -- Queries, activities and services: what was read of a body is read of what is written for it.
-use Rattle.std.proofs.Common.{◌≡◌, ℕ, true, List, [], ◌∷◌, Some, option_map, Result, Ok, refl, ap, ◌∙◌, subst}
+use Rattle.std.proofs.Common.{◌≡◌, ℕ, true, List, [], ◌∷◌, Some, Result, Ok, refl, ap, ◌∙◌, subst}
 use Rattle.std.specs.Prelude.{codes}
 use Rattle.serde_json.specs.Data.{Data, string, object, no_members}
 use Rattle.am_types.specs.declared.manifest.Kind.{Kind}
@@ -8,31 +8,22 @@ use Rattle.am_types.specs.declared.request.Request.{Request}
 use Rattle.am_types.specs.declared.request.Request.TheVariants as asks
 use Rattle.am_model.specs.Texts.{lists}
 use Rattle.am_wire_fields.specs.declared.fault.WireFault.{WireFault}
-use Rattle.am_wire_fields.specs.Fields.{required, optional_truth}
+use Rattle.am_wire_fields.specs.Fields.{required}
 use Rattle.am_wire_fields.specs.Lists.{word_in}
-use Rattle.am_wire_fields.specs.Numbers.{required_natural, optional_natural}
+use Rattle.am_wire_fields.specs.Numbers.{required_natural}
 use Rattle.am_wire_fields.specs.Reading.{◌>>=◌}
-use Rattle.am_wire_intents.specs.Components.{required_component}
-use Rattle.am_wire_intents.specs.Intents.{required_intent}
-use Rattle.am_wire.specs.Activities.{fields_of, plain_in, number_in, query_fields, default_only_of, query_in, start_in, finish_activity_in, start_service_in, stop_service_in, history_in}
+use Rattle.am_wire.specs.Activities.{fields_of, plain_in, number_in, finish_activity_in, history_in}
 use Rattle.am_wire.specs.Words.{kind_words, kind_named, kind_among, kind_of}
-use Rattle.am_wire_values.specs.Fields.{natural, some_truth}
-use Rattle.am_wire_values.specs.Intents.{component_data, intent_data}
+use Rattle.am_wire_values.specs.Fields.{natural}
 use Rattle.am_wire_values.specs.Names.{kind_name}
-use Rattle.am_wire_values.specs.Requests.{with_one, query_data, start_data, request_data}
-use Rattle.am_wire_written.proofs.Components.{required_component_again}
-use Rattle.am_wire_written.proofs.Intents.{required_intent_again}
+use Rattle.am_wire_values.specs.Requests.{with_one, request_data}
 use Rattle.am_wire_written.proofs.Kept.{IsKept}
-use Rattle.am_wire_written.proofs.Numbers.{required_natural_again, natural_field}
-use Rattle.am_wire_written.proofs.Objects.{Entry, members_with, value_at, are_apart, are_listed, only_listed}
+use Rattle.am_wire_written.proofs.Numbers.{required_natural_again}
+use Rattle.am_wire_written.proofs.Objects.{Entry, members_with, value_at, are_apart, are_listed}
 use Rattle.am_wire_written.proofs.Options.{IsReread}
+use Rattle.am_wire_written.proofs.Parts.{Part, fields_known}
 use Rattle.am_wire_written.proofs.Steps.{step, steps, same_ok}
-use Rattle.am_wire_written.proofs.Texts.{required_at, truth_field, word_again}
-
--- a body of these fields has no others
-pub fields_known : (fields : List (List ℕ)) (es : List Entry) → are_listed fields es ≡ true → fields_of fields (object (members_with es)) ≡ Ok tt
-unfolding fields_of
-fields_known fields es h = only_listed (codes "body") fields es h
+use Rattle.am_wire_written.proofs.Texts.{required_at, word_again}
 
 -- a body without fields
 pub plain_again : (r : Request) → plain_in r (object no_members) ≡ Ok r
@@ -74,37 +65,13 @@ kind_at Activity es apart is = named_at kind_words (codes "activity") Activity e
 kind_at Service es apart is = named_at kind_words (codes "service") Service es refl refl apart is
 kind_at Receiver es apart is = named_at kind_words (codes "receiver") Receiver es refl refl apart is
 
-pub query_again : (value : Data) (r : Request) → IsKept value → query_in value ≡ Ok r → query_in (request_data r) ≡ Ok r
-unfolding query_fields default_only_of query_in request_data query_data
-query_again value r k h =
-    let fields = codes "kind" ∷ codes "intent" ∷ codes "defaultOnly" ∷ [] in
-    let one = step (fields_of fields value) _ r h in
-    let two = step (kind_of value) _ r one.later in
-    let three = step (required_intent (codes "intent") value) _ r two.later in
-    let four = step (optional_truth (codes "defaultOnly") value) _ r three.later in
-    let got = asks.Query two.value three.value four.value in
-    let es : List Entry = (codes "defaultOnly", some_truth four.value) ∷ (codes "intent", Some (intent_data three.value)) ∷ (codes "kind", Some (string (kind_name two.value))) ∷ [] in
-    let P : Request → Type 0 = λ r. query_in (request_data r) ≡ Ok r in
-    subst P (same_ok got r four.later)
-    (steps (fields_of fields (object (members_with es))) _ tt got (fields_known fields es refl)
-    (steps (kind_of (object (members_with es))) _ two.value got (kind_at two.value es refl refl)
-    (steps (required_intent (codes "intent") (object (members_with es))) _ three.value got (required_intent_again (codes "intent") value three.value es k three.first refl refl)
-    (steps (optional_truth (codes "defaultOnly") (object (members_with es))) _ four.value got (truth_field (codes "defaultOnly") four.value es refl refl) refl))))
-
-pub start_again : (value : Data) (r : Request) → IsKept value → start_in value ≡ Ok r → start_in (request_data r) ≡ Ok r
-unfolding start_in request_data start_data
-start_again value r k h =
-    let fields = codes "intent" ∷ codes "source" ∷ [] in
-    let one = step (fields_of fields value) _ r h in
-    let two = step (required_intent (codes "intent") value) _ r one.later in
-    let three = step (optional_natural (codes "source") value) _ r two.later in
-    let got = asks.Start two.value three.value in
-    let es : List Entry = (codes "source", option_map natural three.value) ∷ (codes "intent", Some (intent_data two.value)) ∷ [] in
-    let P : Request → Type 0 = λ r. start_in (request_data r) ≡ Ok r in
-    subst P (same_ok got r three.later)
-    (steps (fields_of fields (object (members_with es))) _ tt got (fields_known fields es refl)
-    (steps (required_intent (codes "intent") (object (members_with es))) _ two.value got (required_intent_again (codes "intent") value two.value es k two.first refl refl)
-    (steps (optional_natural (codes "source") (object (members_with es))) _ three.value got (natural_field (codes "source") value three.value es k three.first refl refl) refl)))
+abbrev pub kind_part : Part Kind
+kind_part = record {
+  name = codes "kind";
+  read = kind_of;
+  write = λ kind. Some (string (kind_name kind));
+  again = λ value kind es k h apart is. kind_at kind es apart is;
+}
 
 pub finish_activity_again : (value : Data) (r : Request) → IsKept value → finish_activity_in value ≡ Ok r → finish_activity_in (request_data r) ≡ Ok r
 unfolding finish_activity_in request_data
@@ -115,29 +82,3 @@ pub history_again : (value : Data) (r : Request) → IsKept value → history_in
 unfolding history_in request_data
 history_again value r k h =
     made_again (number_in (codes "from")) (λ n. with_one (codes "from") (natural n)) (λ value n k h. number_again (codes "from") value n k refl refl h) asks.History (λ n. refl) value r k h
-
-pub start_service_again : (value : Data) (r : Request) → IsKept value → start_service_in value ≡ Ok r → start_service_in (request_data r) ≡ Ok r
-unfolding start_service_in request_data
-start_service_again value r k h =
-    let fields = codes "intent" ∷ [] in
-    let one = step (fields_of fields value) _ r h in
-    let two = step (required_intent (codes "intent") value) _ r one.later in
-    let got = asks.StartService two.value in
-    let es : List Entry = (codes "intent", Some (intent_data two.value)) ∷ [] in
-    let P : Request → Type 0 = λ r. start_service_in (request_data r) ≡ Ok r in
-    subst P (same_ok got r two.later)
-    (steps (fields_of fields (object (members_with es))) _ tt got (fields_known fields es refl)
-    (steps (required_intent (codes "intent") (object (members_with es))) _ two.value got (required_intent_again (codes "intent") value two.value es k two.first refl refl) refl))
-
-pub stop_service_again : (value : Data) (r : Request) → IsKept value → stop_service_in value ≡ Ok r → stop_service_in (request_data r) ≡ Ok r
-unfolding stop_service_in request_data
-stop_service_again value r k h =
-    let fields = codes "component" ∷ [] in
-    let one = step (fields_of fields value) _ r h in
-    let two = step (required_component (codes "component") value) _ r one.later in
-    let got = asks.StopService two.value in
-    let es : List Entry = (codes "component", Some (component_data two.value)) ∷ [] in
-    let P : Request → Type 0 = λ r. stop_service_in (request_data r) ≡ Ok r in
-    subst P (same_ok got r two.later)
-    (steps (fields_of fields (object (members_with es))) _ tt got (fields_known fields es refl)
-    (steps (required_component (codes "component") (object (members_with es))) _ two.value got (required_component_again (codes "component") value two.value es k two.first refl refl) refl))

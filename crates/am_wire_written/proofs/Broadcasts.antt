@@ -18,13 +18,14 @@ use Rattle.am_wire.specs.Broadcasts.{is_true, truth_at, is_ordered, send_fields,
 use Rattle.am_wire_values.specs.Fields.{natural, whole, some_whole, some_truth}
 use Rattle.am_wire_values.specs.Intents.{intent_data, some_extras}
 use Rattle.am_wire_values.specs.Requests.{with_one, with_outcome, with_ordered, send_data, finish_data, request_data}
-use Rattle.am_wire_written.proofs.Activities.{fields_known, made_again, number_again}
+use Rattle.am_wire_written.proofs.Activities.{made_again, number_again}
 use Rattle.am_wire_written.proofs.Extras.{extras_field}
 use Rattle.am_wire_written.proofs.Intents.{required_intent_again}
 use Rattle.am_wire_written.proofs.Kept.{IsKept}
 use Rattle.am_wire_written.proofs.Numbers.{required_natural_again, required_whole_again, was_signed, some_whole_field}
 use Rattle.am_wire_written.proofs.Objects.{Entry, members_with, value_at, are_apart, found_at, field_at}
-use Rattle.am_wire_written.proofs.Steps.{step, steps, same_ok, same_some}
+use Rattle.am_wire_written.proofs.Parts.{fields_known}
+use Rattle.am_wire_written.proofs.Steps.{step, steps, same_ok, some_is}
 use Rattle.am_wire_written.proofs.Texts.{text_field, truth_field}
 
 -- ---- broadcasts
@@ -61,9 +62,7 @@ ordered_again value o es k h apart wanted code extras text =
 ordered_is : (b : Bool) (value : Data) (o : Ordered) → ordered_if b value ≡ Ok (Some o) → ordered_in value ≡ Ok o
 unfolding ordered_if
 ordered_is false value o h = absurd (cc)
-ordered_is true value o h =
-    let one = step (ordered_in value) (λ ordered. Ok (Some ordered)) (Some o) h in
-    one.first ∙ ap Ok (same_some one.value o (same_ok (Some one.value) (Some o) one.later))
+ordered_is true value o h = some_is (ordered_in value) o h
 
 is_plain : (es : List Entry) → are_apart es ≡ true → value_at (codes "ordered") es ≡ None → is_ordered (object (members_with es)) ≡ false
 unfolding is_ordered
@@ -146,9 +145,7 @@ outcome_again value o es k h apart code extras text =
 outcome_is : (b : Bool) (value : Data) (o : Outcome) → outcome_if b value ≡ Ok (Some o) → outcome_in value ≡ Ok o
 unfolding outcome_if
 outcome_is false value o h = absurd (cc)
-outcome_is true value o h =
-    let one = step (outcome_in value) (λ outcome. Ok (Some outcome)) (Some o) h in
-    one.first ∙ ap Ok (same_some one.value o (same_ok (Some one.value) (Some o) one.later))
+outcome_is true value o h = some_is (outcome_in value) o h
 
 sets : (es : List Entry) (o : Option Data) → are_apart es ≡ true → value_at (codes "code") es ≡ o → sets_outcome (object (members_with es)) ≡ is_some (unless_null o)
 unfolding sets_outcome

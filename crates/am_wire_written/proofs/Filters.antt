@@ -27,13 +27,13 @@ use Rattle.am_wire_values.specs.Fields.{whole, some_whole, some_listed, texts_da
 use Rattle.am_wire_values.specs.Filters.{scheme_row, authority_row, path_row, type_row, rows_of, filter_data}
 use Rattle.am_wire_values.specs.Requests.{register_data, request_data}
 use Rattle.am_wire_written.specs.Written.{rows_in, HasFewRows}
-use Rattle.am_wire_written.proofs.Activities.{fields_known}
 use Rattle.am_wire_written.proofs.Intents.{AreRead, sorted_are_read, categories_again}
 use Rattle.am_wire_written.proofs.Kept.{IsKept, ForSome, field_kept}
 use Rattle.am_wire_written.proofs.Lists.{WasListed, was_list, was_list_if, list_again, list_if_again, each_length, mapped_length}
 use Rattle.am_wire_written.proofs.Merged.{rows_said, listed_by, merged_again, each_row_again}
 use Rattle.am_wire_written.proofs.Numbers.{is_zero, IsSigned, signed_of, number_kept}
 use Rattle.am_wire_written.proofs.Objects.{Entry, members_with, value_at, are_apart, field_at, only_listed}
+use Rattle.am_wire_written.proofs.Parts.{fields_known}
 use Rattle.am_wire_written.proofs.Rows.{ReadRows, rows_read, merged_read}
 use Rattle.am_wire_written.proofs.Steps.{step, steps, same_ok}
 use Rattle.am_wire_written.proofs.Texts.{else_read, required_kept, required_at, text_field}

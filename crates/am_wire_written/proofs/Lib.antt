@@ -9,6 +9,7 @@ pub mod Components
 pub mod Extras
 pub mod Flags
 pub mod Intents
+pub mod Parts
 pub mod Activities
 pub mod Accounts
 pub mod Packages

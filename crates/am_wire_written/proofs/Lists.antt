@@ -91,12 +91,8 @@ was_list_of name None values k h = absurd (cc)
 was_list_of name (Some ds) values k h = was_few name ds values k h
 
 array_kept : (value : Data) → IsKept value → ForSome AreItemsKept (as_array value)
-array_kept Data.null h = tt
-array_kept (Data.boolean b) h = tt
-array_kept (Data.number n) h = tt
-array_kept (Data.string s) h = tt
 array_kept (Data.array ds) h = h
-array_kept (Data.object ms) h = tt
+array_kept value h = tt
 
 pub was_list : (name : List ℕ) (value : Data) (values : List Data) → IsKept value → list_in name value ≡ Ok values → WasListed values
 unfolding list_in

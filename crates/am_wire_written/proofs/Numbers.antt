@@ -42,12 +42,8 @@ signed_of None z k h = absurd (cc)
 signed_of (Some m) z k h = signed_again m z k h
 
 pub number_kept : (value : Data) → IsKept value → ForSome IsPlainNumber (as_number value)
-number_kept Data.null h = tt
-number_kept (Data.boolean b) h = tt
 number_kept (Data.number n) h = h
-number_kept (Data.string s) h = tt
-number_kept (Data.array ds) h = tt
-number_kept (Data.object ms) h = tt
+number_kept value h = tt
 
 -- a signed number is read of what is written for it
 pub whole_again : (name : List ℕ) → IsReread (whole_in name) whole

@@ -14,12 +14,13 @@ use Rattle.am_wire_fields.specs.declared.fault.WireFault.TheVariants.{WrongKind,
 use Rattle.am_wire_fields.specs.Fields.{required, required_truth}
 use Rattle.am_wire_fields.specs.Texts.{text_of, text_in, required_text}
 use Rattle.am_wire.specs.Activities.{fields_of}
-use Rattle.am_wire.specs.Packages.{key_of, key_in, install_in, package_in, uninstall_in, force_stop_in, grant_fields, grant_in, link_fields, link_in}
-use Rattle.am_wire_values.specs.Requests.{with_one, grant_data, link_data, request_data}
-use Rattle.am_wire_written.proofs.Activities.{fields_known, made_again}
+use Rattle.am_wire.specs.Packages.{key_of, key_in, package_in, uninstall_in, force_stop_in, link_fields, link_in}
+use Rattle.am_wire_values.specs.Requests.{with_one, link_data, request_data}
+use Rattle.am_wire_written.proofs.Activities.{made_again}
 use Rattle.am_wire_written.proofs.Kept.{IsKept}
 use Rattle.am_wire_written.proofs.Objects.{Entry, members_with, value_at, are_apart}
 use Rattle.am_wire_written.proofs.Options.{IsReread}
+use Rattle.am_wire_written.proofs.Parts.{Part, fields_known}
 use Rattle.am_wire_written.proofs.Steps.{step, steps, same_ok}
 use Rattle.am_wire_written.proofs.Texts.{if_read, else_read, read_else, field_again, required_at, required_text_again, required_truth_at}
 
@@ -38,20 +39,13 @@ key_of_again (Some text) key h =
 key_again : IsReread (λ value. key_of (as_str value)) string
 key_again value key k h = key_of_again (as_str value) key h
 
-pub install_again : (value : Data) (r : Request) → IsKept value → install_in value ≡ Ok r → install_in (request_data r) ≡ Ok r
-unfolding install_in key_in request_data
-install_again value r k h =
-    let fields = codes "manifest" ∷ codes "key" ∷ [] in
-    let one = step (fields_of fields value) _ r h in
-    let two = step (required_text Any 65536 (codes "manifest") value) _ r one.later in
-    let three = step (key_in value) _ r two.later in
-    let got = asks.Install two.value three.value in
-    let es : List Entry = (codes "manifest", Some (string two.value)) ∷ (codes "key", Some (string three.value)) ∷ [] in
-    let P : Request → Type 0 = λ r. install_in (request_data r) ≡ Ok r in
-    subst P (same_ok got r three.later)
-    (steps (fields_of fields (object (members_with es))) _ tt got (fields_known fields es refl)
-    (steps (required_text Any 65536 (codes "manifest") (object (members_with es))) _ two.value got (required_text_again Any 65536 (codes "manifest") value two.value es k two.first refl refl)
-    (steps (key_in (object (members_with es))) _ three.value got (field_again (λ value. key_of (as_str value)) string key_again (codes "key") value three.value es k three.first refl refl refl) refl)))
+pub key_field : (value : Data) (key : List ℕ) (es : List Entry) → IsKept value → key_in value ≡ Ok key
+    → are_apart es ≡ true → value_at (codes "key") es ≡ Some (string key) → key_in (object (members_with es)) ≡ Ok key
+unfolding key_in
+key_field value key es k h apart is = field_again (λ value. key_of (as_str value)) string key_again (codes "key") value key es k h apart is refl
+
+abbrev pub key_part : Part (List ℕ)
+key_part = record { name = codes "key"; read = key_in; write = λ key. Some (string key); again = key_field }
 
 -- ---- names
 
@@ -71,23 +65,6 @@ uninstall_again value r k h = made_again package_in (λ name. with_one (codes "p
 pub force_stop_again : (value : Data) (r : Request) → IsKept value → force_stop_in value ≡ Ok r → force_stop_in (request_data r) ≡ Ok r
 unfolding force_stop_in request_data
 force_stop_again value r k h = made_again package_in (λ name. with_one (codes "package") (string name)) package_again asks.ForceStop (λ name. refl) value r k h
-
-pub grant_again : (value : Data) (r : Request) → IsKept value → grant_in value ≡ Ok r → grant_in (request_data r) ≡ Ok r
-unfolding grant_fields grant_in request_data grant_data
-grant_again value r k h =
-    let fields = codes "package" ∷ codes "permission" ∷ codes "held" ∷ [] in
-    let one = step (fields_of fields value) _ r h in
-    let two = step (required_text Any 1024 (codes "package") value) _ r one.later in
-    let three = step (required_text Any 1024 (codes "permission") value) _ r two.later in
-    let four = step (required_truth (codes "held") value) _ r three.later in
-    let got = asks.Grant two.value three.value four.value in
-    let es : List Entry = (codes "held", Some (boolean four.value)) ∷ (codes "permission", Some (string three.value)) ∷ (codes "package", Some (string two.value)) ∷ [] in
-    let P : Request → Type 0 = λ r. grant_in (request_data r) ≡ Ok r in
-    subst P (same_ok got r four.later)
-    (steps (fields_of fields (object (members_with es))) _ tt got (fields_known fields es refl)
-    (steps (required_text Any 1024 (codes "package") (object (members_with es))) _ two.value got (required_text_again Any 1024 (codes "package") value two.value es k two.first refl refl)
-    (steps (required_text Any 1024 (codes "permission") (object (members_with es))) _ three.value got (required_text_again Any 1024 (codes "permission") value three.value es k three.first refl refl)
-    (steps (required_truth (codes "held") (object (members_with es))) _ four.value got (required_truth_at (codes "held") four.value es refl refl) refl))))
 
 -- ---- links
 

@@ -1,30 +1,28 @@
 -- Pending intents: what was read of a body is read of what is written for it.
-use Rattle.std.proofs.Common.{◌≡◌, true, List, [], ◌∷◌, Some, option_map, Ok, refl, subst}
+use Rattle.std.proofs.Common.{◌≡◌, true, List, [], ◌∷◌, Some, Ok, refl, subst}
 use Rattle.std.specs.Prelude.{codes}
 use Rattle.serde_json.specs.Data.{Data, string, object}
 use Rattle.am_types.specs.declared.manifest.Kind.{Kind}
 use Rattle.am_types.specs.declared.manifest.Kind.TheVariants.{Activity, Service, Receiver}
 use Rattle.am_types.specs.declared.request.Request.{Request}
 use Rattle.am_types.specs.declared.request.Request.TheVariants as asks
-use Rattle.am_uri.specs.declared.text.Form.TheVariants.{Any}
-use Rattle.am_wire_fields.specs.Numbers.{required_natural, required_whole}
-use Rattle.am_wire_fields.specs.Texts.{required_text}
-use Rattle.am_wire_intents.specs.Intents.{required_intent, optional_intent}
+use Rattle.am_wire_fields.specs.Numbers.{required_whole}
+use Rattle.am_wire_intents.specs.Intents.{required_intent}
 use Rattle.am_wire.specs.Activities.{fields_of, number_in}
-use Rattle.am_wire.specs.Pendings.{get_of, pending_get_in, pending_send_in, pending_cancel_in, pending_give_in}
+use Rattle.am_wire.specs.Pendings.{get_of, pending_get_in, pending_cancel_in}
 use Rattle.am_wire.specs.Words.{pending_words, pending_kind_of, pending_flags_of}
 use Rattle.am_wire_values.specs.Fields.{natural, whole, texts_data}
 use Rattle.am_wire_values.specs.Intents.{intent_data}
 use Rattle.am_wire_values.specs.Names.{pending_name, names_set, pending_named}
-use Rattle.am_wire_values.specs.Requests.{with_one, get_data, pending_send_data, request_data}
-use Rattle.am_wire_written.proofs.Activities.{fields_known, made_again, named_at, number_again}
+use Rattle.am_wire_values.specs.Requests.{with_one, get_data, request_data}
+use Rattle.am_wire_written.proofs.Activities.{made_again, named_at, number_again}
 use Rattle.am_wire_written.proofs.Flags.{pending_flags_at}
-use Rattle.am_wire_written.proofs.Intents.{required_intent_again, intent_field}
+use Rattle.am_wire_written.proofs.Intents.{required_intent_again}
 use Rattle.am_wire_written.proofs.Kept.{IsKept}
-use Rattle.am_wire_written.proofs.Numbers.{required_natural_again, required_whole_again}
+use Rattle.am_wire_written.proofs.Numbers.{required_whole_again}
 use Rattle.am_wire_written.proofs.Objects.{Entry, members_with, value_at, are_apart}
+use Rattle.am_wire_written.proofs.Parts.{fields_known}
 use Rattle.am_wire_written.proofs.Steps.{step, steps, same_ok}
-use Rattle.am_wire_written.proofs.Texts.{required_text_again}
 
 kind_at : (kind : Kind) (es : List Entry) → are_apart es ≡ true → value_at (codes "kind") es ≡ Some (string (pending_name kind)) → pending_kind_of (object (members_with es)) ≡ Ok kind
 unfolding pending_kind_of pending_words
@@ -54,37 +52,7 @@ pending_get_again value r k h =
     (steps (required_intent (codes "intent") (object (members_with es))) _ four.value got (required_intent_again (codes "intent") value four.value es k four.first refl refl)
     (steps (pending_flags_of (object (members_with es))) _ five.value got (pending_flags_at five.value es refl refl) refl)))))
 
-pub pending_send_again : (value : Data) (r : Request) → IsKept value → pending_send_in value ≡ Ok r → pending_send_in (request_data r) ≡ Ok r
-unfolding pending_send_in request_data pending_send_data
-pending_send_again value r k h =
-    let fields = codes "token" ∷ codes "fill" ∷ [] in
-    let one = step (fields_of fields value) _ r h in
-    let two = step (required_natural (codes "token") value) _ r one.later in
-    let three = step (optional_intent (codes "fill") value) _ r two.later in
-    let got = asks.PendingSend two.value three.value in
-    let es : List Entry = (codes "fill", option_map intent_data three.value) ∷ (codes "token", Some (natural two.value)) ∷ [] in
-    let P : Request → Type 0 = λ r. pending_send_in (request_data r) ≡ Ok r in
-    subst P (same_ok got r three.later)
-    (steps (fields_of fields (object (members_with es))) _ tt got (fields_known fields es refl)
-    (steps (required_natural (codes "token") (object (members_with es))) _ two.value got (required_natural_again (codes "token") value two.value es k two.first refl refl)
-    (steps (optional_intent (codes "fill") (object (members_with es))) _ three.value got (intent_field (codes "fill") value three.value es k three.first refl refl) refl)))
-
 pub pending_cancel_again : (value : Data) (r : Request) → IsKept value → pending_cancel_in value ≡ Ok r → pending_cancel_in (request_data r) ≡ Ok r
 unfolding pending_cancel_in request_data
 pending_cancel_again value r k h =
     made_again (number_in (codes "token")) (λ n. with_one (codes "token") (natural n)) (λ value n k h. number_again (codes "token") value n k refl refl h) asks.PendingCancel (λ n. refl) value r k h
-
-pub pending_give_again : (value : Data) (r : Request) → IsKept value → pending_give_in value ≡ Ok r → pending_give_in (request_data r) ≡ Ok r
-unfolding pending_give_in request_data
-pending_give_again value r k h =
-    let fields = codes "token" ∷ codes "package" ∷ [] in
-    let one = step (fields_of fields value) _ r h in
-    let two = step (required_natural (codes "token") value) _ r one.later in
-    let three = step (required_text Any 1024 (codes "package") value) _ r two.later in
-    let got = asks.PendingGive two.value three.value in
-    let es : List Entry = (codes "token", Some (natural two.value)) ∷ (codes "package", Some (string three.value)) ∷ [] in
-    let P : Request → Type 0 = λ r. pending_give_in (request_data r) ≡ Ok r in
-    subst P (same_ok got r three.later)
-    (steps (fields_of fields (object (members_with es))) _ tt got (fields_known fields es refl)
-    (steps (required_natural (codes "token") (object (members_with es))) _ two.value got (required_natural_again (codes "token") value two.value es k two.first refl refl)
-    (steps (required_text Any 1024 (codes "package") (object (members_with es))) _ three.value got (required_text_again Any 1024 (codes "package") value three.value es k three.first refl refl) refl)))

@@ -192,33 +192,29 @@ reads_path rule d known s a p t =
     steps (only_fields (codes "data") row_fields d) (λ known. row_of d) tt (row_with_path rule) known
     (steps (scheme_at d) _ None (row_with_path rule) s (steps (authority_at d) _ None (row_with_path rule) a (steps (paths_at d) _ (paths_with rule) (row_with_path rule) p (steps (type_at d) _ None (row_with_path rule) t refl))))
 
-reads_literal : (text : List ℕ) → IsSaid (codes "path") text → ReadsPath (Literal text)
-unfolding scheme_at authority_at port_at paths_at type_at optional_text field
-reads_literal text h =
-    let d = path_row (Literal text) in
-    reads_path (Literal text) d (only_listed (codes "data") row_fields ((codes "path", Some (string text)) ∷ []) refl) refl refl
-    (steps (optional_text Filled 1024 (codes "path") d) _ (Some text) (paths_with (Literal text)) (steps (text_in Filled 1024 (codes "path") (string text)) (λ text. Ok (Some text)) text (Some text) h refl) refl) refl
+-- the text of a path rule is read again under its key
+abbrev IsPathSaid : PathRule → Type 0
+IsPathSaid (Literal text) = IsSaid (codes "path") text
+IsPathSaid (Prefix text) = IsSaid (codes "pathPrefix") text
+IsPathSaid (Suffix text) = IsSaid (codes "pathSuffix") text
+IsPathSaid (Pattern text) = IsSaid (codes "pathPattern") text
 
-reads_prefix : (text : List ℕ) → IsSaid (codes "pathPrefix") text → ReadsPath (Prefix text)
-unfolding scheme_at authority_at port_at paths_at type_at optional_text field
-reads_prefix text h =
-    let d = path_row (Prefix text) in
-    reads_path (Prefix text) d (only_listed (codes "data") row_fields ((codes "pathPrefix", Some (string text)) ∷ []) refl) refl refl
-    (steps (optional_text Filled 1024 (codes "pathPrefix") d) _ (Some text) (paths_with (Prefix text)) (steps (text_in Filled 1024 (codes "pathPrefix") (string text)) (λ text. Ok (Some text)) text (Some text) h refl) refl) refl
+-- where a text is read, what is read behind it
+said_then : (name text : List ℕ) (more : Option (List ℕ) → Result Paths WireFault) (got : Paths) → IsSaid name text → more (Some text) ≡ Ok got
+    → ((text_in Filled 1024 name (string text) >>= λ t. Ok (Some t)) >>= more) ≡ Ok got
+said_then name text more got h e =
+    steps (text_in Filled 1024 name (string text) >>= λ t. Ok (Some t)) more (Some text) got (steps (text_in Filled 1024 name (string text)) (λ t. Ok (Some t)) text (Some text) h refl) e
 
-reads_suffix : (text : List ℕ) → IsSaid (codes "pathSuffix") text → ReadsPath (Suffix text)
+reads_rule : (rule : PathRule) → IsPathSaid rule → ReadsPath rule
 unfolding scheme_at authority_at port_at paths_at type_at optional_text field
-reads_suffix text h =
-    let d = path_row (Suffix text) in
-    reads_path (Suffix text) d (only_listed (codes "data") row_fields ((codes "pathSuffix", Some (string text)) ∷ []) refl) refl refl
-    (steps (optional_text Filled 1024 (codes "pathSuffix") d) _ (Some text) (paths_with (Suffix text)) (steps (text_in Filled 1024 (codes "pathSuffix") (string text)) (λ text. Ok (Some text)) text (Some text) h refl) refl) refl
-
-reads_pattern : (text : List ℕ) → IsSaid (codes "pathPattern") text → ReadsPath (Pattern text)
-unfolding scheme_at authority_at port_at paths_at type_at optional_text field
-reads_pattern text h =
-    let d = path_row (Pattern text) in
-    reads_path (Pattern text) d (only_listed (codes "data") row_fields ((codes "pathPattern", Some (string text)) ∷ []) refl) refl refl
-    (steps (optional_text Filled 1024 (codes "pathPattern") d) _ (Some text) (paths_with (Pattern text)) (steps (text_in Filled 1024 (codes "pathPattern") (string text)) (λ text. Ok (Some text)) text (Some text) h refl) refl) refl
+reads_rule (Literal text) h =
+    reads_path (Literal text) (path_row (Literal text)) (only_listed (codes "data") row_fields ((codes "path", Some (string text)) ∷ []) refl) refl refl (said_then (codes "path") text _ (paths_with (Literal text)) h refl) refl
+reads_rule (Prefix text) h =
+    reads_path (Prefix text) (path_row (Prefix text)) (only_listed (codes "data") row_fields ((codes "pathPrefix", Some (string text)) ∷ []) refl) refl refl (said_then (codes "pathPrefix") text _ (paths_with (Prefix text)) h refl) refl
+reads_rule (Suffix text) h =
+    reads_path (Suffix text) (path_row (Suffix text)) (only_listed (codes "data") row_fields ((codes "pathSuffix", Some (string text)) ∷ []) refl) refl refl (said_then (codes "pathSuffix") text _ (paths_with (Suffix text)) h refl) refl
+reads_rule (Pattern text) h =
+    reads_path (Pattern text) (path_row (Pattern text)) (only_listed (codes "data") row_fields ((codes "pathPattern", Some (string text)) ∷ []) refl) refl refl (said_then (codes "pathPattern") text _ (paths_with (Pattern text)) h refl) refl
 
 -- path rules that are each read again
 pub record ReadPaths (paths : Paths) : Type 0 where
@@ -236,10 +232,10 @@ paths_read value paths k h =
     let four = step (optional_text Filled 1024 (codes "pathPattern") value) _ paths three.later in
     let got : Paths = record { literal = one.value; prefix = two.value; suffix = three.value; pattern = four.value } in
     subst ReadPaths (same_ok got paths four.later) (record {
-      literal = for_some (IsSaid (codes "path")) (λ text. ReadsPath (Literal text)) reads_literal one.value (path_said (codes "path") value one.value k one.first);
-      prefix = for_some (IsSaid (codes "pathPrefix")) (λ text. ReadsPath (Prefix text)) reads_prefix two.value (path_said (codes "pathPrefix") value two.value k two.first);
-      suffix = for_some (IsSaid (codes "pathSuffix")) (λ text. ReadsPath (Suffix text)) reads_suffix three.value (path_said (codes "pathSuffix") value three.value k three.first);
-      pattern = for_some (IsSaid (codes "pathPattern")) (λ text. ReadsPath (Pattern text)) reads_pattern four.value (path_said (codes "pathPattern") value four.value k four.first);
+      literal = for_some (IsSaid (codes "path")) (λ text. ReadsPath (Literal text)) (λ text. reads_rule (Literal text)) one.value (path_said (codes "path") value one.value k one.first);
+      prefix = for_some (IsSaid (codes "pathPrefix")) (λ text. ReadsPath (Prefix text)) (λ text. reads_rule (Prefix text)) two.value (path_said (codes "pathPrefix") value two.value k two.first);
+      suffix = for_some (IsSaid (codes "pathSuffix")) (λ text. ReadsPath (Suffix text)) (λ text. reads_rule (Suffix text)) three.value (path_said (codes "pathSuffix") value three.value k three.first);
+      pattern = for_some (IsSaid (codes "pathPattern")) (λ text. ReadsPath (Pattern text)) (λ text. reads_rule (Pattern text)) four.value (path_said (codes "pathPattern") value four.value k four.first);
     })
 
 -- ---- types

@@ -32,3 +32,9 @@ some_or d None = d
 
 pub same_some : {A : Type 0} (x y : A) → ◌≡◌ {A = Option A} (Some x) (Some y) → x ≡ y
 same_some x y h = ap (some_or x) h
+
+-- what was read as something is that thing
+pub some_is : {A : Type 0} (read : Result A WireFault) (x : A) → (read >>= λ y. Ok (Some y)) ≡ Ok (Some x) → read ≡ Ok x
+some_is read x h =
+    let one = step read (λ y. Ok (Some y)) (Some x) h in
+    one.first ∙ ap Ok (same_some one.value x (same_ok (Some one.value) (Some x) one.later))

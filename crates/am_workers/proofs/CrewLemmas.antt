@@ -14,7 +14,7 @@ use Rattle.am_workers.specs.declared.worker.Totals.{Totals}
 use Rattle.am_workers.specs.declared.worker.Worker.{Worker}
 use Rattle.am_workers.specs.Work.{WorkerView}
 use Rattle.am_workers.specs.Serving.{NetworkView, ServesAll, all_released, faults_raised}
-use Rattle.am_workers.proofs.ServingLemmas.{WorksAs, begin_from, desk_at, gate_at, of_workers, same_desks, serves_all}
+use Rattle.am_workers.proofs.ServingLemmas.{WorksAs, along, begin_from, desk_at, gate_at, of_workers, same_desks, serves_all}
 
 -- every link of a new gate is back
 new_is_back : (links : Option Links) → IfSome links (λ (l : Links). (l.handed ≡ 0) × (l.ended ≡ [])) → IfSome links AreBack
@@ -46,31 +46,56 @@ all_back {G} {C} links faults olds gates is new k other within =
 abbrev pub Worked : {G C : Type 0} → (G → Option Links) → (G → ℕ) → Option ℕ → List (Worker DeskView G C) → List (Worker DeskView G C) → Type 0
 Worked {G} {C} links faults most olds news = AllZip (WorksAs (view links faults) (λ (w : Worker DeskView G C). w.worked) most) olds news
 
+-- workers who had the new desks of one sharing and have worked, and the desks that they leave
+pub record IsCrew {G C : Type 0} (links : G → Option Links) (faults : G → ℕ) (most : Option ℕ) (origin : Origin) (sharing : Sharing)
+    (desks last : List DeskView) (olds news : List (Worker DeskView G C)) : Type 0 where
+  pub some_desk : 1 ≤ sharing.desks
+  pub made : AreNew origin sharing desks
+  pub of_desks : map (λ (w : Worker DeskView G C). w.desk) olds ≡ desks
+  pub worked : Worked links faults most olds news
+  pub many : length news ≡ length olds
+  pub ends : last ≡ map (λ (w : Worker DeskView G C). w.desk) news
+
+-- they are that, once their desks were taken from them
+pub crew : {G C : Type 0} (links : G → Option Links) (faults : G → ℕ) (most : Option ℕ) (origin : Origin) (sharing : Sharing) (desks last room : List DeskView) (olds news over moved : List (Worker DeskView G C)) (n : ℕ) → 1 ≤ sharing.desks → AreNew origin sharing desks
+    → map (λ (w : Worker DeskView G C). w.desk) olds ≡ desks → length news ≡ length olds → length olds ≡ n
+    → ((k : ℕ) (other : Worker DeskView G C) → k < length olds → WorksAs (view links faults) (λ (w : Worker DeskView G C). w.worked) most (slice_index_or olds k other) (slice_index_or news k other))
+    → moved ≡ take n (news ++ over) → last ≡ room ++ map (λ (w : Worker DeskView G C). w.desk) moved → room ≡ [] → IsCrew links faults most origin sharing desks last olds news
+crew {G} {C} links faults most origin sharing desks last room olds news over moved n some_desk made of_desks many long works taken left empty = record {
+  some_desk = some_desk;
+  made = made;
+  of_desks = of_desks;
+  worked = along (view links faults) (λ (w : Worker DeskView G C). w.worked) (WorksAs (view links faults) (λ (w : Worker DeskView G C). w.worked) most) olds news many works;
+  many = many;
+  ends = left ∙ ap (λ r. r ++ map (λ (w : Worker DeskView G C). w.desk) moved) empty
+      ∙ ap (map (λ (w : Worker DeskView G C). w.desk)) (taken ∙ back_written n news over (sym (many ∙ long)));
+}
+
 -- the desks at the end are all desks of the sharing
-pub all_desks : {G C : Type 0} (links : G → Option Links) (faults : G → ℕ) (most : Option ℕ) (origin : Origin) (sharing : Sharing) (desks last : List DeskView) (olds news : List (Worker DeskView G C)) → 1 ≤ sharing.desks → AreNew origin sharing desks
-    → map (λ (w : Worker DeskView G C). w.desk) olds ≡ desks → Worked links faults most olds news → length news ≡ length olds → last ≡ map (λ (w : Worker DeskView G C). w.desk) news → AreAll sharing last
-all_desks {G} {C} links faults most origin sharing desks last olds news some_desk made is all many ends =
-    let first : AreAll sharing (map (λ (w : Worker DeskView G C). w.desk) olds) = subst (AreAll sharing) (sym is) (new_all origin sharing desks some_desk made) in
-    subst (AreAll sharing) (sym ends)
+pub all_desks : {G C : Type 0} (links : G → Option Links) (faults : G → ℕ) (most : Option ℕ) (origin : Origin) (sharing : Sharing) (desks last : List DeskView) (olds news : List (Worker DeskView G C)) → IsCrew links faults most origin sharing desks last olds news
+    → AreAll sharing last
+all_desks {G} {C} links faults most origin sharing desks last olds news team =
+    let first : AreAll sharing (map (λ (w : Worker DeskView G C). w.desk) olds) = subst (AreAll sharing) (sym team.of_desks) (new_all origin sharing desks team.some_desk team.made) in
+    subst (AreAll sharing) (sym team.ends)
     (still_all sharing (map (λ (w : Worker DeskView G C). w.desk) olds) (map (λ (w : Worker DeskView G C). w.desk) news)
-    (length-map news (λ (w : Worker DeskView G C). w.desk) ∙ (many ∙ sym (length-map olds (λ (w : Worker DeskView G C). w.desk))))
-    first (same_desks (view links faults) (λ (w : Worker DeskView G C). w.worked) most olds news all))
+    (length-map news (λ (w : Worker DeskView G C). w.desk) ∙ (team.many ∙ sym (length-map olds (λ (w : Worker DeskView G C). w.desk))))
+    first (same_desks (view links faults) (λ (w : Worker DeskView G C). w.worked) most olds news team.worked))
 
 -- the manager comes from where it came
-pub same_origin : {G C : Type 0} (links : G → Option Links) (faults : G → ℕ) (most : Option ℕ) (origin out : Origin) (sharing : Sharing) (desks last : List DeskView) (olds news : List (Worker DeskView G C)) → 1 ≤ sharing.desks → AreNew origin sharing desks
-    → map (λ (w : Worker DeskView G C). w.desk) olds ≡ desks → Worked links faults most olds news → length news ≡ length olds → last ≡ map (λ (w : Worker DeskView G C). w.desk) news
+pub same_origin : {G C : Type 0} (links : G → Option Links) (faults : G → ℕ) (most : Option ℕ) (origin out : Origin) (sharing : Sharing) (desks last : List DeskView) (olds news : List (Worker DeskView G C)) → IsCrew links faults most origin sharing desks last olds news
     → All (λ (d : DeskView). out ≡ d.origin) last → out ≡ origin
-same_origin {G} {C} links faults most origin out sharing desks last olds news some_desk made is all many ends told =
+same_origin {G} {C} links faults most origin out sharing desks last olds news team told =
     let d = new_desk origin sharing 0 in
     let old = map (λ (w : Worker DeskView G C). w.desk) olds in
     let now = map (λ (w : Worker DeskView G C). w.desk) news in
-    let first : AreNew origin sharing old = subst (AreNew origin sharing) (sym is) made in
+    let first : AreNew origin sharing old = subst (AreNew origin sharing) (sym team.of_desks) team.made in
+    let some_desk = team.some_desk in
     let long : 0 < length old = let c = first.count in omega (arith, c, some_desk) in
-    let count : length now ≡ length old = length-map news (λ (w : Worker DeskView G C). w.desk) ∙ (many ∙ sym (length-map olds (λ (w : Worker DeskView G C). w.desk))) in
-    let within : 0 < length last = subst (λ (l : List DeskView). 0 < length l) (sym ends) (omega (arith, count, long)) in
-    let at_end : slice_index_or last 0 d ≡ slice_index_or now 0 d = ap (λ l. slice_index_or l 0 d) ends in
+    let count : length now ≡ length old = length-map news (λ (w : Worker DeskView G C). w.desk) ∙ (team.many ∙ sym (length-map olds (λ (w : Worker DeskView G C). w.desk))) in
+    let within : 0 < length last = subst (λ (l : List DeskView). 0 < length l) (sym team.ends) (omega (arith, count, long)) in
+    let at_end : slice_index_or last 0 d ≡ slice_index_or now 0 d = ap (λ l. slice_index_or l 0 d) team.ends in
     told 0 d within ∙ ap (λ (v : DeskView). v.origin) at_end
-    ∙ (same_desks (view links faults) (λ (w : Worker DeskView G C). w.worked) most olds news all 0 d long).origin
+    ∙ (same_desks (view links faults) (λ (w : Worker DeskView G C). w.worked) most olds news team.worked 0 d long).origin
     ∙ ap (λ (v : DeskView). v.origin) (first.each 0 d long)
 
 -- behind the handed history each entry has a worker's number
@@ -83,10 +108,9 @@ numbered_as sharing last out d all told =
     subst (λ (s : Sharing). IsNumbered s.desks s.handed out) (all.each 0 d within).1 (told 0 d within)
 
 -- all workers together
-pub serves : {G C : Type 0} (links : G → Option Links) (faults : G → ℕ) (most : Option ℕ) (count : ℕ) (origin : Origin) (history out : List Entry) (olds news : List (Worker DeskView G C)) (desks last : List DeskView) (gates : List G) (totals : Totals) (old new : NetworkView)
-    → IsLegal (opening_of origin) out → (shared : (sharing : Sharing) × (sharing.desks ≡ count) × (sharing.handed ≡ history) × AreNew origin sharing desks) → 1 ≤ count
-    → map (λ (w : Worker DeskView G C). w.desk) olds ≡ desks → map (λ (w : Worker DeskView G C). w.gate) olds ≡ gates → AreNewGates links faults gates → Worked links faults most olds news → length news ≡ length olds
-    → last ≡ map (λ (w : Worker DeskView G C). w.desk) news
+pub serves : {G C : Type 0} (links : G → Option Links) (faults : G → ℕ) (most : Option ℕ) (count : ℕ) (origin : Origin) (sharing : Sharing) (history out : List Entry) (olds news : List (Worker DeskView G C)) (desks last : List DeskView) (gates : List G) (totals : Totals) (old new : NetworkView)
+    → IsLegal (opening_of origin) out → sharing.desks ≡ count → sharing.handed ≡ history → IsCrew links faults most origin sharing desks last olds news
+    → map (λ (w : Worker DeskView G C). w.gate) olds ≡ gates → AreNewGates links faults gates
     → All (λ (d : DeskView). Extends d.sharing.handed d.seen × Extends d.seen out) last
     → All (λ (d : DeskView). entries_of d.number out ≡ entries_of d.number d.seen) last
     → All (λ (d : DeskView). IsNumbered d.sharing.desks d.sharing.handed out) last
@@ -95,23 +119,21 @@ pub serves : {G C : Type 0} (links : G → Option Links) (faults : G → ℕ) (m
     → new.listening ≡ all_released old.listening (map (λ (w : Worker DeskView G C). (view links faults w).gate) news) → new.faults ≡ old.faults
     → new.gate_faults ≡ faults_raised old.gate_faults (map (λ (w : Worker DeskView G C). (view links faults w).gate) news)
     → ServesAll most count (record { origin = origin; history = history }) (record { history = out; totals = totals }) old new
-serves {G} {C} links faults most count origin history out olds news desks last gates totals old new legal shared some_gate of_desks of_gates new_gates all many ends seen own others served failed told same_faults gate_faults =
-    let sharing = shared.0 in
-    let made = shared.3 in
-    let some_desk : 1 ≤ sharing.desks = let e = shared.1 in omega (arith, e, some_gate) in
-    let alls = all_desks links faults most origin sharing desks last olds news some_desk made of_desks all many ends in
-    let as_count : length olds ≡ count = sym (length-map olds (λ (w : Worker DeskView G C). w.desk)) ∙ (ap length of_desks ∙ (made.count ∙ shared.1)) in
+serves {G} {C} links faults most count origin sharing history out olds news desks last gates totals old new legal counted handed team of_gates new_gates seen own others served failed told same_faults gate_faults =
+    let made = team.made in
+    let alls = all_desks links faults most origin sharing desks last olds news team in
+    let as_count : length olds ≡ count = sym (length-map olds (λ (w : Worker DeskView G C). w.desk)) ∙ (ap length team.of_desks ∙ (made.count ∙ counted)) in
     let begins = begin_from (view links faults) (λ (w : Worker DeskView G C). w.worked) origin sharing 0 olds
     (λ i other within.
-    let long : i < length desks = let c = made.count in let e = shared.1 in omega (arith, c, e, as_count, within) in
+    let long : i < length desks = let c = made.count in omega (arith, c, counted, as_count, within) in
     let at : (slice_index_or olds i other).desk ≡ new_desk origin sharing i =
-    desk_at (λ (w : Worker DeskView G C). w.desk) (λ (w : Worker DeskView G C). w.gate) olds desks i other of_desks within ∙ made.each i other.desk long in (
+    desk_at (λ (w : Worker DeskView G C). w.desk) (λ (w : Worker DeskView G C). w.gate) olds desks i other team.of_desks within ∙ made.each i other.desk long in (
       at ∙ ap (new_desk origin sharing) (let e : i ≡ 0 + i = omega arith in e),
       gate_at (λ (w : Worker DeskView G C). w.desk) (λ (w : Worker DeskView G C). w.gate) (λ gate. IsNewGate (record { links = links gate; faults = faults gate })) olds gates of_gates new_gates i other within,
     )) in
     let P : DeskView → Type 0 = λ (d : DeskView). Extends d.seen out × (entries_of d.number out ≡ entries_of d.number d.seen) in
-    let both : All P (map (λ (w : Worker DeskView G C). w.desk) news) = subst (All P) ends (λ k d within. ((seen k d within).1, own k d within)) in
+    let both : All P (map (λ (w : Worker DeskView G C). w.desk) news) = subst (All P) team.ends (λ k d within. ((seen k d within).1, own k d within)) in
     let closes = of_workers (view links faults) (λ (w : Worker DeskView G C). w.worked) P news (recursion_from_All P (map (λ (w : Worker DeskView G C). w.desk) news) both) in
-    subst (λ (h : List Entry). ServesAll most count (record { origin = origin; history = h }) (record { history = out; totals = totals }) old new) shared.2
-    (serves_all (view links faults) (λ (w : Worker DeskView G C). w.worked) most count origin sharing (record { history = out; totals = totals }) olds news old new all as_count shared.1 begins legal
+    subst (λ (h : List Entry). ServesAll most count (record { origin = origin; history = h }) (record { history = out; totals = totals }) old new) handed
+    (serves_all (view links faults) (λ (w : Worker DeskView G C). w.worked) most count origin sharing (record { history = out; totals = totals }) olds news old new team.worked as_count counted begins legal
     (numbered_as sharing last out (new_desk origin sharing 0) alls others) closes served failed told same_faults gate_faults)

@@ -12,7 +12,7 @@ use Rattle.am_history.specs.Desks.{DeskView, IsSameDesk, opening_of, start_of}
 use Rattle.am_history.specs.History.{Extends, IsLegal, entries_of}
 use Rattle.am_http.specs.Exchanges.{AreAnswered, AreInOrder, Exchange, IsAbove, IsAnswer, Point, entry_at, floor_after, floor_of, stored_entries}
 use Rattle.am_http.specs.declared.end.End.{End}
-use Rattle.am_http.specs.declared.end.End.TheVariants.{Input, Close, Refused, Cut, Limit, ReadFault, WriteFault}
+use Rattle.am_http.specs.declared.end.End.TheVariants.{ReadFault, WriteFault}
 use Rattle.am_http.specs.declared.end.Served.{Served}
 use Rattle.am_http.specs.Links.{GoesOn, Link}
 use Rattle.am_http.specs.Sessions.{HasFault, Session}
@@ -284,13 +284,9 @@ view_of link = record {
 }
 
 cause_of : (end : End) (first last : Link) → HasFault end first last → HasCause end (view_of first) (view_of last)
-cause_of Input first last fault = tt
-cause_of Close first last fault = tt
-cause_of Refused first last fault = tt
-cause_of Cut first last fault = tt
-cause_of Limit first last fault = tt
 cause_of ReadFault first last fault = fault
 cause_of WriteFault first last fault = fault
+cause_of end first last fault = tt
 
 -- a connection that ended is a link that was served
 pub link_served : (first last : Link) (served : Served) (session : Session first last served) → HasFault served.end first last

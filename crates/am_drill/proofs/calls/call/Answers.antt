@@ -15,29 +15,21 @@ make-requires g c = record {
   plain = subst IsPlain (sym c.in_ok-request.ensures.made) (generated_is_plain c.below-case.result c.below-case.new.self);
 }
 
-pub returns-clause-status : goal.returns-clause-status
-returns-clause-status g c =
-    subst (λ (call : Call). IfOk c.make.result (λ status. status
-    ≡ status_of (answer (start_of (g.D.Desk.view c.args.desk.now)) (g.D.Desk.view c.args.desk.now).seen call)))
-    (made_call c.args.draws.now c.below-number.new.self c.below-case.new.self c.below-case.result
+pub returns : goal.returns
+returns g c =
+    let made = made_call c.args.draws.now c.below-number.new.self c.below-case.new.self c.below-case.result
     c.below-number.ensures.goes_on c.below-case.ensures.goes_on c.below-case.ensures.drawn
     c.args.packages c.args.j c.below-number.result c.in_ok-key.key (1000 * c.from.result) c.in_ok-request.request
-    c.below-number.ensures.drawn c.in_ok-key.ensures (ap (λ n. 1000 * n) c.from.ensures) c.in_ok-request.ensures.made)
-    c.make.ensures.status
-
-pub returns-clause-seen : goal.returns-clause-seen
-returns-clause-seen g c =
-    subst (λ (call : Call). OnOk c.make.result ((g.D.Desk.view c.make.new.desk).seen
-    ≡ history_after (start_of (g.D.Desk.view c.args.desk.now)) (g.D.Desk.view c.args.desk.now).seen call))
-    (made_call c.args.draws.now c.below-number.new.self c.below-case.new.self c.below-case.result
-    c.below-number.ensures.goes_on c.below-case.ensures.goes_on c.below-case.ensures.drawn
-    c.args.packages c.args.j c.below-number.result c.in_ok-key.key (1000 * c.from.result) c.in_ok-request.request
-    c.below-number.ensures.drawn c.in_ok-key.ensures (ap (λ n. 1000 * n) c.from.ensures) c.in_ok-request.ensures.made)
-    c.make.ensures.seen
-
-pub returns-clause-drawn : goal.returns-clause-drawn
-returns-clause-drawn g c =
-    anyway c.make.result
-    (drawn_behind c.args.draws.now c.below-number.new.self c.below-case.new.self c.below-case.result
-    c.below-number.ensures.goes_on c.below-case.ensures.goes_on c.below-case.ensures.drawn
-    c.request.new.draws c.in_ok-request.ensures.drawn)
+    c.below-number.ensures.drawn c.in_ok-key.ensures (ap (λ n. 1000 * n) c.from.ensures) c.in_ok-request.ensures.made in
+    let first = g.D.Desk.view c.args.desk.now in
+    record {
+      status = subst (λ (call : Call). IfOk c.make.result (λ status. status ≡ status_of (answer (start_of first) first.seen call)))
+          made c.make.ensures.status;
+      seen = subst (λ (call : Call). OnOk c.make.result ((g.D.Desk.view c.make.new.desk).seen ≡ history_after (start_of first) first.seen call))
+          made c.make.ensures.seen;
+      same = c.make.ensures.same;
+      drawn = anyway c.make.result
+          (drawn_behind c.args.draws.now c.below-number.new.self c.below-case.new.self c.below-case.result
+          c.below-number.ensures.goes_on c.below-case.ensures.goes_on c.below-case.ensures.drawn
+          c.request.new.draws c.in_ok-request.ensures.drawn);
+    }

@@ -47,22 +47,21 @@ loop-j-preserved g c =
       same = same_twice first desk next so_far.same c.in_ok-status.ensures.same;
     }
 
-pub returns-clause-statuses : goal.returns-clause-statuses
-returns-clause-statuses g c =
+pub returns : goal.returns
+returns g c =
     let first = g.D.Desk.view c.args.desk.now in
     let desk = g.D.Desk.view c.loop-j.desk in
-    let all = statuses_of (start_of first) first.seen (calls_of c.args.packages c.args.requests c.args.draws.now) in
-    let ended : c.loop-j.j ≡ c.args.requests = omega arith in
-    statuses_end (start_of first) desk.seen c.args.packages c.args.requests c.args.draws.now c.loop-j.statuses.items all
-    (subst (λ (j : ℕ). c.loop-j.statuses.items ++ statuses_of (start_of first) desk.seen (calls_left c.args.packages c.args.requests j c.args.draws.now) ≡ all)
-    ended c.loop-j.invariant.statuses)
-
-pub returns-clause-seen : goal.returns-clause-seen
-returns-clause-seen g c =
-    let first = g.D.Desk.view c.args.desk.now in
-    let desk = g.D.Desk.view c.loop-j.desk in
-    let all = history_of (start_of first) first.seen (calls_of c.args.packages c.args.requests c.args.draws.now) in
-    let ended : c.loop-j.j ≡ c.args.requests = omega arith in
-    history_ends (start_of first) desk.seen c.args.packages c.args.requests c.args.draws.now all
-    (subst (λ (j : ℕ). history_of (start_of first) desk.seen (calls_left c.args.packages c.args.requests j c.args.draws.now) ≡ all)
-    ended c.loop-j.invariant.seen)
+    let packages = c.args.packages in
+    let requests = c.args.requests in
+    let state = c.args.draws.now in
+    let statuses = statuses_of (start_of first) first.seen (calls_of packages requests state) in
+    let history = history_of (start_of first) first.seen (calls_of packages requests state) in
+    let ended : c.loop-j.j ≡ requests = omega arith in
+    record {
+      statuses = statuses_end (start_of first) desk.seen packages requests state c.loop-j.statuses.items statuses
+          (subst (λ (j : ℕ). c.loop-j.statuses.items ++ statuses_of (start_of first) desk.seen (calls_left packages requests j state) ≡ statuses)
+          ended c.loop-j.invariant.statuses);
+      seen = history_ends (start_of first) desk.seen packages requests state history
+          (subst (λ (j : ℕ). history_of (start_of first) desk.seen (calls_left packages requests j state) ≡ history)
+          ended c.loop-j.invariant.seen);
+    }

@@ -1,12 +1,11 @@
-use Rattle.std.proofs.Common.{◌≡◌, ℕ, List, drop, refl, sym, ap, ◌∙◌, inl, inr, arith}
+use Rattle.std.proofs.Common.{◌≡◌, ◌≤◌, refl, inl, inr, arith}
 use Rattle.am_http.specs.FrameSpans.{frame_held}
-use Rattle.am_http.specs.Head.{Frame}
 use Rattle.am_history.specs.Desks.{DeskView}
-use Rattle.am_http.specs.Links.{GoesOn, Server}
+use Rattle.am_http.specs.Links.{GoesOn, IsSameLink, Link, Server}
 use Rattle.am_http.specs.Sessions.{IsUnasked}
 use Rattle.am_http.proofs.FramingLemmas.{whole_key, whole_body}
 use Rattle.am_http.proofs.NextLemmas.{keeps_refl}
-use Rattle.am_http.proofs.TurnLemmas.{ends_input, ends_cut, ends_refused, held_frame, sends_err, sends_ok, turn_failed, turn_replied}
+use Rattle.am_http.proofs.TurnLemmas.{ends_input, ends_cut, ends_refused, held_frame, sends_err, turn_failed, turn_held}
 use Rattle.am_http.proofs.connection.serve_frame.Goals as goal
 
 -- nothing is asked of a server that stays
@@ -66,86 +65,54 @@ returns-then-is_err-clause-turn g c =
     c.answer_frame-answer.ensures.answer sent.1
     (sends_err _ _ sent.0 c.write_answer-written.result c.if-is_err.ensures.value sent.2))
 
--- the window behind the frame
-behind : (w used : List ℕ) (held : Frame) (n : ℕ) → held.length ≡ n → used ≡ drop n w → drop held.length w ≡ used
-behind w used held n same is = ap (λ k. drop k w) same ∙ sym is
-
 pub returns-then-spans-clause-turn : goal.returns-then-spans-clause-turn
 returns-then-spans-clause-turn g c =
-    let w = c.next_frame.new.window in
-    let f = frame_held c.of.result in
     let sent = c.write_answer-written.ensures.sent in
-    turn_replied _ _ _ w f c.answer_frame-answer.result sent.0 c.in-Ok.ensures.kept
-    (held_frame w c.bytes.result.now _ c.in-Ok.found c.in-Whole.spans f c.in-Ok.ensures.found c.in-Whole.is c.bytes.ensures.bytes c.of.ensures)
-    (behind w c.consume.new.self f c.in-Whole.spans.length (ap (λ (x : Frame). x.length) c.of.ensures) c.consume.ensures)
-    c.answer_frame-answer.ensures.answer sent.1
-    (sends_ok _ _ sent.0 c.write_answer-written.result c.if-is_err.ensures.value sent.2)
-    (ap (λ (x : Frame). x.close) c.of.ensures ∙ c.if-spans.true)
+    turn_held _ _ _ c.next_frame.new.window c.bytes.result.now c.in-Ok.found c.in-Whole.spans (frame_held c.of.result) c.answer_frame-answer.result sent.0 c.write_answer-written.result
+    c.in-Ok.ensures.kept c.in-Ok.ensures.found c.in-Whole.is c.bytes.ensures.bytes c.of.ensures c.consume.ensures c.answer_frame-answer.ensures.answer sent.1
+    c.if-is_err.ensures.value sent.2 c.if-spans.true
 
 pub returns-else-spans-clause-turn : goal.returns-else-spans-clause-turn
 returns-else-spans-clause-turn g c =
-    let w = c.next_frame.new.window in
-    let f = frame_held c.of.result in
     let sent = c.write_answer-written.ensures.sent in
-    turn_replied _ _ _ w f c.answer_frame-answer.result sent.0 c.in-Ok.ensures.kept
-    (held_frame w c.bytes.result.now _ c.in-Ok.found c.in-Whole.spans f c.in-Ok.ensures.found c.in-Whole.is c.bytes.ensures.bytes c.of.ensures)
-    (behind w c.consume.new.self f c.in-Whole.spans.length (ap (λ (x : Frame). x.length) c.of.ensures) c.consume.ensures)
-    c.answer_frame-answer.ensures.answer sent.1
-    (sends_ok _ _ sent.0 c.write_answer-written.result c.if-is_err.ensures.value sent.2)
-    (ap (λ (x : Frame). x.close) c.of.ensures ∙ c.if-spans.false)
+    turn_held _ _ _ c.next_frame.new.window c.bytes.result.now c.in-Ok.found c.in-Whole.spans (frame_held c.of.result) c.answer_frame-answer.result sent.0 c.write_answer-written.result
+    c.in-Ok.ensures.kept c.in-Ok.ensures.found c.in-Whole.is c.bytes.ensures.bytes c.of.ensures c.consume.ensures c.answer_frame-answer.ensures.answer sent.1
+    c.if-is_err.ensures.value sent.2 c.if-spans.false
+
+-- the same link, whose source and sink have their marks and whose faults don't fall
+same_link : (old new : Link) → GoesOn old.server.desk new.server.desk → new.source.mark ≡ old.source.mark → old.source.faults ≤ new.source.faults
+    → new.sink.mark ≡ old.sink.mark → old.sink.faults ≤ new.sink.faults → IsSameLink old new
+same_link old new desk source source_faults sink sink_faults = record {
+  desk = desk;
+  source = record { mark = source; never_falls = source_faults };
+  sink = record { mark = sink; never_falls = sink_faults };
+}
 
 pub returns-in-Empty-clause-same : goal.returns-in-Empty-clause-same
-returns-in-Empty-clause-same g c =
-    record {
-      desk = stays _;
-      source = record { mark = c.in-Ok.ensures.mark; never_falls = c.in-Ok.ensures.never_falls };
-      sink = record { mark = refl; never_falls = omega arith };
-    }
+returns-in-Empty-clause-same g c = same_link _ _ (stays _) c.in-Ok.ensures.mark c.in-Ok.ensures.never_falls refl (omega arith)
 
 pub returns-in-Cut-clause-same : goal.returns-in-Cut-clause-same
-returns-in-Cut-clause-same g c =
-    record {
-      desk = stays _;
-      source = record { mark = c.in-Ok.ensures.mark; never_falls = c.in-Ok.ensures.never_falls };
-      sink = record { mark = refl; never_falls = omega arith };
-    }
+returns-in-Cut-clause-same g c = same_link _ _ (stays _) c.in-Ok.ensures.mark c.in-Ok.ensures.never_falls refl (omega arith)
 
 pub returns-in-Ok-write_defect-clause-same : goal.returns-in-Ok-write_defect-clause-same
 returns-in-Ok-write_defect-clause-same g c =
-    record {
-      desk = stays _;
-      source = record { mark = c.in-Ok.ensures.mark; never_falls = c.in-Ok.ensures.never_falls };
-      sink = record { mark = c.in-Ok-write_defect.ensures.mark; never_falls = c.in-Ok-write_defect.ensures.never_falls };
-    }
+    same_link _ _ (stays _) c.in-Ok.ensures.mark c.in-Ok.ensures.never_falls c.in-Ok-write_defect.ensures.mark c.in-Ok-write_defect.ensures.never_falls
 
 pub returns-in-Err-clause-same : goal.returns-in-Err-clause-same
 returns-in-Err-clause-same g c =
-    record {
-      desk = stays _;
-      source = record { mark = c.in-Ok.ensures.mark; never_falls = c.in-Ok.ensures.never_falls };
-      sink = record { mark = c.in-Err.ensures.mark; never_falls = c.in-Err.ensures.never_falls };
-    }
+    same_link _ _ (stays _) c.in-Ok.ensures.mark c.in-Ok.ensures.never_falls c.in-Err.ensures.mark c.in-Err.ensures.never_falls
 
 pub returns-then-is_err-clause-same : goal.returns-then-is_err-clause-same
 returns-then-is_err-clause-same g c =
-    record {
-      desk = c.answer_frame-answer.ensures.goes_on;
-      source = record { mark = c.in-Ok.ensures.mark; never_falls = c.in-Ok.ensures.never_falls };
-      sink = record { mark = c.write_answer-written.ensures.mark; never_falls = c.write_answer-written.ensures.never_falls };
-    }
+    let written = c.write_answer-written.ensures in
+    same_link _ _ c.answer_frame-answer.ensures.goes_on c.in-Ok.ensures.mark c.in-Ok.ensures.never_falls written.mark written.never_falls
 
 pub returns-then-spans-clause-same : goal.returns-then-spans-clause-same
 returns-then-spans-clause-same g c =
-    record {
-      desk = c.answer_frame-answer.ensures.goes_on;
-      source = record { mark = c.in-Ok.ensures.mark; never_falls = c.in-Ok.ensures.never_falls };
-      sink = record { mark = c.write_answer-written.ensures.mark; never_falls = c.write_answer-written.ensures.never_falls };
-    }
+    let written = c.write_answer-written.ensures in
+    same_link _ _ c.answer_frame-answer.ensures.goes_on c.in-Ok.ensures.mark c.in-Ok.ensures.never_falls written.mark written.never_falls
 
 pub returns-else-spans-clause-same : goal.returns-else-spans-clause-same
 returns-else-spans-clause-same g c =
-    record {
-      desk = c.answer_frame-answer.ensures.goes_on;
-      source = record { mark = c.in-Ok.ensures.mark; never_falls = c.in-Ok.ensures.never_falls };
-      sink = record { mark = c.write_answer-written.ensures.mark; never_falls = c.write_answer-written.ensures.never_falls };
-    }
+    let written = c.write_answer-written.ensures in
+    same_link _ _ c.answer_frame-answer.ensures.goes_on c.in-Ok.ensures.mark c.in-Ok.ensures.never_falls written.mark written.never_falls

@@ -7,6 +7,6 @@ use Rattle.am_machine.proofs.reads.read.Goals as goal
 
 pub returns-in_ok-items-in-Inbox : goal.returns-in_ok-items-in-Inbox
 returns-in_ok-items-in-Inbox g c =
-    ap (λ (request : Request). act c.args.live.now c.args.history.now c.args.caller request) c.in-Inbox.is
-    ∙ act_inbox c.args.live.now c.args.history.now c.args.caller
+    ap (λ (request : Request). act c.args.live.now c.args.history.now c.args.call.now.uid request) c.in-Inbox.is
+    ∙ act_inbox c.args.live.now c.args.history.now c.args.call.now.uid
     ∙ ap (λ items. (replies.Items items, c.args.live.now)) (sym c.in_ok-items-in-Inbox.ensures)

@@ -1,5 +1,5 @@
-use Rattle.std.proofs.Common.{Err, ap, ◌∙◌}
-use Rattle.am_shell.proofs.ServingLemmas.{left_again, unheard, works_serving}
+use Rattle.std.proofs.Common.{Err, refl, inl, inr, ap, ◌∙◌}
+use Rattle.am_shell.proofs.ServingLemmas.{left_again, works_serving}
 use Rattle.am_shell.proofs.serving.serve_device.Goals as goal
 
 pub returns-in-Ok : goal.returns-in-Ok
@@ -10,8 +10,20 @@ returns-in-Ok g c =
     works_serving c.args.asked c.args.device _ _ _ _ _ _ _ c.in_ok-manager.manager c.in_ok-manager-in-Ok.manager c.kept_is_found.ensures c.requires.sound c.as_ref.ensures.value
     (c.in-Ok.gates.ok.0 ∙ heard.count) begun.origin begun.fresh begun.unchanged heard.told heard.gate_faults done.serves done.origin c.hand_back.ensures c.length-history.ensures.count
 
+pub returns-in-Failed : goal.returns-in-Failed
+returns-in-Failed g c =
+    let begun = c.in_ok-manager.ensures in
+    inr (record {
+      is = refl;
+      risen = c.in-Err.ensures.failed (ap Err c.in-Failed.is);
+      store = left_again c.args.asked c.args.device _ _ _ _ c.in_ok-manager.manager c.as_ref.ensures.value begun.origin begun.fresh begun.unchanged c.hand_back-in-Err.ensures;
+    })
+
 pub returns : goal.returns
 returns g c =
     let begun = c.in_ok-manager.ensures in
-    unheard c.in-Err.fail c.into.result c.args.asked c.args.device _ _ c.into.ensures (λ e. c.in-Err.ensures.failed (ap Err e))
-    (left_again c.args.asked c.args.device _ _ _ _ c.in_ok-manager.manager c.as_ref.ensures.value begun.origin begun.fresh begun.unchanged c.hand_back-in-Err.ensures)
+    inl (record {
+      fails = tt;
+      store = inr (left_again c.args.asked c.args.device _ _ _ _ c.in_ok-manager.manager c.as_ref.ensures.value begun.origin begun.fresh begun.unchanged c.hand_back-in-Err.ensures);
+      network = inl refl;
+    })
