@@ -1,7 +1,7 @@
 //! The activity manager of a simulated Android device, as a program.
 #![tactic(auto)]
 
-use am_host::{ReaderSource, SystemClock, SystemFiles, WriterSink, read_words};
+use am_host::{Counted, SystemClock, SystemFiles, read_words};
 use am_shell::{run, tell_want};
 use am_store_sql::SqlStore;
 use am_tcp::TcpNetwork;
@@ -9,9 +9,9 @@ use std::process::ExitCode;
 
 fn main(rt: HostRuntime) -> ExitCode {
     let mut files = SystemFiles::new(rt);
-    let mut input = ReaderSource::new(rt.stdin());
-    let mut output = WriterSink::new(rt.stdout());
-    let mut errors = WriterSink::new(rt.stderr());
+    let mut input = Counted::new(rt.stdin());
+    let mut output = Counted::new(rt.stdout());
+    let mut errors = Counted::new(rt.stderr());
     let mut network = TcpNetwork::new(rt, rt.alloc());
     let mut store = SqlStore::new(rt);
     let mut clock = SystemClock::new(rt);

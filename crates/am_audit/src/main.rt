@@ -2,13 +2,13 @@
 #![tactic(auto)]
 
 use am_audit_shell::{audit, tell_want};
-use am_host::{SystemFiles, WriterSink, read_words};
+use am_host::{Counted, SystemFiles, read_words};
 use std::process::ExitCode;
 
 fn main(rt: HostRuntime) -> ExitCode {
     let mut files = SystemFiles::new(rt);
-    let mut output = WriterSink::new(rt.stdout());
-    let mut errors = WriterSink::new(rt.stderr());
+    let mut output = Counted::new(rt.stdout());
+    let mut errors = Counted::new(rt.stderr());
     ExitCode::from(match read_words(&rt) {
         Err(_) => tell_want(&mut errors),
         Ok(words) => audit(

@@ -1,17 +1,15 @@
 -- A replay that goes on with the next entry of the history.
 use Rattle.std.proofs.Common.{◌≡◌, ℕ, zero, suc, ◌+◌, ◌<◌, List, [], ◌∷◌, ◌++◌, length, take, get_or, refl, sym, ap, ◌∙◌, subst, append_assoc, append-nil, arith}
-use Rattle.std.specs.Prelude.{Option, Some, slice_get}
+use Rattle.std.specs.Prelude.{Some, All, slice_get}
 use Rattle.std.proofs.lemmas.List.{length_push, take_more}
-use Rattle.std.proofs.lemmas.Option.{get_or_from_slice_get, none-some, slice_get_read, slice_get_within}
+use Rattle.std.proofs.lemmas.Option.{get_or_from_slice_get, none-some, same_Some, slice_get_read, slice_get_within}
 use Rattle.am_types.specs.declared.history.Entry.{Entry}
 use Rattle.am_history.specs.State.{State}
 use Rattle.am_history.specs.History.{IsLegal, IsLegalFrom, MayBeNext, replay}
 use Rattle.am_audit_calls.specs.Replays.{Replay, state_of}
+use Rattle.am_audit_lines.specs.Lines.{IsWhole}
 use Rattle.am_audit_answers.specs.Audits.{Ground}
 use Rattle.am_audit_answers.specs.Matching.{IsReplayed}
-
-some_is : {A : Type 0} {x y : A} → ◌≡◌ {A = Option A} (Some x) (Some y) → x ≡ y
-some_is e = cc
 
 -- an entry that was read at a place is the one there
 pub next_there : (history : List Entry) (at place : ℕ) (next : Entry) → place ≡ at → place < length history → next ≡ get_or history place next
@@ -19,12 +17,17 @@ pub next_there : (history : List Entry) (at place : ℕ) (next : Entry) → plac
 next_there history at place next same within is =
     subst (λ (n : ℕ). slice_get history n ≡ Some next) same (slice_get_read history (length history) place next refl within is)
 
+-- it is whole if each is
+pub next_is_whole : (history : List Entry) (at : ℕ) (next : Entry) → All IsWhole history → slice_get history at ≡ Some next → IsWhole next
+next_is_whole history at next whole there =
+    subst IsWhole (get_or_from_slice_get history at next next there) (whole at next (slice_get_within history at next there))
+
 -- each entry of a legal history may be next at its place
 legal_at_from : (opening : State) (before entries : List Entry) (at : ℕ) (entry : Entry) → IsLegalFrom opening before entries
     → slice_get entries at ≡ Some entry → MayBeNext (replay opening (before ++ take at entries)) (before ++ take at entries) entry
 legal_at_from opening before [] at entry legal is = absurd (none-some entry is)
 legal_at_from opening before (first ∷ others) zero entry legal is =
-    let same : first ≡ entry = some_is is in
+    let same : first ≡ entry = same_Some _ _ is in
     subst (λ (h : List Entry). MayBeNext (replay opening h) h entry) (sym (append-nil before))
     (subst (MayBeNext (replay opening before) before) same legal.0)
 legal_at_from opening before (first ∷ others) (suc at) entry legal is =

@@ -6,5 +6,6 @@ pub mod Going
 pub mod Placed
 pub mod Unstored
 pub mod Stored
+pub mod Made
 pub mod Raised
 pub mod Wanted

@@ -1,6 +1,7 @@
 -- The exchanges of a frame that makes a request, where the bytes say one place of a call.
-use Rattle.std.proofs.Common.{◌≡◌, ℕ, ◌<◌, ◌^◌, Bool, true, false, ◌&&◌, cond, List, ◌++◌, length, take, refl, sym, ap, ◌∙◌, subst, inl, inr, arith}
+use Rattle.std.proofs.Common.{◌≡◌, ℕ, ◌<◌, ◌≤◌, ◌^◌, Bool, true, false, ◌&&◌, cond, List, ◌++◌, length, take, drop, refl, sym, ap, ◌∙◌, subst, inl, inr, arith}
 use Rattle.std.specs.Prelude.{Option, Some, None, Result, Ok, Err, is_some}
+use Rattle.std.proofs.lemmas.List.{take-append-drop}
 use Rattle.am_types.specs.declared.history.Entry.{Entry}
 use Rattle.am_types.specs.declared.history.Shown.{Shown}
 use Rattle.am_types.specs.declared.reply.Reply.TheVariants.{Refused}
@@ -10,13 +11,16 @@ use Rattle.am_history.specs.State.{State, uid_of}
 use Rattle.am_history.specs.Steps.{Call, act, step}
 use Rattle.am_history.specs.History.{entry_of, has_room, is_stored, may_change, replay, reply_after, reply_to}
 use Rattle.am_http.specs.declared.answer.Refusal.{Refusal}
-use Rattle.am_http.specs.Exchanges.{Exchange, IsAnswer, IsCalled, IsMarked, Point, by_late_want, by_refusal, by_reply, by_want, reply_of}
+use Rattle.am_http.specs.Exchanges.{Exchange, IsAnswer, IsCalled, IsMarked, Point, by_late_want, by_refusal, by_reply, by_want, floor_after, reply_of}
 use Rattle.am_http.specs.Head.{Frame}
 use Rattle.am_http.specs.Requests.{call_of, request_of}
 use Rattle.am_http.specs.Responses.{response, want_after, want_before}
-use Rattle.am_audit_answers.specs.Judged.{IsShownBy}
-use Rattle.am_audit_answers.specs.Judging.{Answers, Case, OnlyWants}
+use Rattle.am_audit_answers.specs.declared.judging.Accepted.{Accepted}
+use Rattle.am_audit_answers.specs.Audits.{IsAudited}
+use Rattle.am_audit_answers.specs.Judged.{IsAccepted, IsShownBy}
+use Rattle.am_audit_answers.specs.Judging.{Answers, Case, OnlyWants, Suits}
 use Rattle.am_audit_answers.specs.Marks.{HasMark, SaysOnly}
+use Rattle.am_audit_answers.specs.Matching.{IsReplayed}
 use Rattle.am_audit_answers.proofs.TextLemmas.{response_marked, want_after_marked, want_before_unmarked}
 
 -- what is shown of a call at a point of the history
@@ -113,6 +117,42 @@ unmarked_wants c request asks none short few desk e rest answers = by answers.au
         absurd (none called.point.at called.point.stored
         (want_after_marked called.point.at called.point.stored rest c.left (omega (arith, called.marked.within)) few
         (begins (want_after called.point.at called.point.stored) is)))
+
+-- the exchange that shows the frame's call at the point by so many bytes
+abbrev pub exchange_at : Case → Point → Option ℕ → ℕ → Exchange
+exchange_at c point now taken = record { frame = c.frame; now = now; point = Some point; bytes = take taken c.left }
+
+-- a frame is accepted by those bytes, if each of its exchanges has the point and leads on as they do
+pub accepted_at : (c : Case) (point : Point) (accepted : Accepted) (now : Option ℕ) → c.standing.floor ≤ point.at → accepted.taken ≤ length c.left
+    → ((desk : ℕ) → Suits accepted.bench.desk desk
+    → Suits c.standing.desk desk × IsAudited c.ground desk (exchange_at c point now accepted.taken))
+    → ((desk : ℕ) (e : Exchange) (rest : List ℕ) → Answers c desk e rest
+    → (e.point ≡ Some point) × (rest ≡ drop accepted.taken c.left) × Suits accepted.bench.desk desk)
+    → floor_after c.standing.floor (Some point) ≡ length accepted.bench.replayed.history
+    → accepted.bench.replayed.start ≡ c.ground.start → IsReplayed c.ground accepted.bench.replayed → IsAccepted c accepted
+accepted_at c point accepted now low fits each only floor start replayed = record {
+  accepts = record {
+    exchange = exchange_at c point now accepted.taken;
+    answers = λ desk suits. record {
+      frame = refl;
+      suits = (each desk suits).0;
+      audited = (each desk suits).1;
+      above = low;
+      bytes = sym (take-append-drop accepted.taken c.left);
+    };
+    floor = floor;
+    only = λ desk e rest answers.
+        let is = only desk e rest answers in
+        record {
+          ends = is.1;
+          suits = is.2;
+          floor = ap (λ (o : Option Point). floor_after c.standing.floor o) is.0 ∙ floor;
+        };
+  };
+  taken = fits;
+  start = start;
+  replayed = replayed;
+}
 
 -- a call that is shown is an answer
 pub answer_by : (start : State) (desk : ℕ) (history : List Entry) (e : Exchange) (called : IsCalled start desk history e)

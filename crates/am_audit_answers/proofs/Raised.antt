@@ -11,10 +11,10 @@ use Rattle.am_http.specs.Requests.{request_of}
 use Rattle.am_audit_calls.specs.Replays.{Replay}
 use Rattle.am_audit_answers.specs.declared.judging.Accepted.{Accepted}
 use Rattle.am_audit_answers.specs.declared.judging.Bench.{Bench}
-use Rattle.am_audit_answers.specs.Judged.{Judges, case_of, ground_of}
+use Rattle.am_audit_answers.specs.Judged.{Judges, Stands, case_of, ground_of}
 use Rattle.am_audit_answers.specs.Judging.{Accepts, Answers, Case, Refuses, Standing, Suits}
 use Rattle.am_audit_answers.specs.Marks.{SaysOnly}
-use Rattle.am_audit_answers.specs.Matching.{GoesTo}
+use Rattle.am_audit_answers.specs.Matching.{GoesTo, IsRecord, IsReplayed}
 use Rattle.am_audit_answers.proofs.Placed.{each_placed}
 
 -- some desk has a number that suits
@@ -124,3 +124,11 @@ pub unreached : (history : List Entry) (bench : Bench) (frame : Frame) (left : L
     → GoesTo (ground_of history bench) bench.replayed at None → Refuses (case_of history bench frame left)
 unreached history bench frame left request at stored asks says short few goes =
     refuses_there (case_of history bench frame left) request (record { at = at; stored = stored }) asks says short few goes
+
+-- an audit has come there too
+pub stands_there : (history : List Entry) (bench : Bench) (at : ℕ) (after : Replay) → Stands history bench
+    → GoesTo (ground_of history bench) bench.replayed at (Some after) → Stands history (record { replayed = after; desk = bench.desk })
+stands_there history bench at after stands goes = record {
+  made = subst (λ (s : State). IsRecord (record { start = s; history = history })) (sym goes.0.start) stands.made;
+  first = subst (λ (s : State). IsReplayed (record { start = s; history = history }) after) (sym goes.0.start) goes.0;
+}

@@ -1,32 +1,25 @@
 -- A frame whose response says that its call is the next entry of the history.
 use Rattle.std.proofs.Common.{◌≡◌, ℕ, ◌+◌, ◌<◌, ◌^◌, Bool, true, List, [], ◌∷◌, ◌++◌, length, take, refl, sym, ap, ◌∙◌, subst, arith}
-use Rattle.std.specs.Prelude.{Option, Some, None, Result, Ok, Err, IfOk, MatchOption, slice_get}
-use Rattle.am_types.specs.declared.failure.NoMemory.{NoMemory}
-use Rattle.std.proofs.lemmas.List.{take-append-drop}
+use Rattle.std.specs.Prelude.{Option, Some, None, Ok, MatchOption, slice_get}
+use Rattle.std.proofs.lemmas.Option.{same_Some}
 use Rattle.am_types.specs.declared.history.Entry.{Entry}
 use Rattle.am_types.specs.declared.history.Shown.{Shown}
 use Rattle.am_types.specs.declared.request.Request.{Request}
 use Rattle.am_history.specs.State.{State, uid_of}
 use Rattle.am_history.specs.History.{IsEntryOf, is_stored, replay, reply_after}
 use Rattle.am_history.specs.Desks.{Follows}
-use Rattle.am_http.specs.Exchanges.{Exchange, IsAnswer, IsCalled, Point, floor_after}
+use Rattle.am_http.specs.Exchanges.{Exchange, IsAnswer, IsCalled, Point}
 use Rattle.am_http.specs.Head.{Frame}
 use Rattle.am_http.specs.Requests.{call_of, request_of}
 use Rattle.am_audit_calls.specs.Replays.{Replay, ShowsKept}
 use Rattle.am_audit_answers.specs.declared.judging.Accepted.{Accepted}
 use Rattle.am_audit_answers.specs.declared.judging.Bench.{Bench}
-use Rattle.am_audit_answers.specs.Judged.{IsAccepted, IsMade, IsShownBy, Judges, ShowsAs, case_of, ground_of}
+use Rattle.am_audit_answers.specs.Judged.{IsAccepted, IsMade, IsNext, IsShownBy, Judges, ShowsAs, case_of, ground_of}
 use Rattle.am_audit_answers.specs.Judging.{Answers, Case, Refuses, Suits}
 use Rattle.am_audit_answers.specs.Marks.{SaysOnly}
 use Rattle.am_audit_answers.specs.Matching.{IsItsCall, IsReplayed}
 use Rattle.am_audit_answers.proofs.Going.{next_is_replayed, one_more}
-use Rattle.am_audit_answers.proofs.Placed.{IsPlaced, answer_by, each_placed, shown_at}
-
-some_is : {A : Type 0} {x y : A} → ◌≡◌ {A = Option A} (Some x) (Some y) → x ≡ y
-some_is e = cc
-
-no_some : {A : Type 0} (x : A) → ◌≡◌ {A = Option A} None (Some x) → ⊥
-no_some x e = cc
+use Rattle.am_audit_answers.proofs.Placed.{IsPlaced, accepted_at, answer_by, each_placed, exchange_at, shown_at}
 
 module _ (history : List Entry) (bench : Bench) (frame : Frame) (left : List ℕ) (request : Request)
     (asks : request_of frame ≡ Ok request) (says : SaysOnly left (length bench.replayed.history) true)
@@ -45,12 +38,6 @@ module _ (history : List Entry) (bench : Bench) (frame : Frame) (left : List ℕ
   placed : (desk : ℕ) (e : Exchange) (rest : List ℕ) → Answers c desk e rest → IsPlaced c request point desk e
   placed desk e rest answers = each_placed c request point asks says short few desk e rest answers
 
-  -- the history has an entry there
-  pub refuses_without : slice_get history (length bench.replayed.history) ≡ None → Refuses c
-  refuses_without none desk e rest answers =
-      let entry = (placed desk e rest answers).marked.entry in
-      no_some entry.0 (sym none ∙ entry.1)
-
   module _ (next : Entry) (there : slice_get history (length bench.replayed.history) ≡ Some next) where
     -- and this is the call
     is_entry : (desk : ℕ) (e : Exchange) (p : IsPlaced c request point desk e)
@@ -58,7 +45,7 @@ module _ (history : List Entry) (bench : Bench) (frame : Frame) (left : List ℕ
     is_entry desk e p =
         let entry = p.marked.entry in
         subst (IsEntryOf (replay bench.replayed.start before) (call_of desk frame p.now request) p.kept)
-        (some_is (sym entry.1 ∙ there)) entry.2
+        (same_Some _ _ (sym entry.1 ∙ there)) entry.2
 
     -- so it is the frame's, on a desk that suits
     its_call : (desk : ℕ) (e : Exchange) (rest : List ℕ) → Answers c desk e rest
@@ -72,9 +59,6 @@ module _ (history : List Entry) (bench : Bench) (frame : Frame) (left : List ℕ
             asks = is.request;
           },
         )
-
-    pub refuses_other : (Suits bench.desk next.desk × IsItsCall (replay bench.replayed.start bench.replayed.history) frame request next → ⊥) → Refuses c
-    refuses_other other desk e rest answers = other (its_call desk e rest answers)
 
     module _ (suits : Suits bench.desk next.desk) (kept : next.kept ≡ true)
         (its : IsItsCall (replay bench.replayed.start bench.replayed.history) frame request next)
@@ -102,7 +86,7 @@ module _ (history : List Entry) (bench : Bench) (frame : Frame) (left : List ℕ
           let P : Bool → Type 0 = λ b. Follows bench.replayed.history after.history b (IsEntryOf state (call_of next.desk frame next.now request) true) in
           let follows = subst P stored shows.follows in
           let is = follows.1 in
-          let uid : follows.0.uid ≡ next.uid = some_is (sym is.uid ∙ its.uid) in
+          let uid : follows.0.uid ≡ next.uid = same_Some _ _ (sym is.uid ∙ its.uid) in
           let same : follows.0 ≡ next =
           λ i. record {
             desk = is.desk i;
@@ -134,7 +118,7 @@ module _ (history : List Entry) (bench : Bench) (frame : Frame) (left : List ℕ
 
       -- the exchange of so many bytes
       abbrev exchange : ℕ → Exchange
-      exchange taken = record { frame = frame; now = Some next.now; point = Some point; bytes = take taken left }
+      exchange = exchange_at c point (Some next.now)
 
       called : (desk taken : ℕ) → desk ≡ next.desk → shown.stored ≡ true → IsCalled bench.replayed.start desk history (exchange taken)
       called desk taken number stored = record {
@@ -165,28 +149,16 @@ module _ (history : List Entry) (bench : Bench) (frame : Frame) (left : List ℕ
       accepts : (taken : ℕ) → ShowsAs true shown left (Some taken)
           → IsAccepted c (record { bench = record { replayed = after; desk = Some next.desk }; taken = taken })
       unfolding called
-      accepts taken takes = record {
-        accepts = record {
-          exchange = exchange taken;
-          answers = λ desk number. record {
-            frame = refl;
-            suits = subst (Suits bench.desk) (sym number) suits;
-            audited = record { answer = answer desk number; timed = λ stored. absurd cc };
-            above = omega arith;
-            bytes = sym (take-append-drop taken left);
-          };
-          floor = sym (count takes.0);
-          only = λ desk e rest answers. record {
-            ends = takes.1.2 e.bytes rest (shows_it desk e rest answers) answers.bytes;
-            suits = sym (is_entry desk e (placed desk e rest answers)).desk;
-            floor = ap (λ (o : Option Point). floor_after (length bench.replayed.history) o) (placed desk e rest answers).placed
-                ∙ sym (count takes.0);
-          };
-        };
-        taken = takes.1.0;
-        start = shows.start;
-        replayed = next_is_replayed (ground_of history bench) bench.replayed after next first there shows.start (after_is takes.0);
-      }
+      accepts taken takes =
+          accepted_at c point (record { bench = record { replayed = after; desk = Some next.desk }; taken = taken }) (Some next.now) (omega arith) takes.1.0
+          (λ desk number. (subst (Suits bench.desk) (sym number) suits, record { answer = answer desk number; timed = λ stored. absurd cc }))
+          (λ desk e rest answers. (
+            (placed desk e rest answers).placed,
+            takes.1.2 e.bytes rest (shows_it desk e rest answers) answers.bytes,
+            sym (is_entry desk e (placed desk e rest answers)).desk,
+          ))
+          (sym (count takes.0)) shows.start
+          (next_is_replayed (ground_of history bench) bench.replayed after next first there shows.start (after_is takes.0))
         where
           answer : (desk : ℕ) → desk ≡ next.desk → IsAnswer bench.replayed.start desk history (exchange taken)
           answer desk number =
@@ -211,11 +183,11 @@ stored_judged history bench frame left request next after taken (Some a) asks sa
     (accepts history bench frame left request asks says short few first next there suits kept its after made.shown made.shows a.taken
     (subst (ShowsAs true made.shown left) is.1 made.taken))
 
--- what is judged so by each such history is judged so by this one
-pub judged_by : (history : List Entry) (bench : Bench) (frame : Frame) (left : List ℕ) (next : Entry) (result : Result (Option Accepted) NoMemory)
-    → length history < 2 ^ 64 → IsReplayed (ground_of history bench) bench.replayed → slice_get history (length bench.replayed.history) ≡ Some next
-    → IfOk result (λ judged. (others : List Entry) → length others < 2 ^ 64 → IsReplayed (ground_of others bench) bench.replayed
-    → slice_get others (length bench.replayed.history) ≡ Some next → Judges (case_of others bench frame left) judged)
-    → IfOk result (λ judged. Judges (case_of history bench frame left) judged)
-judged_by history bench frame left next (Ok judged) short first there each = each history short first there
-judged_by history bench frame left next (Err want) short first there each = tt
+-- if no next entry is the frame's call on a desk that suits, no exchange of the frame shows its call
+pub refuses_next : (history : List Entry) (bench : Bench) (frame : Frame) (left : List ℕ) (request : Request) → request_of frame ≡ Ok request
+    → SaysOnly left (length bench.replayed.history) true → length history < 2 ^ 64 → length left < 2 ^ 64 → IsReplayed (ground_of history bench) bench.replayed
+    → ((next : Entry) → IsNext history bench frame request next → ⊥) → Refuses (case_of history bench frame left)
+refuses_next history bench frame left request asks says short few first never desk e rest answers =
+    let entry = (placed history bench frame left request asks says short few first desk e rest answers).marked.entry in
+    let its = its_call history bench frame left request asks says short few first entry.0 entry.1 desk e rest answers in
+    never entry.0 (record { there = entry.1; suits = its.0; its = its.1 })

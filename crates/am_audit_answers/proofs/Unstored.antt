@@ -1,14 +1,13 @@
 -- A frame whose response says that its call was made at a place, and isn't stored.
 use Rattle.std.proofs.Common.{◌≡◌, ℕ, ◌<◌, ◌≤◌, ◌^◌, Bool, true, false, List, length, take, refl, sym, ap, ◌∙◌, subst, arith}
-use Rattle.std.specs.Prelude.{Option, Some, None, Result, Ok, Err, IfOk, MatchOption}
-use Rattle.am_types.specs.declared.failure.NoMemory.{NoMemory}
-use Rattle.std.proofs.lemmas.List.{take-append-drop}
+use Rattle.std.specs.Prelude.{Option, Some, None, Ok, MatchOption}
+use Rattle.std.proofs.lemmas.Option.{same_Some}
 use Rattle.am_types.specs.declared.history.Entry.{Entry}
 use Rattle.am_types.specs.declared.history.Shown.{Shown}
 use Rattle.am_types.specs.declared.request.Request.{Request}
 use Rattle.am_history.specs.History.{IsEntryOf, is_stored, replay, reply_after}
 use Rattle.am_history.specs.Desks.{Follows}
-use Rattle.am_http.specs.Exchanges.{Exchange, IsAnswer, IsCalled, Point, floor_after}
+use Rattle.am_http.specs.Exchanges.{Exchange, IsAnswer, IsCalled, Point}
 use Rattle.am_http.specs.Head.{Frame}
 use Rattle.am_http.specs.Requests.{call_of, request_of}
 use Rattle.am_audit_calls.specs.Replays.{Replay, ShowsKept}
@@ -19,10 +18,7 @@ use Rattle.am_audit_answers.specs.Judged.{IsAccepted, IsMade, IsShownBy, Judges,
 use Rattle.am_audit_answers.specs.Judging.{Answers, Case, Refuses}
 use Rattle.am_audit_answers.specs.Marks.{SaysOnly}
 use Rattle.am_audit_answers.specs.Matching.{IsReplayed}
-use Rattle.am_audit_answers.proofs.Placed.{IsPlaced, answer_by, each_placed, shown_at, unstored_reply}
-
-some_is : {A : Type 0} {x y : A} → ◌≡◌ {A = Option A} (Some x) (Some y) → x ≡ y
-some_is e = cc
+use Rattle.am_audit_answers.proofs.Placed.{IsPlaced, accepted_at, answer_by, each_placed, exchange_at, shown_at, unstored_reply}
 
 module _ (history : List Entry) (bench : Bench) (frame : Frame) (left : List ℕ) (request : Request) (number : ℕ)
     (first : IsReplayed (ground_of history bench) bench.replayed)
@@ -70,7 +66,7 @@ module _ (history : List Entry) (bench : Bench) (frame : Frame) (left : List ℕ
     now_is : (desk : ℕ) (e : Exchange) (rest : List ℕ) (answers : Answers c desk e rest) (p : IsPlaced c request point desk e) → p.now ≡ 0
     now_is desk e rest answers p =
         let timed : IsTimedBy (Some point) e.now = subst (λ (o : Option Point). IsTimedBy o e.now) p.placed answers.audited.timed in
-        some_is (sym p.asked ∙ timed refl)
+        same_Some _ _ (sym p.asked ∙ timed refl)
 
     -- so it isn't stored
     isnt_stored : (desk : ℕ) (e : Exchange) (rest : List ℕ) → Answers c desk e rest → shown.stored ≡ false
@@ -94,7 +90,7 @@ module _ (history : List Entry) (bench : Bench) (frame : Frame) (left : List ℕ
 
     -- the exchange of so many bytes
     abbrev exchange : ℕ → Exchange
-    exchange taken = record { frame = frame; now = Some 0; point = Some point; bytes = take taken left }
+    exchange = exchange_at c point (Some 0)
 
     called : (desk taken : ℕ) → shown.stored ≡ false → IsCalled bench.replayed.start desk history (exchange taken)
     called desk taken unstored = record {
@@ -112,28 +108,15 @@ module _ (history : List Entry) (bench : Bench) (frame : Frame) (left : List ℕ
     accepts : (taken : ℕ) → ShowsAs false shown left (Some taken)
         → IsAccepted c (record { bench = record { replayed = after; desk = bench.desk }; taken = taken })
     unfolding called
-    accepts taken takes = record {
-      accepts = record {
-        exchange = exchange taken;
-        answers = λ desk suits. record {
-          frame = refl;
-          suits = suits;
-          audited = record { answer = answer desk; timed = λ _. refl };
-          above = omega arith;
-          bytes = sym (take-append-drop taken left);
-        };
-        floor = sym (ap (λ (h : List Entry). length h) (after_is takes.0));
-        only = λ desk e rest answers. record {
-          ends = takes.1.2 e.bytes rest (shows_it desk e rest answers) answers.bytes;
-          suits = answers.suits;
-          floor = ap (λ (o : Option Point). floor_after (length bench.replayed.history) o) (placed desk e rest answers).placed
-              ∙ sym (ap (λ (h : List Entry). length h) (after_is takes.0));
-        };
-      };
-      taken = takes.1.0;
-      start = shows.start;
-      replayed = replayed;
-    }
+    accepts taken takes =
+        accepted_at c point (record { bench = record { replayed = after; desk = bench.desk }; taken = taken }) (Some 0) (omega arith) takes.1.0
+        (λ desk suits. (suits, record { answer = answer desk; timed = λ _. refl }))
+        (λ desk e rest answers. (
+          (placed desk e rest answers).placed,
+          takes.1.2 e.bytes rest (shows_it desk e rest answers) answers.bytes,
+          answers.suits,
+        ))
+        (sym (ap (λ (h : List Entry). length h) (after_is takes.0))) shows.start replayed
       where
         answer : (desk : ℕ) → IsAnswer bench.replayed.start desk history (exchange taken)
         answer desk =
@@ -165,12 +148,3 @@ unstored_judged history bench frame left request number after taken (Some a) ask
     subst (IsAccepted (case_of history bench frame left)) same
     (accepts history bench frame left request number first after made.shown made.shows asks says short few a.taken
     (subst (ShowsAs false made.shown left) is.1 made.taken))
-
--- what is judged so by each history is judged so by this one
-pub judged_by : (history : List Entry) (bench : Bench) (frame : Frame) (left : List ℕ) (result : Result (Option Accepted) NoMemory)
-    → length history < 2 ^ 64 → IsReplayed (ground_of history bench) bench.replayed
-    → IfOk result (λ judged. (others : List Entry) → length others < 2 ^ 64 → IsReplayed (ground_of others bench) bench.replayed
-    → Judges (case_of others bench frame left) judged)
-    → IfOk result (λ judged. Judges (case_of history bench frame left) judged)
-judged_by history bench frame left (Ok judged) short first each = each history short first
-judged_by history bench frame left (Err want) short first each = tt

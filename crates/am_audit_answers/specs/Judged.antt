@@ -1,16 +1,19 @@
 -- What a judged frame comes to, as code has it.
-use Rattle.std.specs.Prelude.{◌≡◌, ℕ, ◌≤◌, ◌⊎◌, Bool, List, ◌++◌, length, drop, take, Option, Some, None}
+use Rattle.std.specs.Prelude.{◌≡◌, ℕ, ◌≤◌, ◌⊎◌, Bool, true, false, List, ◌++◌, length, drop, take, slice_get, Option, Some, None, MatchOption}
 use Rattle.am_types.specs.declared.history.Entry.{Entry}
 use Rattle.am_types.specs.declared.history.Shown.{Shown}
+use Rattle.am_types.specs.declared.request.Request.{Request}
 use Rattle.am_history.specs.Steps.{Call}
 use Rattle.am_http.specs.Head.{Frame}
+use Rattle.am_http.specs.Requests.{call_of}
 use Rattle.am_http.specs.Responses.{response, want_after}
-use Rattle.am_audit_calls.specs.Replays.{Replay, ShowsKept}
+use Rattle.am_audit_calls.specs.Replays.{Replay, ShowsKept, state_of}
+use Rattle.am_audit_answers.specs.declared.calls.Making.{Making}
 use Rattle.am_audit_answers.specs.declared.judging.Accepted.{Accepted}
 use Rattle.am_audit_answers.specs.declared.judging.Bench.{Bench}
 use Rattle.am_audit_answers.specs.Audits.{Ground}
-use Rattle.am_audit_answers.specs.Judging.{Accepts, Case, Refuses, Standing, case_at}
-use Rattle.am_audit_answers.specs.Matching.{IsReplayed}
+use Rattle.am_audit_answers.specs.Judging.{Accepts, Case, Refuses, Standing, Suits, case_at}
+use Rattle.am_audit_answers.specs.Matching.{IsItsCall, IsRecord, IsReplayed}
 
 -- the standing of an audit that has come so far
 abbrev pub standing_of : Bench → Standing
@@ -19,6 +22,11 @@ standing_of bench = record { floor = length bench.replayed.history; desk = bench
 -- what an audit by that history is held against
 abbrev pub ground_of : List Entry → Bench → Ground
 ground_of history bench = record { start = bench.replayed.start; history = history }
+
+-- an audit by a history that could have been made has replayed the first of its entries
+pub record Stands (history : List Entry) (bench : Bench) : Type 0 where
+  pub made : IsRecord (ground_of history bench)
+  pub first : IsReplayed (ground_of history bench) bench.replayed
 
 -- a frame that is judged where an audit by that history has come so far, by the bytes that are left
 abbrev pub case_of : List Entry → Bench → Frame → List ℕ → Case
@@ -59,3 +67,33 @@ pub record IsMade (before : Replay) (call : Call) (stored : Bool) (left : List �
   pub shown : Shown
   pub shows : ShowsKept before call made.0 shown
   pub taken : ShowsAs stored shown left made.1
+
+-- the entry behind those that were replayed is the frame's call, on a desk that suits
+pub record IsNext (history : List Entry) (bench : Bench) (frame : Frame) (request : Request)
+    (next : Entry) : Type 0 where
+  pub there : slice_get history (length bench.replayed.history) ≡ Some next
+  pub suits : Suits bench.desk next.desk
+  pub its : IsItsCall (state_of bench.replayed) frame request next
+
+-- the call is made as that entry was; or there is none
+abbrev pub IsNextMaking : List Entry → Bench → Frame → Request → Option Making → Type 0
+IsNextMaking history bench frame request (Some making) =
+    (next : Entry) × IsNext history bench frame request next
+    × (making ≡ record { desk = next.desk; now = next.now; stored = true; known = Some next.desk })
+IsNextMaking history bench frame request None = (next : Entry) → IsNext history bench frame request next → ⊥
+
+-- a call that is stored is made as the next entry was, and another at moment 0
+abbrev pub IsMakingOf : List Entry → Bench → Frame → Request → Bool → Option Making → Type 0
+IsMakingOf history bench frame request true making = IsNextMaking history bench frame request making
+IsMakingOf history bench frame request false (Some making) =
+    making ≡ record { desk = making.desk; now = 0; stored = false; known = bench.desk }
+IsMakingOf history bench frame request false None = ⊥
+
+-- a call that was made so at the end of the history that was replayed: the frame is accepted by the bytes that show it, or
+-- it isn't
+pub record ComesTo (bench : Bench) (frame : Frame) (request : Request) (making : Making) (left : List ℕ)
+    (judged : Option Accepted) : Type 0 where
+  pub made : Replay × Option ℕ
+  pub shows : IsMade bench.replayed (call_of making.desk frame making.now request) making.stored left made
+  pub takes : MatchOption judged (made.1 ≡ None)
+      (λ a. (a.bench ≡ record { replayed = made.0; desk = making.known }) × (made.1 ≡ Some a.taken))

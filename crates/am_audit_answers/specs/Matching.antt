@@ -1,13 +1,20 @@
 -- When an entry of the history is a frame's call, and how a history is replayed up to a place.
-use Rattle.std.specs.Prelude.{◌≡◌, ℕ, ◌≤◌, length, take, Option, Some, None, All}
+use Rattle.std.specs.Prelude.{◌≡◌, ℕ, ◌≤◌, IsUtf8, length, take, Option, Some, None, Ok, All}
 use Rattle.am_types.specs.declared.history.Entry.{Entry}
 use Rattle.am_types.specs.declared.request.Request.{Request}
 use Rattle.am_history.specs.State.{State, uid_of}
 use Rattle.am_history.specs.History.{IsLegal}
 use Rattle.am_http.specs.Head.{Frame}
+use Rattle.am_http.specs.Requests.{request_of}
 use Rattle.am_audit_calls.specs.Replays.{Replay}
 use Rattle.am_audit_lines.specs.Lines.{IsWhole}
 use Rattle.am_audit_answers.specs.Audits.{Ground}
+
+-- a frame with the key and the body of a whole one makes that request
+pub record MakesRequest (frame : Frame) (request : Request) : Type 0 where
+  pub key : IsUtf8 frame.key
+  pub body : length frame.body ≤ 65536
+  pub asks : request_of frame ≡ Ok request
 
 -- in that state the entry is the call of the frame with that request, on whichever desk
 pub record IsItsCall (state : State) (frame : Frame) (request : Request) (entry : Entry) : Type 0 where

@@ -1,8 +1,9 @@
 //! The call of a frame, made at the end of a history.
-ghost use Rattle.std.specs.Prelude.{◌≡◌, ◌≤◌, Ok, IfOk, IsUtf8, length};
+ghost use Rattle.std.specs.Prelude.{IfOk};
 ghost use Rattle.am_http.specs.FrameSpans.{frame_held};
-ghost use Rattle.am_http.specs.Requests.{call_of, request_of};
+ghost use Rattle.am_http.specs.Requests.{call_of};
 ghost use Rattle.am_audit_answers.specs.Judged.{IsMade, ShowsAs, ShowsFirst};
+ghost use Rattle.am_audit_answers.specs.Matching.{MakesRequest};
 
 use crate::requests::key_text;
 use crate::texts::{begins, want_after};
@@ -12,12 +13,14 @@ use am_http::response_bytes;
 use am_types::{NoMemory, Request, Shown};
 use std::alloc::Global;
 
-/// How a call is made: on which desk, at which moment, and whether it is to be stored.
+/// How a call is made: on which desk, at which moment, whether it is to be stored, and what is known of the desk's
+/// number behind it.
 #[derive(Clone, Copy)]
 pub(crate) struct Making {
     pub(crate) desk: u32,
     pub(crate) now: u64,
     pub(crate) stored: bool,
+    pub(crate) known: Option<u32>,
 }
 
 // How many bytes the response has that shows this, or that says that memory ran out behind it, if the bytes
@@ -63,9 +66,7 @@ pub(crate) fn make_call(
     request: Request,
     left: &[u8],
 ) -> Result<(Replayed, Option<usize>), NoMemory>
-    requires key { IsUtf8 (frame_held frame.now).key }
-    requires body { length (frame_held frame.now).body ≤ 65536 }
-    requires asks { request_of (frame_held frame.now) ≡ Ok request }
+    requires { MakesRequest (frame_held frame.now) request }
     ensures { IfOk result (λ made. IsMade replayed (call_of making.desk (frame_held frame.now) making.now request)
         making.stored left.now made) }
 {

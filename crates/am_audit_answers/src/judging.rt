@@ -1,18 +1,15 @@
 //! One frame and its response.
-ghost use Rattle.std.specs.Prelude.{◌≡◌, ◌<◌, ◌≤◌, ◌^◌, ◌↔◌, ℕ, true, false, List as Items, Ok, Err, Some, None, IfOk, IsTrue, IsUtf8, MatchOption, length, slice_get};
+ghost use Rattle.std.specs.Prelude.{◌≡◌, ◌≤◌, List as Items, Err, Some, None, IfOk, IsUtf8, MatchOption, length, option_copied, slice_get};
 ghost use Rattle.am_types.specs.declared.history.Entry.{Entry};
 ghost use Rattle.am_http.specs.FrameSpans.{frame_held};
 ghost use Rattle.am_http.specs.Head.{Frame};
-ghost use Rattle.am_http.specs.Requests.{request_of};
-ghost use Rattle.am_audit_lines.specs.Lines.{IsReadAgain, IsWhole};
-ghost use Rattle.am_audit_calls.specs.Replays.{state_of};
-ghost use Rattle.am_audit_answers.specs.Judging.{Asks, OnlyWants, Suits};
-ghost use Rattle.am_audit_answers.specs.Judged.{Judges, case_of, ground_of};
+ghost use Rattle.am_audit_answers.specs.Judging.{Asks, OnlyWants};
+ghost use Rattle.am_audit_answers.specs.Judged.{ComesTo, IsMakingOf, IsNextMaking, Judges, Stands, case_of, ground_of};
 ghost use Rattle.am_audit_answers.specs.Marks.{SaysOnly};
-ghost use Rattle.am_audit_answers.specs.Matching.{IsItsCall, IsRecord, IsReplayed};
+ghost use Rattle.am_audit_answers.specs.Matching.{IsRecord, IsReplayed, MakesRequest};
 
 use crate::calls::{Making, make_call};
-use crate::marks::{Mark, mark_in};
+use crate::marks::mark_in;
 use crate::matching::is_its_call;
 use crate::places::go_to;
 use crate::requests::request_in;
@@ -83,129 +80,83 @@ fn judge_refused(bench: Bench, text: &[u8], left: &[u8]) -> Option<Accepted>
     }
 }
 
-// The call of a frame at the end of the history that was replayed, which isn't stored.
-fn judge_unstored(
+// The call of a frame, made so at the end of the history that was replayed.
+fn judge_made(
     alloc: Global,
     bench: Bench,
+    making: Making,
     frame: &WholeFrame<'_>,
     request: Request,
     left: &[u8],
 ) -> Result<Option<Accepted>, NoMemory>
-    requires key { IsUtf8 (frame_held frame.now).key }
-    requires body { length (frame_held frame.now).body ≤ 65536 }
-    requires asks { request_of (frame_held frame.now) ≡ Ok request }
-    requires says { SaysOnly left.now (length bench.replayed.history) false }
-    ensures { IfOk result (λ judged. (history : Items Entry) → length history < 2 ^ 64
-        → IsReplayed (ground_of history bench) bench.replayed
-        → Judges (case_of history bench (frame_held frame.now) left.now) judged) }
-{
-    let Bench { replayed, desk } = bench;
-    let making = Making {
-        desk: desk.unwrap_or(0),
-        now: 0,
-        stored: false,
-    };
-    let (replayed, taken) = make_call(alloc, replayed, making, frame, request, left)?;
-    Ok(accept_by(Bench { replayed, desk }, taken))
-}
-
-// The call of a frame, which is the next entry of the history.
-fn judge_entry(
-    alloc: Global,
-    bench: Bench,
-    next: &Entry,
-    frame: &WholeFrame<'_>,
-    request: Request,
-    left: &[u8],
-) -> Result<Option<Accepted>, NoMemory>
-    requires key { IsUtf8 (frame_held frame.now).key }
-    requires body { length (frame_held frame.now).body ≤ 65536 }
-    requires asks { request_of (frame_held frame.now) ≡ Ok request }
-    requires says { SaysOnly left.now (length bench.replayed.history) true }
-    requires suits { Suits bench.desk next.now.desk }
-    requires its { IsItsCall (state_of bench.replayed) (frame_held frame.now) request next.now }
-    requires kept { next.now.kept ≡ true }
-    ensures { IfOk result (λ judged. (history : Items Entry) → length history < 2 ^ 64
-        → IsReplayed (ground_of history bench) bench.replayed
-        → slice_get history (length bench.replayed.history) ≡ Some next.entry.now
-        → Judges (case_of history bench (frame_held frame.now) left.now) judged) }
+    requires { MakesRequest (frame_held frame.now) request }
+    ensures { IfOk result (λ judged. ComesTo bench (frame_held frame.now) request making left.now judged) }
 {
     let Bench { replayed, desk: _ } = bench;
-    let making = Making {
-        desk: next.desk,
-        now: next.now,
-        stored: true,
-    };
     let (replayed, taken) = make_call(alloc, replayed, making, frame, request, left)?;
-    let desk = Some(next.desk);
+    let desk = making.known;
     Ok(accept_by(Bench { replayed, desk }, taken))
 }
 
-// Whether a desk may have the number that is known.
-fn suits(known: Option<u32>, desk: u32) -> bool
-    ensures { IsTrue result ↔ Suits known desk }
+// The entry of the history behind those that were replayed.
+fn next_of<'h>(history: &'h [Entry], replayed: &Replayed) -> Option<&'h Entry>
+    ensures { option_copied result ≡ slice_get history.now (length replayed.now.history) }
 {
-    match known {
-        Some(known) => desk == known,
-        None => true,
-    }
+    history.get(replayed.length() as usize)
 }
 
-// Whether the next entry of the history is the call of a frame that makes that request, on a desk that may be the
-// connection's.
-fn is_meant(
-    alloc: Global,
-    bench: &Bench,
-    next: &Entry,
-    frame: &WholeFrame<'_>,
-    request: &Request,
-) -> Result<bool, NoMemory>
-    requires asks { request_of (frame_held frame.now) ≡ Ok request.now }
-    requires again { IsReadAgain next.now.request }
-    ensures { IfOk result (λ is. IsTrue is ↔ (Suits bench.now.desk next.entry.now.desk
-        × IsItsCall (state_of bench.now.replayed) (frame_held frame.now) request.now next.entry.now)) }
-{
-    if suits(bench.desk, next.desk) {
-        is_its_call(alloc, &bench.replayed, next, frame, request)
-    } else {
-        Ok(false)
-    }
-}
-
-// The call of a frame at the end of the history that was replayed, which is stored.
-fn judge_stored(
+// How a call that is stored is made: as the next entry of the history was, if that is the frame's call.
+fn next_making(
     alloc: Global,
     history: &[Entry],
-    bench: Bench,
+    bench: &Bench,
     frame: &WholeFrame<'_>,
-    request: Request,
-    left: &[u8],
-) -> Result<Option<Accepted>, NoMemory>
-    requires record { IsRecord (ground_of history.now bench) }
-    requires first { IsReplayed (ground_of history.now bench) bench.replayed }
-    requires key { IsUtf8 (frame_held frame.now).key }
-    requires body { length (frame_held frame.now).body ≤ 65536 }
-    requires asks { request_of (frame_held frame.now) ≡ Ok request }
-    requires says { SaysOnly left.now (length bench.replayed.history) true }
-    ensures { IfOk result (λ judged. Judges (case_of history.now bench (frame_held frame.now) left.now) judged) }
+    request: &Request,
+) -> Result<Option<Making>, NoMemory>
+    requires stands { Stands history.now bench.now }
+    requires makes { MakesRequest (frame_held frame.now) request.now }
+    ensures { IfOk result
+        (λ making. IsNextMaking history.now bench.now (frame_held frame.now) request.now making) }
 {
-    let Some(next) = history.get(bench.replayed.length() as usize) else {
-        drop(request);
-        drop(bench);
-        return Ok(None);
+    let next = match next_of(history, &bench.replayed) {
+        Some(next) => next,
+        None => return Ok(None),
     };
-    match is_meant(alloc, &bench, next, frame, &request) {
-        Ok(true) => judge_entry(alloc, bench, next, frame, request, left),
-        Ok(false) => {
-            drop(request);
-            drop(bench);
-            Ok(None)
-        }
-        Err(error) => {
-            drop(request);
-            drop(bench);
-            Err(error)
-        }
+    match is_its_call(alloc, bench, next, frame, request) {
+        Ok(true) => Ok(Some(Making {
+            desk: next.desk,
+            now: next.now,
+            stored: true,
+            known: Some(next.desk),
+        })),
+        Ok(false) => Ok(None),
+        Err(error) => Err(error),
+    }
+}
+
+// How the call of a frame is made at the end of the history that was replayed, stored or not, if it can be.
+fn making_of(
+    alloc: Global,
+    history: &[Entry],
+    bench: &Bench,
+    frame: &WholeFrame<'_>,
+    request: &Request,
+    stored: bool,
+) -> Result<Option<Making>, NoMemory>
+    requires stands { Stands history.now bench.now }
+    requires makes { MakesRequest (frame_held frame.now) request.now }
+    ensures { IfOk result
+        (λ making. IsMakingOf history.now bench.now (frame_held frame.now) request.now stored making) }
+{
+    if stored {
+        next_making(alloc, history, bench, frame, request)
+    } else {
+        Ok(Some(Making {
+            desk: bench.desk.unwrap_or(0),
+            now: 0,
+            stored: false,
+            known: bench.desk,
+        }))
     }
 }
 
@@ -219,39 +170,46 @@ fn judge_call(
     stored: bool,
     left: &[u8],
 ) -> Result<Option<Accepted>, NoMemory>
-    requires record { IsRecord (ground_of history.now bench) }
-    requires first { IsReplayed (ground_of history.now bench) bench.replayed }
-    requires key { IsUtf8 (frame_held frame.now).key }
-    requires body { length (frame_held frame.now).body ≤ 65536 }
-    requires asks { request_of (frame_held frame.now) ≡ Ok request }
+    requires stands { Stands history.now bench }
+    requires makes { MakesRequest (frame_held frame.now) request }
     requires says { SaysOnly left.now (length bench.replayed.history) stored }
     ensures { IfOk result (λ judged. Judges (case_of history.now bench (frame_held frame.now) left.now) judged) }
 {
-    if stored {
-        judge_stored(alloc, history, bench, frame, request, left)
-    } else {
-        judge_unstored(alloc, bench, frame, request, left)
+    match making_of(alloc, history, &bench, frame, &request, stored) {
+        Ok(Some(making)) => judge_made(alloc, bench, making, frame, request, left),
+        Ok(None) => {
+            drop(request);
+            drop(bench);
+            Ok(None)
+        }
+        Err(error) => {
+            drop(request);
+            drop(bench);
+            Err(error)
+        }
     }
 }
 
-// A frame whose response says that its call was made.
-fn judge_mark(
+// A frame that makes that request: where its response says that its call was made, it is judged from that place on.
+fn judge_request(
     alloc: Global,
     history: &[Entry],
     bench: Bench,
     frame: &WholeFrame<'_>,
     request: Request,
-    mark: Mark,
     left: &[u8],
 ) -> Result<Option<Accepted>, NoMemory>
-    requires record { IsRecord (ground_of history.now bench) }
-    requires first { IsReplayed (ground_of history.now bench) bench.replayed }
-    requires key { IsUtf8 (frame_held frame.now).key }
-    requires body { length (frame_held frame.now).body ≤ 65536 }
-    requires asks { request_of (frame_held frame.now) ≡ Ok request }
-    requires says { SaysOnly left.now mark.at mark.stored }
+    requires stands { Stands history.now bench }
+    requires makes { MakesRequest (frame_held frame.now) request }
     ensures { IfOk result (λ judged. Judges (case_of history.now bench (frame_held frame.now) left.now) judged) }
 {
+    let mark = match mark_in(left) {
+        Some(mark) => mark,
+        None => {
+            drop(request);
+            return Ok(judge_want(bench, left));
+        }
+    };
     let Bench { replayed, desk } = bench;
     match go_to(history, replayed, mark.at) {
         Ok(Some(replayed)) => {
@@ -265,31 +223,6 @@ fn judge_mark(
         Err(error) => {
             drop(request);
             Err(error)
-        }
-    }
-}
-
-// A frame that makes that request.
-fn judge_request(
-    alloc: Global,
-    history: &[Entry],
-    bench: Bench,
-    frame: &WholeFrame<'_>,
-    request: Request,
-    left: &[u8],
-) -> Result<Option<Accepted>, NoMemory>
-    requires record { IsRecord (ground_of history.now bench) }
-    requires first { IsReplayed (ground_of history.now bench) bench.replayed }
-    requires key { IsUtf8 (frame_held frame.now).key }
-    requires body { length (frame_held frame.now).body ≤ 65536 }
-    requires asks { request_of (frame_held frame.now) ≡ Ok request }
-    ensures { IfOk result (λ judged. Judges (case_of history.now bench (frame_held frame.now) left.now) judged) }
-{
-    match mark_in(left) {
-        Some(mark) => judge_mark(alloc, history, bench, frame, request, mark, left),
-        None => {
-            drop(request);
-            Ok(judge_want(bench, left))
         }
     }
 }

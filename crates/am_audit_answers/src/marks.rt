@@ -13,35 +13,28 @@ pub(crate) struct Mark {
     pub(crate) stored: bool,
 }
 
-// Where the first newline stands.
-fn newline_at(bytes: &[u8]) -> Option<usize>
-    ensures { result ≡ position (λ b. b == 10) bytes.now }
+// Where the first such byte stands.
+fn first_at(bytes: &[u8], wanted: u8) -> Option<usize>
+    ensures { result ≡ position (λ b. b == wanted) bytes.now }
 {
-    bytes.iter().position(|byte| *byte == b'\n')
+    bytes.iter().position(|byte| *byte == wanted)
 }
 
 // What is behind the first newline; nothing if there is none.
 fn behind_line(bytes: &[u8]) -> &[u8]
     ensures { result.now ≡ after_first (λ b. b == 10) bytes.now }
 {
-    match newline_at(bytes) {
+    match first_at(bytes, b'\n') {
         Some(at) => &bytes[at + 1..],
         None => &bytes[bytes.len()..],
     }
-}
-
-// Where the first carriage return stands.
-fn return_at(bytes: &[u8]) -> Option<usize>
-    ensures { result ≡ position (λ b. b == 13) bytes.now }
-{
-    bytes.iter().position(|byte| *byte == b'\r')
 }
 
 // What is before the first carriage return; all if there is none.
 fn before_return(bytes: &[u8]) -> &[u8]
     ensures { result.now ≡ before_first (λ b. b == 13) bytes.now }
 {
-    match return_at(bytes) {
+    match first_at(bytes, b'\r') {
         Some(at) => &bytes[..at],
         None => bytes,
     }

@@ -1,17 +1,28 @@
 //! Whether an entry of the history is a frame's call.
-ghost use Rattle.std.specs.Prelude.{◌≡◌, ◌↔◌, IsTrue, IfOk, Ok, Some, length};
+ghost use Rattle.std.specs.Prelude.{◌≡◌, ◌↔◌, IsTrue, IfOk, Some};
 ghost use Rattle.am_history.specs.State.{uid_of};
 ghost use Rattle.am_http.specs.FrameSpans.{frame_held};
-ghost use Rattle.am_http.specs.Requests.{request_of};
 ghost use Rattle.am_audit_lines.specs.Lines.{IsReadAgain};
 ghost use Rattle.am_audit_calls.specs.Replays.{state_of};
-ghost use Rattle.am_audit_answers.specs.Matching.{IsItsCall};
+ghost use Rattle.am_audit_answers.specs.Judging.{Suits};
+ghost use Rattle.am_audit_answers.specs.Matching.{IsItsCall, MakesRequest};
 
+use crate::judging::Bench;
 use am_audit_calls::Replayed;
 use am_audit_lines::is_same_request;
 use am_http::frame::WholeFrame;
 use am_types::{Entry, NoMemory, Request};
 use std::alloc::Global;
+
+// Whether a desk may have the number that is known.
+fn suits(known: Option<u32>, desk: u32) -> bool
+    ensures { IsTrue result ↔ Suits known desk }
+{
+    match known {
+        Some(known) => desk == known,
+        None => true,
+    }
+}
 
 // Whether the key is that of the caller with that uid, after the history that was replayed.
 fn has_key(replayed: &Replayed, uid: u32, key: &[u8]) -> bool
@@ -24,24 +35,27 @@ fn has_key(replayed: &Replayed, uid: u32, key: &[u8]) -> bool
     }
 }
 
-/// Whether the entry is the call of a frame that makes that request, after the history that was replayed, on
-/// whichever desk.
+/// Whether the entry is the call of a frame that makes that request, after the history that was replayed, on a
+/// desk that may be the connection's.
 pub(crate) fn is_its_call(
     alloc: Global,
-    replayed: &Replayed,
+    bench: &Bench,
     next: &Entry,
     frame: &WholeFrame<'_>,
     request: &Request,
 ) -> Result<bool, NoMemory>
-    requires asks { request_of (frame_held frame.now) ≡ Ok request.now }
+    requires makes { MakesRequest (frame_held frame.now) request.now }
     requires again { IsReadAgain next.now.request }
-    ensures { IfOk result (λ is. IsTrue is
-        ↔ IsItsCall (state_of replayed.now) (frame_held frame.now) request.now next.entry.now) }
+    ensures { IfOk result (λ is. IsTrue is ↔ (Suits bench.now.desk next.entry.now.desk
+        × IsItsCall (state_of bench.now.replayed) (frame_held frame.now) request.now next.entry.now)) }
 {
+    if !suits(bench.desk, next.desk) {
+        return Ok(false);
+    }
     if next.weight as usize != frame.body.len() {
         return Ok(false);
     }
-    if !has_key(replayed, next.uid, frame.key) {
+    if !has_key(&bench.replayed, next.uid, frame.key) {
         return Ok(false);
     }
     is_same_request(alloc, request, &next.request)

@@ -1,6 +1,7 @@
 -- The callers behind a call, and how a history goes on with an entry.
 use Rattle.std.proofs.Common.{◌≡◌, ℕ, Bool, true, false, ◌&&◌, ◌||◌, cond, List, [], ◌∷◌, ◌++◌, refl, sym, ap, ◌∙◌, subst}
 use Rattle.std.specs.Prelude.{Option, Some, None, is_some, MatchOption}
+use Rattle.std.proofs.lemmas.Option.{same_Some}
 use Rattle.am_types.specs.declared.history.Entry.{Entry}
 use Rattle.am_types.specs.declared.history.Shown.{Shown}
 use Rattle.am_types.specs.declared.reply.Reply.TheVariants.{Refused}
@@ -14,9 +15,6 @@ use Rattle.am_history.proofs.Callers.{uid_has_caller}
 use Rattle.am_audit_callers.specs.Callers.{callers_of, change_of, followed, key_in}
 use Rattle.am_audit_callers.specs.Laws.{CallersFollow, KeysAreKnown}
 use Rattle.am_audit_calls.specs.Replays.{Advances, GoesOnWith, Replay, ShowsKept, call_with, state_of}
-
-some_is : {A : Type 0} {x y : A} → ◌≡◌ {A = Option A} (Some x) (Some y) → x ≡ y
-some_is e = cc
 
 -- the entry of a call that is kept
 entry_is : (state : State) (call : Call) (entry : Entry) → IsEntryOf state call true entry → entry ≡ entry_of call entry.uid true
@@ -80,7 +78,7 @@ goes_on before after key entry shown known kept shows stored =
     let P : Bool → Type 0 = λ b. Follows before.history after.history b (IsEntryOf state (call_with key entry) true) in
     let follows = subst P stored shows.follows in
     let is = follows.1 in
-    let uid : follows.0.uid ≡ entry.uid = some_is (sym is.uid ∙ known) in
+    let uid : follows.0.uid ≡ entry.uid = same_Some _ _ (sym is.uid ∙ known) in
     let same : follows.0 ≡ entry =
     λ i. record { desk = is.desk i; uid = uid i; now = is.now i; weight = is.weight i; request = is.request i; kept = (is.kept ∙ sym kept) i } in
     let tests = all_hold (is_some (uid_of state key)) (may_change state entry.now entry.request) (has_room before.history entry.weight) (sym shows.stored ∙ stored) in

@@ -1,7 +1,7 @@
 //! A keeper that keeps nothing and never fails. What a history has kept is of no matter to who replays it.
 ghost use Rattle.std.specs.Prelude.{None};
 
-use am_keeper::{GrantRow, KeepFail, Keeper, LinkRow, PackageRow};
+use am_keeper::{KeepFail, Keeper, Row};
 
 /// A keeper that drops each row. It tells none, and no call of it fails.
 #[derive(Drop)]
@@ -20,15 +20,7 @@ impl Keeper for NoKeeper {
 
     ghost honest_by_nature = { λ k h. h };
 
-    fn put_package(&mut self, _row: &PackageRow) -> Result<(), KeepFail> {
-        Ok(())
-    }
-
-    fn put_grant(&mut self, _row: &GrantRow) -> Result<(), KeepFail> {
-        Ok(())
-    }
-
-    fn put_link(&mut self, _row: &LinkRow) -> Result<(), KeepFail> {
+    fn put(&mut self, _row: &Row) -> Result<(), KeepFail> {
         Ok(())
     }
 }

@@ -1,11 +1,11 @@
 -- The whole frame at the front of an input, and what is written last where there is none.
-use Rattle.std.proofs.Common.{◌≡◌, ℕ, ◌<◌, ◌≤◌, ◌==◌, ◌⊎◌, Bool, true, false, cond, List, [], length, take, drop, refl, sym, ap, ◌∙◌, subst, arith, append-nil, inl, inr}
+use Rattle.std.proofs.Common.{◌≡◌, ℕ, ◌<◌, ◌≤◌, ◌==◌, ◌⊎◌, Bool, true, false, cond, List, [], length, drop, refl, sym, ap, ◌∙◌, subst, arith, append-nil, inl, inr}
 use Rattle.std.proofs.lemmas.Bool.{cond-false, ne_eqb}
 use Rattle.std.proofs.lemmas.List.{length-take, length-map}
 use Rattle.httparse.specs.declared.spans.HeaderSpan.{HeaderSpan}
 use Rattle.httparse.specs.declared.spans.RequestSpans.{RequestSpans}
 use Rattle.httparse.specs.Grammar.{RequestHead, ReadsRequest}
-use Rattle.httparse.specs.Spans.{header_bytes, name_and_value, IsRequestAt}
+use Rattle.httparse.specs.Spans.{IsRequestAt}
 use Rattle.httparse.proofs.GrammarLemmas.{request_unique}
 use Rattle.am_http.specs.declared.frame.Defect.TheVariants.{BadHead, HeadTooLarge}
 use Rattle.am_http.specs.Head.{Frame, Outcome, whole, empty, refused, cut, head_of, after_head}
@@ -29,13 +29,7 @@ pub begins_by : (text : List ℕ) (headers : List HeaderSpan) (r : RequestSpans)
 begins_by text headers r h room at = (
   drop r.len text,
   at.reads,
-  omega (
-    arith,
-    ap length at.fields,
-    length-map (take r.headers headers) (header_bytes text),
-    length-map h.fields name_and_value,
-    length-take r.headers headers,
-  ),
+  omega (arith, simp (length-map, length-take) at (ap length at.fields)),
 )
 
 -- a text that no bytes make one that begins with a head begins with none

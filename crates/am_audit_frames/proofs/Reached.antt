@@ -90,13 +90,9 @@ case_behind ground place f = record { ground = ground; standing = place.standing
 -- the exchange of the frame behind a place, among exchanges of that and further frames
 record Following (ground : Ground) (place : Place) (f : Frame) (others : List Frame) (desk : ℕ) (es : List Exchange)
     (rest : List ℕ) : Type 0 where
-  before : List Exchange
-  one : Exchange
-  later : List Exchange
-  same : es ≡ before ++ one ∷ later
-  more : frames_of later ≡ others
-  floor : floor_of 0 before ≡ place.standing.floor
-  answers : Answers (case_behind ground place f) desk one (bytes_of later ++ rest)
+  parts : Parts place.frames f others es
+  floor : floor_of 0 parts.before ≡ place.standing.floor
+  answers : Answers (case_behind ground place f) desk parts.one (bytes_of parts.later ++ rest)
 
 following : (ground : Ground) (t : Transcript) (place : Place) (f : Frame) (others : List Frame) (desk : ℕ) (es : List Exchange)
     (rest : List ℕ) → Reaches ground t place → frames_of es ≡ place.frames ++ f ∷ others → Begin ground t desk es rest
@@ -119,11 +115,7 @@ following ground t place f others desk es rest reaches asked begin =
     record { audited = record { each = each.0; order = order.0 }; splits = splits } in
     let leads = reaches.only desk before (one.bytes ++ rest_of_one) parts.frames first in
     record {
-      before = before;
-      one = one;
-      later = later;
-      same = parts.same;
-      more = parts.more;
+      parts = parts;
       floor = leads.floor;
       answers = record {
         frame = parts.frame;
@@ -176,16 +168,17 @@ reaches_more ground t place f after left reaches accepts =
         → LeadTo (record { frames = place.frames ++ f ∷ []; standing = after; left = left }) desk gs rest
     leads desk gs rest asked begin =
         let follows = following ground t place f [] desk gs rest reaches asked begin in
-        let none = no_exchange follows.later follows.more in
-        let one = follows.one in
+        let parts = follows.parts in
+        let none = no_exchange parts.later parts.more in
+        let one = parts.one in
         let answers : Answers (case_behind ground place f) desk one rest =
         subst (λ (x : List Exchange). Answers (case_behind ground place f) desk one (bytes_of x ++ rest)) none follows.answers in
         let lead = accepts.only desk one rest answers in
         record {
           ends = lead.ends;
           suits = lead.suits;
-          floor = ap (floor_of 0) (follows.same ∙ ap (λ (x : List Exchange). follows.before ++ one ∷ x) none)
-              ∙ floor_more 0 follows.before one ∙ ap (λ (n : ℕ). floor_after n one.point) follows.floor ∙ lead.floor;
+          floor = ap (floor_of 0) (parts.same ∙ ap (λ (x : List Exchange). parts.before ++ one ∷ x) none)
+              ∙ floor_more 0 parts.before one ∙ ap (λ (n : ℕ). floor_after n one.point) follows.floor ∙ lead.floor;
         }
 
 -- Where a connection begins, no frame was passed.
@@ -256,4 +249,4 @@ refused_there ground t place f others reaches refuses b =
     let r = b.audited in
     let begin = begin_from ground t (place.frames ++ f ∷ others) b.first b.rest r b.splits in
     let follows = following ground t place f others r.desk r.exchanges b.rest reaches r.asked begin in
-    refuses r.desk follows.one (bytes_of follows.later ++ b.rest) follows.answers
+    refuses r.desk follows.parts.one (bytes_of follows.parts.later ++ b.rest) follows.answers

@@ -181,13 +181,8 @@ all_begin_with_walked most input (f ∷ fs) (g ∷ gs) rest last w x =
 -- The frames that were walked over are first frames.
 pub walked_are_first : (most : ℕ) (input : List ℕ) (fs : List Frame) (rest : List ℕ) → Passes most input fs rest
     → AreFirst most input fs
-walked_are_first most input [] rest w = tt
-walked_are_first most input (f ∷ fs) rest w = (
-  w.0,
-  w.1,
-  open_behind f.close (fs ≡ []) (AreFirst (most - 1) (drop f.length input) fs) w.2
-      (walked_are_first (most - 1) (drop f.length input) fs rest w.3),
-)
+walked_are_first most input fs rest w =
+    subst (AreFirst most input) (append-nil fs) (first_from_walk most input fs [] rest w tt)
 
 -- First frames that are no fewer begin with those that were walked over.
 pub first_begin_with_walked : (most : ℕ) (input : List ℕ) (fs gs : List Frame) (rest : List ℕ) → Passes most input fs rest

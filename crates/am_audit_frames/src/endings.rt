@@ -2,37 +2,13 @@
 ghost use Rattle.std.specs.Prelude.{◌≡◌, ◌↔◌, IsTrue};
 ghost use Rattle.am_http.specs.Head.{Outcome};
 ghost use Rattle.am_http.specs.Framing.{HasNoHead, IsFraming, window};
-ghost use Rattle.am_http.specs.Sessions.{defect_text};
 ghost use Rattle.am_audit_frames.specs.Streams.{IsLast, IsWrittenAt, IsWrittenAtDead, MayBeDead, waiting_text};
 
 use crate::target::may_overlook;
+use am_http::defect_bytes;
 use am_http::frame::{Defect, Found, MAX_FIELDS, MAX_HEAD, find_frame};
 use httparse::Status;
 use httparse::spans::{EMPTY_HEADER_SPAN, parse_request};
-
-// The text for a defect, which ends a connection.
-#[tactic(auto, unfolding(am_http::proofs::Literals::responses_on_literals))]
-fn defect_text(defect: Defect) -> &'static [u8]
-    ensures { result.now ≡ defect_text defect }
-{
-    match defect {
-        Defect::BadHead => {
-            b"HTTP/1.1 400 Bad Request\r\nContent-Type: application/json\r\nContent-Length: 20\r\n\r\n{\"error\":\"bad_head\"}"
-        }
-        Defect::HeadTooLarge => {
-            b"HTTP/1.1 431 Request Header Fields Too Large\r\nContent-Type: application/json\r\nContent-Length: 26\r\n\r\n{\"error\":\"head_too_large\"}"
-        }
-        Defect::TransferEncoding => {
-            b"HTTP/1.1 501 Not Implemented\r\nContent-Type: application/json\r\nContent-Length: 29\r\n\r\n{\"error\":\"transfer_encoding\"}"
-        }
-        Defect::LengthRequired => {
-            b"HTTP/1.1 411 Length Required\r\nContent-Type: application/json\r\nContent-Length: 27\r\n\r\n{\"error\":\"length_required\"}"
-        }
-        Defect::BodyTooLarge => {
-            b"HTTP/1.1 413 Payload Too Large\r\nContent-Type: application/json\r\nContent-Length: 26\r\n\r\n{\"error\":\"body_too_large\"}"
-        }
-    }
-}
 
 // The bytes that are looked at for a head.
 fn window(input: &[u8]) -> &[u8]
@@ -66,7 +42,7 @@ fn waiting_text(input: &[u8]) -> &'static [u8]
     ensures { result.now ≡ waiting_text (window input.now) }
 {
     if input.len() >= MAX_HEAD {
-        defect_text(Defect::HeadTooLarge)
+        defect_bytes(Defect::HeadTooLarge)
     } else {
         b""
     }
@@ -79,7 +55,7 @@ fn is_found_text(input: &[u8], left: &[u8]) -> bool
     match find_frame(input) {
         Found::Whole(_) => false,
         Found::Empty => left.is_empty(),
-        Found::Refused(defect) => left == defect_text(defect),
+        Found::Refused(defect) => left == defect_bytes(defect),
         Found::Cut => left.is_empty(),
     }
 }
@@ -88,7 +64,7 @@ fn is_found_text(input: &[u8], left: &[u8]) -> bool
 fn is_dead_text(input: &[u8], left: &[u8]) -> bool
     ensures { IsTrue result ↔ IsWrittenAtDead input.now left.now }
 {
-    left == defect_text(Defect::BadHead) || left == waiting_text(input)
+    left == defect_bytes(Defect::BadHead) || left == waiting_text(input)
 }
 
 /// Whether the bytes may be what is written last behind an input without a further whole frame. Takes no memory.

@@ -15,11 +15,11 @@ use Rattle.am_uri.specs.declared.text.Form.TheVariants.{Any}
 use Rattle.am_wire_intents.specs.Components.{required_component}
 use Rattle.am_wire_intents.specs.Filters.{required_filter}
 use Rattle.am_wire_intents.specs.Intents.{required_intent, optional_intent}
-use Rattle.am_wire.specs.Accounts.{asks_receivers, explain_fields, permission_for, explain_about, explain_in, explain_of}
-use Rattle.am_wire.specs.Activities.{fields_of, query_fields, default_only_of, number_in, query_in, start_in, finish_activity_in, start_service_in, stop_service_in, history_in, plain_in}
-use Rattle.am_wire.specs.Broadcasts.{is_ordered, send_fields, ordered_if, register_fields, sets_outcome, finish_fields, outcome_if, send_in, send_of, register_in, unregister_in, finish_in, finish_of}
-use Rattle.am_wire.specs.Pendings.{pending_get_in, get_of, pending_send_in, pending_cancel_in, pending_give_in}
-use Rattle.am_wire.specs.Packages.{package_in, grant_fields, link_fields, key_in, install_in, uninstall_in, grant_in, link_in, force_stop_in}
+use Rattle.am_wire.specs.Accounts.{asks_receivers, explain_fields, permission_for, asked_with, explain_in}
+use Rattle.am_wire.specs.Activities.{fields_of, number_in, query_in, start_in, start_service_in, stop_service_in, plain_in}
+use Rattle.am_wire.specs.Broadcasts.{is_ordered, send_fields, ordered_if, sets_outcome, finish_fields, outcome_if, send_in, sent_with, register_in, finish_in}
+use Rattle.am_wire.specs.Pendings.{pending_get_in, pending_send_in, pending_give_in}
+use Rattle.am_wire.specs.Packages.{package_in, key_in, install_in, grant_fields, grant_in, link_in}
 use Rattle.am_wire.specs.Words.{kind_of, pending_kind_of, pending_flags_of}
 use Rattle.am_wire.specs.Requests.{request_of, request_in, posted}
 use Rattle.am_wire_written.specs.Written.{endpoint_at}
@@ -36,9 +36,9 @@ bound endpoint (Err fault) next h = tt
 
 -- the request that a JSON value makes at an endpoint
 value_is_at : (endpoint : Endpoint) (value : Data) → IfOk (request_in endpoint value) (IsAt endpoint)
-unfolding request_in query_in explain_in explain_of explain_about start_in finish_activity_in plain_in start_service_in stop_service_in send_in send_of register_in unregister_in finish_in finish_of pending_get_in get_of pending_send_in pending_cancel_in pending_give_in install_in uninstall_in grant_in link_in force_stop_in history_in
+unfolding request_in query_in explain_in asked_with start_in plain_in start_service_in stop_service_in send_in sent_with register_in finish_in pending_get_in pending_send_in pending_give_in install_in grant_in link_in
 value_is_at at.Query value =
-    bound at.Query (fields_of query_fields value) _ (λ x0. bound at.Query (kind_of value) _ (λ x1. bound at.Query (required_intent (codes "intent") value) _ (λ x2. bound at.Query (default_only_of value) _ (λ x3. refl))))
+    bound at.Query (fields_of (codes "kind" ∷ codes "intent" ∷ codes "defaultOnly" ∷ []) value) _ (λ x0. bound at.Query (kind_of value) _ (λ x1. bound at.Query (required_intent (codes "intent") value) _ (λ x2. bound at.Query (optional_truth (codes "defaultOnly") value) _ (λ x3. refl))))
 value_is_at at.Explain value =
     bound at.Explain (fields_of (explain_fields (asks_receivers value)) value) _ (λ x0. bound at.Explain (kind_of value) _ (λ x1. bound at.Explain (required_intent (codes "intent") value) _ (λ x2. bound at.Explain (optional_text Any 1024 (codes "as") value) _ (λ x3. bound at.Explain (permission_for x1 value) _ (λ x4. bound at.Explain (optional_text Any 1024 (codes "of") value) _ (λ x5. refl))))))
 value_is_at at.Start value =
@@ -56,7 +56,7 @@ value_is_at at.Services value = refl
 value_is_at at.Send value =
     bound at.Send (fields_of (send_fields (is_ordered value)) value) _ (λ x0. bound at.Send (required_intent (codes "intent") value) _ (λ x1. bound at.Send (optional_text Any 1024 (codes "permission") value) _ (λ x2. bound at.Send (optional_truth (codes "ordered") value) _ (λ x3. bound at.Send (ordered_if x3 value) _ (λ x4. refl)))))
 value_is_at at.Register value =
-    bound at.Register (fields_of register_fields value) _ (λ x0. bound at.Register (required_filter (codes "filter") value) _ (λ x1. bound at.Register (optional_text Any 1024 (codes "permission") value) _ (λ x2. refl)))
+    bound at.Register (fields_of (codes "filter" ∷ codes "permission" ∷ []) value) _ (λ x0. bound at.Register (required_filter (codes "filter") value) _ (λ x1. bound at.Register (optional_text Any 1024 (codes "permission") value) _ (λ x2. refl)))
 value_is_at at.Unregister value =
     bound at.Unregister (number_in (codes "number") value) _ (λ x0. refl)
 value_is_at at.Inbox value = refl
@@ -77,7 +77,7 @@ value_is_at at.Uninstall value =
 value_is_at at.Grant value =
     bound at.Grant (fields_of grant_fields value) _ (λ x0. bound at.Grant (required_text Any 1024 (codes "package") value) _ (λ x1. bound at.Grant (required_text Any 1024 (codes "permission") value) _ (λ x2. bound at.Grant (required_truth (codes "held") value) _ (λ x3. refl))))
 value_is_at at.Link value =
-    bound at.Link (fields_of link_fields value) _ (λ x0. bound at.Link (required_text Any 1024 (codes "package") value) _ (λ x1. bound at.Link (required_text Any 1024 (codes "host") value) _ (λ x2. bound at.Link (required_truth (codes "approved") value) _ (λ x3. refl))))
+    bound at.Link (fields_of (codes "package" ∷ codes "host" ∷ codes "approved" ∷ []) value) _ (λ x0. bound at.Link (required_text Any 1024 (codes "package") value) _ (λ x1. bound at.Link (required_text Any 1024 (codes "host") value) _ (λ x2. bound at.Link (required_truth (codes "approved") value) _ (λ x3. refl))))
 value_is_at at.ForceStop value =
     bound at.ForceStop (package_in value) _ (λ x0. refl)
 value_is_at at.Tick value =

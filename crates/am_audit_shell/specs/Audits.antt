@@ -9,7 +9,8 @@ use Rattle.am_setback.specs.Setbacks.{setback_status}
 use Rattle.am_audit_shell.specs.declared.finding.Finding.{Finding}
 use Rattle.am_audit_shell.specs.declared.finding.Finding.TheVariants as findings
 use Rattle.am_audit_shell.specs.Contents.{IsHistoryRefused, IsJudged, IsOverLimit, IsUnread}
-use Rattle.am_audit_shell.specs.Lines.{Prints, Tells, Voices, history_line, limit_line, setback_line, usage_line, verdict_line, verdict_status, want_line}
+use Rattle.am_setback.specs.Telling.{OnlyTold, Prints, Voices}
+use Rattle.am_audit_shell.specs.Lines.{history_line, limit_line, setback_line, usage_line, verdict_line, verdict_status, want_line, write_line}
 use Rattle.am_audit_shell.specs.Words.{Named, named_by}
 
 -- why nothing is found; running out of memory has no cause
@@ -32,18 +33,13 @@ abbrev pub Happens : Result Finding Setback → Named → Shelf → Shelf → Ty
 Happens (Ok finding) named before after = IsFound finding named before
 Happens (Err setback) named before after = HasCause setback named before after
 
--- a line was told on the errors, with its status, and the output took nothing
-abbrev pub OnlyTold : List ℕ → ℕ → Voices → Voices → ℕ → Type 0
-OnlyTold line code before after status =
-    (after.output ≡ before.output) × Tells line code before.errors after.errors status
-
 -- how a finding is told: a verdict is printed, unless memory runs out for its line, and what else is found is told on
 -- the errors
 abbrev pub TellsFinding : Finding → Voices → Voices → ℕ → Type 0
 TellsFinding (findings.OverLimit part) before after status = OnlyTold (limit_line part) 7 before after status
 TellsFinding (findings.HistoryRefused line) before after status = OnlyTold line 5 before after status
 TellsFinding (findings.Judged verdict) before after status =
-    Prints (verdict_line verdict) (verdict_status verdict) before after status
+    Prints write_line (verdict_line verdict) (verdict_status verdict) before after status
     ⊎ OnlyTold want_line 8 before after status
 
 -- how an audit is told: by what is found, or by the setback, on the errors
@@ -66,8 +62,7 @@ pub record Went (named : Named) (before after : World) (status : ℕ) : Type 0 w
 -- an audit of the files that words name, if they name them
 abbrev pub AuditsNamed : Option Named → World → World → ℕ → Type 0
 AuditsNamed None before after status =
-    (after.files ≡ before.files) × (after.voices.output ≡ before.voices.output)
-    × Tells usage_line 2 before.voices.errors after.voices.errors status
+    (after.files ≡ before.files) × OnlyTold usage_line 2 before.voices after.voices status
 AuditsNamed (Some named) before after status = Went named before after status
 
 -- a whole audit

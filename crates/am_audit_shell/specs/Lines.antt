@@ -1,26 +1,11 @@
 -- The lines that tell what an audit comes to.
-use Rattle.std.specs.Prelude.{◌≡◌, ℕ, ◌⊎◌, codes, decimal, List, ◌++◌}
-use Rattle.std.specs.Io.KnownBytes.{Appends}
-use Rattle.am_outside.specs.Counts.{HasRisen}
-use Rattle.am_http.specs.Links.{SinkView}
-use Rattle.am_http.specs.Sending.{WritesPart}
+use Rattle.std.specs.Prelude.{ℕ, codes, decimal, List, ◌++◌}
 use Rattle.am_audit_frames.specs.declared.audit.Verdict.{Verdict}
 use Rattle.am_audit_frames.specs.declared.audit.Verdict.TheVariants as verdicts
 use Rattle.am_setback.specs.declared.setback.Setback.{Setback}
 use Rattle.am_setback.specs.declared.setback.Setback.TheVariants as setbacks
 use Rattle.am_audit_shell.specs.declared.finding.Part.{Part}
 use Rattle.am_audit_shell.specs.declared.finding.Part.TheVariants as parts
-
--- what an audit is told on: the output and the errors
-pub record Voices : Type 0 where
-  pub output : SinkView
-  pub errors : SinkView
-
--- the line was written whole and the status is the one that goes with it, or the errors failed and took a part of it
-abbrev pub Tells : List ℕ → ℕ → SinkView → SinkView → ℕ → Type 0
-Tells line status errors errors' result =
-    ((result ≡ status) × Appends errors.taken errors'.taken line)
-    ⊎ ((result ≡ 6) × HasRisen errors.faults errors'.faults × WritesPart errors.taken errors'.taken line)
 
 -- the lines of other words, of an output that failed, and of memory that ran out
 abbrev pub usage_line : List ℕ
@@ -31,13 +16,6 @@ write_line = codes "am_audit: write fault\n"
 
 abbrev pub want_line : List ℕ
 want_line = codes "am_audit: out of memory\n"
-
--- a text was printed whole, with its status, or the output failed and took a part of it, and the errors tell that
-abbrev pub Prints : List ℕ → ℕ → Voices → Voices → ℕ → Type 0
-Prints text status before after result =
-    ((result ≡ status) × Appends before.output.taken after.output.taken text × (after.errors ≡ before.errors))
-    ⊎ (HasRisen before.output.faults after.output.faults × WritesPart before.output.taken after.output.taken text
-    × Tells write_line 6 before.errors after.errors result)
 
 -- the line of a history that is refused
 abbrev pub history_line : ℕ → List ℕ

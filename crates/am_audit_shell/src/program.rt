@@ -1,11 +1,11 @@
 //! The top call.
 ghost use Rattle.std.specs.Prelude.{◌≡◌, IfOk, Ok};
-ghost use Rattle.am_http.specs.Links.{sink_of};
 ghost use Rattle.am_manifest.specs.Devices.{device_of};
 ghost use Rattle.am_model.specs.Sound.{IsSound};
 ghost use Rattle.am_types.specs.declared.device.Device.{Device as Described};
 ghost use Rattle.am_audit_answers.specs.Matching.{IsRecord};
 ghost use Rattle.am_setback.specs.Files.{shelf_of};
+ghost use Rattle.am_setback.specs.Telling.{voices_of};
 ghost use Rattle.am_audit_shell.specs.Audits.{Audits, Happens, TellsFinding};
 ghost use Rattle.am_audit_shell.specs.Contents.{ground_of};
 ghost use Rattle.am_audit_shell.specs.Held.{ComesTo, Judges, contents_of};
@@ -14,12 +14,12 @@ ghost use Rattle.am_audit_shell.specs.Naming.{named_at};
 
 use crate::contents::{Held, over_limit, read_files};
 use crate::finding::{Finding, limit_line};
-use crate::telling::{print, setback_line, tell, tell_want};
+use crate::telling::{setback_line, tell_want};
 use crate::words::{NamedFiles, named_by};
 use am_audit_calls::read_history;
 use am_audit_frames::{Verdict, audit_frames};
 use am_outside::{Files, Sink};
-use am_setback::{Setback, parse_device};
+use am_setback::{Setback, parse_device, print, tell};
 use am_types::{Device, Entry, NoMemory, Text};
 use std::alloc::Global;
 
@@ -110,8 +110,8 @@ fn tell_finding<W: Sink, E: Sink>(
     errors: &mut E,
 ) -> u8
     ensures { TellsFinding finding
-        (record { output = sink_of W.Sink output.old; errors = sink_of E.Sink errors.old })
-        (record { output = sink_of W.Sink output.new; errors = sink_of E.Sink errors.new })
+        (voices_of W.Sink E.Sink output.old errors.old)
+        (voices_of W.Sink E.Sink output.new errors.new)
         result }
 {
     match finding {
@@ -119,6 +119,7 @@ fn tell_finding<W: Sink, E: Sink>(
         Finding::HistoryRefused(line) => tell(line.as_str(), 5, errors),
         Finding::Judged(verdict) => match verdict_line(alloc, verdict) {
             Ok(line) => print(
+                "am_audit: write fault\n",
                 line.as_str().as_bytes(),
                 verdict_status(verdict),
                 output,
@@ -156,11 +157,11 @@ pub fn audit<F: Files, W: Sink, E: Sink>(
     ensures { Audits words.now
         (record {
           files = shelf_of F.Files files.old;
-          voices = record { output = sink_of W.Sink output.old; errors = sink_of E.Sink errors.old };
+          voices = voices_of W.Sink E.Sink output.old errors.old;
         })
         (record {
           files = shelf_of F.Files files.new;
-          voices = record { output = sink_of W.Sink output.new; errors = sink_of E.Sink errors.new };
+          voices = voices_of W.Sink E.Sink output.new errors.new;
         })
         result }
 {

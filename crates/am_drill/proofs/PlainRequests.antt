@@ -3,10 +3,11 @@ use Rattle.std.proofs.Common.{ℕ, ◌<◌, ◌%◌, ◌==◌, Bool, true, false
 use Rattle.std.specs.Prelude.{if◌then◌else◌}
 use Rattle.am_types.specs.declared.manifest.Kind.TheVariants.{Activity}
 use Rattle.am_types.specs.declared.request.Request.TheVariants as asks
+use Rattle.am_types.specs.Intents.{no_flags}
 use Rattle.am_drill.specs.Desks.{IsPlain}
 use Rattle.am_drill.specs.Devices.{activity_action, broadcast_action}
 use Rattle.am_drill.specs.Draws.{draw}
-use Rattle.am_drill.specs.Requests.{acting, in_order, new_task, no_flags, request_of}
+use Rattle.am_drill.specs.Requests.{acting, in_order, new_task, request_of}
 use Rattle.am_drill.proofs.ShortBodies.{query_is_short, send_is_short, start_is_short, tick_is_short}
 
 -- a remainder is below what is divided by

@@ -4,11 +4,12 @@ use Rattle.std.specs.Fmt.{digits}
 use Rattle.json.specs.Print.{escape_byte}
 use Rattle.am_types.specs.declared.manifest.Kind.TheVariants.{Activity}
 use Rattle.am_types.specs.declared.request.Request.TheVariants as asks
-use Rattle.am_wire_values.specs.Intents.{aimed, asked, carried, intent_data}
+use Rattle.am_types.specs.Intents.{no_flags}
+use Rattle.am_wire_values.specs.Intents.{intent_data}
 use Rattle.am_wire_values.specs.Requests.{request_data, query_data, send_data, start_data, with_ordered, with_outcome}
 use Rattle.am_drill.specs.Bodies.{weight_of}
 use Rattle.am_drill.specs.Devices.{activity_action, broadcast_action}
-use Rattle.am_drill.specs.Requests.{acting, in_order, new_task, no_flags}
+use Rattle.am_drill.specs.Requests.{acting, in_order, new_task}
 
 -- what holds of each number below 4, or below 8
 below_4 : (P : ℕ → Type 0) → P 0 → P 1 → P 2 → P 3 → (n : ℕ) → n < 4 → P n
@@ -35,21 +36,21 @@ unfolding request_data
 tick_is_short = short (weight_of asks.Tick) 2 refl (omega arith)
 
 query_length : (n : ℕ) → n < 8 → weight_of (asks.Query Activity (acting (activity_action n) no_flags) false) ≡ 45
-unfolding request_data query_data intent_data carried aimed asked escape_byte digits
+unfolding request_data query_data intent_data escape_byte digits
 query_length = below_8 (λ n. weight_of (asks.Query Activity (acting (activity_action n) no_flags) false) ≡ 45) refl refl refl refl refl refl refl refl
 
 pub query_is_short : (n : ℕ) → n < 8 → weight_of (asks.Query Activity (acting (activity_action n) no_flags) false) ≤ 65536
 query_is_short n small = short _ 45 (query_length n small) (omega arith)
 
 start_length : (n : ℕ) → n < 8 → weight_of (asks.Start (acting (activity_action n) new_task) None) ≡ 48
-unfolding request_data start_data intent_data carried aimed asked escape_byte digits
+unfolding request_data start_data intent_data escape_byte digits
 start_length = below_8 (λ n. weight_of (asks.Start (acting (activity_action n) new_task) None) ≡ 48) refl refl refl refl refl refl refl refl
 
 pub start_is_short : (n : ℕ) → n < 8 → weight_of (asks.Start (acting (activity_action n) new_task) None) ≤ 65536
 start_is_short n small = short _ 48 (start_length n small) (omega arith)
 
 send_length : (n : ℕ) → n < 4 → weight_of (asks.Send (acting (broadcast_action n) no_flags) None (Some in_order)) ≡ 42
-unfolding request_data send_data intent_data carried aimed asked with_ordered with_outcome escape_byte digits
+unfolding request_data send_data intent_data with_ordered with_outcome escape_byte digits
 send_length = below_4 (λ n. weight_of (asks.Send (acting (broadcast_action n) no_flags) None (Some in_order)) ≡ 42) refl refl refl refl
 
 pub send_is_short : (n : ℕ) → n < 4 → weight_of (asks.Send (acting (broadcast_action n) no_flags) None (Some in_order)) ≤ 65536

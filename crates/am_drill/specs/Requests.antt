@@ -6,23 +6,9 @@ use Rattle.am_types.specs.declared.intent.Intent.{Intent}
 use Rattle.am_types.specs.declared.manifest.Kind.TheVariants.{Activity}
 use Rattle.am_types.specs.declared.request.Request.{Request}
 use Rattle.am_types.specs.declared.request.Request.TheVariants as asks
+use Rattle.am_types.specs.Intents.{no_flags, no_intent}
 use Rattle.am_drill.specs.Draws.{draw}
 use Rattle.am_drill.specs.Devices.{activity_action, broadcast_action}
-
--- no flag at all
-abbrev pub no_flags : Flags
-no_flags = record {
-  new_task = false;
-  multiple_task = false;
-  clear_task = false;
-  clear_top = false;
-  single_top = false;
-  reorder_to_front = false;
-  registered_only = false;
-  foreground = false;
-  no_abort = false;
-  include_stopped = false;
-}
 
 -- NEW_TASK alone
 abbrev pub new_task : Flags
@@ -30,17 +16,7 @@ new_task = record no_flags { new_task = true }
 
 -- an intent of an action and flags alone
 abbrev pub acting : List ℕ → Flags → Intent
-acting action flags = record {
-  action = Some action;
-  uri = None;
-  mime = None;
-  identifier = None;
-  categories = [];
-  «package» = None;
-  component = None;
-  flags = flags;
-  extras = [];
-}
+acting action flags = record no_intent { action = Some action; flags = flags }
 
 -- in order, with the outcome that a broadcast has where none is named, whose result nobody wants
 abbrev pub in_order : Ordered

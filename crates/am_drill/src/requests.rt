@@ -2,9 +2,10 @@
 ghost use Rattle.std.specs.Prelude.{◌≡◌, ◌≤◌, ◌<◌, ◌==◌, ◌++◌, decimal, None, Some, false, IfOk, OnOk};
 ghost use Rattle.am_types.specs.declared.manifest.Kind.TheVariants.{Activity};
 ghost use Rattle.am_types.specs.declared.request.Request.TheVariants as asks;
+ghost use Rattle.am_types.specs.Intents.{no_flags};
 ghost use Rattle.am_drill.specs.Draws.{after, draw};
 ghost use Rattle.am_drill.specs.Devices.{activity_action, broadcast_action};
-ghost use Rattle.am_drill.specs.Requests.{acting, draws_of, in_order, new_task, no_flags, request_of};
+ghost use Rattle.am_drill.specs.Requests.{acting, draws_of, in_order, new_task, request_of};
 
 use crate::draws::Draws;
 use crate::texts::numbered;
@@ -71,17 +72,10 @@ fn send(alloc: Global, number: u32) -> Result<Request, NoMemory>
 fn acting(alloc: Global, action: Text, flags: Flags) -> Intent
     ensures { result ≡ acting action flags }
 {
-    Intent {
-        action: Some(action),
-        uri: None,
-        mime: None,
-        identifier: None,
-        categories: List::new(Vec::new(alloc)),
-        package: None,
-        component: None,
-        flags,
-        extras: List::new(Vec::new(alloc)),
-    }
+    let mut intent = Intent::empty(alloc);
+    intent.action = Some(action);
+    intent.flags = flags;
+    intent
 }
 
 // The order of a broadcast that names no outcome, and whose result nobody wants.

@@ -11,3 +11,4 @@ pub mod SentTo
 pub mod Services
 pub mod Started
 pub mod Tops
+pub mod Walks

@@ -10,8 +10,10 @@ use Rattle.am_model.specs.Boards.{Board}
 use Rattle.am_model.specs.Candidates.{hits}
 use Rattle.am_model.specs.Targets.{host_to_view, is_approved, target}
 use Rattle.am_model.specs.Accounts.{Question, first_of, is_choice, is_outranked, is_some_approved, start_hits}
+use Rattle.am_explain.specs.Asking.{question_of}
 use Rattle.am_explain.specs.declared.contest.Contest.{Contest}
 use Rattle.am_explain.specs.declared.contest.Contest.TheVariants.{Start, Service, Broadcast}
+use Rattle.am_explain.specs.declared.contest.Grounds.{Grounds}
 use Rattle.am_explain.specs.declared.contest.Leaders.{Leaders}
 
 -- the first hit that a start is for, if there is one
@@ -58,3 +60,7 @@ IsContest board asked (Start leaders) = (asked.kind ≡ kinds.Activity) × IsLed
 IsContest board asked (Service first) =
     (asked.kind ≡ kinds.Service) × (first ≡ first_of (hits board.packages kinds.Service asked.intent false))
 IsContest board asked Broadcast = asked.kind ≡ kinds.Receiver
+
+-- what decides is that of the question on the board
+abbrev pub AreGrounds : Grounds → Type 0
+AreGrounds grounds = IsContest grounds.installed.now (question_of grounds.question) grounds.contest.now

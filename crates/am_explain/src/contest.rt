@@ -9,6 +9,7 @@ ghost use Rattle.am_explain.specs.Asking.{question_of};
 ghost use Rattle.am_explain.specs.Contests.{IsContest, IsLed, is_approved_hit, leader, leaders_of, priority_of_hit};
 
 use crate::asking::Question;
+use am_installed::Installed;
 use am_resolve::{Board, approves, host_to_view};
 use am_types::{Component, Hit, Intent, Kind, Link, List, NoMemory, Steps, Target};
 use std::alloc::Global;
@@ -34,6 +35,15 @@ pub(crate) struct Leaders {
     pub(crate) greatest: Option<i32>,
     /// Several have it.
     pub(crate) tied: bool,
+}
+
+/// On which grounds components are judged: what is installed, what is asked, and what decides beside the component
+/// itself.
+#[derive(Clone, Copy)]
+pub(crate) struct Grounds<'a> {
+    pub(crate) installed: &'a Installed,
+    pub(crate) question: Question<'a>,
+    pub(crate) contest: &'a Contest,
 }
 
 /// The first hit that a start is for, if there is one.

@@ -3,13 +3,12 @@ ghost use Rattle.std.specs.Prelude.{◌≡◌, ◌+◌, ◌*◌, ◌≤◌, IsSo
 ghost use Rattle.am_index.specs.Groups.{group_size};
 ghost use Rattle.am_model.specs.Accounts.{accounts};
 ghost use Rattle.am_explain.specs.Asking.{question_of};
-ghost use Rattle.am_explain.specs.Contests.{IsContest};
+ghost use Rattle.am_explain.specs.Contests.{AreGrounds};
 ghost use Rattle.am_explain.specs.Costs.{filters_in};
 
 use crate::asking::Question;
-use crate::contest::{Contest, find_contest};
+use crate::contest::{Grounds, find_contest};
 use crate::walk::{add_declared, add_registered};
-use am_installed::Installed;
 use am_resolve::Board;
 use am_types::{Account, Kind, List, NoMemory, Steps};
 use std::alloc::Global;
@@ -33,7 +32,12 @@ pub fn accounts<L: Ledger>(
     ensures explicit { IsSome question.now.intent.now.component → steps.new ≡ steps.old }
 {
     let contest = find_contest(alloc, board, question, steps)?;
-    let told = told(alloc, board.installed(), &contest, question, shown, steps);
+    let grounds = Grounds {
+        installed: board.installed(),
+        question: *question,
+        contest: &contest,
+    };
+    let told = told(alloc, &grounds, shown, steps);
     drop(contest);
     told
 }
@@ -41,22 +45,22 @@ pub fn accounts<L: Ledger>(
 /// The accounts, where it is known what decides.
 fn told<L: Ledger>(
     alloc: Global,
-    installed: &Installed,
-    contest: &Contest,
-    question: &Question,
+    grounds: &Grounds,
     shown: Option<u32>,
     steps: &mut Steps<L>,
 ) -> Result<List<Account>, NoMemory>
-    requires { IsContest installed.now (question_of question.now) contest.now }
-    ensures accounts { IfOk result (λ told. told ≡ accounts installed.now (question_of question.now) shown) }
-    ensures tests { steps.new
-        ≤ steps.old + (filters_in question.now.kind installed.now.packages + length installed.now.registered) }
-    ensures explicit { IsSome question.now.intent.now.component → steps.new ≡ steps.old }
+    requires { AreGrounds grounds.now }
+    ensures accounts { IfOk result
+        (λ told. told ≡ accounts grounds.now.installed.now (question_of grounds.now.question) shown) }
+    ensures tests { steps.new ≤ steps.old + (filters_in grounds.now.question.kind grounds.now.installed.now.packages
+        + length grounds.now.installed.now.registered) }
+    ensures explicit { IsSome grounds.now.question.intent.now.component → steps.new ≡ steps.old }
 {
+    let question = &grounds.question;
     let mut told = Vec::new(alloc);
-    add_declared(&mut told, alloc, installed, contest, question, shown, steps)?;
+    add_declared(&mut told, alloc, grounds, shown, steps)?;
     if question.kind == Kind::Receiver {
-        add_registered(&mut told, alloc, installed, question, shown, steps)?;
+        add_registered(&mut told, alloc, grounds.installed, question, shown, steps)?;
     }
     Ok(List::new(told))
 }

@@ -8,12 +8,12 @@ ghost use Rattle.am_model.specs.Targets.{host_to_view, takes_any_host};
 ghost use Rattle.am_model.specs.Accounts.{by_kind, component_of, enabled, first_of, found, found_activity, found_service, is_other_component, is_other_package, is_that, left_out, left_out_for_browser, named, needs_default, offer_to, offered, registered_standing, sending_rule, standing, started, unless_kept};
 ghost use Rattle.am_resolve.specs.Ranking.{offer_of};
 ghost use Rattle.am_explain.specs.Asking.{question_of};
-ghost use Rattle.am_explain.specs.Contests.{IsContest, IsLed, is_below};
+ghost use Rattle.am_explain.specs.Contests.{AreGrounds, IsLed, is_below};
 ghost use Rattle.am_types.specs.declared.account.Standing.TheVariants.{Filters};
-ghost use Rattle.am_explain.specs.Tests.{takes_all_hosts};
+ghost use Rattle.am_explain.specs.Tests.{takes_all_hosts, tested_of};
 
 use crate::asking::Question;
-use crate::contest::{Contest, Leaders};
+use crate::contest::{Contest, Grounds, Leaders};
 use crate::tested::{Tested, ask_filters, test};
 use am_gates::{Ruling, is_privileged, verdict};
 use am_installed::Installed;
@@ -296,21 +296,21 @@ fn found_service(
 
 /// A component of which the intent passes filters.
 fn passed(
-    installed: &Installed,
-    contest: &Contest,
-    question: &Question,
+    grounds: &Grounds,
     owner: &Package,
     decl: &Decl,
     priority: i32,
     any_host: bool,
 ) -> Result<Standing, NoMemory>
-    requires contest { IsContest installed.now (question_of question.now) contest.now }
-    requires any_host { any_host
-        ≡ list_any (takes_all_hosts question.now.intent.now (needs_default question.now.kind)) decl.now.filters }
-    ensures { IfOk result
-        (λ said. said ≡ found installed.now (question_of question.now) owner.now decl.now (Some priority)) }
+    requires grounds { AreGrounds grounds.now }
+    requires any_host { any_host ≡ list_any
+        (takes_all_hosts grounds.now.question.intent.now (needs_default grounds.now.question.kind)) decl.now.filters }
+    ensures { IfOk result (λ said. said
+        ≡ found grounds.now.installed.now (question_of grounds.now.question) owner.now decl.now (Some priority)) }
 {
-    match contest {
+    let installed = grounds.installed;
+    let question = &grounds.question;
+    match grounds.contest {
         Contest::Start(leaders) => found_activity(
             installed, question, leaders, owner, decl, priority, any_host,
         ),
@@ -319,36 +319,22 @@ fn passed(
     }
 }
 
-/// An enabled component that the intent may find by its filters. Each of them is asked once, which is
-/// a step.
-fn found<L: Ledger>(
-    alloc: Global,
-    installed: &Installed,
-    contest: &Contest,
-    question: &Question,
+/// An enabled component that the intent may find by its filters, which say this.
+fn found(
+    grounds: &Grounds,
     owner: &Package,
     decl: &Decl,
-    steps: &mut Steps<L>,
+    tested: Tested,
 ) -> Result<Standing, NoMemory>
-    requires { IsContest installed.now (question_of question.now) contest.now }
-    ensures standing { IfOk result
-        (λ said. said ≡ enabled installed.now (question_of question.now) owner.now decl.now None) }
-    ensures tests { steps.new ≤ steps.old + length decl.now.filters }
+    requires grounds { AreGrounds grounds.now }
+    requires tested { tested ≡ tested_of grounds.now.question.kind grounds.now.question.intent.now
+        (needs_default grounds.now.question.kind) decl.now.filters }
+    ensures { IfOk result (λ said. said
+        ≡ enabled grounds.now.installed.now (question_of grounds.now.question) owner.now decl.now None) }
 {
-    let need_default = needs_default(question.kind);
-    let filters = &decl.filters;
-    match ask_filters(
-        alloc,
-        question.kind,
-        question.intent,
-        need_default,
-        filters,
-        steps,
-    )? {
+    match tested {
         Tested::Failed(reasons) => Ok(Standing::Filters(reasons)),
-        Tested::Passed(priority, any_host) => passed(
-            installed, contest, question, owner, decl, priority, any_host,
-        ),
+        Tested::Passed(priority, any_host) => passed(grounds, owner, decl, priority, any_host),
     }
 }
 
@@ -370,19 +356,18 @@ fn named(
 /// What is said of a component of the kind. Each filter that is asked is a step.
 pub(crate) fn standing_of<L: Ledger>(
     alloc: Global,
-    installed: &Installed,
-    contest: &Contest,
-    question: &Question,
+    grounds: &Grounds,
     owner: &Package,
     decl: &Decl,
     steps: &mut Steps<L>,
 ) -> Result<Standing, NoMemory>
-    requires { IsContest installed.now (question_of question.now) contest.now }
-    ensures standing { IfOk result
-        (λ said. said ≡ standing installed.now (question_of question.now) owner.now decl.now) }
+    requires { AreGrounds grounds.now }
+    ensures standing { IfOk result (λ said. said
+        ≡ standing grounds.now.installed.now (question_of grounds.now.question) owner.now decl.now) }
     ensures tests { steps.new ≤ steps.old + length decl.now.filters }
-    ensures explicit { IsSome question.now.intent.now.component → steps.new ≡ steps.old }
+    ensures explicit { IsSome grounds.now.question.intent.now.component → steps.new ≡ steps.old }
 {
+    let question = &grounds.question;
     if is_other_component(&question.intent.component, owner, decl) {
         return Ok(Standing::OtherComponent);
     }
@@ -393,8 +378,19 @@ pub(crate) fn standing_of<L: Ledger>(
         return Ok(Standing::Disabled);
     }
     match &question.intent.component {
-        Some(_) => named(installed, question, owner, decl),
-        None => found(alloc, installed, contest, question, owner, decl, steps),
+        Some(_) => named(grounds.installed, question, owner, decl),
+        None => {
+            let need_default = needs_default(question.kind);
+            let tested = ask_filters(
+                alloc,
+                question.kind,
+                question.intent,
+                need_default,
+                &decl.filters,
+                steps,
+            )?;
+            found(grounds, owner, decl, tested)
+        }
     }
 }
 

@@ -1,17 +1,17 @@
 //! The components of a device and its registered receivers, one after the other.
 ghost use Rattle.std.specs.Prelude.{◌≡◌, ◌∷◌, ◌++◌, [], ◌+◌, ◌≤◌, IsSome, OnOk, length, if◌then◌else◌};
-ghost use Rattle.am_types.specs.declared.broadcast.Aim.TheVariants.{Declared, Registered};
+ghost use Rattle.am_types.specs.declared.broadcast.Aim.TheVariants.{Declared};
 ghost use Rattle.am_model.specs.Candidates.{is_kind};
-ghost use Rattle.am_model.specs.Accounts.{accounts_from, component_of, declared_accounts, is_shown, registered_accounts, registered_standing, standing};
+ghost use Rattle.am_model.specs.Accounts.{accounts_from, component_of, declared_accounts, is_shown, registered_accounts, standing};
 ghost use Rattle.am_explain.specs.Asking.{question_of};
-ghost use Rattle.am_explain.specs.Contests.{IsContest};
+ghost use Rattle.am_explain.specs.Contests.{AreGrounds};
 ghost use Rattle.am_explain.specs.Costs.{filters_from, filters_in};
 
 use crate::asking::Question;
-use crate::contest::Contest;
+use crate::contest::Grounds;
 use crate::standing::{component_of, registered_standing, standing_of};
 use am_installed::Installed;
-use am_types::{Account, Aim, Decl, NoMemory, Package, Registration, Steps};
+use am_types::{Account, Aim, Decl, NoMemory, Package, Standing, Steps};
 use std::alloc::Global;
 use std::sync::ledger::Ledger;
 
@@ -25,26 +25,33 @@ fn is_shown(shown: Option<u32>, uid: u32) -> bool
     }
 }
 
+/// Adds an account.
+fn tell(told: &mut Vec<Account>, to: Aim, standing: Standing) -> Result<(), NoMemory>
+    ensures { OnOk result (told.new.items ≡ told.old.items ++ record { to = to; standing = standing } ∷ []) }
+{
+    told.push(Account { to, standing })?;
+    Ok(())
+}
+
 /// Adds the accounts of the components that packages declare, as far as they are shown. Each filter
 /// that is asked is a step.
 pub(crate) fn add_declared<L: Ledger>(
     told: &mut Vec<Account>,
     alloc: Global,
-    installed: &Installed,
-    contest: &Contest,
-    question: &Question,
+    grounds: &Grounds,
     shown: Option<u32>,
     steps: &mut Steps<L>,
 ) -> Result<(), NoMemory>
-    requires { IsContest installed.now (question_of question.now) contest.now }
-    ensures added { OnOk result (told.new.items
-        ≡ told.old.items ++ declared_accounts installed.now (question_of question.now) shown installed.now.packages) }
-    ensures tests { steps.new ≤ steps.old + filters_in question.now.kind installed.now.packages }
-    ensures explicit { IsSome question.now.intent.now.component → steps.new ≡ steps.old }
+    requires { AreGrounds grounds.now }
+    ensures added { OnOk result (told.new.items ≡ told.old.items
+        ++ declared_accounts grounds.now.installed.now (question_of grounds.now.question) shown
+        grounds.now.installed.now.packages) }
+    ensures tests { steps.new ≤ steps.old + filters_in grounds.now.question.kind grounds.now.installed.now.packages }
+    ensures explicit { IsSome grounds.now.question.intent.now.component → steps.new ≡ steps.old }
 {
-    for owner in installed.packages().as_slice() {
+    for owner in grounds.installed.packages().as_slice() {
         if is_shown(shown, owner.uid) {
-            add_package(told, alloc, installed, contest, question, owner, steps)?;
+            add_package(told, alloc, grounds, owner, steps)?;
         }
     }
     Ok(())
@@ -54,23 +61,19 @@ pub(crate) fn add_declared<L: Ledger>(
 fn add_package<L: Ledger>(
     told: &mut Vec<Account>,
     alloc: Global,
-    installed: &Installed,
-    contest: &Contest,
-    question: &Question,
+    grounds: &Grounds,
     owner: &Package,
     steps: &mut Steps<L>,
 ) -> Result<(), NoMemory>
-    requires { IsContest installed.now (question_of question.now) contest.now }
-    ensures added { OnOk result (told.new.items
-        ≡ told.old.items ++ accounts_from installed.now (question_of question.now) owner.now owner.now.decls) }
-    ensures tests { steps.new ≤ steps.old + filters_from question.now.kind owner.now.decls }
-    ensures explicit { IsSome question.now.intent.now.component → steps.new ≡ steps.old }
+    requires { AreGrounds grounds.now }
+    ensures added { OnOk result (told.new.items ≡ told.old.items
+        ++ accounts_from grounds.now.installed.now (question_of grounds.now.question) owner.now owner.now.decls) }
+    ensures tests { steps.new ≤ steps.old + filters_from grounds.now.question.kind owner.now.decls }
+    ensures explicit { IsSome grounds.now.question.intent.now.component → steps.new ≡ steps.old }
 {
     for decl in owner.decls.as_slice() {
-        if decl.kind == question.kind {
-            add_component(
-                told, alloc, installed, contest, question, owner, decl, steps,
-            )?;
+        if decl.kind == grounds.question.kind {
+            add_component(told, alloc, grounds, owner, decl, steps)?;
         }
     }
     Ok(())
@@ -80,25 +83,22 @@ fn add_package<L: Ledger>(
 fn add_component<L: Ledger>(
     told: &mut Vec<Account>,
     alloc: Global,
-    installed: &Installed,
-    contest: &Contest,
-    question: &Question,
+    grounds: &Grounds,
     owner: &Package,
     decl: &Decl,
     steps: &mut Steps<L>,
 ) -> Result<(), NoMemory>
-    requires { IsContest installed.now (question_of question.now) contest.now }
+    requires { AreGrounds grounds.now }
     ensures added { OnOk result (told.new.items ≡ told.old.items ++ record {
       to = Declared (component_of owner.now decl.now);
-      standing = standing installed.now (question_of question.now) owner.now decl.now;
+      standing = standing grounds.now.installed.now (question_of grounds.now.question) owner.now decl.now;
     } ∷ []) }
     ensures tests { steps.new ≤ steps.old + length decl.now.filters }
-    ensures explicit { IsSome question.now.intent.now.component → steps.new ≡ steps.old }
+    ensures explicit { IsSome grounds.now.question.intent.now.component → steps.new ≡ steps.old }
 {
-    let standing = standing_of(alloc, installed, contest, question, owner, decl, steps)?;
+    let standing = standing_of(alloc, grounds, owner, decl, steps)?;
     let to = Aim::Declared(component_of(owner, decl)?);
-    told.push(Account { to, standing })?;
-    Ok(())
+    tell(told, to, standing)
 }
 
 /// Adds the accounts of the registered receivers, as far as they are shown. Each filter that is asked
@@ -118,30 +118,9 @@ pub(crate) fn add_registered<L: Ledger>(
 {
     for registration in installed.registered().as_slice() {
         if is_shown(shown, registration.uid) {
-            add_registration(told, alloc, installed, question, registration, steps)?;
+            let standing = registered_standing(alloc, installed, question, registration, steps)?;
+            tell(told, Aim::Registered(registration.number), standing)?;
         }
     }
-    Ok(())
-}
-
-/// Adds the account of a registered receiver.
-fn add_registration<L: Ledger>(
-    told: &mut Vec<Account>,
-    alloc: Global,
-    installed: &Installed,
-    question: &Question,
-    registration: &Registration,
-    steps: &mut Steps<L>,
-) -> Result<(), NoMemory>
-    ensures added { OnOk result (told.new.items ≡ told.old.items ++ record {
-      to = Registered registration.now.number;
-      standing = registered_standing installed.now (question_of question.now) registration.now;
-    } ∷ []) }
-    ensures tests { steps.new ≤ steps.old + 1 }
-    ensures explicit { IsSome question.now.intent.now.component → steps.new ≡ steps.old }
-{
-    let standing = registered_standing(alloc, installed, question, registration, steps)?;
-    let to = Aim::Registered(registration.number);
-    told.push(Account { to, standing })?;
     Ok(())
 }

@@ -1,5 +1,5 @@
 //! What one intent fills in of another.
-ghost use Rattle.std.specs.Prelude.{◌≡◌, ◌||◌, ◌↔◌, ◌+◌, ◌≤◌, IfOk, Ok, Err, None, [], length, nat_lt};
+ghost use Rattle.std.specs.Prelude.{◌≡◌, ◌||◌, ◌↔◌, ◌+◌, ◌≤◌, IfOk, Ok, Err, length, nat_lt};
 ghost use Rattle.std.specs.List.{insert};
 ghost use Rattle.am_model.specs.Intents.{fill_in, filled, filled_categories, filled_mime, filled_uri, has_key, or_other, place_extra, united_extras, united_flags};
 
@@ -31,7 +31,7 @@ pub fn fill_in(alloc: Global, kept: &Intent, other: &Intent) -> Result<Intent, F
 fn filled(alloc: Global, kept: &Intent, other: &Intent) -> Result<Intent, AllocError>
     ensures { IfOk result (λ intent. intent ≡ filled kept.now other.now) }
 {
-    let mut intent = bare(alloc, united_flags(kept.flags, other.flags));
+    let mut intent = Intent::empty(alloc);
     match fill(alloc, &mut intent, kept, other) {
         Ok(()) => Ok(intent),
         Err(fault) => {
@@ -41,26 +41,8 @@ fn filled(alloc: Global, kept: &Intent, other: &Intent) -> Result<Intent, AllocE
     }
 }
 
-/// The intent that has flags and nothing else.
-fn bare(alloc: Global, flags: Flags) -> Intent
-    ensures { result ≡ record { action = None; uri = None; mime = None; identifier = None; categories = []; «package» = None; component = None; flags = flags; extras = [] } }
-{
-    Intent {
-        action: None,
-        uri: None,
-        mime: None,
-        identifier: None,
-        categories: List::new(Vec::new(alloc)),
-        package: None,
-        component: None,
-        flags,
-        extras: List::new(Vec::new(alloc)),
-    }
-}
-
-/// Puts into the intent, whose flags are there, all else of the first with what it lacks.
+/// Puts into the intent all of the first with what it lacks.
 fn fill(alloc: Global, intent: &mut Intent, kept: &Intent, other: &Intent) -> Result<(), AllocError>
-    requires { intent.old.flags ≡ united_flags kept.now.flags other.now.flags }
     ensures { IfOk result (λ done. intent.new ≡ filled kept.now other.now) }
 {
     intent.action = text(&kept.action, &other.action)?;
@@ -70,6 +52,7 @@ fn fill(alloc: Global, intent: &mut Intent, kept: &Intent, other: &Intent) -> Re
     intent.categories = categories(&kept.categories, &other.categories)?;
     intent.package = text(&kept.package, &other.package)?;
     intent.component = kept.component.clone()?;
+    intent.flags = united_flags(kept.flags, other.flags);
     intent.extras = united_extras(alloc, &kept.extras, &other.extras)?;
     Ok(())
 }

@@ -15,6 +15,7 @@ use Rattle.am_types.specs.declared.request.Request.TheVariants as asks
 use Rattle.am_types.specs.declared.reply.Reply.TheVariants as replies
 use Rattle.am_types.specs.declared.rule.Rule.TheVariants as rules
 use Rattle.am_types.specs.declared.task.Placed.TheVariants.{Fresh}
+use Rattle.am_types.specs.Intents.{no_flags}
 use Rattle.am_model.specs.Placement.{place}
 use Rattle.am_model.specs.Sending as sending
 use Rattle.am_model.specs.Pendings as pendings
@@ -26,7 +27,6 @@ use Rattle.am_history.specs.PendingCalls.{pending_get, pending_send, pending_giv
 use Rattle.am_history.specs.Packages.{grant, force_stop}
 use Rattle.am_history.specs.Explaining.{explain}
 use Rattle.am_history.specs.Steps.{act}
-use Rattle.am_model.proofs.Samples.{no_flags}
 use Rattle.am_history.proofs.Samples.{listing, component, app, device, act_on, entry, replies_of, outcome, plainly}
 
 -- two apps with an activity each for the same action, of priorities 0 and -5

@@ -9,5 +9,5 @@ mod words;
 
 pub use clock::SystemClock;
 pub use files::SystemFiles;
-pub use streams::{ReaderSource, WriterSink};
+pub use streams::Counted;
 pub use words::read_words;

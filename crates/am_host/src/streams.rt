@@ -32,29 +32,30 @@ fn write_some<W: Write>(writer: &mut W, from: &[u8]) -> io::Result<usize>
     Err(io::Error::from(ErrorKind::Interrupted))
 }
 
-/// A reader, as standard input, as a source.
+/// A stream with its count of faults: a reader, as standard input, as a source, or a writer, as standard output, as a
+/// sink. A write that takes nothing is a fault.
 #[derive(Drop)]
-pub struct ReaderSource<R> {
-    reader: R,
-    /// How many reads failed. It stays at the greatest 64-bit number.
+pub struct Counted<S> {
+    stream: S,
+    /// How many reads and writes failed. It stays at the greatest 64-bit number.
     pub faults: u64,
 }
 
-impl<R> ReaderSource<R> {
-    /// A source of what the reader gives.
-    pub fn new(reader: R) -> ReaderSource<R>
+impl<S> Counted<S> {
+    /// A source of what the reader gives, or a sink whose bytes go to the writer.
+    pub fn new(stream: S) -> Counted<S>
         ensures { result.faults ≡ 0 }
     {
-        ReaderSource { reader, faults: 0 }
+        Counted { stream, faults: 0 }
     }
 
-    /// The reader.
-    pub fn get_ref(&self) -> &R {
-        &self.reader
+    /// The reader or the writer.
+    pub fn get_ref(&self) -> &S {
+        &self.stream
     }
 }
 
-impl<R: Read> Source for ReaderSource<R> {
+impl<R: Read> Source for Counted<R> {
     ghost given = { λ s. None };
 
     ghost left = { λ s. None };
@@ -64,7 +65,7 @@ impl<R: Read> Source for ReaderSource<R> {
     ghost mark = { λ s. 0 };
 
     fn read(&mut self, into: &mut [u8]) -> Result<usize, Failed> {
-        match read_some(&mut self.reader, into) {
+        match read_some(&mut self.stream, into) {
             Ok(count) => Ok(count),
             Err(_) => {
                 self.faults = self.faults.saturating_add(1);
@@ -74,29 +75,7 @@ impl<R: Read> Source for ReaderSource<R> {
     }
 }
 
-/// A writer, as standard output, as a sink. A write that takes nothing is a fault.
-#[derive(Drop)]
-pub struct WriterSink<W> {
-    writer: W,
-    /// How many writes failed. It stays at the greatest 64-bit number.
-    pub faults: u64,
-}
-
-impl<W> WriterSink<W> {
-    /// A sink whose bytes go to the writer.
-    pub fn new(writer: W) -> WriterSink<W>
-        ensures { result.faults ≡ 0 }
-    {
-        WriterSink { writer, faults: 0 }
-    }
-
-    /// The writer.
-    pub fn get_ref(&self) -> &W {
-        &self.writer
-    }
-}
-
-impl<W: Write> Sink for WriterSink<W> {
+impl<W: Write> Sink for Counted<W> {
     ghost taken = { λ s. None };
 
     ghost faults = { λ s. s.faults };
@@ -104,7 +83,7 @@ impl<W: Write> Sink for WriterSink<W> {
     ghost mark = { λ s. 0 };
 
     fn write(&mut self, from: &[u8]) -> Result<usize, Failed> {
-        match write_some(&mut self.writer, from) {
+        match write_some(&mut self.stream, from) {
             Ok(count) if count > 0 || from.is_empty() => Ok(count),
             _ => {
                 self.faults = self.faults.saturating_add(1);

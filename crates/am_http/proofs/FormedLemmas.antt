@@ -23,11 +23,11 @@ use Rattle.am_uri.specs.declared.text.Form.TheVariants.{Any}
 use Rattle.am_wire_intents.specs.Components.{required_component}
 use Rattle.am_wire_intents.specs.Filters.{required_filter}
 use Rattle.am_wire_intents.specs.Intents.{required_intent, optional_intent}
-use Rattle.am_wire.specs.Activities.{fields_of, query_fields, default_only_of, number_in, query_in, start_in, finish_activity_in, start_service_in, stop_service_in, history_in, plain_in}
-use Rattle.am_wire.specs.Accounts.{asks_receivers, explain_fields, permission_for, explain_about, explain_of, explain_in}
-use Rattle.am_wire.specs.Broadcasts.{is_ordered, send_fields, ordered_if, register_fields, sets_outcome, finish_fields, outcome_if, send_in, send_of, register_in, unregister_in, finish_in, finish_of}
-use Rattle.am_wire.specs.Pendings.{pending_get_in, get_of, pending_send_in, pending_cancel_in, pending_give_in}
-use Rattle.am_wire.specs.Packages.{package_in, grant_fields, link_fields, key_of, key_in, install_in, uninstall_in, grant_in, link_in, force_stop_in}
+use Rattle.am_wire.specs.Activities.{fields_of, number_in, query_in, start_in, start_service_in, stop_service_in, plain_in}
+use Rattle.am_wire.specs.Accounts.{asks_receivers, explain_fields, permission_for, asked_with, explain_in}
+use Rattle.am_wire.specs.Broadcasts.{is_ordered, send_fields, ordered_if, sets_outcome, finish_fields, outcome_if, send_in, sent_with, register_in, finish_in}
+use Rattle.am_wire.specs.Pendings.{pending_get_in, pending_send_in, pending_give_in}
+use Rattle.am_wire.specs.Packages.{package_in, key_of, key_in, install_in, grant_fields, grant_in, link_in}
 use Rattle.am_wire.specs.Words.{kind_of, pending_kind_of, pending_flags_of}
 use Rattle.am_wire.specs.Requests.{request_of as request_at, request_in, posted}
 use Rattle.am_wire_routes.specs.declared.routes.RouteFault.{RouteFault}
@@ -95,9 +95,9 @@ install_is_formed text (Ok found) = install_with_key text (key_of (as_str found)
 
 -- the request that a JSON value makes at an endpoint is formed
 value_is_formed : (endpoint : Endpoint) (value : Data) → IfOk (request_in endpoint value) IsFormed
-unfolding request_in query_in explain_in explain_of explain_about start_in finish_activity_in plain_in start_service_in stop_service_in send_in send_of register_in unregister_in finish_in finish_of pending_get_in get_of pending_send_in pending_cancel_in pending_give_in install_in key_in uninstall_in grant_in link_in force_stop_in history_in
+unfolding request_in query_in explain_in asked_with start_in plain_in start_service_in stop_service_in send_in sent_with register_in finish_in pending_get_in pending_send_in pending_give_in install_in key_in grant_in link_in
 value_is_formed at.Query value =
-    bound (fields_of query_fields value) _ (λ x0. bound (kind_of value) _ (λ x1. bound (required_intent (codes "intent") value) _ (λ x2. bound (default_only_of value) _ (λ x3. refl))))
+    bound (fields_of (codes "kind" ∷ codes "intent" ∷ codes "defaultOnly" ∷ []) value) _ (λ x0. bound (kind_of value) _ (λ x1. bound (required_intent (codes "intent") value) _ (λ x2. bound (optional_truth (codes "defaultOnly") value) _ (λ x3. refl))))
 value_is_formed at.Explain value =
     bound (fields_of (explain_fields (asks_receivers value)) value) _ (λ x0. bound (kind_of value) _ (λ x1. bound (required_intent (codes "intent") value) _ (λ x2.
     bound (optional_text Any 1024 (codes "as") value) _ (λ x3. bound (permission_for x1 value) _ (λ x4. bound (optional_text Any 1024 (codes "of") value) _ (λ x5. refl))))))
@@ -116,7 +116,7 @@ value_is_formed at.Services value = refl
 value_is_formed at.Send value =
     bound (fields_of (send_fields (is_ordered value)) value) _ (λ x0. bound (required_intent (codes "intent") value) _ (λ x1. bound (optional_text Any 1024 (codes "permission") value) _ (λ x2. bound (optional_truth (codes "ordered") value) _ (λ x3. bound (ordered_if x3 value) _ (λ x4. refl)))))
 value_is_formed at.Register value =
-    bound (fields_of register_fields value) _ (λ x0. bound (required_filter (codes "filter") value) _ (λ x1. bound (optional_text Any 1024 (codes "permission") value) _ (λ x2. refl)))
+    bound (fields_of (codes "filter" ∷ codes "permission" ∷ []) value) _ (λ x0. bound (required_filter (codes "filter") value) _ (λ x1. bound (optional_text Any 1024 (codes "permission") value) _ (λ x2. refl)))
 value_is_formed at.Unregister value =
     bound (number_in (codes "number") value) _ (λ x0. refl)
 value_is_formed at.Inbox value = refl
@@ -138,7 +138,7 @@ value_is_formed at.Uninstall value =
 value_is_formed at.Grant value =
     bound (fields_of grant_fields value) _ (λ x0. bound (required_text Any 1024 (codes "package") value) _ (λ x1. bound (required_text Any 1024 (codes "permission") value) _ (λ x2. bound (required_truth (codes "held") value) _ (λ x3. refl))))
 value_is_formed at.Link value =
-    bound (fields_of link_fields value) _ (λ x0. bound (required_text Any 1024 (codes "package") value) _ (λ x1. bound (required_text Any 1024 (codes "host") value) _ (λ x2. bound (required_truth (codes "approved") value) _ (λ x3. host_is_lowered x2))))
+    bound (fields_of (codes "package" ∷ codes "host" ∷ codes "approved" ∷ []) value) _ (λ x0. bound (required_text Any 1024 (codes "package") value) _ (λ x1. bound (required_text Any 1024 (codes "host") value) _ (λ x2. bound (required_truth (codes "approved") value) _ (λ x3. host_is_lowered x2))))
 value_is_formed at.ForceStop value =
     bound (package_in value) _ (λ x0. refl)
 value_is_formed at.Tick value =

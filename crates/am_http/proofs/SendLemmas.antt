@@ -31,6 +31,16 @@ sent_more old mid new text at next above so_far more =
     sym (take-add at (next - at) text) ∙ ap (λ n. take n text) behind in
     subst (λ bs. Appends old new bs) whole (appends_trans old mid new (take at text) (take (next - at) (drop at text)) so_far more)
 
+-- what came first whole, and a part of what is behind it
+pub part_more : (old half now : Option (List ℕ)) (bs text : List ℕ) → Appends old half bs → WritesPart half now text → WritesPart old now (bs ++ text)
+part_more old half now bs text so_far part = (
+  bs ++ part.0,
+  part.1,
+  ap (λ l. bs ++ l) part.2 ∙ sym (append_assoc bs part.0 part.1),
+  part.3,
+  appends_trans old half now bs part.0 so_far part.4,
+)
+
 -- the sink failed behind the front of a text
 pub sent_part : (old mid new : Option (List ℕ)) (text : List ℕ) (at : ℕ) → at < length text
     → Appends old mid (take at text) → Keeps mid new → WritesPart old new text

@@ -1,5 +1,5 @@
 -- How a connection starts, goes on and ends.
-use Rattle.std.proofs.Common.{◌≡◌, ℕ, suc, ◌+◌, ◌<◌, true, false, List, [], ◌∷◌, ◌++◌, length, drop, Option, Some, None, refl, sym, ap, ◌∙◌, subst, inl, inr, arith, append_assoc, length-append, append-nil}
+use Rattle.std.proofs.Common.{◌≡◌, ℕ, suc, ◌+◌, ◌<◌, true, false, List, [], ◌∷◌, ◌++◌, length, drop, Option, Some, None, refl, sym, ap, ◌∙◌, subst, inl, inr, arith, length-append, append-nil}
 use Rattle.std.specs.Prelude.{IfSome}
 use Rattle.std.specs.Option.{option_map, option_to_list}
 use Rattle.std.specs.Io.KnownBytes.{Appends, Keeps}
@@ -17,7 +17,7 @@ use Rattle.am_http.specs.Exchanges.{Exchange, AreAnswered, frames_of, bytes_of, 
 use Rattle.am_http.specs.Links.{Link, Midway, Server, Moments, Gives, rest_of, GoesOn, IsSameLink}
 use Rattle.am_http.specs.Sessions.{most_frames, most_bytes, GivesAtMost, MayGoOn, defect_text, EndsBy, Writes, Session, Going, Serves, IsUnasked, Replies, Stops}
 use Rattle.am_http.specs.Sending.{WritesPart}
-use Rattle.am_http.proofs.SendLemmas.{appends_trans, appends_none, appends_self}
+use Rattle.am_http.proofs.SendLemmas.{appends_trans, appends_none, appends_self, part_more}
 use Rattle.am_http.proofs.ExchangeLemmas.{stands, one_more, none_yet, all_more}
 
 -- one more frame of an input
@@ -171,16 +171,6 @@ session_limit first link window gives so_far =
       output = subst (λ bs. Appends first.sink.taken mid.link.sink.taken bs) (sym (append-nil (bytes_of so_far.exchanges)))
           so_far.output;
     }
-
--- a part of what was written last, behind the exchanges so far
-part_more : (old half now : Option (List ℕ)) (bs text : List ℕ) → Appends old half bs → WritesPart half now text → WritesPart old now (bs ++ text)
-part_more old half now bs text so_far part = (
-  bs ++ part.0,
-  part.1,
-  ap (λ l. bs ++ l) part.2 ∙ sym (append_assoc bs part.0 part.1),
-  part.3,
-  appends_trans old half now bs part.0 so_far part.4,
-)
 
 -- the told rest behind a frame
 rest_after : Option (List ℕ) → Frame → Option (List ℕ)

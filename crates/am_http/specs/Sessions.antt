@@ -96,23 +96,14 @@ EndsBy WriteFault answered es tail =
 
 -- the text was written whole, unless the sink failed
 abbrev pub Writes : End → Option (List ℕ) → Option (List ℕ) → List ℕ → Type 0
-Writes Input old new text = Appends old new text
-Writes Close old new text = Appends old new text
-Writes Refused old new text = Appends old new text
-Writes Cut old new text = Appends old new text
-Writes Limit old new text = Appends old new text
-Writes ReadFault old new text = Appends old new text
 Writes WriteFault old new text = WritesPart old new text
+Writes _ old new text = Appends old new text
 
 -- the cause of an end by a fault: the count of the source, or of the sink, rose
 abbrev pub HasFault : End → Link → Link → Type 0
-HasFault Input old new = ⊤
-HasFault Close old new = ⊤
-HasFault Refused old new = ⊤
-HasFault Cut old new = ⊤
-HasFault Limit old new = ⊤
 HasFault ReadFault old new = HasRisen old.source.faults new.source.faults
 HasFault WriteFault old new = HasRisen old.sink.faults new.sink.faults
+HasFault _ old new = ⊤
 
 -- a whole connection, and how it went
 pub record Session (old new : Link) (served : Served) : Type 0 where

@@ -88,49 +88,6 @@ fn serve_frame<D: Desk, S: Source, W: Sink, C: Clock>(
     }
 }
 
-// Serves a connection with this window and this room.
-fn serve<D: Desk, S: Source, W: Sink, C: Clock>(
-    alloc: Global,
-    desk: &mut D,
-    source: &mut S,
-    sink: &mut W,
-    clock: &mut C,
-    routes: &Routes,
-    window: &mut Window,
-    room: &mut Vec<u8>,
-) -> Served
-    requires { 192 ≤ vec_capacity room.old }
-    ensures session { Session
-        (link_of (D.view desk.old) (streams_of S.Source W.Sink C.Clock source.old sink.old clock.old))
-        (link_of (D.view desk.new) (streams_of S.Source W.Sink C.Clock source.new sink.new clock.new))
-        result }
-    ensures fault { HasFault result.end
-        (link_of (D.view desk.old) (streams_of S.Source W.Sink C.Clock source.old sink.old clock.old))
-        (link_of (D.view desk.new) (streams_of S.Source W.Sink C.Clock source.new sink.new clock.new)) }
-    ensures same { IsSameLink
-        (link_of (D.view desk.old) (streams_of S.Source W.Sink C.Clock source.old sink.old clock.old))
-        (link_of (D.view desk.new) (streams_of S.Source W.Sink C.Clock source.new sink.new clock.new)) }
-    ensures capacity { vec_capacity room.new ≡ vec_capacity room.old }
-{
-    window.clear();
-    for answered in 0..MAX_FRAMES {
-        match serve_frame(alloc, desk, source, sink, clock, routes, window, room) {
-            Turn::Went => {}
-            Turn::Closed => {
-                return Served {
-                    end: End::Close,
-                    answered: answered + 1,
-                };
-            }
-            Turn::Stopped(end) => return Served { end, answered },
-        }
-    }
-    Served {
-        end: End::Limit,
-        answered: MAX_FRAMES,
-    }
-}
-
 /// Serves a connection: it reads frames from the source, makes their calls on the desk, and
 /// writes the responses to the sink, one frame after the other, until the input ends, a frame
 /// asks to close, a frame has a defect, as many frames as a connection may have were answered, or
@@ -157,14 +114,30 @@ pub fn serve_connection<D: Desk, S: Source, W: Sink, C: Clock>(
         (link_of (D.view desk.old) (streams_of S.Source W.Sink C.Clock source.old sink.old clock.old))
         (link_of (D.view desk.new) (streams_of S.Source W.Sink C.Clock source.new sink.new clock.new)) }
 {
-    serve(
-        alloc,
-        desk,
-        source,
-        sink,
-        clock,
-        &buffers.routes,
-        &mut buffers.window,
-        &mut buffers.room,
-    )
+    buffers.window.clear();
+    for answered in 0..MAX_FRAMES {
+        match serve_frame(
+            alloc,
+            desk,
+            source,
+            sink,
+            clock,
+            &buffers.routes,
+            &mut buffers.window,
+            &mut buffers.room,
+        ) {
+            Turn::Went => {}
+            Turn::Closed => {
+                return Served {
+                    end: End::Close,
+                    answered: answered + 1,
+                };
+            }
+            Turn::Stopped(end) => return Served { end, answered },
+        }
+    }
+    Served {
+        end: End::Limit,
+        answered: MAX_FRAMES,
+    }
 }

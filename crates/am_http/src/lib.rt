@@ -17,5 +17,5 @@ mod window;
 pub use buffers::Buffers;
 pub use connection::{MAX_FRAMES, serve_connection};
 pub use end::{End, Served};
-pub use response::{refusal_bytes, response_bytes};
+pub use response::{defect_bytes, refusal_bytes, response_bytes};
 pub use send::write_all;

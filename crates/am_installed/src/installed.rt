@@ -11,12 +11,12 @@ use crate::lists::take;
 use crate::{find, lists, rights};
 use am_types::{
     Component, Decl, Device, Grant, Kind, Link, List, NoMemory, Package, Registration, Text,
+    drop_parts,
 };
 use std::alloc::Global;
 use std::marker::Model;
 
 /// What is installed on a device and what was given to it.
-#[derive(Drop)]
 pub struct Installed {
     alloc: Global,
     packages: List<Package>,
@@ -26,6 +26,12 @@ pub struct Installed {
     browser: Option<Text>,
     protected: List<Text>,
     exempt: List<Text>,
+}
+
+impl Drop for Installed {
+    fn drop(self) {
+        drop_parts!(self, Installed: alloc packages grants links registered browser protected exempt);
+    }
 }
 
 impl Model for Installed {

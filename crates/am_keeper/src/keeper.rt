@@ -3,10 +3,10 @@ ghost use Rattle.std.specs.Prelude.{◌≡◌, ◌↔◌, ◌⊎◌, ℕ, ◌≤
 ghost use Rattle.std.specs.Option.{option_copied};
 ghost use Rattle.am_outside.specs.Counts.{HasRisen};
 ghost use Rattle.am_keeper.specs.declared.rows.Rows.{Rows as Told};
-ghost use Rattle.am_keeper.specs.Rows.{IsInOrder, no_rows, with_package, with_grant, with_link, with_row};
+ghost use Rattle.am_keeper.specs.Rows.{IsInOrder, no_rows, with_row};
 ghost use Rattle.am_keeper.specs.Keeping.{Puts, TellsAsBefore, raised_by, rows_after};
 
-use crate::{GrantRow, KeepFail, LinkRow, PackageRow, Row, Rows};
+use crate::{KeepFail, Row, Rows};
 use am_types::Text;
 
 /// What puts rows into a store. A clause on rows says something where the store is honest: it has
@@ -27,29 +27,10 @@ pub trait Keeper: Drop {
     /// How many faults there were. It stays at the greatest 64-bit number.
     ghost faults: { Self → ℕ };
 
-    /// Puts the row in the place of the one with its uid, or adds it.
-    fn put_package(&mut self, row: &PackageRow) -> Result<(), KeepFail>
-        ensures rows { is_honest self.new → Puts (λ told. with_package told row.now) (rows self.old) (rows self.new) result }
-        ensures tells { TellsAsBefore (rows self.old) (rows self.new) }
-        ensures place { place self.new ≡ place self.old }
-        ensures was_honest { is_honest self.new → is_honest self.old }
-        ensures for_good { stays_honest self.new ↔ stays_honest self.old }
-        ensures never_falls { faults self.old ≤ faults self.new }
-        ensures failed { result ≡ Err KeepFail.Failed → HasRisen (faults self.old) (faults self.new) };
-
-    /// Puts the row in the place of the one with its uid and permission, or adds it.
-    fn put_grant(&mut self, row: &GrantRow) -> Result<(), KeepFail>
-        ensures rows { is_honest self.new → Puts (λ told. with_grant told row.now) (rows self.old) (rows self.new) result }
-        ensures tells { TellsAsBefore (rows self.old) (rows self.new) }
-        ensures place { place self.new ≡ place self.old }
-        ensures was_honest { is_honest self.new → is_honest self.old }
-        ensures for_good { stays_honest self.new ↔ stays_honest self.old }
-        ensures never_falls { faults self.old ≤ faults self.new }
-        ensures failed { result ≡ Err KeepFail.Failed → HasRisen (faults self.old) (faults self.new) };
-
-    /// Puts the row in the place of the one with its uid and host, or adds it.
-    fn put_link(&mut self, row: &LinkRow) -> Result<(), KeepFail>
-        ensures rows { is_honest self.new → Puts (λ told. with_link told row.now) (rows self.old) (rows self.new) result }
+    /// Puts the row in the place of the one with its key, or adds it. The key of a package's row is its uid, that of a
+    /// grant's the uid and the permission, that of a link's the uid and the host.
+    fn put(&mut self, row: &Row) -> Result<(), KeepFail>
+        ensures rows { is_honest self.new → Puts (λ told. with_row told row.now) (rows self.old) (rows self.new) result }
         ensures tells { TellsAsBefore (rows self.old) (rows self.new) }
         ensures place { place self.new ≡ place self.old }
         ensures was_honest { is_honest self.new → is_honest self.old }
@@ -58,23 +39,6 @@ pub trait Keeper: Drop {
         ensures failed { result ≡ Err KeepFail.Failed → HasRisen (faults self.old) (faults self.new) };
 
     ghost honest_by_nature: { (keeper : Self) → stays_honest keeper → is_honest keeper };
-}
-
-/// Puts a row of any kind, by the keeper's call for its kind.
-pub fn put_row<K: Keeper>(keeper: &mut K, row: &Row) -> Result<(), KeepFail>
-    ensures rows { K.is_honest keeper.new → Puts (λ told. with_row told row.now) (K.rows keeper.old) (K.rows keeper.new) result }
-    ensures tells { TellsAsBefore (K.rows keeper.old) (K.rows keeper.new) }
-    ensures place { K.place keeper.new ≡ K.place keeper.old }
-    ensures was_honest { K.is_honest keeper.new → K.is_honest keeper.old }
-    ensures for_good { K.stays_honest keeper.new ↔ K.stays_honest keeper.old }
-    ensures never_falls { K.faults keeper.old ≤ K.faults keeper.new }
-    ensures failed { result ≡ Err KeepFail.Failed → HasRisen (K.faults keeper.old) (K.faults keeper.new) }
-{
-    match row {
-        Row::Package(row) => keeper.put_package(row),
-        Row::Grant(row) => keeper.put_grant(row),
-        Row::Link(row) => keeper.put_link(row),
-    }
 }
 
 /// A keeper at work, and the rows that were there when it came.

@@ -13,7 +13,7 @@ mod store;
 
 pub use builder::RowsBuilder;
 pub use failure::KeepFail;
-pub use keeper::{Attached, Keeper, Store, put_row};
+pub use keeper::{Attached, Keeper, Store};
 pub use memory::MemoryKeeper;
 pub use rows::{GrantRow, LinkRow, PackageRow, Row, Rows};
 pub use store::{MemoryStore, StoredRows};

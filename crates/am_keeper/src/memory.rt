@@ -1,10 +1,10 @@
 //! A keeper in memory, whose calls fail where it is told to.
 ghost use Rattle.std.specs.Prelude.{◌≡◌, ◌↔◌, ◌≤◌, [], None, Err, IsTrue, IfOk};
-ghost use Rattle.am_keeper.specs.Rows.{IsInOrder, with_package, with_grant, with_link};
+ghost use Rattle.am_keeper.specs.Rows.{IsInOrder, with_row};
 ghost use Rattle.am_keeper.specs.Memory.{fails_at, one_more, fresh_keeper, after_put};
 
 use crate::logged::Logged;
-use crate::{GrantRow, KeepFail, Keeper, LinkRow, PackageRow, Row, Rows};
+use crate::{KeepFail, Keeper, Row, Rows};
 use am_outside::is_failing;
 use am_types::{List, NoMemory, Text};
 use std::alloc::Global;
@@ -110,33 +110,13 @@ impl Keeper for MemoryKeeper {
 
     ghost honest_by_nature = { λ k h. h };
 
-    fn put_package(&mut self, row: &PackageRow) -> Result<(), KeepFail>
-        ensures exact { self.new ≡ after_put self.old (with_package self.old.told row.now) result }
+    fn put(&mut self, row: &Row) -> Result<(), KeepFail>
+        ensures exact { self.new ≡ after_put self.old (with_row self.old.told row.now) result }
         ensures fails { (result ≡ Err KeepFail.Failed) ↔ IsTrue (fails_at self.old.failing (one_more self.old.calls)) }
         ensures never_falls { self.old.faults ≤ self.new.faults }
     {
         self.count_call()?;
-        self.rows.put(Row::Package(row.clone()?))?;
-        Ok(())
-    }
-
-    fn put_grant(&mut self, row: &GrantRow) -> Result<(), KeepFail>
-        ensures exact { self.new ≡ after_put self.old (with_grant self.old.told row.now) result }
-        ensures fails { (result ≡ Err KeepFail.Failed) ↔ IsTrue (fails_at self.old.failing (one_more self.old.calls)) }
-        ensures never_falls { self.old.faults ≤ self.new.faults }
-    {
-        self.count_call()?;
-        self.rows.put(Row::Grant(row.clone()?))?;
-        Ok(())
-    }
-
-    fn put_link(&mut self, row: &LinkRow) -> Result<(), KeepFail>
-        ensures exact { self.new ≡ after_put self.old (with_link self.old.told row.now) result }
-        ensures fails { (result ≡ Err KeepFail.Failed) ↔ IsTrue (fails_at self.old.failing (one_more self.old.calls)) }
-        ensures never_falls { self.old.faults ≤ self.new.faults }
-    {
-        self.count_call()?;
-        self.rows.put(Row::Link(row.clone()?))?;
+        self.rows.put(row.clone()?)?;
         Ok(())
     }
 }

@@ -8,8 +8,8 @@ ghost use Rattle.am_keeper_sql.specs.Honest.{IsHonest, Keeps, IsInMemory, IsHone
 
 use crate::connection;
 use crate::database::Database;
-use am_keeper::{GrantRow, KeepFail, Keeper, LinkRow, PackageRow, Row, Rows};
-use am_types::Text;
+use am_keeper::{KeepFail, Keeper, Row, Rows};
+use am_types::{Text, drop_parts};
 use sqlite::{Alter, File, FileStore};
 use sqlite_disk::Disk;
 use std::alloc::Global;
@@ -27,13 +27,18 @@ fn count_fault<T>(faults: &mut u64, done: &Result<T, KeepFail>)
 /// A keeper over a SQL database, in memory or in a file over a store `F`. Its store is honest as
 /// long as the disk returns what was written and no fault has shut the connection; memory is
 /// honest for good. After a fault that shut it every further call is a fault.
-#[derive(Drop)]
 pub struct SqlKeeper<F: Alter = FileStore<File>> {
     pub(crate) database: Database<F>,
     pub(crate) place: Option<Text>,
     pub(crate) faults: u64,
     pub(crate) alloc: Global,
     ghost keeps: { ∥ (IsHonest (state_of F.Store database) → Keeps (state_of F.Store database)) ∥₁ },
+}
+
+impl<F: Alter + Drop> Drop for SqlKeeper<F> {
+    fn drop(self) {
+        drop_parts!(self, SqlKeeper: database place faults alloc);
+    }
 }
 
 impl<F: Alter> SqlKeeper<F> {
@@ -63,9 +68,9 @@ impl<F: Alter> SqlKeeper<F> {
     }
 
     /// Puts a row.
-    fn put(&mut self, row: Row) -> Result<(), KeepFail>
+    fn put_row(&mut self, row: &Row) -> Result<(), KeepFail>
         ensures rows { IsHonest (state_of F.Store self.new.database)
-            → Puts (λ told. with_row told row) (Some (told_by (state_of F.Store self.old.database)))
+            → Puts (λ told. with_row told row.now) (Some (told_by (state_of F.Store self.old.database)))
             (Some (told_by (state_of F.Store self.new.database))) result }
         ensures honest { IsHonest (state_of F.Store self.new.database) → IsHonest (state_of F.Store self.old.database) }
         ensures for_good { IsHonestForGood F.Store self.new.database ↔ IsHonestForGood F.Store self.old.database }
@@ -73,7 +78,7 @@ impl<F: Alter> SqlKeeper<F> {
         ensures counts { self.new.faults ≡ faults_after self.old.faults result }
         ensures never_falls { self.old.faults ≤ self.new.faults }
     {
-        let done = self.database.put(self.alloc, &row);
+        let done = self.database.put(self.alloc, row);
         count_fault(&mut self.faults, &done);
         done
     }
@@ -92,16 +97,8 @@ impl<F: Alter + Drop> Keeper for SqlKeeper<F> {
 
     ghost honest_by_nature = { λ k h. h.honest };
 
-    fn put_package(&mut self, row: &PackageRow) -> Result<(), KeepFail> {
-        self.put(Row::Package(row.clone()?))
-    }
-
-    fn put_grant(&mut self, row: &GrantRow) -> Result<(), KeepFail> {
-        self.put(Row::Grant(row.clone()?))
-    }
-
-    fn put_link(&mut self, row: &LinkRow) -> Result<(), KeepFail> {
-        self.put(Row::Link(row.clone()?))
+    fn put(&mut self, row: &Row) -> Result<(), KeepFail> {
+        self.put_row(row)
     }
 }
 

@@ -13,7 +13,7 @@ use Rattle.am_history.specs.History.{replay, replay_from}
 use Rattle.am_history.specs.Desks.{Origin, opening_of}
 use Rattle.am_history.specs.Numbers.{HasNumbersTo, HasNumbers}
 use Rattle.am_laws.proofs.NextBroadcasts.{expired_keeps}
-use Rattle.am_laws.proofs.NumberParts.{raised, next_bound}
+use Rattle.am_laws.proofs.NumberParts.{bounded, raised, next_bound}
 use Rattle.am_laws.proofs.NumberSteps.{numbers_after}
 use Rattle.am_laws.proofs.Openings.{opening_leaves}
 use Rattle.am_laws.proofs.Requests.{act_leaves, step_leaves}
@@ -36,15 +36,10 @@ opening_has_numbers origin = opening_leaves (HasNumbersTo 1) stays origin (openi
   where
     stays : (state : State) (board : Board) (uid : ℕ) → board.registered ≡ state.board.registered → HasNumbersTo 1 state
         → HasNumbersTo 1 (record state { board = board; next_uid = uid })
-    stays state board uid same has = record {
-      tasks = has.tasks;
-      instances = has.instances;
-      broadcasts = has.broadcasts;
-      tokens = has.tokens;
-      registrations = has.registrations;
-      starts = has.starts;
-      registered = subst (λ (l : List Registration). All (λ (r : Registration). r.number < state.next_registration) l) (sym same) has.registered;
-    }
+    stays state board uid same has =
+        bounded 1 (record state { board = board; next_uid = uid })
+        has.tasks has.instances has.broadcasts has.tokens has.registrations has.starts
+        (subst (λ (l : List Registration). All (λ (r : Registration). r.number < state.next_registration) l) (sym same) has.registered)
 
 -- a request raises each number by one at most
 pub act_keeps_numbers : (n : ℕ) (state : State) (before : List Entry) (caller : ℕ) (request : Request) → HasNumbersTo n state
@@ -53,15 +48,10 @@ act_keeps_numbers n state before caller request has = act_leaves (HasNumbersTo (
 
 -- the passing of time raises none
 pub moment_keeps_numbers : (n : ℕ) (state : State) (moment : ℕ) → HasNumbersTo n state → HasNumbersTo n (at_moment state moment)
-moment_keeps_numbers n state moment has = record {
-  tasks = has.tasks;
-  instances = has.instances;
-  broadcasts = subst (λ m. m ≤ n) (sym (expired_keeps state.broadcasts moment)) has.broadcasts;
-  tokens = has.tokens;
-  registrations = has.registrations;
-  starts = has.starts;
-  registered = has.registered;
-}
+moment_keeps_numbers n state moment has =
+    bounded n (at_moment state moment)
+    has.tasks has.instances (subst (λ m. m ≤ n) (sym (expired_keeps state.broadcasts moment)) has.broadcasts)
+    has.tokens has.registrations has.starts has.registered
 
 -- one step raises each by one at most
 pub step_keeps_numbers : (n : ℕ) (state : State) (before : List Entry) (entry : Entry) → HasNumbersTo n state → HasNumbersTo (n + 1) (step state before entry).1

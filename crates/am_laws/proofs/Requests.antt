@@ -27,6 +27,7 @@ use Rattle.am_types.specs.declared.request.Request.TheVariants as asks
 use Rattle.am_types.specs.declared.reply.Reply.{Reply}
 use Rattle.am_types.specs.declared.reply.Reply.TheVariants as replies
 use Rattle.am_types.specs.declared.rule.Rule.TheVariants as rules
+use Rattle.am_types.specs.declared.rule.Limit.{Limit}
 use Rattle.am_types.specs.declared.rule.Limit.TheVariants as limits
 use Rattle.am_model.specs.Boards.{is_package_uid, with_stopped, with_grant, with_link}
 use Rattle.am_model.specs.Gates.{verdict, Admit, is_privileged}
@@ -178,25 +179,11 @@ module _ (P : State → Type 0) (state : State) (caller : ℕ) where
           let parts = neither (is_name_used state.board.packages manifest.«package») (is_key_used state key) unused in
           steps.installed text key manifest is parts.0 parts.1 room
 
-  -- a permission that is given or taken
-  grant_leaves : (request : Request) (uid : ℕ) (permission : List ℕ) (held : Bool) → is_package_uid state.board.packages uid ≡ true → Steps P state caller request
-      → P (grant_to state uid permission held).1
-  grant_leaves request uid permission held live steps = by (too_many_grants state.board.grants uid permission held) refl
-    where
-      by : (many : Bool) → too_many_grants state.board.grants uid permission held ≡ many
-          → P (cond many (refused state (rules.OverLimit limits.Grants)) (done (record state { board = record (state.board) { grants = with_grant state.board.grants uid permission held } }))).1
-      by true is = steps.here
-      by false is = steps.granted uid permission held live is
-
-  -- a host that is approved or not
-  link_leaves : (request : Request) (uid : ℕ) (host : List ℕ) (approved : Bool) → is_package_uid state.board.packages uid ≡ true → Steps P state caller request
-      → P (link_to state uid host approved).1
-  link_leaves request uid host approved live steps = by (too_many_links state.board.links uid host approved) refl
-    where
-      by : (many : Bool) → too_many_links state.board.links uid host approved ≡ many
-          → P (cond many (refused state (rules.OverLimit limits.Links)) (done (record state { board = record (state.board) { links = with_link state.board.links uid host approved } }))).1
-      by true is = steps.here
-      by false is = steps.linked uid host approved live is
+  -- a right that is given or taken, unless there are too many
+  right_leaves : (limit : Limit) (after : State) (many : Bool) → P state → (many ≡ false → P after)
+      → P (cond many (refused state (rules.OverLimit limit)) (done after)).1
+  right_leaves limit after true here more = here
+  right_leaves limit after false here more = more refl
 
   -- each request
   pub act_leaves : (before : List Entry) (request : Request) → Steps P state caller request → P (act state before caller request).1
@@ -244,11 +231,13 @@ module _ (P : State → Type 0) (state : State) (caller : ℕ) where
       admin_leaves P state caller (install_read state key (manifest_of text)) steps.here (read_leaves _ text key (manifest_of text) refl steps)
   act_leaves before (asks.Uninstall name) steps = admin_leaves P state caller _ steps.here (package_leaves P state name _ steps.here (λ owner is. steps.gone owner.uid))
   act_leaves before (asks.Grant name permission held) steps =
-      admin_leaves P state caller _ steps.here (package_leaves P state name (λ (owner : Package). grant_to state owner.uid permission held) steps.here
-      (λ owner is. grant_leaves _ owner.uid permission held (named_is_live state.board.packages name owner is) steps))
+      admin_leaves P state caller _ steps.here (package_leaves P state name (λ (owner : Package). grant_to state owner.uid permission held) steps.here (λ owner is.
+      right_leaves limits.Grants (record state { board = record (state.board) { grants = with_grant state.board.grants owner.uid permission held } })
+      (too_many_grants state.board.grants owner.uid permission held) steps.here (steps.granted owner.uid permission held (named_is_live state.board.packages name owner is))))
   act_leaves before (asks.Link name host approved) steps =
-      admin_leaves P state caller _ steps.here (package_leaves P state name (λ (owner : Package). link_to state owner.uid host approved) steps.here
-      (λ owner is. link_leaves _ owner.uid host approved (named_is_live state.board.packages name owner is) steps))
+      admin_leaves P state caller _ steps.here (package_leaves P state name (λ (owner : Package). link_to state owner.uid host approved) steps.here (λ owner is.
+      right_leaves limits.Links (record state { board = record (state.board) { links = with_link state.board.links owner.uid host approved } })
+      (too_many_links state.board.links owner.uid host approved) steps.here (steps.linked owner.uid host approved (named_is_live state.board.packages name owner is))))
   act_leaves before (asks.ForceStop name) steps = admin_leaves P state caller _ steps.here (package_leaves P state name _ steps.here (λ owner is. steps.stopped owner.uid))
   act_leaves before asks.Tick steps = admin_leaves P state caller (done state) steps.here steps.here
   act_leaves before (asks.History from) steps = admin_leaves P state caller _ steps.here steps.here

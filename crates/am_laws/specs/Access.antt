@@ -68,21 +68,21 @@ pub record IsSentTo (sender : ℕ) (intent : Intent) (spot : Spot) (state : Stat
   pub unprotected : is_protected state.board.protected intent.action && not (is_privileged sender) ≡ false
   pub admitted : Contains (admitted (receivers state.board intent sender permission)) spot
 
--- a uid starts the activity of a package by that intent, and the gate admits it
-pub record IsStarted (component : Component) (owner : ℕ) (intent : Intent) (state : State) (deed : Deed) : Type 0 where
+-- a uid asks by that intent for the component of a package, which is the deed, and the gate admits it
+pub record IsLetIn (kind : Kind) (deed_by : ℕ → Intent → Deed) (component : Component) (owner : ℕ) (intent : Intent) (state : State) (deed : Deed) : Type 0 where
   pub caller : ℕ
-  pub is : deed ≡ Starts caller intent
+  pub is : deed ≡ deed_by caller intent
   pub decl : Decl
-  pub declared : declared state.board.packages kinds.Activity component ≡ Some (owner, decl)
+  pub declared : declared state.board.packages kind component ≡ Some (owner, decl)
   pub admitted : verdict state.board.grants caller owner decl.exported decl.permission ≡ Admit
 
+-- a uid starts the activity of a package by that intent, and the gate admits it
+abbrev pub IsStarted : Component → ℕ → Intent → State → Deed → Type 0
+IsStarted component owner intent state deed = IsLetIn kinds.Activity Starts component owner intent state deed
+
 -- a uid starts the service of a package by that intent, and the gate admits it
-pub record IsServed (component : Component) (owner : ℕ) (intent : Intent) (state : State) (deed : Deed) : Type 0 where
-  pub caller : ℕ
-  pub is : deed ≡ Serves caller intent
-  pub decl : Decl
-  pub declared : declared state.board.packages kinds.Service component ≡ Some (owner, decl)
-  pub admitted : verdict state.board.grants caller owner decl.exported decl.permission ≡ Admit
+abbrev pub IsServed : Component → ℕ → Intent → State → Deed → Type 0
+IsServed component owner intent state deed = IsLetIn kinds.Service Serves component owner intent state deed
 
 -- this holds of each receiver of an ordered broadcast, those that are past and those that are left
 pub record OfTurn (B : ℕ → Intent → Spot → Type 0) (b : InTurn) : Type 0 where

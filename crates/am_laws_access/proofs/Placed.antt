@@ -10,9 +10,9 @@ use Rattle.am_types.specs.declared.intent.Component.{Component}
 use Rattle.am_types.specs.declared.task.StartCall.{StartCall}
 use Rattle.am_model.specs.Texts.{is_same}
 use Rattle.am_model.specs.Filters.{is_empty}
-use Rattle.am_model.specs.Intents.{is_same_component}
+use Rattle.am_model.specs.Intents.{is_same_component, or_other}
 use Rattle.am_model.specs.Tasks.{Instance, Task, Tasks, is_number, keeping, tasks_keeping, top_of}
-use Rattle.am_model.specs.Placement.{Plan, NewTask, FreshOn, NewIntentTo, FrontOf, or_plan, plan_where, is_of, topmost, root_of, is_maybe_of, below, besides, in_front, new_task, fresh, with_intent, carried_out, or_fresh, cleared_to, clearing_task, clearing_top, fronting, reordering, on_top, placed_in_maybe, placed_single, placed_per_task, placed_ordinary, or_new_task, renewed, renewed_in, to_root, rooted, task_with, task_rooted, task_of_affinity, source_task, wants_new_task, is_multiple, is_single_instance, is_single_per_task, is_standard, is_single_task, is_single_top}
+use Rattle.am_model.specs.Placement.{Plan, NewTask, FreshOn, NewIntentTo, FrontOf, plan_where, is_of, topmost, root_of, is_maybe_of, below, besides, in_front, new_task, fresh, with_intent, carried_out, or_fresh, cleared_to, clearing_task, clearing_top, fronting, reordering, on_top, placed_in_maybe, placed_single, placed_per_task, placed_ordinary, or_new_task, renewed, renewed_in, to_root, rooted, task_with, task_rooted, task_of_affinity, source_task, wants_new_task, is_multiple, is_single_instance, is_single_per_task, is_standard, is_single_task, is_single_top}
 use Rattle.am_model.proofs.Parts.{found_passes}
 use Rattle.am_model.proofs.PlacementLaws.{plan_for}
 use Rattle.am_laws.specs.Access.{OfInstances}
@@ -97,7 +97,7 @@ module _ (Q : Instance → Type 0) (of : ℕ → Component) (named : (i : Instan
   is_target i one is = sym (named i one) ∙ sym (same_component start.target i.component is)
 
   -- the first of two plans, a plan where a condition holds, and a plan or a fresh instance
-  or_planned : (plan other : Option Plan) → IfPlan plan → IfPlan other → IfPlan (or_plan plan other)
+  or_planned : (plan other : Option Plan) → IfPlan plan → IfPlan other → IfPlan (or_other plan other)
   or_planned None other first second = second
   or_planned (Some plan) other first second = first
 

@@ -9,9 +9,10 @@ use Rattle.am_types.specs.declared.broadcast.Ordered.{Ordered}
 use Rattle.am_types.specs.declared.broadcast.Sending.{Sending}
 use Rattle.am_model.specs.Filters.{is_empty}
 use Rattle.am_model.specs.Broadcasts as broadcasts
-use Rattle.am_model.specs.Broadcasts.{Broadcasts, InTurn, Normal, Delivery, Current, Past, Doing, Late, Gone, Answered, no_broadcasts, span, result_of, dispatched, with_results, settled, queue_of, with_queue, settle, settle_both, is_over, turned, turn, is_late, late_head, is_head_due, expired_queue, is_delivery_due, keeping, normals_keeping, expired}
+use Rattle.am_model.specs.Broadcasts.{Broadcasts, InTurn, Normal, Delivery, Current, Past, Doing, Late, Gone, Answered, no_broadcasts, span, result_of, dispatched, with_results, settled, queue_of, with_queue, settle, settle_both, is_over, turned, turn, is_late, late_head, expired_queue, is_delivery_due, keeping, normals_keeping, expired}
 use Rattle.am_model.specs.Sending as sending
 use Rattle.am_model.specs.Sending.{deliveries_from, at_once, in_turn, with_sent, answered_head, is_current, finished, strike_rest, strike_from, strike, unwanted, with_answered, with_unwanted, without_struck}
+use Rattle.am_model.proofs.QueueLaws.{after_deadline}
 use Rattle.am_laws.specs.Access.{OfTurn, OfNormal, OfEach}
 
 module _ (B : ℕ → Intent → Spot → Type 0) where
@@ -82,16 +83,11 @@ module _ (B : ℕ → Intent → Spot → Type 0) where
 
   -- the passing of time
   expired_queue_of : (foreground : Bool) (now : ℕ) (all : Broadcasts) → OfEach B all → OfEach B (expired_queue foreground now all)
-  expired_queue_of foreground now all of = by (is_head_due now (queue_of foreground all)) (late foreground)
+  expired_queue_of foreground now all of = after_deadline (OfEach B) foreground now all (settle_of foreground now (with_queue foreground (late_head now (queue_of foreground all)) all) (late foreground)) of
     where
       late : (b : Bool) → OfEach B (with_queue b (late_head now (queue_of b all)) all)
       late true = record { normal = of.normal; foreground = late_of now all.foreground of.foreground; background = of.background }
       late false = record { normal = of.normal; foreground = of.foreground; background = late_of now all.background of.background }
-
-      by : (due : Bool) → OfEach B (with_queue foreground (late_head now (queue_of foreground all)) all)
-          → OfEach B (cond due (settle foreground now (with_queue foreground (late_head now (queue_of foreground all)) all)) all)
-      by true passed = settle_of foreground now (with_queue foreground (late_head now (queue_of foreground all)) all) passed
-      by false passed = of
 
   pub expired_of : (all : Broadcasts) (now : ℕ) → OfEach B all → OfEach B (expired all now)
   expired_of all now of =

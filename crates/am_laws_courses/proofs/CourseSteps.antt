@@ -128,21 +128,24 @@ turning_stays test doing b = by (test b.current)
     by true = turned_stays doing b b.rest
     by false = (refl, refl)
 
+-- without a receiver that is left a turn leaves the course
+none_turned : (b : InTurn) (passes : Bool) → course_of (cond passes (record b { current = None }) b) ≡ course_of b
+none_turned b true = refl
+none_turned b false = refl
+
+-- with one, that one is passed over where the test passes
+one_turned : (doing : Doing) (b : InTurn) (spot : Spot) (rest : List Spot) → b.rest ≡ spot ∷ rest → (passes : Bool)
+    → course_of (cond passes (turned doing b (spot ∷ rest)) b) ≡ cond passes (passed doing (course_of b)) (course_of b)
+one_turned doing b spot rest is true = turned_course doing b (spot ∷ rest) is
+one_turned doing b spot rest is false = refl
+
 late_course : (now : ℕ) (b : InTurn) → course_of (turning (is_late now) Late b) ≡ passed_late now (delivery_to b.current b.rest) (course_of b)
 late_course now b = by b.current b.rest refl
   where
     by : (current : Option Current) (rest : List Spot) → b.rest ≡ rest → course_of (cond (is_late now current) (turned Late b rest) b) ≡ passed_late now (delivery_to current rest) (course_of b)
     by None rest is = refl
-    by (Some current) [] is = test (nat_le current.deadline now)
-      where
-        test : (due : Bool) → course_of (cond due (record b { current = None }) b) ≡ course_of b
-        test true = refl
-        test false = refl
-    by (Some current) (spot ∷ rest) is = test (nat_le current.deadline now)
-      where
-        test : (due : Bool) → course_of (cond due (turned Late b (spot ∷ rest)) b) ≡ cond due (passed Late (course_of b)) (course_of b)
-        test true = turned_course Late b (spot ∷ rest) is
-        test false = refl
+    by (Some current) [] is = none_turned b (nat_le current.deadline now)
+    by (Some current) (spot ∷ rest) is = one_turned Late b spot rest is (nat_le current.deadline now)
 
 answered_course : (number : ℕ) (answer : Answer) (b : InTurn)
     → course_of (turning (is_current number) (Answered answer) b) ≡ passed_answered number answer (delivery_to b.current b.rest) (course_of b)
@@ -151,16 +154,8 @@ answered_course number answer b = by b.current b.rest refl
     by : (current : Option Current) (rest : List Spot) → b.rest ≡ rest
         → course_of (cond (is_current number current) (turned (Answered answer) b rest) b) ≡ passed_answered number answer (delivery_to current rest) (course_of b)
     by None rest is = refl
-    by (Some current) [] is = test (eqb current.number number)
-      where
-        test : (mine : Bool) → course_of (cond mine (record b { current = None }) b) ≡ course_of b
-        test true = refl
-        test false = refl
-    by (Some current) (spot ∷ rest) is = test (eqb current.number number)
-      where
-        test : (mine : Bool) → course_of (cond mine (turned (Answered answer) b (spot ∷ rest)) b) ≡ cond mine (passed (Answered answer) (course_of b)) (course_of b)
-        test true = turned_course (Answered answer) b (spot ∷ rest) is
-        test false = refl
+    by (Some current) [] is = none_turned b (eqb current.number number)
+    by (Some current) (spot ∷ rest) is = one_turned (Answered answer) b spot rest is (eqb current.number number)
 
 -- receivers that are struck
 struck_course : (struck : Spot → Bool) (b : InTurn) → course_of (strike struck b) ≡ passed_struck struck (delivery_to b.current b.rest) (course_of b)

@@ -10,6 +10,7 @@ use Rattle.am_types.specs.declared.broadcast.Sending.{Sending}
 use Rattle.am_model.specs.Broadcasts.{Broadcasts, InTurn, Current, Result, Late, Answered, span, outcome_of, result_of, dispatched, with_results, Settled, settled, queue_of, with_queue, settle, settle_both, is_over, turn, is_late, late_head, is_head_due, expired_queue, expired}
 use Rattle.am_model.specs.Sending as sending
 use Rattle.am_model.specs.Sending.{in_turn, with_sent, is_current, finished, strike, unwanted, with_answered, with_unwanted, without_struck}
+use Rattle.am_model.proofs.QueueLaws.{after_deadline}
 use Rattle.am_laws_courses.specs.Fold.{OfCourses}
 use Rattle.am_laws_courses.proofs.Order.{OnlyHead, AreInOrder, turning, late_turns, answer_turns}
 
@@ -134,18 +135,10 @@ module _ (C D : InTurn → Type 0) (R : Result → Type 0) (settling : Settling 
 
   -- the other queue is as it was
   background_stays : (now : ℕ) (all : Broadcasts) → (expired_queue true now all).background ≡ all.background
-  background_stays now all = by (is_head_due now all.foreground)
-    where
-      by : (due : Bool) → (cond due (settle true now (with_queue true (late_head now all.foreground) all)) all).background ≡ all.background
-      by true = refl
-      by false = refl
+  background_stays now all = after_deadline (λ (after : Broadcasts). after.background ≡ all.background) true now all refl refl
 
   foreground_stays : (now : ℕ) (all : Broadcasts) → (expired_queue false now all).foreground ≡ all.foreground
-  foreground_stays now all = by (is_head_due now all.background)
-    where
-      by : (due : Bool) → (cond due (settle false now (with_queue false (late_head now all.background) all)) all).foreground ≡ all.foreground
-      by true = refl
-      by false = refl
+  foreground_stays now all = after_deadline (λ (after : Broadcasts). after.foreground ≡ all.foreground) false now all refl refl
 
   pub expired_courses : (all : Broadcasts) (now : ℕ) → AreInOrder all → ((b : InTurn) → C b → D (turning (is_late now) Late b)) → OfCourses C R all → OfCourses D R (expired all now)
   expired_courses all now order late of =

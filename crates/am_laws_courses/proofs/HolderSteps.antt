@@ -8,9 +8,10 @@ use Rattle.am_types.specs.declared.broadcast.Answer.{Answer}
 use Rattle.am_types.specs.declared.broadcast.Ordered.{Ordered}
 use Rattle.am_types.specs.declared.broadcast.Sending.{Sending}
 use Rattle.am_model.specs.Filters.{is_empty}
-use Rattle.am_model.specs.Broadcasts.{Broadcasts, InTurn, Normal, Delivery, Current, Result, Doing, Late, Gone, Answered, span, queue_of, with_queue, settle, turned, turn, is_late, late_head, is_head_due, expired_queue, is_delivery_due, keeping, normals_keeping, expired}
+use Rattle.am_model.specs.Broadcasts.{Broadcasts, InTurn, Normal, Delivery, Current, Result, Doing, Late, Gone, Answered, span, queue_of, with_queue, turned, turn, is_late, late_head, expired_queue, is_delivery_due, keeping, normals_keeping, expired}
 use Rattle.am_model.specs.Sending as sending
 use Rattle.am_model.specs.Sending.{deliveries_from, at_once, in_turn, with_sent, answered_head, is_current, finished, strike_rest, strike_from, strike, unwanted, with_answered, with_unwanted, without_struck, held}
+use Rattle.am_model.proofs.QueueLaws.{after_deadline}
 use Rattle.am_laws_courses.proofs.Holders.{IsFor, CurrentFor, TurnFor, NormalFor, ResultFor, HasHolders, Raises, raise_for, raise_queue, raise_normal, raise_results, raises_through, with_holder, raises_one, new_for, settle_held, both_held}
 
 module _ (f : ℕ → ℕ) (next : ℕ) where
@@ -80,7 +81,7 @@ module _ (f : ℕ → ℕ) (next : ℕ) where
 
 -- the passing of time
 expired_queue_held : (foreground : Bool) (now : ℕ) (all : Broadcasts) → HasHolders all → HasHolders (expired_queue foreground now all)
-expired_queue_held foreground now all has = by (is_head_due now (queue_of foreground all)) (late foreground)
+expired_queue_held foreground now all has = after_deadline HasHolders foreground now all (settle_held foreground now (with_queue foreground (late_head now (queue_of foreground all)) all) (late foreground)) has
   where
     late : (b : Bool) → HasHolders (with_queue b (late_head now (queue_of b all)) all)
     late true = record {
@@ -91,11 +92,6 @@ expired_queue_held foreground now all has = by (is_head_due now (queue_of foregr
       holder = has.holder;
       held = record { normal = has.held.normal; foreground = has.held.foreground; background = late_for has.holder all.next_delivery now all.background has.held.background; results = has.held.results };
     }
-
-    by : (due : Bool) → HasHolders (with_queue foreground (late_head now (queue_of foreground all)) all)
-        → HasHolders (cond due (settle foreground now (with_queue foreground (late_head now (queue_of foreground all)) all)) all)
-    by true passed = settle_held foreground now (with_queue foreground (late_head now (queue_of foreground all)) all) passed
-    by false passed = has
 
 pub expired_held : (all : Broadcasts) (now : ℕ) → HasHolders all → HasHolders (expired all now)
 expired_held all now has =

@@ -8,9 +8,10 @@ use Rattle.am_types.specs.declared.broadcast.Answer.{Answer}
 use Rattle.am_types.specs.declared.broadcast.Ordered.{Ordered}
 use Rattle.am_types.specs.declared.broadcast.Sending.{Sending}
 use Rattle.am_model.proofs.Parts.{IsPart, leave, IsPart-whole}
-use Rattle.am_model.specs.Broadcasts.{Broadcasts, InTurn, Current, Result, Doing, Late, Gone, Answered, no_broadcasts, span, outcome_of, result_of, dispatched, with_results, Settled, settled, queue_of, with_queue, settle, settle_both, is_over, turned, turn, is_late, late_head, is_head_due, expired_queue, expired}
+use Rattle.am_model.specs.Broadcasts.{Broadcasts, InTurn, Current, Result, Doing, Late, Gone, Answered, no_broadcasts, span, outcome_of, result_of, dispatched, with_results, Settled, settled, queue_of, with_queue, settle, settle_both, is_over, turned, turn, is_late, late_head, expired_queue, expired}
 use Rattle.am_model.specs.Sending as sending
 use Rattle.am_model.specs.Sending.{in_turn, with_sent, is_current, answered_head, finished, strike_rest, strike_from, strike, unwanted, with_answered, with_unwanted, without_struck}
+use Rattle.am_model.proofs.QueueLaws.{after_deadline}
 use Rattle.am_laws_courses.proofs.Apart.{part_made, Apart, apart_part, apart_turned, apart_ended, apart_more, apart_raised}
 
 -- the numbers of a queue, and of the broadcasts of results
@@ -215,18 +216,13 @@ answer_turns number doing (head ∷ others) only =
 
 -- the passing of time
 expired_queue_order : (foreground : Bool) (now : ℕ) (all : Broadcasts) → AreInOrder all → AreInOrder (expired_queue foreground now all)
-expired_queue_order foreground now all order = by (is_head_due now (queue_of foreground all)) (late foreground)
+expired_queue_order foreground now all order = after_deadline AreInOrder foreground now all (settle_order foreground now (with_queue foreground (late_head now (queue_of foreground all)) all) (late foreground)) order
   where
     late : (b : Bool) → AreInOrder (with_queue b (late_head now (queue_of b all)) all)
     late true = kept_order (turning (is_late now) Late) (λ b. b) (keeps_turning (is_late now) Late) keeps_all all (record all { foreground = late_head now all.foreground })
         (late_turns now all.foreground order.foreground) (sym (map_all all.background)) (IsPart-whole (results_of all.results)) refl order
     late false = kept_order (λ b. b) (turning (is_late now) Late) keeps_all (keeps_turning (is_late now) Late) all (record all { background = late_head now all.background })
         (sym (map_all all.foreground)) (late_turns now all.background order.background) (IsPart-whole (results_of all.results)) refl order
-
-    by : (due : Bool) → AreInOrder (with_queue foreground (late_head now (queue_of foreground all)) all)
-        → AreInOrder (cond due (settle foreground now (with_queue foreground (late_head now (queue_of foreground all)) all)) all)
-    by true passed = settle_order foreground now (with_queue foreground (late_head now (queue_of foreground all)) all) passed
-    by false passed = order
 
 pub expired_order : (all : Broadcasts) (now : ℕ) → AreInOrder all → AreInOrder (expired all now)
 expired_order all now order =

@@ -1,7 +1,7 @@
 -- What calls on packages come to, by what was found; and that what was prepared can be made and taken back.
-use Rattle.std.proofs.Common.{◌≡◌, ℕ, ◌<◌, ◌≤◌, ◌==◌, ◌+◌, Bool, true, false, not, ◌&&◌, ◌||◌, cond, List, [], ◌∷◌, ◌++◌, length, Option, Some, None, Result, Ok, Err, refl, subst, sym, ap, ◌∙◌, arith}
+use Rattle.std.proofs.Common.{◌≡◌, ℕ, ◌<◌, ◌≤◌, ◌==◌, ◌+◌, Bool, true, false, true≢false, not, ◌&&◌, ◌||◌, cond, List, [], ◌∷◌, ◌++◌, length, Option, Some, None, Result, Ok, Err, refl, subst, sym, ap, ◌∙◌, arith}
 use Rattle.std.specs.Prelude.{filter, nat_le}
-use Rattle.std.specs.List.{count_by, list_any, IsDistinct}
+use Rattle.std.specs.List.{list_any, IsDistinct}
 use Rattle.std.specs.Option.{option_map}
 use Rattle.std.specs.Cmp.{nat_eq_equiv, unsigned_Decides}
 use Rattle.std.specs.Cmp.Lexicographic.{nat_list_eq_equiv}
@@ -17,14 +17,14 @@ use Rattle.am_types.specs.declared.reply.Reply.{Reply}
 use Rattle.am_types.specs.declared.reply.Reply.TheVariants as replies
 use Rattle.am_types.specs.declared.request.Request.{Request}
 use Rattle.am_types.specs.declared.request.Request.TheVariants as asks
+use Rattle.am_types.specs.declared.rule.Limit.{Limit}
 use Rattle.am_types.specs.declared.rule.Limit.TheVariants as limits
 use Rattle.am_types.specs.declared.rule.Rule.TheVariants as rules
 use Rattle.am_keeper.specs.declared.rows.Row.{Row}
-use Rattle.am_keeper.specs.declared.rows.Row.TheVariants as rows
 use Rattle.am_manifest.specs.Manifests.{manifest_of}
-use Rattle.am_model.specs.Boards.{Board, grants_without, links_without, registered_without, with_stopped, is_granted, is_linked, is_package_uid, package_named, with_grant, with_link, without_package}
+use Rattle.am_model.specs.Boards.{Board, grants_without, links_without, registered_without, with_stopped, is_package_uid, package_named, without_package}
 use Rattle.am_model.specs.Lists.{inserted}
-use Rattle.am_model.specs.Rights.{Right, before_right, grant_of, has_right, is_right, link_of, of_grant, of_link, with_right}
+use Rattle.am_model.specs.Rights.{Right, before_right, grant_of, has_right, is_right, link_of, of_grant, of_link, with_right as right_set}
 use Rattle.am_model.proofs.Lists.{length_left}
 use Rattle.am_model.specs.Broadcasts.{Broadcasts}
 use Rattle.am_model.specs.Gates.{is_privileged}
@@ -35,18 +35,21 @@ use Rattle.am_model.specs.Texts.{is_same}
 use Rattle.am_installed.specs.Installed.{AreInstalled}
 use Rattle.am_history.proofs.Acts.{act_grant, act_install, act_link, act_uninstall}
 use Rattle.am_history.specs.Answers.{done, for_admin, for_found, for_package, refused}
-use Rattle.am_history.specs.Kept.{gone_row, installed_row}
-use Rattle.am_history.specs.Packages.{force_stop, forget, grant, grant_to, install, install_read, installed, is_full, is_key_used, is_name_used, link, link_to, no_uid, uninstall, without}
+use Rattle.am_history.specs.Kept.{gone_row, installed_row, row_of}
+use Rattle.am_history.specs.Packages.{force_stop, forget, grant, install, install_read, installed, is_full, is_key_used, is_name_used, link, no_uid, uninstall, without}
 use Rattle.am_history.specs.State.{Service, State, with_packages}
 use Rattle.am_history.specs.Steps.{act, at_moment, keeps_row}
 use Rattle.am_laws.proofs.Tests.{both, neither, unless_true}
 use Rattle.am_laws_state.proofs.SoundPackages.{last_is_new}
 use Rattle.am_laws_state.proofs.SoundSteps.{sound_after}
 use Rattle.am_laws_state.specs.Sound.{IsSoundState}
-use Rattle.am_live.specs.Changes.{changed, prepared, with_grants, with_links, with_package, Fits, IsAccepted, IsInstallable, IsPlanOf}
+use Rattle.am_live.specs.Changes.{changed, count_held, is_held, prepared, right_limit, right_request, right_row, with_held, with_package, with_right, Fits, IsAccepted, IsInstallable, IsPlanOf, IsPrepared}
 use Rattle.am_live.specs.declared.change.Change.{Change}
 use Rattle.am_live.specs.declared.change.Change.TheVariants as changes
 use Rattle.am_live.specs.declared.change.Plan.TheVariants as plans
+use Rattle.am_live.specs.declared.change.RightChange.{RightChange}
+use Rattle.am_live.specs.declared.change.RightKind.{RightKind}
+use Rattle.am_live.specs.declared.change.RightKind.TheVariants.{Permission, Host}
 
 -- what follows for the system and the root, and what for others
 pub admin_goes : (state : State) (caller : ℕ) (next : Reply × State) → is_privileged caller ≡ true → for_admin state caller next ≡ next
@@ -82,6 +85,25 @@ are_installed state sound = record {
   names = sound.packages.names.1;
   each = λ k d h. record { few = (sound.packages.each k d h).few; classes = (sound.packages.each k d h).classes };
 }
+
+-- what a right comes to that a uid is given, or that is taken from it
+abbrev right_to : State → RightKind → ℕ → List ℕ → Bool → Reply × State
+right_to state kind uid text held =
+    cond ((held && not (is_held state.board kind uid text)) && nat_le 256 (count_held state.board kind uid))
+    (refused state (rules.OverLimit (right_limit kind))) (done (with_right state kind uid text held))
+
+act_right : (kind : RightKind) (state : State) (before : List Entry) (caller : ℕ) (name text : List ℕ) (held : Bool)
+    → act state before caller (right_request kind name text held)
+    ≡ for_admin state caller (for_package state name (λ (owner : Package). right_to state kind owner.uid text held))
+unfolding grant link
+act_right Permission state before caller name text held = act_grant state before caller name text held
+act_right Host state before caller name text held = act_link state before caller name text held
+
+-- the row that is kept of it
+row_of_right : (kind : RightKind) (state : State) (name text : List ℕ) (held : Bool)
+    → row_of state (right_request kind name text held) ≡ option_map (λ (owner : Package). right_row kind owner.uid text held) (package_named state.board.packages name)
+row_of_right Permission state name text held = refl
+row_of_right Host state name text held = refl
 
 -- what is planned for the system and the root
 module _ (state : State) (caller : ℕ) (admin : is_privileged caller ≡ true) where
@@ -176,85 +198,46 @@ module _ (state : State) (caller : ℕ) (admin : is_privileged caller ≡ true) 
       fits = tt;
     }
 
-  -- a permission that is given or taken
-  module _ (name permission : List ℕ) (held : Bool) where
-    grant_goes : (found : Option Package) (moment : ℕ) (before : List Entry) → package_named state.board.packages name ≡ found
-        → act (at_moment state moment) before caller (asks.Grant name permission held)
-        ≡ for_found (at_moment state moment) found (λ (owner : Package). grant_to (at_moment state moment) owner.uid permission held)
-    unfolding grant
-    grant_goes found moment before is =
-        act_grant (at_moment state moment) before caller name permission held
+  -- a right that is given or taken
+  module _ (kind : RightKind) (name text : List ℕ) (held : Bool) where
+    right_goes : (found : Option Package) (moment : ℕ) (before : List Entry) → package_named state.board.packages name ≡ found
+        → act (at_moment state moment) before caller (right_request kind name text held)
+        ≡ for_found (at_moment state moment) found (λ (owner : Package). right_to (at_moment state moment) kind owner.uid text held)
+    right_goes found moment before is =
+        act_right kind (at_moment state moment) before caller name text held
         ∙ admin_goes (at_moment state moment) caller _ admin
         ∙ found_goes (at_moment state moment) name _ found is
 
-    pub none_granted : package_named state.board.packages name ≡ None → IsPlanOf (plans.Refused rules.NoPackage) state caller (asks.Grant name permission held)
-    none_granted is = λ (moment : ℕ) (before : List Entry). grant_goes None moment before is
+    pub none_given : package_named state.board.packages name ≡ None → IsPlanOf (plans.Refused rules.NoPackage) state caller (right_request kind name text held)
+    none_given is = λ (moment : ℕ) (before : List Entry). right_goes None moment before is
 
     module _ (owner : Package) (is_new full : Bool) (is : package_named state.board.packages name ≡ Some owner)
-        (new_is : is_new ≡ (held && not (is_granted state.board.grants owner.uid permission)))
-        (full_is : full ≡ (is_new && nat_le 256 (count_by (λ (g : Grant). g.uid == owner.uid) state.board.grants))) where
-      abbrev granted : State → Bool → Reply × State
-      granted s many =
-          cond many (refused s (rules.OverLimit limits.Grants)) (done (with_grants s (with_grant s.board.grants owner.uid permission held)))
+        (new_is : is_new ≡ (held && not (is_held state.board kind owner.uid text)))
+        (full_is : full ≡ (is_new && nat_le 256 (count_held state.board kind owner.uid))) where
+      abbrev given : State → Bool → Reply × State
+      given s many = cond many (refused s (rules.OverLimit (right_limit kind))) (done (with_right s kind owner.uid text held))
 
-      grant_tested : (many : Bool) (moment : ℕ) (before : List Entry) → full ≡ many
-          → act (at_moment state moment) before caller (asks.Grant name permission held) ≡ granted (at_moment state moment) many
-      grant_tested many moment before tests =
-          grant_goes (Some owner) moment before is
-          ∙ ap (λ (b : Bool). granted (at_moment state moment) (b && nat_le 256 (count_by (λ (g : Grant). g.uid == owner.uid) state.board.grants))) (sym new_is)
-          ∙ ap (granted (at_moment state moment)) (sym full_is ∙ tests)
+      right_tested : (many : Bool) (moment : ℕ) (before : List Entry) → full ≡ many
+          → act (at_moment state moment) before caller (right_request kind name text held) ≡ given (at_moment state moment) many
+      right_tested many moment before tests =
+          right_goes (Some owner) moment before is
+          ∙ ap (λ (b : Bool). given (at_moment state moment) (b && nat_le 256 (count_held state.board kind owner.uid))) (sym new_is)
+          ∙ ap (given (at_moment state moment)) (sym full_is ∙ tests)
 
-      pub too_many_granted : full ≡ true → IsPlanOf (plans.Refused (rules.OverLimit limits.Grants)) state caller (asks.Grant name permission held)
-      too_many_granted tests = λ (moment : ℕ) (before : List Entry). grant_tested true moment before tests
+      pub one_too_many : (limit : Limit) → full ≡ true → limit ≡ right_limit kind
+          → IsPlanOf (plans.Refused (rules.OverLimit limit)) state caller (right_request kind name text held)
+      one_too_many limit tests limit_is = subst (λ (l : Limit). IsPlanOf (plans.Refused (rules.OverLimit l)) state caller (right_request kind name text held)) (sym limit_is)
+          (λ (moment : ℕ) (before : List Entry). right_tested true moment before tests)
 
-      pub grants : (row : Row) (copy : List ℕ) → full ≡ false → copy ≡ permission
-          → row ≡ rows.Grant (record { uid = owner.uid; permission = permission; held = held })
-          → IsPlanOf (plans.Accepted (changes.Grant owner.uid copy held is_new) row) state caller (asks.Grant name permission held)
-      grants row copy tests copied kept = subst (λ (p : List ℕ). IsAccepted (changes.Grant owner.uid p held is_new) row state caller (asks.Grant name permission held)) (sym copied) (record {
-        done = λ (moment : ℕ) (before : List Entry). grant_tested false moment before tests;
-        kept = ap (option_map (λ (o : Package). rows.Grant (record { uid = o.uid; permission = permission; held = held }))) is ∙ ap Some (sym kept);
-        fits = new_is;
-      })
-
-  -- a host whose links are approved, or aren't any more
-  module _ (name host : List ℕ) (approved : Bool) where
-    link_goes : (found : Option Package) (moment : ℕ) (before : List Entry) → package_named state.board.packages name ≡ found
-        → act (at_moment state moment) before caller (asks.Link name host approved)
-        ≡ for_found (at_moment state moment) found (λ (owner : Package). link_to (at_moment state moment) owner.uid host approved)
-    unfolding link
-    link_goes found moment before is =
-        act_link (at_moment state moment) before caller name host approved
-        ∙ admin_goes (at_moment state moment) caller _ admin
-        ∙ found_goes (at_moment state moment) name _ found is
-
-    pub none_linked : package_named state.board.packages name ≡ None → IsPlanOf (plans.Refused rules.NoPackage) state caller (asks.Link name host approved)
-    none_linked is = λ (moment : ℕ) (before : List Entry). link_goes None moment before is
-
-    module _ (owner : Package) (is_new full : Bool) (is : package_named state.board.packages name ≡ Some owner)
-        (new_is : is_new ≡ (approved && not (is_linked state.board.links owner.uid host)))
-        (full_is : full ≡ (is_new && nat_le 256 (count_by (λ (l : Link). l.uid == owner.uid) state.board.links))) where
-      abbrev linked : State → Bool → Reply × State
-      linked s many =
-          cond many (refused s (rules.OverLimit limits.Links)) (done (with_links s (with_link s.board.links owner.uid host approved)))
-
-      link_tested : (many : Bool) (moment : ℕ) (before : List Entry) → full ≡ many
-          → act (at_moment state moment) before caller (asks.Link name host approved) ≡ linked (at_moment state moment) many
-      link_tested many moment before tests =
-          link_goes (Some owner) moment before is
-          ∙ ap (λ (b : Bool). linked (at_moment state moment) (b && nat_le 256 (count_by (λ (l : Link). l.uid == owner.uid) state.board.links))) (sym new_is)
-          ∙ ap (linked (at_moment state moment)) (sym full_is ∙ tests)
-
-      pub too_many_linked : full ≡ true → IsPlanOf (plans.Refused (rules.OverLimit limits.Links)) state caller (asks.Link name host approved)
-      too_many_linked tests = λ (moment : ℕ) (before : List Entry). link_tested true moment before tests
-
-      pub links : (row : Row) (copy : List ℕ) → full ≡ false → copy ≡ host
-          → row ≡ rows.Link (record { uid = owner.uid; host = host; approved = approved })
-          → IsPlanOf (plans.Accepted (changes.Link owner.uid copy approved is_new) row) state caller (asks.Link name host approved)
-      links row copy tests copied kept = subst (λ (h : List ℕ). IsAccepted (changes.Link owner.uid h approved is_new) row state caller (asks.Link name host approved)) (sym copied) (record {
-        done = λ (moment : ℕ) (before : List Entry). link_tested false moment before tests;
-        kept = ap (option_map (λ (o : Package). rows.Link (record { uid = o.uid; host = host; approved = approved }))) is ∙ ap Some (sym kept);
-        fits = new_is;
-      })
+      pub gives : (row : Row) (copy : List ℕ) → full ≡ false → copy ≡ text → row ≡ right_row kind owner.uid text held
+          → IsPlanOf (plans.Accepted (changes.Right (record { kind = kind; uid = owner.uid; text = copy; held = held; is_new = is_new })) row) state caller (right_request kind name text held)
+      gives row copy tests copied kept =
+          subst (λ (t : List ℕ). IsAccepted (changes.Right (record { kind = kind; uid = owner.uid; text = t; held = held; is_new = is_new })) row state caller (right_request kind name text held))
+          (sym copied) (record {
+            done = λ (moment : ℕ) (before : List Entry). right_tested false moment before tests;
+            kept = row_of_right kind state name text held ∙ ap (option_map (λ (o : Package). right_row kind o.uid text held)) is ∙ ap Some (sym kept);
+            fits = new_is;
+          })
 
 -- what is taken back was the only one of its kind
 module _ {X : Type 0} (test : X → Bool) where
@@ -299,20 +282,26 @@ package_back packages new none = last_goes (λ (p : Package). p.uid == new.uid) 
 
 -- a right that wasn't there is taken back
 right_back : {R : Type 0} (right_of : R → Right) (made : ℕ → List ℕ → R) → ((uid : ℕ) (text : List ℕ) → right_of (made uid text) ≡ (uid, text)) → (rights : List R) (uid : ℕ) (text : List ℕ)
-    → has_right right_of rights uid text ≡ false → with_right right_of made (with_right right_of made rights uid text true) uid text false ≡ rights
+    → has_right right_of rights uid text ≡ false → right_set right_of made (right_set right_of made rights uid text true) uid text false ≡ rights
 right_back {R} right_of made made_is rights uid text none =
-    ap (λ (b : Bool). with_right right_of made (cond b rights (inserted (before_right right_of) (made uid text) rights)) uid text false) none
+    ap (λ (b : Bool). right_set right_of made (cond b rights (inserted (before_right right_of) (made uid text) rights)) uid text false) none
     ∙ placed_goes (is_right right_of uid text) (before_right right_of) (made uid text) rights
     (subst (λ (r : Right). (r.0 == uid) && is_same r.1 text ≡ true) (sym (made_is uid text)) (itself uid text)) none
 
 -- so is a grant, and a link
-pub grant_back : (grants : List Grant) (uid : ℕ) (permission : List ℕ) → is_granted grants uid permission ≡ false
-    → with_grant (with_grant grants uid permission true) uid permission false ≡ grants
-grant_back grants uid permission none = right_back of_grant grant_of (λ u t. refl) grants uid permission none
+held_back : (kind : RightKind) (board : Board) (uid : ℕ) (text : List ℕ) → is_held board kind uid text ≡ false
+    → with_held (with_held board kind uid text true) kind uid text false ≡ board
+held_back Permission board uid text none =
+    ap (λ (grants : List Grant). record board { grants = grants }) (right_back of_grant grant_of (λ u t. refl) board.grants uid text none)
+held_back Host board uid text none =
+    ap (λ (links : List Link). record board { links = links }) (right_back of_link link_of (λ u t. refl) board.links uid text none)
 
-pub link_back : (links : List Link) (uid : ℕ) (host : List ℕ) → is_linked links uid host ≡ false
-    → with_link (with_link links uid host true) uid host false ≡ links
-link_back links uid host none = right_back of_link link_of (λ u t. refl) links uid host none
+-- one that is there already isn't put twice
+held_stays : (kind : RightKind) (board : Board) (uid : ℕ) (text : List ℕ) → is_held board kind uid text ≡ true → with_held board kind uid text true ≡ board
+held_stays Permission board uid text has =
+    ap (λ (b : Bool). record board { grants = cond b board.grants (inserted (before_right of_grant) (grant_of uid text) board.grants) }) has
+held_stays Host board uid text has =
+    ap (λ (b : Bool). record board { links = cond b board.links (inserted (before_right of_link) (link_of uid text) board.links) }) has
 
 -- what is left of the parts is what is left of the state
 pub forgotten : (old before : State) (uid : ℕ) (board : Board) (queues : Broadcasts) (pending : Pendings) (tasks : Tasks) (services : List Service)
@@ -328,26 +317,6 @@ forgotten old before uid board queues pending tasks services same board_is queue
 pub named_in : (old before : State) (name : List ℕ) (looked found : Option Package) → before ≡ old → looked ≡ package_named before.board.packages name → looked ≡ found
     → package_named old.board.packages name ≡ found
 named_in old before name looked found same seen is = ap (λ (s : State). package_named s.board.packages name) (sym same) ∙ sym seen ∙ is
-
-pub grants_in : (old before : State) (uid : ℕ) (permission : List ℕ) (held is_new : Bool) (seen : List Grant) → before ≡ old → seen ≡ before.board.grants
-    → is_new ≡ (held && not (is_granted seen uid permission)) → is_new ≡ (held && not (is_granted old.board.grants uid permission))
-grants_in old before uid permission held is_new seen same seen_is is =
-    is ∙ ap (λ (gs : List Grant). held && not (is_granted gs uid permission)) (seen_is ∙ ap (λ (s : State). s.board.grants) same)
-
-pub grants_full_in : (old before : State) (uid : ℕ) (is_new full : Bool) (seen : List Grant) → before ≡ old → seen ≡ before.board.grants
-    → full ≡ (is_new && nat_le 256 (count_by (λ (g : Grant). g.uid == uid) seen)) → full ≡ (is_new && nat_le 256 (count_by (λ (g : Grant). g.uid == uid) old.board.grants))
-grants_full_in old before uid is_new full seen same seen_is is =
-    is ∙ ap (λ (gs : List Grant). is_new && nat_le 256 (count_by (λ (g : Grant). g.uid == uid) gs)) (seen_is ∙ ap (λ (s : State). s.board.grants) same)
-
-pub links_in : (old before : State) (uid : ℕ) (host : List ℕ) (approved is_new : Bool) (seen : List Link) → before ≡ old → seen ≡ before.board.links
-    → is_new ≡ (approved && not (is_linked seen uid host)) → is_new ≡ (approved && not (is_linked old.board.links uid host))
-links_in old before uid host approved is_new seen same seen_is is =
-    is ∙ ap (λ (ls : List Link). approved && not (is_linked ls uid host)) (seen_is ∙ ap (λ (s : State). s.board.links) same)
-
-pub links_full_in : (old before : State) (uid : ℕ) (is_new full : Bool) (seen : List Link) → before ≡ old → seen ≡ before.board.links
-    → full ≡ (is_new && nat_le 256 (count_by (λ (l : Link). l.uid == uid) seen)) → full ≡ (is_new && nat_le 256 (count_by (λ (l : Link). l.uid == uid) old.board.links))
-links_full_in old before uid is_new full seen same seen_is is =
-    is ∙ ap (λ (ls : List Link). is_new && nat_le 256 (count_by (λ (l : Link). l.uid == uid) ls)) (seen_is ∙ ap (λ (s : State). s.board.links) same)
 
 -- there are no more packages without one
 pub few_left : (old new : Board) (uid : ℕ) → new ≡ record old { packages = without_package old.packages uid } → length old.packages ≤ 256 → length new.packages ≤ 256
@@ -396,24 +365,56 @@ module _ (change : Change) (old before : State) (board : Board) (same : before �
       ∙ ap (λ (t : State). with_packages t (without_package t.board.packages p.uid)) (same ∙ made ∙ ap (λ (c : Change). prepared c s) is)
       ∙ ap (with_packages s) (package_back s.board.packages p fitted.new)
 
-  pub grant_undone : (uid : ℕ) (permission : List ℕ) (held is_new : Bool) → change ≡ changes.Grant uid permission held is_new → is_new ≡ true
-      → board ≡ record (before.board) { grants = with_grant before.board.grants uid permission false }
+  pub right_undone : (right : RightChange) → change ≡ changes.Right right → right.is_new ≡ true → board ≡ with_held before.board right.kind right.uid right.text false
       → (s : State) → Fits change s → old ≡ prepared change s → record before { board = board } ≡ s
-  grant_undone uid permission held is_new is new board_is s fits made =
-      let fitted : is_new ≡ (held && not (is_granted s.board.grants uid permission)) = subst (λ (c : Change). Fits c s) is fits in
-      let absent : is_granted s.board.grants uid permission ≡ false = unless_true _ (both held _ (sym fitted ∙ new)).1 in
+  right_undone right is new board_is s fits made =
+      let fitted : right.is_new ≡ (right.held && not (is_held s.board right.kind right.uid right.text)) = subst (λ (c : Change). Fits c s) is fits in
+      let absent : is_held s.board right.kind right.uid right.text ≡ false = unless_true _ (both right.held _ (sym fitted ∙ new)).1 in
       (λ i. record before { board = board_is i })
-      ∙ ap (λ (t : State). with_grants t (with_grant t.board.grants uid permission false))
-      (same ∙ made ∙ ap (λ (c : Change). prepared c s) is ∙ ap (λ (b : Bool). cond b (with_grants s (with_grant s.board.grants uid permission true)) s) new)
-      ∙ ap (with_grants s) (grant_back s.board.grants uid permission absent)
+      ∙ ap (λ (t : State). with_right t right.kind right.uid right.text false)
+      (same ∙ made ∙ ap (λ (c : Change). prepared c s) is ∙ ap (λ (b : Bool). cond b (with_right s right.kind right.uid right.text true) s) new)
+      ∙ ap (λ (b : Board). record s { board = b }) (held_back right.kind s.board right.uid right.text absent)
 
-  pub link_undone : (uid : ℕ) (host : List ℕ) (approved is_new : Bool) → change ≡ changes.Link uid host approved is_new → is_new ≡ true
-      → board ≡ record (before.board) { links = with_link before.board.links uid host false }
-      → (s : State) → Fits change s → old ≡ prepared change s → record before { board = board } ≡ s
-  link_undone uid host approved is_new is new board_is s fits made =
-      let fitted : is_new ≡ (approved && not (is_linked s.board.links uid host)) = subst (λ (c : Change). Fits c s) is fits in
-      let absent : is_linked s.board.links uid host ≡ false = unless_true _ (both approved _ (sym fitted ∙ new)).1 in
-      (λ i. record before { board = board_is i })
-      ∙ ap (λ (t : State). with_links t (with_link t.board.links uid host false))
-      (same ∙ made ∙ ap (λ (c : Change). prepared c s) is ∙ ap (λ (b : Bool). cond b (with_links s (with_link s.board.links uid host true)) s) new)
-      ∙ ap (with_links s) (link_back s.board.links uid host absent)
+-- a right that was prepared is given, or taken
+module _ (kind : RightKind) (uid : ℕ) (text : List ℕ) (moment : ℕ) where
+  abbrev right_change : Bool → Bool → Change
+  right_change held is_new = changes.Right (record { kind = kind; uid = uid; text = text; held = held; is_new = is_new })
+
+  -- where it is to be held, nothing is left to do
+  stays : (is_new : Bool) (old s : State) → IsPrepared (right_change true is_new) old → old ≡ prepared (right_change true is_new) s
+      → changed (right_change true is_new) (at_moment s moment) ≡ (replies.Plain, at_moment old moment)
+  stays true old s ready made = ap (λ (t : State). (replies.Plain, at_moment t moment)) (sym made)
+  stays false old s ready made =
+      let has : is_held s.board kind uid text ≡ true =
+      subst (λ (t : State). is_held t.board kind uid text ≡ true) (sym ready.same ∙ made) (unless_false (is_held ready.before.board kind uid text) (sym ready.fits)) in
+      ap (λ (b : Board). (replies.Plain, record (at_moment s moment) { board = b })) (held_stays kind s.board uid text has)
+      ∙ ap (λ (t : State). (replies.Plain, at_moment t moment)) (sym made)
+    where
+      unless_false : (b : Bool) → not b ≡ false → b ≡ true
+      unless_false true is = refl
+      unless_false false is = sym is
+
+  -- where it isn't, it is taken
+  goes : (is_new : Bool) (old s : State) → IsPrepared (right_change false is_new) old → old ≡ prepared (right_change false is_new) s
+      → changed (right_change false is_new) (at_moment s moment) ≡ (replies.Plain, with_right (at_moment old moment) kind uid text false)
+  goes true old s ready made = absurd (true≢false ready.fits)
+  goes false old s ready made = ap (λ (t : State). (replies.Plain, with_right (at_moment t moment) kind uid text false)) (sym made)
+
+  right_made : (held is_new : Bool) (old settled before : State) (board : Board) → IsPrepared (right_change held is_new) old
+      → settled ≡ at_moment old moment → before ≡ settled → board ≡ (cond held before.board (with_held before.board kind uid text false))
+      → (s : State) → old ≡ prepared (right_change held is_new) s
+      → changed (right_change held is_new) (at_moment s moment) ≡ (replies.Plain, record before { board = board })
+  right_made true is_new old settled before board ready settles same board_is s made =
+      stays is_new old s ready made ∙ ap (λ (t : State). (replies.Plain, t)) (sym (same ∙ settles))
+      ∙ ap (λ (b : Board). (replies.Plain, record before { board = b })) (sym board_is)
+  right_made false is_new old settled before board ready settles same board_is s made =
+      goes is_new old s ready made ∙ ap (λ (t : State). (replies.Plain, with_right t kind uid text false)) (sym (same ∙ settles))
+      ∙ ap (λ (b : Board). (replies.Plain, record before { board = b })) (sym board_is)
+
+pub right_carried : (right : RightChange) (change : Change) (old settled before : State) (board : Board) (moment : ℕ) → change ≡ changes.Right right → IsPrepared change old
+    → settled ≡ at_moment old moment → before ≡ settled → board ≡ (cond right.held before.board (with_held before.board right.kind right.uid right.text false))
+    → (s : State) → old ≡ prepared change s → changed change (at_moment s moment) ≡ (replies.Plain, record before { board = board })
+right_carried right change old settled before board moment is ready settles same board_is s made =
+    ap (λ (c : Change). changed c (at_moment s moment)) is
+    ∙ right_made right.kind right.uid right.text moment right.held right.is_new old settled before board
+    (subst (λ (c : Change). IsPrepared c old) is ready) settles same board_is s (made ∙ ap (λ (c : Change). prepared c s) is)

@@ -1,5 +1,6 @@
 -- What a call on packages changes once its row is kept: what is planned, how that is prepared, and what it comes to.
-use Rattle.std.specs.Prelude.{◌≡◌, ◌<◌, ℕ, ◌+◌, true, false, not, ◌&&◌, List, [], ◌∷◌, ◌++◌, length, if◌then◌else◌, Some}
+use Rattle.std.specs.Prelude.{◌≡◌, ◌<◌, ℕ, ◌+◌, Bool, true, false, not, ◌&&◌, ◌==◌, List, [], ◌∷◌, ◌++◌, length, if◌then◌else◌, Some}
+use Rattle.std.specs.List.{count_by}
 use Rattle.am_types.specs.declared.device.Grant.{Grant}
 use Rattle.am_types.specs.declared.device.Link.{Link}
 use Rattle.am_types.specs.declared.device.Package.{Package}
@@ -7,9 +8,13 @@ use Rattle.am_types.specs.declared.history.Entry.{Entry}
 use Rattle.am_types.specs.declared.reply.Reply.{Reply}
 use Rattle.am_types.specs.declared.reply.Reply.TheVariants as replies
 use Rattle.am_types.specs.declared.request.Request.{Request}
+use Rattle.am_types.specs.declared.request.Request.TheVariants as asks
+use Rattle.am_types.specs.declared.rule.Limit.{Limit}
+use Rattle.am_types.specs.declared.rule.Limit.TheVariants as limits
 use Rattle.am_types.specs.declared.rule.Rule.{Rule}
 use Rattle.am_keeper.specs.declared.rows.Row.{Row}
-use Rattle.am_model.specs.Boards.{is_granted, is_linked, is_package_uid, with_grant, with_link}
+use Rattle.am_keeper.specs.declared.rows.Row.TheVariants as rows
+use Rattle.am_model.specs.Boards.{Board, is_granted, is_linked, is_package_uid, with_grant, with_link}
 use Rattle.am_installed.specs.Installed.{AreInstalled}
 use Rattle.am_history.specs.Answers.{done, refused}
 use Rattle.am_history.specs.Kept.{row_of}
@@ -20,37 +25,60 @@ use Rattle.am_live.specs.declared.change.Change.{Change}
 use Rattle.am_live.specs.declared.change.Change.TheVariants as changes
 use Rattle.am_live.specs.declared.change.Plan.{Plan}
 use Rattle.am_live.specs.declared.change.Plan.TheVariants as plans
+use Rattle.am_live.specs.declared.change.RightKind.{RightKind}
+use Rattle.am_live.specs.declared.change.RightKind.TheVariants.{Permission, Host}
 
 -- the state with one more package, behind the others
 abbrev pub with_package : State → Package → State
 with_package state «package» = with_packages state (state.board.packages ++ «package» ∷ [])
 
--- the state with other grants
-abbrev pub with_grants : State → List Grant → State
-with_grants state grants = record state { board = record (state.board) { grants = grants } }
+-- the uid has the right: it holds the permission, or is approved for the links of the host
+abbrev pub is_held : Board → RightKind → ℕ → List ℕ → Bool
+is_held board Permission uid text = is_granted board.grants uid text
+is_held board Host uid text = is_linked board.links uid text
 
--- the state with other links
-abbrev pub with_links : State → List Link → State
-with_links state links = record state { board = record (state.board) { links = links } }
+-- how many rights of the kind the uid has
+abbrev pub count_held : Board → RightKind → ℕ → ℕ
+count_held board Permission uid = count_by (λ (grant : Grant). grant.uid == uid) board.grants
+count_held board Host uid = count_by (λ (link : Link). link.uid == uid) board.links
+
+-- the board with the right held or not held
+abbrev pub with_held : Board → RightKind → ℕ → List ℕ → Bool → Board
+with_held board Permission uid text held = record board { grants = with_grant board.grants uid text held }
+with_held board Host uid text held = record board { links = with_link board.links uid text held }
+
+-- the state with the right held or not held
+abbrev pub with_right : State → RightKind → ℕ → List ℕ → Bool → State
+with_right state kind uid text held = record state { board = with_held state.board kind uid text held }
+
+-- the request that gives the package of a name a right, or takes it
+abbrev pub right_request : RightKind → List ℕ → List ℕ → Bool → Request
+right_request Permission name text held = asks.Grant name text held
+right_request Host name text held = asks.Link name text held
+
+-- the row of a right that a uid is given, or that is taken
+abbrev pub right_row : RightKind → ℕ → List ℕ → Bool → Row
+right_row Permission uid text held = rows.Grant (record { uid = uid; permission = text; held = held })
+right_row Host uid text held = rows.Link (record { uid = uid; host = text; approved = held })
+
+-- the limit of how many rights of the kind a package may have
+abbrev pub right_limit : RightKind → Limit
+right_limit Permission = limits.Grants
+right_limit Host = limits.Links
 
 -- what a change is answered, and the state that it leaves
 abbrev pub changed : Change → State → Reply × State
 changed (changes.Install «package») state =
     (replies.Installed «package».uid, record (with_package state «package») { next_uid = state.next_uid + 1 })
 changed (changes.Uninstall uid) state = done (without state uid)
-changed (changes.Grant uid permission held is_new) state =
-    done (with_grants state (with_grant state.board.grants uid permission held))
-changed (changes.Link uid host approved is_new) state =
-    done (with_links state (with_link state.board.links uid host approved))
+changed (changes.Right right) state = done (with_right state right.kind right.uid right.text right.held)
 
--- the state with all that a change takes memory for: a new package, a new grant or a new link is there already
+-- the state with all that a change takes memory for: a new package or a new right is there already
 abbrev pub prepared : Change → State → State
 prepared (changes.Install «package») state = with_package state «package»
 prepared (changes.Uninstall uid) state = state
-prepared (changes.Grant uid permission held is_new) state =
-    if is_new then with_grants state (with_grant state.board.grants uid permission true) else state
-prepared (changes.Link uid host approved is_new) state =
-    if is_new then with_links state (with_link state.board.links uid host true) else state
+prepared (changes.Right right) state =
+    if right.is_new then with_right state right.kind right.uid right.text true else state
 
 -- a package can be installed: there are fewer than 256, it has the next uid, which isn't the last one and no other
 -- package's, and with it the packages are installed as they have to be
@@ -65,8 +93,7 @@ pub record IsInstallable («package» : Package) (state : State) : Type 0 where
 abbrev pub Fits : Change → State → Type 0
 Fits (changes.Install «package») state = IsInstallable «package» state
 Fits (changes.Uninstall uid) state = Unit {0}
-Fits (changes.Grant uid permission held is_new) state = is_new ≡ (held && not (is_granted state.board.grants uid permission))
-Fits (changes.Link uid host approved is_new) state = is_new ≡ (approved && not (is_linked state.board.links uid host))
+Fits (changes.Right right) state = right.is_new ≡ (right.held && not (is_held state.board right.kind right.uid right.text))
 
 -- the state is one that a change fits, and for which it was prepared
 pub record IsPrepared (change : Change) (state : State) : Type 0 where

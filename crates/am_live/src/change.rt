@@ -3,29 +3,35 @@
 use am_keeper::Row;
 use am_types::{Package, Rule, Text};
 
+/// What a right of a package is to.
+#[derive(Clone, Copy)]
+pub enum RightKind {
+    /// To what a permission guards.
+    Permission,
+    /// To the web links of a host.
+    Host,
+}
+
+/// A right to the permission or the host, which the uid is given, or which is taken from it.
+#[derive(Drop)]
+pub struct RightChange {
+    pub kind: RightKind,
+    pub uid: u32,
+    pub text: Text,
+    pub held: bool,
+    /// It is given and wasn't held.
+    pub is_new: bool,
+}
+
 /// What an accepted call on packages changes, once its row is kept.
 #[derive(Drop)]
 pub enum Change {
     /// The package goes behind the others, under the next uid, and is stopped.
     Install(Package),
     /// The package of the uid goes, and all that it has.
-    Uninstall {
-        uid: u32,
-    },
-    /// The permission is given to the uid, or taken. It is new if it is given and wasn't held.
-    Grant {
-        uid: u32,
-        permission: Text,
-        held: bool,
-        is_new: bool,
-    },
-    /// The uid is approved for the links of the host, or not any more. That is new if it wasn't approved.
-    Link {
-        uid: u32,
-        host: Text,
-        approved: bool,
-        is_new: bool,
-    },
+    Uninstall { uid: u32 },
+    /// A right is given to a uid, or taken.
+    Right(RightChange),
 }
 
 /// What is planned for a call that has a row kept.

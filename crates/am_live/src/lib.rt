@@ -14,5 +14,5 @@ mod reads;
 mod sending;
 mod services;
 
-pub use change::{Change, Plan};
+pub use change::{Change, Plan, RightChange, RightKind};
 pub use live::Live;

@@ -10,7 +10,7 @@ use am_queue::Queues;
 use am_resolve::Board;
 use am_services::Services;
 use am_tasks::Tasks;
-use am_types::{Device, NoMemory, Steps, Text};
+use am_types::{Device, NoMemory, Steps, Text, drop_parts};
 use std::alloc::Global;
 use std::marker::Model;
 use std::sync::ledger::Ledger;
@@ -19,7 +19,6 @@ use std::sync::ledger::Ledger;
 const LAST_MOMENT: u64 = 4_611_686_018_427_387_904;
 
 /// The live state of a device. Contracts see it as the state of the definitions.
-#[derive(Drop)]
 pub struct Live {
     pub(crate) alloc: Global,
     pub(crate) system_key: Text,
@@ -55,6 +54,12 @@ impl Model for Live {
 
     // Deadlines behind a moment are below 2^64, and a device has at most 256 packages.
     ghost invariant = { λ l. (l.moment ≤ 4611686018427387904) × (length l.board.packages ≤ 256) };
+}
+
+impl Drop for Live {
+    fn drop(self) {
+        drop_parts!(self, Live: alloc system_key root_key board queues pending tasks services next_uid next_registration moment);
+    }
 }
 
 impl Live {

@@ -1,19 +1,19 @@
 //! Packages that come, go and stop, and rights that are given and taken.
-ghost use Rattle.std.specs.Prelude.{◌≡◌, ◌≤◌, ◌∷◌, ◌++◌, [], true, false, length, if◌then◌else◌, OnOk, OnErr};
-ghost use Rattle.am_model.specs.Boards.{with_grant, with_link, with_stopped};
+ghost use Rattle.std.specs.Prelude.{◌≡◌, ◌≤◌, true, false, length, if◌then◌else◌, IsOk, OnOk, OnErr};
+ghost use Rattle.am_model.specs.Boards.{with_stopped};
 ghost use Rattle.am_history.specs.Packages.{force_stop, forget, without};
 ghost use Rattle.am_history.specs.State.{State, with_packages};
 ghost use Rattle.am_history.specs.Steps.{at_moment};
-ghost use Rattle.am_live.specs.Changes.{changed, prepared, with_package, Fits, IsInstallable, IsPrepared};
+ghost use Rattle.am_live.specs.Changes.{changed, prepared, with_held, with_package, Fits, IsInstallable, IsPrepared};
 
-use crate::{Change, Live};
+use crate::{Change, Live, RightChange, RightKind};
 use am_gates::is_privileged;
 use am_resolve::Board;
 use am_types::{NoMemory, Package, Reply, Rule, Steps, Text};
 use std::sync::ledger::Ledger;
 
 impl Live {
-    /// Takes all memory that a change needs: a new package, a new grant or a new link is there from now on.
+    /// Takes all memory that a change needs: a new package or a new right is there from now on.
     /// After `NoMemory` the state is as before.
     pub fn prepare(&mut self, change: &Change) -> Result<(), NoMemory>
         requires { Fits change.now self.old }
@@ -23,26 +23,9 @@ impl Live {
         match change {
             Change::Install(package) => self.add_package(package),
             Change::Uninstall { .. } => Ok(()),
-            Change::Grant {
-                uid,
-                permission,
-                is_new,
-                ..
-            } => {
-                if *is_new {
-                    self.board.set_grant(*uid, permission, true)
-                } else {
-                    Ok(())
-                }
-            }
-            Change::Link {
-                uid,
-                host,
-                is_new,
-                ..
-            } => {
-                if *is_new {
-                    self.board.set_link(*uid, host, true)
+            Change::Right(right) => {
+                if right.is_new {
+                    set_right(&mut self.board, right, true)
                 } else {
                     Ok(())
                 }
@@ -85,22 +68,8 @@ impl Live {
                 self.remove(uid);
                 Reply::Plain
             }
-            Change::Grant {
-                uid,
-                permission,
-                held,
-                ..
-            } => {
-                take_grant_unless(held, &mut self.board, uid, &permission);
-                Reply::Plain
-            }
-            Change::Link {
-                uid,
-                host,
-                approved,
-                ..
-            } => {
-                take_link_unless(approved, &mut self.board, uid, &host);
+            Change::Right(right) => {
+                take_unless_held(&mut self.board, &right);
                 Reply::Plain
             }
         }
@@ -113,24 +82,9 @@ impl Live {
         match change {
             Change::Install(package) => self.board.drop_package(package.uid),
             Change::Uninstall { .. } => {}
-            Change::Grant {
-                uid,
-                permission,
-                is_new,
-                ..
-            } => {
-                if *is_new {
-                    take_grant(&mut self.board, *uid, permission);
-                }
-            }
-            Change::Link {
-                uid,
-                host,
-                is_new,
-                ..
-            } => {
-                if *is_new {
-                    take_link(&mut self.board, *uid, host);
+            Change::Right(right) => {
+                if right.is_new {
+                    take_right(&mut self.board, right);
                 }
             }
         }
@@ -193,36 +147,34 @@ impl Live {
     }
 }
 
-/// The uid doesn't hold the permission any more, unless it is to be held. Takes no memory.
-fn take_grant_unless(held: bool, board: &mut Board, uid: u32, permission: &Text)
-    ensures { board.new ≡ (if held then board.old
-        else record board.old { grants = with_grant board.old.grants uid permission.now false }) }
+/// The uid has the right, or doesn't any more; taking it away takes no memory. Without memory all is as before.
+fn set_right(board: &mut Board, right: &RightChange, held: bool) -> Result<(), NoMemory>
+    ensures set { OnOk result (board.new ≡ with_held board.old right.now.kind right.now.uid right.now.text held) }
+    ensures same { OnErr result (board.new ≡ board.old) }
+    ensures taken { held ≡ false → IsOk result }
+    ensures count { length board.new.packages ≡ length board.old.packages }
 {
-    if !held {
-        take_grant(board, uid, permission);
+    match right.kind {
+        RightKind::Permission => board.set_grant(right.uid, &right.text, held),
+        RightKind::Host => board.set_link(right.uid, &right.text, held),
     }
 }
 
-/// The uid isn't approved for the host any more, unless it is to be. Takes no memory.
-fn take_link_unless(approved: bool, board: &mut Board, uid: u32, host: &Text)
-    ensures { board.new ≡ (if approved then board.old
-        else record board.old { links = with_link board.old.links uid host.now false }) }
+/// The uid doesn't have the right any more. Takes no memory.
+fn take_right(board: &mut Board, right: &RightChange)
+    ensures taken { board.new ≡ with_held board.old right.now.kind right.now.uid right.now.text false }
+    ensures count { length board.new.packages ≡ length board.old.packages }
 {
-    if !approved {
-        take_link(board, uid, host);
+    let _taken = set_right(board, right, false);
+}
+
+/// The uid doesn't have the right any more, unless it is to be held. Takes no memory.
+fn take_unless_held(board: &mut Board, right: &RightChange)
+    ensures taken { board.new ≡ (if right.now.held then board.old
+        else with_held board.old right.now.kind right.now.uid right.now.text false) }
+    ensures count { length board.new.packages ≡ length board.old.packages }
+{
+    if !right.held {
+        take_right(board, right);
     }
-}
-
-/// The uid doesn't hold the permission any more. Takes no memory.
-fn take_grant(board: &mut Board, uid: u32, permission: &Text)
-    ensures { board.new ≡ record board.old { grants = with_grant board.old.grants uid permission.now false } }
-{
-    let _taken = board.set_grant(uid, permission, false);
-}
-
-/// The uid isn't approved for the host any more. Takes no memory.
-fn take_link(board: &mut Board, uid: u32, host: &Text)
-    ensures { board.new ≡ record board.old { links = with_link board.old.links uid host.now false } }
-{
-    let _taken = board.set_link(uid, host, false);
 }

@@ -1,27 +1,26 @@
 //! What is planned for calls that have a row kept.
 ghost use Rattle.std.specs.Prelude.{◌≡◌, ◌==◌, ◌&&◌, ◌||◌, not, true, nat_le, length, count_by, IfOk, IsTrue};
-ghost use Rattle.am_types.specs.declared.device.Grant.{Grant};
-ghost use Rattle.am_types.specs.declared.device.Link.{Link};
 ghost use Rattle.am_manifest.specs.Manifests.{manifest_of};
-ghost use Rattle.am_model.specs.Boards.{is_granted, is_linked};
+ghost use Rattle.am_model.specs.Boards.{is_linked};
 ghost use Rattle.am_model.specs.Gates.{is_privileged};
 ghost use Rattle.am_history.specs.Kept.{gone_row, installed_row};
 ghost use Rattle.am_history.specs.Packages.{installed, is_full, is_key_used, is_name_used};
 ghost use Rattle.am_history.specs.Steps.{keeps_row};
 ghost use Rattle.am_laws_state.specs.Sound.{IsSoundState};
-ghost use Rattle.am_live.specs.Changes.{IsPlanOf};
+ghost use Rattle.am_live.specs.Changes.{IsPlanOf, count_held, is_held, right_limit, right_request, right_row};
 
-use crate::{Change, Live, Plan, callers};
+use crate::{Change, Live, Plan, RightChange, RightKind, callers};
 use am_gates::{is_granted, is_privileged};
+use am_installed::Right;
 use am_keeper::{GrantRow, LinkRow, PackageRow, Row};
 use am_manifest::{ReadFault, read_package};
-use am_types::{Grant, Limit, Link, List, Manifest, NoMemory, Package, Request, Rule, Text};
+use am_types::{Limit, Link, List, Manifest, NoMemory, Package, Request, Rule, Text};
 use std::alloc::Global;
 
 /// How many packages a device may have.
 const MOST_PACKAGES: usize = 256;
 
-/// How many permissions a package may hold, and for how many hosts it may be approved.
+/// How many rights of a kind a package may have.
 const MOST_RIGHTS: usize = 256;
 
 impl Live {
@@ -45,12 +44,12 @@ impl Live {
                 package,
                 permission,
                 held,
-            } => self.plan_grant(caller, package, permission, *held),
+            } => self.plan_right(caller, RightKind::Permission, package, permission, *held),
             Request::Link {
                 package,
                 host,
                 approved,
-            } => self.plan_link(caller, package, host, *approved),
+            } => self.plan_right(caller, RightKind::Host, package, host, *approved),
             _ => unreachable!(),
         }
     }
@@ -126,66 +125,73 @@ impl Live {
         Ok(Plan::Accepted { change, row })
     }
 
-    /// Plans that the package of the name is given a permission, or that it is taken.
-    fn plan_grant(
+    /// Plans that the package of the name is given a right, or that it is taken.
+    fn plan_right(
         &self,
         caller: u32,
+        kind: RightKind,
         name: &Text,
-        permission: &Text,
+        text: &Text,
         held: bool,
     ) -> Result<Plan, NoMemory>
         requires { IsTrue (is_privileged caller) }
-        ensures { IfOk result (λ plan. IsPlanOf plan self.now caller (Request.Grant name.now permission.now held)) }
+        ensures { IfOk result (λ plan. IsPlanOf plan self.now caller (right_request kind name.now text.now held)) }
     {
         let Some(owner) = self.board.package_named(name) else {
             return Ok(Plan::Refused(Rule::NoPackage));
         };
         let uid = owner.uid;
-        let grants = self.board.grants();
-        let is_new = is_new_grant(grants, uid, permission, held);
-        if is_grant_too_many(grants, uid, is_new) {
-            return Ok(Plan::Refused(Rule::OverLimit(Limit::Grants)));
+        let is_new = self.is_new_right(kind, uid, text, held);
+        if self.is_right_too_many(kind, uid, is_new) {
+            return Ok(Plan::Refused(Rule::OverLimit(right_limit(kind))));
         }
-        let row = grant_row(uid, permission, held)?;
-        let permission = permission.clone()?;
-        let change = Change::Grant {
+        let row = right_row(kind, uid, text, held)?;
+        let text = text.clone()?;
+        let right = RightChange {
+            kind,
             uid,
-            permission,
+            text,
             held,
             is_new,
         };
-        Ok(Plan::Accepted { change, row })
+        Ok(Plan::Accepted {
+            change: Change::Right(right),
+            row,
+        })
     }
 
-    /// Plans that the package of the name is approved for the links of a host, or that it isn't any more.
-    fn plan_link(
-        &self,
-        caller: u32,
-        name: &Text,
-        host: &Text,
-        approved: bool,
-    ) -> Result<Plan, NoMemory>
-        requires { IsTrue (is_privileged caller) }
-        ensures { IfOk result (λ plan. IsPlanOf plan self.now caller (Request.Link name.now host.now approved)) }
+    /// The right is given, and the uid doesn't have it.
+    fn is_new_right(&self, kind: RightKind, uid: u32, text: &Text, held: bool) -> bool
+        ensures { result ≡ (held && not (is_held self.now.board kind uid text.now)) }
     {
-        let Some(owner) = self.board.package_named(name) else {
-            return Ok(Plan::Refused(Rule::NoPackage));
-        };
-        let uid = owner.uid;
-        let links = self.board.links();
-        let is_new = is_new_link(links, uid, host, approved);
-        if is_link_too_many(links, uid, is_new) {
-            return Ok(Plan::Refused(Rule::OverLimit(Limit::Links)));
+        held && !self.has_right(kind, uid, text)
+    }
+
+    /// The uid has the right.
+    fn has_right(&self, kind: RightKind, uid: u32, text: &Text) -> bool
+        ensures { result ≡ is_held self.now.board kind uid text.now }
+    {
+        match kind {
+            RightKind::Permission => is_granted(self.board.grants(), uid, text.as_str()),
+            RightKind::Host => is_linked(self.board.links(), uid, text),
         }
-        let row = link_row(uid, host, approved)?;
-        let host = host.clone()?;
-        let change = Change::Link {
-            uid,
-            host,
-            approved,
-            is_new,
-        };
-        Ok(Plan::Accepted { change, row })
+    }
+
+    /// The right is new, and the uid has as many of the kind as it may.
+    fn is_right_too_many(&self, kind: RightKind, uid: u32, is_new: bool) -> bool
+        ensures { result ≡ (is_new && nat_le 256 (count_held self.now.board kind uid)) }
+    {
+        is_new && self.count_rights(kind, uid) >= MOST_RIGHTS
+    }
+
+    /// How many rights of the kind the uid has.
+    fn count_rights(&self, kind: RightKind, uid: u32) -> usize
+        ensures { result ≡ count_held self.now.board kind uid }
+    {
+        match kind {
+            RightKind::Permission => count_of(self.board.grants(), uid),
+            RightKind::Host => count_of(self.board.links(), uid),
+        }
     }
 }
 
@@ -249,28 +255,33 @@ fn gone_row(alloc: Global, owner: &Package) -> Result<Row, NoMemory>
     }))
 }
 
-/// The row of a permission that is given or taken.
-fn grant_row(uid: u32, permission: &Text, held: bool) -> Result<Row, NoMemory>
-    ensures { IfOk result (λ row. row ≡ Row.Grant (record { uid = uid; permission = permission.now; held = held })) }
+/// The row of a right that is given or taken.
+fn right_row(kind: RightKind, uid: u32, text: &Text, held: bool) -> Result<Row, NoMemory>
+    ensures { IfOk result (λ row. row ≡ right_row kind uid text.now held) }
 {
-    let permission = permission.clone()?;
-    Ok(Row::Grant(GrantRow {
-        uid,
-        permission,
-        held,
-    }))
+    let text = text.clone()?;
+    match kind {
+        RightKind::Permission => Ok(Row::Grant(GrantRow {
+            uid,
+            permission: text,
+            held,
+        })),
+        RightKind::Host => Ok(Row::Link(LinkRow {
+            uid,
+            host: text,
+            approved: held,
+        })),
+    }
 }
 
-/// The row of a host whose links are approved, or aren't any more.
-fn link_row(uid: u32, host: &Text, approved: bool) -> Result<Row, NoMemory>
-    ensures { IfOk result (λ row. row ≡ Row.Link (record { uid = uid; host = host.now; approved = approved })) }
+/// The limit of how many rights of the kind a package may have.
+fn right_limit(kind: RightKind) -> Limit
+    ensures { result ≡ right_limit kind }
 {
-    let host = host.clone()?;
-    Ok(Row::Link(LinkRow {
-        uid,
-        host,
-        approved,
-    }))
+    match kind {
+        RightKind::Permission => Limit::Grants,
+        RightKind::Host => Limit::Links,
+    }
 }
 
 /// The uid is approved for the host.
@@ -283,54 +294,13 @@ fn is_linked(links: &List<Link>, uid: u32, host: &Text) -> bool
         .any(|link| link.uid == uid && link.host == *host)
 }
 
-/// A permission is given that the uid doesn't hold.
-fn is_new_grant(grants: &List<Grant>, uid: u32, permission: &Text, held: bool) -> bool
-    ensures { result ≡ (held && not (is_granted grants.now uid permission.now)) }
+/// How many of the rights the uid has.
+fn count_of<T: Right>(rights: &List<T>, uid: u32) -> usize
+    ensures { result ≡ count_by (λ right. (T.right_of right).0 == uid) rights.now }
 {
-    held && !is_granted(grants, uid, permission.as_str())
-}
-
-/// The uid is approved for a host for which it wasn't.
-fn is_new_link(links: &List<Link>, uid: u32, host: &Text, approved: bool) -> bool
-    ensures { result ≡ (approved && not (is_linked links.now uid host.now)) }
-{
-    approved && !is_linked(links, uid, host)
-}
-
-/// The grant is new, and the uid holds as many permissions as it may.
-fn is_grant_too_many(grants: &List<Grant>, uid: u32, is_new: bool) -> bool
-    ensures { result ≡ (is_new && nat_le 256 (count_by (λ (g : Grant). g.uid == uid) grants.now)) }
-{
-    is_new && has_most_grants(grants, uid)
-}
-
-/// The link is new, and the uid is approved for as many hosts as it may be.
-fn is_link_too_many(links: &List<Link>, uid: u32, is_new: bool) -> bool
-    ensures { result ≡ (is_new && nat_le 256 (count_by (λ (l : Link). l.uid == uid) links.now)) }
-{
-    is_new && has_most_links(links, uid)
-}
-
-/// The uid holds as many permissions as it may.
-fn has_most_grants(grants: &List<Grant>, uid: u32) -> bool
-    ensures { result ≡ nat_le 256 (count_by (λ (g : Grant). g.uid == uid) grants.now) }
-{
-    let count = grants
+    rights
         .as_slice()
         .iter()
-        .filter(|grant| grant.uid == uid)
-        .count();
-    count >= MOST_RIGHTS
-}
-
-/// The uid is approved for as many hosts as it may be.
-fn has_most_links(links: &List<Link>, uid: u32) -> bool
-    ensures { result ≡ nat_le 256 (count_by (λ (l : Link). l.uid == uid) links.now) }
-{
-    let count = links
-        .as_slice()
-        .iter()
-        .filter(|link| link.uid == uid)
-        .count();
-    count >= MOST_RIGHTS
+        .filter(|right| right.uid() == uid)
+        .count()
 }

@@ -1,5 +1,6 @@
 //! What is read of the state.
 ghost use Rattle.std.specs.Prelude.{◌≡◌, ◌≤◌, length, option_copied, IfOk, OnOk, OnErr};
+ghost use Rattle.am_types.specs.declared.reply.Reply.TheVariants.{Components, Items, Services, Tasks};
 ghost use Rattle.am_model.specs.Candidates.{hits};
 ghost use Rattle.am_model.specs.Gates.{is_privileged};
 ghost use Rattle.am_model.specs.Sending.{inbox};
@@ -14,10 +15,7 @@ use crate::Live;
 use am_explain::{Question, accounts};
 use am_gates::is_privileged;
 use am_installed::{caller_named, uid_named};
-use am_types::{
-    Component, Hit, Intent, Item, Kind, List, NoMemory, Reply, Rule, ServiceView, Steps, TaskView,
-    Text,
-};
+use am_types::{Component, Hit, Intent, Kind, List, NoMemory, Reply, Rule, Steps, Text};
 use std::alloc::Global;
 use std::mem;
 use std::sync::ledger::Ledger;
@@ -31,15 +29,15 @@ impl Live {
         intent: &Intent,
         default_only: bool,
         steps: &mut Steps<L>,
-    ) -> Result<List<Component>, NoMemory>
+    ) -> Result<Reply, NoMemory>
         ensures { IfOk result
-            (λ names. names ≡ components_of (hits self.now.board.packages kind intent.now default_only)) }
+            (λ reply. reply ≡ Components (components_of (hits self.now.board.packages kind intent.now default_only))) }
     {
         let found = self
             .board
             .query(self.alloc, kind, intent, default_only, steps)?;
         let names = components_of(self.alloc, found)?;
-        Ok(names)
+        Ok(Reply::Components(names))
     }
 
     /// Whom an intent reaches and why not the others. With `name` the question is that of the package of the
@@ -91,24 +89,27 @@ impl Live {
     }
 
     /// The tasks that the caller sees, from front to back.
-    pub fn tasks(&self, caller: u32) -> Result<List<TaskView>, NoMemory>
-        ensures { IfOk result (λ shown. shown ≡ views self.now.tasks caller) }
+    pub fn tasks(&self, caller: u32) -> Result<Reply, NoMemory>
+        ensures { IfOk result (λ reply. reply ≡ Tasks (views self.now.tasks caller)) }
     {
-        self.tasks.views(caller)
+        let shown = self.tasks.views(caller)?;
+        Ok(Reply::Tasks(shown))
     }
 
     /// The services that run and that the caller sees, in the order of their first start.
-    pub fn services(&self, caller: u32) -> Result<List<ServiceView>, NoMemory>
-        ensures { IfOk result (λ shown. shown ≡ services_of self.now.services caller) }
+    pub fn services(&self, caller: u32) -> Result<Reply, NoMemory>
+        ensures { IfOk result (λ reply. reply ≡ Services (services_of self.now.services caller)) }
     {
-        self.services.views(caller)
+        let shown = self.services.views(caller)?;
+        Ok(Reply::Services(shown))
     }
 
     /// What waits for the caller, at most 64 items by rising number.
-    pub fn inbox(&self, caller: u32) -> Result<List<Item>, NoMemory>
-        ensures { IfOk result (λ items. items ≡ inbox self.now.broadcasts caller) }
+    pub fn inbox(&self, caller: u32) -> Result<Reply, NoMemory>
+        ensures { IfOk result (λ reply. reply ≡ Items (inbox self.now.broadcasts caller)) }
     {
-        self.queues.inbox(caller)
+        let items = self.queues.inbox(caller)?;
+        Ok(Reply::Items(items))
     }
 
     /// What waits for the caller once the deadlines are handled that are due at a moment, which is the last
@@ -118,10 +119,10 @@ impl Live {
         caller: u32,
         moment: u64,
         steps: &mut Steps<L>,
-    ) -> Result<List<Item>, NoMemory>
+    ) -> Result<Reply, NoMemory>
         requires { moment ≤ 4611686018427387904 }
         ensures state { OnOk result (self.new ≡ at_moment self.old moment) }
-        ensures items { IfOk result (λ items. items ≡ inbox self.new.broadcasts caller) }
+        ensures items { IfOk result (λ reply. reply ≡ Items (inbox self.new.broadcasts caller)) }
         ensures same { OnErr result (self.new ≡ self.old) }
     {
         let mut queues = self.queues.copy()?;
@@ -130,7 +131,7 @@ impl Live {
             Ok(items) => {
                 drop(mem::replace(&mut self.queues, queues));
                 self.moment = moment;
-                Ok(items)
+                Ok(Reply::Items(items))
             }
             Err(error) => {
                 drop(queues);

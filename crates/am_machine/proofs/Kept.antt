@@ -62,8 +62,7 @@ told_as_before state request reply told none = by (is_refusal reply)
 pub changed_is_accepted : (change : Change) (state : State) → is_refusal (changed change state).0 ≡ false
 changed_is_accepted (changes.Install owner) state = refl
 changed_is_accepted (changes.Uninstall uid) state = refl
-changed_is_accepted (changes.Grant uid permission held is_new) state = refl
-changed_is_accepted (changes.Link uid host approved is_new) state = refl
+changed_is_accepted (changes.Right right) state = refl
 
 -- a call that is refused at its moment
 pub refused_step : (rule : Rule) (state new : State) (before : List Entry) (entry : Entry) (moment : ℕ)

@@ -13,7 +13,7 @@ ghost use Rattle.am_laws_state.specs.Sound.{IsSoundState};
 ghost use Rattle.am_live.specs.Changes.{Fits, changed};
 ghost use Rattle.am_machine.specs.Keeping.{GoesOn, told_after, with_kept};
 
-use am_keeper::{KeepFail, Keeper, Row, put_row};
+use am_keeper::{KeepFail, Keeper, Row};
 use am_live::{Change, Live, Plan};
 use am_types::{Entry, NoMemory, Reply, Rule, Steps};
 use std::sync::ledger::Ledger;
@@ -133,5 +133,5 @@ fn put<K: Keeper>(keeper: &mut K, row: &Row) -> Result<(), KeepFail>
     ensures keeper { GoesOn K.Keeper keeper.old keeper.new }
     ensures failed { result ≡ Err Failed → HasRisen (K.faults keeper.old) (K.faults keeper.new) }
 {
-    put_row(keeper, row)
+    keeper.put(row)
 }

@@ -14,13 +14,12 @@ use crate::opened::Opened;
 use am_keeper::{Attached, Keeper, Rows};
 use am_live::Live;
 use am_opening::{OpenFault, open};
-use am_types::{Device, Entry, NoMemory};
+use am_types::{Device, Entry, NoMemory, drop_parts};
 use std::alloc::Global;
 use std::marker::Model;
 
 /// The activity manager of one device. Contracts see where it comes from, its history, for how many more
 /// calls it has room at once, and its keeper.
-#[derive(Drop)]
 pub struct Manager<K: Keeper> {
     pub(crate) alloc: Global,
     opened: Opened,
@@ -50,6 +49,12 @@ impl<K: Keeper> Model for Manager<K> {
         m.live m.history.items m.weight
         × HoldsKept K.Keeper (record { device = m.opened.device; rows = m.opened.rows; place = K.place m.keeper })
         m.history.items m.keeper };
+}
+
+impl<K: Keeper> Drop for Manager<K> {
+    fn drop(self) {
+        drop_parts!(self, Manager: alloc opened live history weight keeper);
+    }
 }
 
 /// A manager of a sound device over a keeper and the rows that were there when it came, with no history. It
@@ -148,6 +153,14 @@ impl<K: Keeper> Manager<K> {
         ensures found { K.is_honest result → (told : Told) → K.rows result ≡ Some told
             → told ≡ rows_after (opening_of self.origin) self.origin.rows self.history }
     {
-        self.keeper
+        let Manager {
+            alloc: _,
+            opened: _,
+            live: _,
+            history: _,
+            weight: _,
+            keeper,
+        } = self;
+        keeper
     }
 }

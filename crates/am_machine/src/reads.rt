@@ -28,10 +28,7 @@ pub(crate) fn read<L: Ledger>(
         ≡ (reply, live.now)) }
 {
     match &call.request {
-        Request::Inbox => {
-            let items = live.inbox(call.uid)?;
-            Ok(Reply::Items(items))
-        }
+        Request::Inbox => live.inbox(call.uid),
         Request::Status => Ok(status(live, history, call.uid)),
         _ => steady(alloc, live, history, call.uid, &call.request, steps),
     }
@@ -56,10 +53,7 @@ pub(crate) fn read_at<L: Ledger>(
     ensures calm { IsTrue (is_calm request.now) → IsOk result }
 {
     match request {
-        Request::Inbox => {
-            let items = live.inbox_at(caller, moment, steps)?;
-            Ok(Reply::Items(items))
-        }
+        Request::Inbox => live.inbox_at(caller, moment, steps),
         Request::Status => {
             live.settle(moment, steps);
             Ok(status(live, history, caller))
@@ -107,10 +101,7 @@ fn steady<L: Ledger>(
             kind,
             intent,
             default_only,
-        } => {
-            let found = live.query(*kind, intent, *default_only, steps)?;
-            Ok(Reply::Components(found))
-        }
+        } => live.query(*kind, intent, *default_only, steps),
         Request::Explain {
             kind,
             intent,
@@ -118,14 +109,8 @@ fn steady<L: Ledger>(
             permission,
             shown,
         } => explained(live, caller, *kind, intent, name, permission, shown, steps),
-        Request::ListTasks => {
-            let tasks = live.tasks(caller)?;
-            Ok(Reply::Tasks(tasks))
-        }
-        Request::Services => {
-            let services = live.services(caller)?;
-            Ok(Reply::Services(services))
-        }
+        Request::ListTasks => live.tasks(caller),
+        Request::Services => live.services(caller),
         Request::History { from } => entries(alloc, history, caller, *from),
         _ => unreachable!(),
     }

@@ -10,7 +10,7 @@ use Rattle.am_types.specs.declared.broadcast.Aim.TheVariants.{Declared, Register
 use Rattle.am_types.specs.declared.rule.Rule.TheVariants as rules
 use Rattle.am_model.specs.Filters.{default_category}
 use Rattle.am_model.specs.Boards.{Board, with_grant, with_link, with_stopped}
-use Rattle.am_model.proofs.Samples.{asking, to_component, component_of, uri_at, filter_for, open_decl, package_with, board_with, web_pages}
+use Rattle.am_model.proofs.Samples.{asking, to_component, component_of, uri_at, filter_for, open_decl, package_with, board_with, one, two, web_pages}
 use Rattle.am_model.specs.Accounts.{Question, accounts}
 use Rattle.am_types.specs.declared.account.Account.{Account}
 use Rattle.am_types.specs.declared.account.Narrowing.TheVariants.{Approved, Browser, General}
@@ -24,14 +24,6 @@ asks caller kind intent = record { caller = caller; kind = kind; intent = intent
 -- what is said of each, without the names
 abbrev said : Board → Question → List Standing
 said board question = map (λ (account : Account). account.standing) (accounts board question None)
-
--- com.one
-abbrev one : List ℕ
-one = codes "com.one"
-
--- com.two
-abbrev two : List ℕ
-two = codes "com.two"
 
 -- com.one and com.two with these components
 abbrev both : List Decl → List Decl → Board

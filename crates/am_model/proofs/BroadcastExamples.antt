@@ -1,5 +1,5 @@
 -- Examples of broadcasts: deliveries in turn and at once, deadlines, results, and receivers that are forgotten.
-use Rattle.std.specs.Prelude.{◌≡◌, ℕ, zero, suc, ℤ, pos, true, false, codes, List, [], ◌∷◌, map, length, replicate, Some, None, Result, Ok, Err, refl}
+use Rattle.std.specs.Prelude.{◌≡◌, ℕ, zero, suc, ℤ, pos, true, false, codes, List, [], ◌∷◌, map, length, replicate, Some, None, Err, refl}
 use Rattle.am_types.specs.declared.intent.Intent.{Intent}
 use Rattle.am_types.specs.declared.broadcast.Aim.{Aim}
 use Rattle.am_types.specs.declared.broadcast.Aim.TheVariants.{Declared, Registered}
@@ -9,13 +9,11 @@ use Rattle.am_types.specs.declared.broadcast.Answer.{Answer}
 use Rattle.am_types.specs.declared.broadcast.Sending.{Sending}
 use Rattle.am_types.specs.declared.broadcast.Item.{Item}
 use Rattle.am_types.specs.declared.broadcast.ItemKind.TheVariants.{Normal, InOrder, Final}
-use Rattle.am_types.specs.declared.broadcast.SendFault.{SendFault}
 use Rattle.am_types.specs.declared.broadcast.SendFault.TheVariants.{Full, TooMany}
-use Rattle.am_types.specs.declared.broadcast.FinishFault.{FinishFault}
 use Rattle.am_types.specs.declared.broadcast.FinishFault.TheVariants.{NoDelivery, NotYours, NotOrdered}
 use Rattle.am_model.specs.Broadcasts.{Broadcasts, no_broadcasts, Answered, Late, Gone, fold_outcome, due, expired}
 use Rattle.am_model.specs.Sending.{send, finish, forget_registered, forget_uid, inbox, live}
-use Rattle.am_model.proofs.Samples.{asking, component_of}
+use Rattle.am_model.proofs.Samples.{asking, component_of, left_by, made_by}
 
 -- com.s, which sends
 abbrev com_s : ℕ
@@ -57,23 +55,13 @@ at_once now uids = record { sender = com_s; now = now; foreground = false; no_ab
 abbrev in_order : ℕ → List ℕ → Sending
 in_order now uids = record (at_once now uids) { ordered = Some (record { initial = code (pos 1); wanted = true }) }
 
--- the broadcasts after a sending that isn't refused
-abbrev after_send : Result (ℕ × Broadcasts) SendFault → Broadcasts
-after_send (Ok sent) = sent.1
-after_send (Err fault) = no_broadcasts
-
 -- the broadcasts after that sending
 abbrev sent : Sending → Broadcasts → Broadcasts
-sent sending all = after_send (send all sending)
-
--- the broadcasts after a delivery was finished, where that isn't refused
-abbrev after_finish : Result Broadcasts FinishFault → Broadcasts
-after_finish (Ok all) = all
-after_finish (Err fault) = no_broadcasts
+sent sending all = left_by (send all sending) no_broadcasts
 
 -- the broadcasts after that delivery was finished by that uid
 abbrev finished : ℕ → ℕ → Answer → ℕ → Broadcasts → Broadcasts
-finished number uid answer now all = after_finish (finish all number uid answer now)
+finished number uid answer now all = made_by (finish all number uid answer now) no_broadcasts
 
 -- an answer that sets nothing
 abbrev plain : Answer

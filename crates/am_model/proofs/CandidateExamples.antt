@@ -5,9 +5,10 @@ use Rattle.am_types.specs.declared.manifest.Kind.TheVariants.{Activity, Service}
 use Rattle.am_types.specs.declared.manifest.Decl.{Decl}
 use Rattle.am_types.specs.declared.device.Package.{Package}
 use Rattle.am_types.specs.declared.resolve.Hit.{Hit}
+use Rattle.am_types.specs.Intents.{no_intent}
 use Rattle.am_model.specs.Filters.{default_category}
 use Rattle.am_model.specs.Candidates.{hits}
-use Rattle.am_model.proofs.Samples.{no_intent, asking, to_component, component_of, filter_for, open_decl, package_with}
+use Rattle.am_model.proofs.Samples.{asking, to_component, component_of, filter_for, open_decl, package_with}
 
 -- an activity of com.one with filters
 abbrev activity : List ℕ → List Filter → Decl

@@ -5,8 +5,8 @@ use Rattle.am_types.specs.declared.uri.Uri.{Uri}
 use Rattle.am_types.specs.declared.filter.Filter.{Filter}
 use Rattle.am_types.specs.declared.filter.PathRule.TheVariants.{Literal}
 use Rattle.am_types.specs.declared.filter.Why.TheVariants.{Action, Scheme, Host, Path, Type_, Category}
+use Rattle.am_types.specs.Intents.{no_intent}
 use Rattle.am_model.specs.Filters.{default_category, passes_authority, why}
-use Rattle.am_model.proofs.Samples.{no_intent}
 
 -- a host stands for itself whatever its case
 pub host_of_any_case : passes_authority (record { host = codes "a.com"; port = None }) (Some (codes "A.Com")) None ≡ true

@@ -6,8 +6,9 @@ use Rattle.am_types.specs.declared.uri.Mime.{Mime}
 use Rattle.am_types.specs.declared.intent.Component.{Component}
 use Rattle.am_types.specs.declared.intent.Extra.TheVariants.{Whole, Truth}
 use Rattle.am_types.specs.declared.filter.FillFault.TheVariants.{ExtrasFull}
+use Rattle.am_types.specs.Intents.{no_flags, no_intent}
 use Rattle.am_model.specs.Intents.{filter_equals, fill_in}
-use Rattle.am_model.proofs.Samples.{component_of, mime_at, no_flags, no_intent}
+use Rattle.am_model.proofs.Samples.{component_of, mime_at}
 use Rattle.am_model.proofs.FilterExamples.{view_intent, uri_of_a, uri_of_b}
 
 -- the order of categories doesn't count

@@ -8,7 +8,7 @@ use Rattle.am_types.specs.declared.uri.Mime.{Mime}
 use Rattle.std.specs.Prelude.{if◌then◌else◌}
 use Rattle.std.proofs.Math.Bool.{or-false}
 use Rattle.am_types.specs.declared.filter.FillFault.TheVariants.{ExtrasFull}
-use Rattle.am_model.proofs.Samples.{no_flags, no_intent}
+use Rattle.am_types.specs.Intents.{no_flags, no_intent}
 use Rattle.am_model.specs.Intents.{filter_equals, or_other, filled_uri, filled_mime, filled_categories, united_flags, united_extras, filled, fill_in}
 
 -- sameness for a filter sees neither flags nor extras, on either side

@@ -1,89 +1,59 @@
 -- Patterns and paths, worked.
-use Rattle.std.proofs.Common.{◌≡◌, true, false, [], ◌∷◌, ◌++◌, codes, replicate, refl}
+use Rattle.std.proofs.Common.{◌≡◌, ℕ, Bool, true, false, List, [], ◌∷◌, ◌++◌, map, codes, replicate, refl}
 use Rattle.std.specs.Str.{chars}
+use Rattle.am_types.specs.declared.filter.PathRule.{PathRule}
 use Rattle.am_types.specs.declared.filter.PathRule.TheVariants.{Literal, Prefix, Suffix}
 use Rattle.am_model.specs.Paths.{passes_pattern, passes_path}
 
--- a star gives back what the rest of the pattern needs
-pub star_gives_back : passes_pattern (codes "/a*ab") (codes "/aab") ≡ true
+-- patterns and paths, each pair with whether the path passes
+abbrev matches : List (List ℕ × List ℕ × Bool)
+matches =
+    -- a star gives back what the rest of the pattern needs
+    (codes "/a*ab", codes "/aab", true)
+    -- a star repeats also no times
+    ∷ (codes "/a*", codes "/", true)
+    -- any text between two slashes
+    ∷ (codes "/.*/b", codes "/a/c/b", true)
+    -- a star behind a backslash is a star
+    ∷ (codes "/\\*", codes "/*", true)
+    -- and nothing else
+    ∷ (codes "/\\*", codes "/x", false)
+    -- a dot is one character, however many bytes it has
+    ∷ (codes "/.", codes "/" ++ 195 ∷ 169 ∷ [], true)
+    -- and not none
+    ∷ (codes "/.", codes "/", false)
+    -- a star with nothing before it stands for itself
+    ∷ (codes "*x", codes "*x", true)
+    -- which isn't left out
+    ∷ (codes "*x", codes "x", false)
+    -- a star behind a repeated character stands for itself
+    ∷ (codes "/a**", codes "/aa*", true)
+    -- and isn't left out
+    ∷ (codes "/a**", codes "/aa", false)
+    -- however the characters are divided among the stars, the last one lacks
+    ∷ (codes ".*a.*a.*a.*b", replicate 8 97, false)
+    ∷ []
+
+pub patterns_match : map (λ (m : List ℕ × List ℕ × Bool). passes_pattern m.0 m.1) matches ≡ map (λ (m : List ℕ × List ℕ × Bool). m.2) matches
 unfolding chars
-star_gives_back = refl
+patterns_match = refl
 
--- a star repeats also no times
-pub star_repeats_none : passes_pattern (codes "/a*") (codes "/") ≡ true
-unfolding chars
-star_repeats_none = refl
+-- rules and paths, each pair with whether the path passes
+abbrev passings : List (PathRule × List ℕ × Bool)
+passings =
+    -- a literal path is the whole path
+    (Literal (codes "/a"), codes "/a", true)
+    -- and nothing behind it
+    ∷ (Literal (codes "/a"), codes "/ab", false)
+    -- a prefix begins the path
+    ∷ (Prefix (codes "/a"), codes "/ab", true)
+    -- and doesn't end it
+    ∷ (Prefix (codes "/b"), codes "/a/b", false)
+    -- a suffix ends the path
+    ∷ (Suffix (codes ".pdf"), codes "/a.pdf", true)
+    -- and doesn't stand within it
+    ∷ (Suffix (codes ".pdf"), codes "/a.pdf/b", false)
+    ∷ []
 
--- any text between two slashes
-pub any_folder : passes_pattern (codes "/.*/b") (codes "/a/c/b") ≡ true
-unfolding chars
-any_folder = refl
-
--- a star behind a backslash is a star
-pub literal_star : passes_pattern (codes "/\\*") (codes "/*") ≡ true
-unfolding chars
-literal_star = refl
-
--- and nothing else
-pub literal_star_refuses : passes_pattern (codes "/\\*") (codes "/x") ≡ false
-unfolding chars
-literal_star_refuses = refl
-
--- a dot is one character, however many bytes it has
-pub dot_is_a_character : passes_pattern (codes "/.") (codes "/" ++ 195 ∷ 169 ∷ []) ≡ true
-unfolding chars
-dot_is_a_character = refl
-
--- and not none
-pub dot_refuses_none : passes_pattern (codes "/.") (codes "/") ≡ false
-unfolding chars
-dot_refuses_none = refl
-
--- a star with nothing before it stands for itself
-pub first_star : passes_pattern (codes "*x") (codes "*x") ≡ true
-unfolding chars
-first_star = refl
-
--- which isn't left out
-pub first_star_refuses : passes_pattern (codes "*x") (codes "x") ≡ false
-unfolding chars
-first_star_refuses = refl
-
--- a star behind a repeated character stands for itself
-pub star_behind_star : passes_pattern (codes "/a**") (codes "/aa*") ≡ true
-unfolding chars
-star_behind_star = refl
-
--- and isn't left out
-pub star_behind_star_refuses : passes_pattern (codes "/a**") (codes "/aa") ≡ false
-unfolding chars
-star_behind_star_refuses = refl
-
--- however the characters are divided among the stars, the last one lacks
-pub divided_stars_refuse : passes_pattern (codes ".*a.*a.*a.*b") (replicate 8 97) ≡ false
-unfolding chars
-divided_stars_refuse = refl
-
--- a literal path is the whole path
-pub literal_path : passes_path (Literal (codes "/a")) (codes "/a") ≡ true
-literal_path = refl
-
--- and nothing behind it
-pub literal_path_refuses : passes_path (Literal (codes "/a")) (codes "/ab") ≡ false
-literal_path_refuses = refl
-
--- a prefix begins the path
-pub prefix_path : passes_path (Prefix (codes "/a")) (codes "/ab") ≡ true
-prefix_path = refl
-
--- and doesn't end it
-pub prefix_path_refuses : passes_path (Prefix (codes "/b")) (codes "/a/b") ≡ false
-prefix_path_refuses = refl
-
--- a suffix ends the path
-pub suffix_path : passes_path (Suffix (codes ".pdf")) (codes "/a.pdf") ≡ true
-suffix_path = refl
-
--- and doesn't stand within it
-pub suffix_path_refuses : passes_path (Suffix (codes ".pdf")) (codes "/a.pdf/b") ≡ false
-suffix_path_refuses = refl
+pub paths_pass : map (λ (p : PathRule × List ℕ × Bool). passes_path p.0 p.1) passings ≡ map (λ (p : PathRule × List ℕ × Bool). p.2) passings
+paths_pass = refl

@@ -131,9 +131,19 @@ forget_uid_stands all uid now = forget_stands (with_unwanted all uid) (λ (spot 
 pub forget_registered_stands : (all : Broadcasts) (number now : ℕ) → IsStanding (forget_registered all number now)
 forget_registered_stands all number now = forget_stands all (λ (spot : Spot). is_registered number spot.aim) now
 
+-- what holds where a head that is late was passed over and its queue settled, and where nothing was due, holds after the
+-- deadline of a queue
+pub after_deadline : (P : Broadcasts → Type 0) (foreground : Bool) (now : ℕ) (all : Broadcasts)
+    → P (settle foreground now (with_queue foreground (late_head now (queue_of foreground all)) all)) → P all → P (expired_queue foreground now all)
+after_deadline P foreground now all late same = by (is_head_due now (queue_of foreground all))
+  where
+    by : (due : Bool) → P (cond due (settle foreground now (with_queue foreground (late_head now (queue_of foreground all)) all)) all)
+    by true = late
+    by false = same
+
 -- a queue whose deadline may be due
 expired_queue_stands : (foreground : Bool) (now : ℕ) (all : Broadcasts) → IsStanding all → IsStanding (expired_queue foreground now all)
-expired_queue_stands foreground now all stands = by (is_head_due now (queue_of foreground all))
+expired_queue_stands foreground now all stands = after_deadline IsStanding foreground now all (settles foreground) stands
   where
     late : List InTurn
     late = late_head now (queue_of foreground all)
@@ -141,10 +151,6 @@ expired_queue_stands foreground now all stands = by (is_head_due now (queue_of f
     settles : (b : Bool) → IsStanding (settle b now (with_queue b late all))
     settles true = foreground_settles now (record all { foreground = late }) stands.normal stands.background
     settles false = background_settles now (record all { background = late }) stands.normal stands.foreground
-
-    by : (due : Bool) → IsStanding (cond due (settle foreground now (with_queue foreground late all)) all)
-    by true = settles foreground
-    by false = stands
 
 -- the passing of time
 pub expired_stand : (all : Broadcasts) (now : ℕ) → IsStanding all → IsStanding (expired all now)

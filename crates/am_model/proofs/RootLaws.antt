@@ -11,9 +11,9 @@ use Rattle.am_types.specs.declared.task.StartCall.{StartCall}
 use Rattle.am_types.specs.declared.task.Landed.{Landed}
 use Rattle.am_types.specs.declared.task.TaskFault.TheVariants.{NotYours}
 use Rattle.am_model.specs.Texts.{is_same}
-use Rattle.am_model.specs.Intents.{is_same_component}
+use Rattle.am_model.specs.Intents.{is_same_component, or_other}
 use Rattle.am_model.specs.Tasks.{Instance, Task, Tasks, keeping, tasks_keeping, task_of, top_of, owner, may_end, without_instance, ended, finish, seen, back_from, back, forget_uid}
-use Rattle.am_model.specs.Placement.{Plan, NewTask, FreshOn, NewIntentTo, FrontOf, or_plan, plan_where, is_of, topmost, root_of, below, besides, with_intent, carried_out, plan_of, place, or_fresh, cleared_to, clearing_task, clearing_top, fronting, reordering, on_top, placed_in, placed_in_maybe, placed_single, placed_per_task, placed_ordinary, or_new_task, renewed, renewed_in, to_root, rooted, task_with, task_rooted, task_of_affinity, source_task, wants_new_task, is_multiple, is_single_instance, is_single_per_task, is_standard, is_single_task, is_single_top}
+use Rattle.am_model.specs.Placement.{Plan, NewTask, FreshOn, NewIntentTo, FrontOf, plan_where, is_of, topmost, root_of, below, besides, with_intent, carried_out, plan_of, place, or_fresh, cleared_to, clearing_task, clearing_top, fronting, reordering, on_top, placed_in, placed_in_maybe, placed_single, placed_per_task, placed_ordinary, or_new_task, renewed, renewed_in, to_root, rooted, task_with, task_rooted, task_of_affinity, source_task, wants_new_task, is_multiple, is_single_instance, is_single_per_task, is_standard, is_single_task, is_single_top}
 use Rattle.am_model.proofs.Parts.{IsPart, end, keep, leave, IsPart-whole, IsPart-filter, IsPart-take, IsPart-part, none_of_part, none_of_more, found_passes}
 use Rattle.am_model.proofs.Lists.{all_left}
 use Rattle.am_model.proofs.PlacementLaws.{plan_for, place_carries_out}
@@ -102,7 +102,7 @@ IsRootPlanIfAny component None = Unit {0}
 IsRootPlanIfAny component (Some plan) = IsRootPlan component plan
 
 -- the first of two such plans
-root_or : (component : Component) (plan other : Option Plan) → IsRootPlanIfAny component plan → IsRootPlanIfAny component other → IsRootPlanIfAny component (or_plan plan other)
+root_or : (component : Component) (plan other : Option Plan) → IsRootPlanIfAny component plan → IsRootPlanIfAny component other → IsRootPlanIfAny component (or_other plan other)
 root_or component None other first second = second
 root_or component (Some plan) other first second = first
 

@@ -1,8 +1,7 @@
 -- Values of which examples are made: plain intents, filters, components and packages.
-use Rattle.std.specs.Prelude.{ℕ, ℤ, pos, true, false, codes, List, [], ◌∷◌, Option, Some, None}
+use Rattle.std.specs.Prelude.{ℕ, ℤ, pos, true, false, codes, List, [], ◌∷◌, Option, Some, None, Result, Ok, Err}
 use Rattle.am_types.specs.declared.intent.Intent.{Intent}
 use Rattle.am_types.specs.declared.intent.Component.{Component}
-use Rattle.am_types.specs.declared.intent.Flags.{Flags}
 use Rattle.am_types.specs.declared.uri.Uri.{Uri}
 use Rattle.am_types.specs.declared.uri.Mime.{Mime}
 use Rattle.am_types.specs.declared.filter.Filter.{Filter}
@@ -10,37 +9,27 @@ use Rattle.am_types.specs.declared.manifest.Kind.{Kind}
 use Rattle.am_types.specs.declared.manifest.Mode.TheVariants.{Standard}
 use Rattle.am_types.specs.declared.manifest.Decl.{Decl}
 use Rattle.am_types.specs.declared.device.Package.{Package}
+use Rattle.am_types.specs.Intents.{no_intent}
 use Rattle.am_model.specs.Boards.{Board}
 use Rattle.am_model.specs.Filters.{default_category}
 
--- no flag is set
-abbrev pub no_flags : Flags
-no_flags = record {
-  new_task = false;
-  multiple_task = false;
-  clear_task = false;
-  clear_top = false;
-  single_top = false;
-  reorder_to_front = false;
-  registered_only = false;
-  foreground = false;
-  no_abort = false;
-  include_stopped = false;
-}
+-- what is left by something that isn't refused, and what else there is
+abbrev pub left_by : {A B E : Type 0} → Result (A × B) E → B → B
+left_by (Ok done) other = done.1
+left_by (Err fault) other = other
 
--- the intent that says nothing
-abbrev pub no_intent : Intent
-no_intent = record {
-  action = None;
-  uri = None;
-  mime = None;
-  identifier = None;
-  categories = [];
-  «package» = None;
-  component = None;
-  flags = no_flags;
-  extras = [];
-}
+-- what something made that isn't refused, and what else there is
+abbrev pub made_by : {A E : Type 0} → Result A E → A → A
+made_by (Ok made) other = made
+made_by (Err fault) other = other
+
+-- com.one
+abbrev pub one : List ℕ
+one = codes "com.one"
+
+-- com.two
+abbrev pub two : List ℕ
+two = codes "com.two"
 
 -- the intent of an action
 abbrev pub asking : List ℕ → Intent

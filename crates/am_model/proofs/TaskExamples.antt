@@ -11,11 +11,11 @@ use Rattle.am_types.specs.declared.task.InstanceView.{InstanceView}
 use Rattle.am_types.specs.declared.task.TaskView.{TaskView}
 use Rattle.am_types.specs.declared.task.PlaceFault.{PlaceFault}
 use Rattle.am_types.specs.declared.task.PlaceFault.TheVariants as place_faults
-use Rattle.am_types.specs.declared.task.TaskFault.{TaskFault}
 use Rattle.am_types.specs.declared.task.TaskFault.TheVariants as task_faults
+use Rattle.am_types.specs.Intents.{no_flags}
 use Rattle.am_model.specs.Tasks.{Instance, Task, Tasks, no_tasks, finish, back, views, forget_uid}
 use Rattle.am_model.specs.Placement.{place}
-use Rattle.am_model.proofs.Samples.{no_flags, to_component, component_of}
+use Rattle.am_model.proofs.Samples.{to_component, component_of, left_by, made_by}
 
 -- an activity of com.one
 abbrev activity : List ℕ → Component
@@ -58,14 +58,9 @@ start target mode flags source = record {
   intent = record (to_component target) { flags = flags };
 }
 
--- the tasks after a start that isn't refused
-abbrev after_place : Result (Landed × Tasks) PlaceFault → Tasks
-after_place (Ok placed) = placed.1
-after_place (Err fault) = no_tasks
-
 -- the tasks after that start
 abbrev with : StartCall → Tasks → Tasks
-with start all = after_place (place all start)
+with start all = left_by (place all start) no_tasks
 
 -- the numbers of the tasks from front to back, each with the numbers of its instances from the root to the top
 abbrev outline : Tasks → List (ℕ × List ℕ)
@@ -153,7 +148,7 @@ unfolding place
 root_is_fronted = refl
 
 -- and no instance gets the intent
-pub fronted_keeps_intents : after_place (place three (start main Standard new_task None)) ≡ three
+pub fronted_keeps_intents : left_by (place three (start main Standard new_task None)) no_tasks ≡ three
 unfolding place
 fronted_keeps_intents = refl
 
@@ -351,18 +346,13 @@ pub not_yours : finish three 2 10001 ≡ Err task_faults.NotYours
 unfolding place finish
 not_yours = refl
 
--- the tasks after an end that isn't refused
-abbrev after_finish : Result Tasks TaskFault → Tasks
-after_finish (Ok all) = all
-after_finish (Err fault) = no_tasks
-
 -- the system ends it, and it is gone
-pub system_ends : outline (after_finish (finish three 2 1000)) ≡ (1, 1 ∷ 3 ∷ []) ∷ []
+pub system_ends : outline (made_by (finish three 2 1000) no_tasks) ≡ (1, 1 ∷ 3 ∷ []) ∷ []
 unfolding place finish
 system_ends = refl
 
 -- what is gone isn't ended again
-pub ended_once : finish (after_finish (finish three 2 1000)) 2 10000 ≡ Err task_faults.NoSource
+pub ended_once : finish (made_by (finish three 2 1000) no_tasks) 2 10000 ≡ Err task_faults.NoSource
 unfolding place finish
 ended_once = refl
 

@@ -8,7 +8,8 @@ use Rattle.am_types.specs.declared.task.StartCall.{StartCall}
 use Rattle.am_types.specs.declared.task.Landed.{Landed}
 use Rattle.am_model.specs.Texts.{is_same}
 use Rattle.am_model.specs.Tasks.{Instance, Task, Tasks, is_number, keeping, tasks_keeping, top_of, seen, back_from, back}
-use Rattle.am_model.specs.Placement.{Plan, NewTask, FreshOn, NewIntentTo, FrontOf, or_plan, plan_where, is_of, topmost, root_of, below, besides, with_intent, carried_out, plan_of, place, or_fresh, cleared_to, clearing_task, clearing_top, fronting, reordering, on_top, placed_in_maybe, placed_single, placed_per_task, placed_ordinary, or_new_task, renewed, renewed_in, to_root, rooted, task_with, task_rooted, task_of_affinity, source_task, wants_new_task, is_multiple, is_single_instance, is_single_per_task, is_standard, is_single_task, is_single_top}
+use Rattle.am_model.specs.Intents.{or_other}
+use Rattle.am_model.specs.Placement.{Plan, NewTask, FreshOn, NewIntentTo, FrontOf, plan_where, is_of, topmost, root_of, below, besides, with_intent, carried_out, plan_of, place, or_fresh, cleared_to, clearing_task, clearing_top, fronting, reordering, on_top, placed_in_maybe, placed_single, placed_per_task, placed_ordinary, or_new_task, renewed, renewed_in, to_root, rooted, task_with, task_rooted, task_of_affinity, source_task, wants_new_task, is_multiple, is_single_instance, is_single_per_task, is_standard, is_single_task, is_single_top}
 use Rattle.am_model.proofs.PlacementLaws.{plan_for, place_carries_out}
 
 -- each task has an instance
@@ -116,7 +117,7 @@ IsInhabitedIfAny None = Unit {0}
 IsInhabitedIfAny (Some plan) = IsInhabitedPlan plan
 
 -- the first of two such plans
-or_inhabited : (plan other : Option Plan) → IsInhabitedIfAny plan → IsInhabitedIfAny other → IsInhabitedIfAny (or_plan plan other)
+or_inhabited : (plan other : Option Plan) → IsInhabitedIfAny plan → IsInhabitedIfAny other → IsInhabitedIfAny (or_other plan other)
 or_inhabited None other first second = second
 or_inhabited (Some plan) other first second = first
 

@@ -1,8 +1,9 @@
 -- Worked examples of URIs.
-use Rattle.std.proofs.Common.{◌≡◌, ℕ, List, [], ◌++◌, codes, Option, Some, None, Ok, Err, replicate, refl}
+use Rattle.std.proofs.Common.{◌≡◌, ℕ, List, [], ◌∷◌, ◌++◌, map, codes, Option, Some, None, Result, Ok, Err, replicate, refl}
 use Rattle.std.specs.Str.{is_utf8, chars}
 use Rattle.percent_encoding.specs.Percent.{percent_decode}
 use Rattle.am_types.specs.declared.uri.Uri.{Uri}
+use Rattle.am_types.specs.declared.uri.UriFault.{UriFault}
 use Rattle.am_types.specs.declared.uri.UriFault.TheVariants.{NoScheme, BadPort, BadEscape, NotUtf8, TooLong}
 use Rattle.am_model.specs.Uris.{uri_of}
 
@@ -10,41 +11,40 @@ use Rattle.am_model.specs.Uris.{uri_of}
 abbrev uri : List ℕ → List ℕ → Option (List ℕ) → Option ℕ → List ℕ → Uri
 uri text scheme host port path = record { text = text; scheme = scheme; host = host; port = port; path = path }
 
-pub an_escaped_dot_is_decoded : uri_of (codes "http://h/a%2Epdf") ≡ Ok (uri (codes "http://h/a%2Epdf") (codes "http") (Some (codes "h")) None (codes "/a.pdf"))
+-- texts, each with what is read of it
+abbrev readings : List (List ℕ × Result Uri UriFault)
+readings =
+    -- an escaped dot is decoded
+    (codes "http://h/a%2Epdf", Ok (uri (codes "http://h/a%2Epdf") (codes "http") (Some (codes "h")) None (codes "/a.pdf")))
+    -- a host alone has an empty path
+    ∷ (codes "http://h", Ok (uri (codes "http://h") (codes "http") (Some (codes "h")) None []))
+    -- a host in brackets keeps its colons
+    ∷ (codes "http://u@[::1]:80/", Ok (uri (codes "http://u@[::1]:80/") (codes "http") (Some (codes "[::1]")) (Some 80) (codes "/")))
+    -- a mail address is opaque
+    ∷ (codes "mailto:a@b.org", Ok (uri (codes "mailto:a@b.org") (codes "mailto") None None []))
+    -- a path needs no authority
+    ∷ (codes "file:/a?b", Ok (uri (codes "file:/a?b") (codes "file") None None (codes "/a")))
+    -- a relative reference is refused
+    ∷ (codes "//h/", Err NoScheme)
+    -- a letter in a port is refused
+    ∷ (codes "http://h:1x/", Err BadPort)
+    -- half an escape is refused
+    ∷ (codes "http://h/a%2", Err BadEscape)
+    -- a byte that is no text is refused
+    ∷ (codes "http://h/%ff", Err NotUtf8)
+    -- a port without digits is none
+    ∷ (codes "http://h:/", Ok (uri (codes "http://h:/") (codes "http") (Some (codes "h")) None (codes "/")))
+    -- a port of five digits
+    ∷ (codes "http://h:99999/", Ok (uri (codes "http://h:99999/") (codes "http") (Some (codes "h")) (Some 99999) (codes "/")))
+    -- a port of six digits is refused
+    ∷ (codes "http://h:000080/", Err BadPort)
+    -- the last of two at signs ends the user
+    ∷ (codes "http://u@v@h/", Ok (uri (codes "http://u@v@h/") (codes "http") (Some (codes "h")) None (codes "/")))
+    ∷ []
+
+pub texts_are_read : map (λ (reading : List ℕ × Result Uri UriFault). uri_of reading.0) readings ≡ map (λ (reading : List ℕ × Result Uri UriFault). reading.1) readings
 unfolding uri_of percent_decode is_utf8 chars lib.Utf8.encode
-an_escaped_dot_is_decoded = refl
-
-pub a_host_alone_has_an_empty_path : uri_of (codes "http://h") ≡ Ok (uri (codes "http://h") (codes "http") (Some (codes "h")) None [])
-unfolding uri_of percent_decode is_utf8 chars lib.Utf8.encode
-a_host_alone_has_an_empty_path = refl
-
-pub a_host_in_brackets_keeps_its_colons : uri_of (codes "http://u@[::1]:80/") ≡ Ok (uri (codes "http://u@[::1]:80/") (codes "http") (Some (codes "[::1]")) (Some 80) (codes "/"))
-unfolding uri_of percent_decode is_utf8 chars lib.Utf8.encode
-a_host_in_brackets_keeps_its_colons = refl
-
-pub a_mail_address_is_opaque : uri_of (codes "mailto:a@b.org") ≡ Ok (uri (codes "mailto:a@b.org") (codes "mailto") None None [])
-unfolding uri_of percent_decode is_utf8 chars lib.Utf8.encode
-a_mail_address_is_opaque = refl
-
-pub a_path_needs_no_authority : uri_of (codes "file:/a?b") ≡ Ok (uri (codes "file:/a?b") (codes "file") None None (codes "/a"))
-unfolding uri_of percent_decode is_utf8 chars lib.Utf8.encode
-a_path_needs_no_authority = refl
-
-pub a_relative_reference_is_refused : uri_of (codes "//h/") ≡ Err NoScheme
-unfolding uri_of
-a_relative_reference_is_refused = refl
-
-pub a_letter_in_a_port_is_refused : uri_of (codes "http://h:1x/") ≡ Err BadPort
-unfolding uri_of
-a_letter_in_a_port_is_refused = refl
-
-pub half_an_escape_is_refused : uri_of (codes "http://h/a%2") ≡ Err BadEscape
-unfolding uri_of
-half_an_escape_is_refused = refl
-
-pub a_byte_that_is_no_text_is_refused : uri_of (codes "http://h/%ff") ≡ Err NotUtf8
-unfolding uri_of percent_decode is_utf8 chars lib.Utf8.encode
-a_byte_that_is_no_text_is_refused = refl
+texts_are_read = refl
 
 pub a_text_over_its_length_is_refused : uri_of (replicate 1025 58) ≡ Err TooLong
 unfolding uri_of
@@ -61,19 +61,3 @@ a_text_of_the_greatest_length = refl
 pub a_text_of_one_byte_more_is_refused : uri_of (long 1022) ≡ Err TooLong
 unfolding uri_of
 a_text_of_one_byte_more_is_refused = refl
-
-pub a_port_without_digits_is_none : uri_of (codes "http://h:/") ≡ Ok (uri (codes "http://h:/") (codes "http") (Some (codes "h")) None (codes "/"))
-unfolding uri_of percent_decode is_utf8 chars lib.Utf8.encode
-a_port_without_digits_is_none = refl
-
-pub a_port_of_five_digits : uri_of (codes "http://h:99999/") ≡ Ok (uri (codes "http://h:99999/") (codes "http") (Some (codes "h")) (Some 99999) (codes "/"))
-unfolding uri_of percent_decode is_utf8 chars lib.Utf8.encode
-a_port_of_five_digits = refl
-
-pub a_port_of_six_digits_is_refused : uri_of (codes "http://h:000080/") ≡ Err BadPort
-unfolding uri_of
-a_port_of_six_digits_is_refused = refl
-
-pub the_last_of_two_at_signs_ends_the_user : uri_of (codes "http://u@v@h/") ≡ Ok (uri (codes "http://u@v@h/") (codes "http") (Some (codes "h")) None (codes "/"))
-unfolding uri_of percent_decode is_utf8 chars lib.Utf8.encode
-the_last_of_two_at_signs_ends_the_user = refl

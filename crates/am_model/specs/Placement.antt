@@ -2,7 +2,6 @@
 use Rattle.std.specs.Prelude.{ℕ, ◌+◌, Bool, true, false, not, ◌&&◌, ◌||◌, ◌==◌, nat_le, List, [], ◌∷◌, ◌++◌, length, map, filter, reverse, if◌then◌else◌, Option, Some, None, Result, Ok, Err}
 use Rattle.std.specs.Bool.{then_some}
 use Rattle.std.specs.List.{list_any, find, take_while}
-use Rattle.std.specs.Option.{option_or}
 use Rattle.am_types.specs.declared.intent.Intent.{Intent}
 use Rattle.am_types.specs.declared.intent.Component.{Component}
 use Rattle.am_types.specs.declared.manifest.Mode.{Mode}
@@ -14,7 +13,7 @@ use Rattle.am_types.specs.declared.task.PlaceFault.{PlaceFault}
 use Rattle.am_types.specs.declared.task.PlaceFault.TheVariants.{NoSource, NotYours, NeedsNewTask, TasksFull, TaskFull}
 use Rattle.am_model.specs.Texts.{is_same}
 use Rattle.am_model.specs.Filters.{is_empty}
-use Rattle.am_model.specs.Intents.{is_same_component}
+use Rattle.am_model.specs.Intents.{is_same_component, or_other}
 use Rattle.am_model.specs.Tasks.{Instance, Task, Tasks, task_of, owner, may_end, top_of}
 
 -- what a start does: a fresh instance in a new task, which may be one for a single instance; a fresh instance on top of
@@ -24,10 +23,6 @@ pub data Plan : Type 0 where
   FreshOn : Task → List Instance → Plan
   NewIntentTo : Task → List Instance → ℕ → Plan
   FrontOf : Task → Plan
-
--- the first of two plans
-abbrev pub or_plan : Option Plan → Option Plan → Option Plan
-or_plan plan other = option_or plan other
 
 -- the plan where the condition holds
 abbrev pub plan_where : Bool → Plan → Option Plan
@@ -196,10 +191,10 @@ or_fresh None task = FreshOn task task.instances
 abbrev pub placed_in : StartCall → Bool → Task → Plan
 placed_in start wanted task =
     or_fresh
-    (or_plan (clearing_task start wanted task)
-    (or_plan (clearing_top start task (topmost start.target task))
-    (or_plan (fronting start wanted task)
-    (or_plan (reordering start wanted task (topmost start.target task))
+    (or_other (clearing_task start wanted task)
+    (or_other (clearing_top start task (topmost start.target task))
+    (or_other (fronting start wanted task)
+    (or_other (reordering start wanted task (topmost start.target task))
     (on_top start task (top_of task))))))
     task
 

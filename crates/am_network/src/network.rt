@@ -10,13 +10,13 @@ use std::error::Error;
 use std::fmt;
 
 /// A gate at which links arrive: it hands them out one after the other, and takes them back. A link is a connection of
-/// a peer: a reader of what the peer sends, and a writer to it.
-pub trait Acceptor: Drop {
+/// a peer: a reader of what the peer sends, and a writer to it. A gate and its links may be used in another thread.
+pub trait Acceptor: Drop + Send {
     /// Where a link's bytes come from.
-    type Reader: Source + Drop;
+    type Reader: Source + Drop + Send;
 
     /// Where a link's bytes go.
-    type Writer: Sink + Drop;
+    type Writer: Sink + Drop + Send;
 
     /// Its links, where it tells them. Then their readers and writers tell their bytes.
     ghost links: { Self → Option Links };

@@ -121,8 +121,7 @@ impl Key {
     pub fn into_extras(self) -> List<Named>
         ensures { result ≡ self.intent.extras }
     {
-        let intent = self.intent;
-        intent.extras
+        self.intent.into_extras()
     }
 }
 

@@ -10,7 +10,7 @@ use crate::key::Key;
 use crate::record::Record;
 use crate::records::Records;
 use am_filter::fill_in;
-use am_types::{FillFault, Intent, Kind, PendingFault, PendingFlags, Steps, Used};
+use am_types::{FillFault, Intent, Kind, PendingFault, PendingFlags, Steps, Used, drop_parts};
 use indexmap::IndexMap;
 use std::alloc::{AllocError, Global};
 use std::marker::Model;
@@ -25,7 +25,6 @@ const MOST_RECORDS: u32 = 1024;
 /// A step, wherever a call counts steps, is one look-up of a record: by its key, or by its token to read, change or
 /// remove it. A record that is canceled is read and then removed in one step. Keeping the tables of tokens and of
 /// numbers in line with the records takes none.
-#[derive(Drop)]
 pub struct Pending {
     alloc: Global,
     records: Records,
@@ -33,6 +32,12 @@ pub struct Pending {
     /// How many records each creator has.
     counts: IndexMap<u32, u32>,
     next: u64,
+}
+
+impl Drop for Pending {
+    fn drop(self) {
+        drop_parts!(self, Pending: alloc records tokens counts next);
+    }
 }
 
 impl Model for Pending {

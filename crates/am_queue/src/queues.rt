@@ -17,7 +17,7 @@ use crate::puts::{Last, put_normal, put_turn};
 use crate::results::{Results, Taken};
 use am_queue_normal::{Begin, Normals};
 use am_queue_ordered::{Counts, Doing, Queue, Struck};
-use am_types::{Answer, FinishFault, Item, List, NoMemory, SendFault, Sending, Steps};
+use am_types::{Answer, FinishFault, Item, List, NoMemory, SendFault, Sending, Steps, drop_parts};
 use std::alloc::{AllocError, Global};
 use std::marker::Model;
 use std::sync::ledger::Ledger;
@@ -42,7 +42,6 @@ const BACKGROUND_SPAN: u64 = 60_000;
 
 /// All live broadcasts, and the next numbers. The calls take moments up to `LAST_MOMENT`: the manager
 /// counts a later one as that.
-#[derive(Drop)]
 pub struct Queues {
     alloc: Global,
     normals: Normals,
@@ -54,6 +53,12 @@ pub struct Queues {
     live: Counts,
     next_broadcast: u64,
     next_delivery: u64,
+}
+
+impl Drop for Queues {
+    fn drop(self) {
+        drop_parts!(self, Queues: alloc normals foreground background results live next_broadcast next_delivery);
+    }
 }
 
 impl Model for Queues {

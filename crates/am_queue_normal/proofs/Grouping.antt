@@ -10,12 +10,13 @@ use Rattle.am_types.specs.declared.broadcast.Item.{Item}
 use Rattle.am_model.specs.Filters.{is_empty}
 use Rattle.am_model.specs.Broadcasts.{Normal, Delivery, is_delivery_due, normals_keeping}
 use Rattle.am_model.specs.Sending.{or_held, held_in_deliveries, held_in_normals, normal_items}
+use Rattle.am_model.proofs.Lists.{all_left}
 use Rattle.am_queue_normal.specs.declared.delivery.Sent.{Sent}
 use Rattle.am_queue_normal.specs.Posted.{AreInOrder, IsBefore, IsWithin, Posted, begin_with, broadcast_of, delivery_of, grouped, is_late, is_to, item_of, joined, posted_at}
 use Rattle.am_queue_normal.specs.Kept.{AllLive, Rise, at_once_by, deliveries_in, items_of, some_due}
 use Rattle.am_queue_normal.proofs.Keys.{same_from, same_number}
 use Rattle.am_queue_normal.proofs.Finding.{items_to}
-use Rattle.am_queue_normal.proofs.Ordered.{Entry, all_kept, all_so}
+use Rattle.am_queue_normal.proofs.Ordered.{Entry, all_so}
 
 differ : (a b : ℕ) → (a ≡ b → ⊥) → a == b ≡ false
 differ a b apart = by (a == b) refl
@@ -61,7 +62,7 @@ all_later end e (f ∷ es) order other = (later, all_so (IsBefore f) (λ (g : En
 
 -- so none of them begins those that a test keeps with the same broadcast
 pub none_same : (p : Entry → Bool) (end : ℕ) (e : Entry) (es : List Entry) → AreInOrder end (e ∷ es) → begin_with e.1.sent.first es ≡ false → begin_with e.1.sent.first (filter p es) ≡ false
-none_same p end e es order other = begins (filter p es) (all_kept (λ (g : Entry). e.1.sent.first < g.1.sent.first) p es (all_later end e es order other))
+none_same p end e es order other = begins (filter p es) (all_left (λ (g : Entry). e.1.sent.first < g.1.sent.first) p es (all_later end e es order other))
   where
     begins : (gs : List Entry) → AllByRecursion (λ (g : Entry). e.1.sent.first < g.1.sent.first) gs → begin_with e.1.sent.first gs ≡ false
     begins [] all = refl

@@ -7,6 +7,7 @@ use Rattle.std.specs.List.{AllByRecursion, filter, list_any}
 use Rattle.std.specs.Map.{remove_entry}
 use Rattle.std.specs.BTreeMap.{insert_entry, is_at}
 use Rattle.am_types.specs.declared.broadcast.Spot.{Spot}
+use Rattle.am_model.proofs.Lists.{all_left}
 use Rattle.am_queue_normal.specs.declared.delivery.Sent.{Sent}
 use Rattle.am_queue_normal.specs.Posted.{AreInOrder, IsBefore, IsWithin, Posted, posted_as, posted_at, posted_to, without}
 use Rattle.am_queue_normal.proofs.Keys.{is_same_as_itself, same_from, same_number}
@@ -22,15 +23,6 @@ higher_differs a b more = grind (arith, nat_tests)
 
 greater : (a b : ℕ) → b < a → nat_cmp a b ≡ Greater
 greater a b more = grind (arith, nat_tests)
-
--- what holds of each holds of each that a test keeps
-pub all_kept : (P : Entry → Type 0) (p : Entry → Bool) (es : List Entry) → AllByRecursion P es → AllByRecursion P (filter p es)
-all_kept P p [] all = _
-all_kept P p (e ∷ es) all = by (p e) (all_kept P p es all.1)
-  where
-    by : (b : Bool) → AllByRecursion P (filter p es) → AllByRecursion P (cond b (e ∷ filter p es) (filter p es))
-    by true rest = (all.0, rest)
-    by false rest = rest
 
 -- what follows from what holds of each holds of each
 pub all_so : (P Q : Entry → Type 0) → ((e : Entry) → P e → Q e) → (es : List Entry) → AllByRecursion P es → AllByRecursion Q es
@@ -48,7 +40,7 @@ kept_in_order p end [] order = _
 kept_in_order p end (e ∷ es) order = by (p e) (kept_in_order p end es order.2)
   where
     by : (b : Bool) → AreInOrder end (filter p es) → AreInOrder end (cond b (e ∷ filter p es) (filter p es))
-    by true rest = (order.0, all_kept (IsBefore e) p es order.1, rest)
+    by true rest = (order.0, all_left (IsBefore e) p es order.1, rest)
     by false rest = rest
 
 -- a number below all isn't found

@@ -9,6 +9,7 @@ use Rattle.std.specs.BTreeMap.{is_at}
 use Rattle.am_types.specs.declared.broadcast.Spot.{Spot}
 use Rattle.am_model.specs.Broadcasts.{Normal, Delivery, normals_keeping}
 use Rattle.am_model.specs.Sending.{Held, held_in_normals}
+use Rattle.am_model.proofs.Lists.{all_left}
 use Rattle.am_queue_ordered.proofs.Counting.{count_by-cons}
 use Rattle.am_queue_ordered.specs.Counts.{one_for}
 use Rattle.am_queue_normal.specs.declared.delivery.Sent.{Sent}
@@ -17,7 +18,7 @@ use Rattle.am_queue_normal.specs.Kept.{AllPass, Fails, Kept, PassBelow, at_once_
 use Rattle.am_queue_normal.specs.Pairs.{IsNext, NoneFrom}
 use Rattle.am_queue_normal.proofs.Finding.{passes_found}
 use Rattle.am_queue_normal.proofs.Keys.{same_from, same_number}
-use Rattle.am_queue_normal.proofs.Ordered.{Entry, agree, all_kept, all_pass, all_so, any_fails, any_found, at_each, found_within, kept_in_order, without_number}
+use Rattle.am_queue_normal.proofs.Ordered.{Entry, agree, all_pass, all_so, any_fails, any_found, at_each, found_within, kept_in_order, without_number}
 use Rattle.am_queue_normal.proofs.Grouping.{all_later, due_grouped, grouped_kept, held_grouped, joined_first, same_first, same_sent}
 
 -- the deliveries without one
@@ -190,7 +191,7 @@ counted_left uid end n posted (e ∷ es) order is = by (e.0 == n) refl (counted_
     left = others_than n es
 
     order_left : AreInOrder end (e ∷ left)
-    order_left = (order.0, all_kept (IsBefore e) (λ (f : Entry). not (f.0 == n)) es order.1, kept_in_order (λ (f : Entry). not (f.0 == n)) end es order.2)
+    order_left = (order.0, all_left (IsBefore e) (λ (f : Entry). not (f.0 == n)) es order.1, kept_in_order (λ (f : Entry). not (f.0 == n)) end es order.2)
 
     -- it is the first
     first_out : e.0 ≡ n → e.1 ≡ posted
@@ -270,7 +271,7 @@ counted_out uid end n posted es order is =
     same_test : list_any (is_between posted.sent.first posted.sent.end) (others_than n es) ≡ list_any (is_of posted.sent.first) (others_than n es)
     same_test =
         any_agree (is_between posted.sent.first posted.sent.end) (is_of posted.sent.first) (others_than n es)
-        (all_kept (λ (e : Entry). is_between posted.sent.first posted.sent.end e ≡ is_of posted.sent.first e) (λ (e : Entry). not (e.0 == n)) es
+        (all_left (λ (e : Entry). is_between posted.sent.first posted.sent.end e ≡ is_of posted.sent.first e) (λ (e : Entry). not (e.0 == n)) es
         (all_so (λ (e : Entry). IsWithin end e × Related posted e) (λ (e : Entry). is_between posted.sent.first posted.sent.end e ≡ is_of posted.sent.first e)
         (λ e both. of_broadcast end posted e (omega (arith, within.from, within.below)) both.0 both.1) es
         (both_hold (IsWithin end) (Related posted) es (all_within end es order) (all_related end n posted es order is))))

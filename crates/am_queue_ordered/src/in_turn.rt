@@ -56,17 +56,7 @@ impl Model for InTurn {
     } };
 
     ghost invariant = { λ t. (length t.past.items + length t.rest.items ≤ vec_capacity t.past)
-        × IsMarked (record {
-          number = t.number;
-          sender = t.sender;
-          intent = t.intent.value;
-          no_abort = t.no_abort;
-          initial = t.initial;
-          wanted = t.wanted;
-          past = t.past.items;
-          rest = t.rest.items;
-          current = t.current;
-        }) t.last t.aborted };
+        × IsMarked (view t) t.last t.aborted };
 }
 
 fn waiting(alloc: Global, to: &[Spot]) -> Result<VecDeque<Spot>, AllocError>

@@ -19,17 +19,22 @@ use am_index::FilterIndex;
 use am_installed::Installed;
 use am_types::{
     Component, Decl, Device, Grant, Hit, Intent, Kind, Link, List, NoMemory, Package, Receiving,
-    Registration, Steps, Target, Text,
+    Registration, Steps, Target, Text, drop_parts,
 };
 use std::alloc::Global;
 use std::marker::Model;
 use std::sync::ledger::Ledger;
 
 /// What is installed on a device and was given to it, with an index of what its components take.
-#[derive(Drop)]
 pub struct Board {
     installed: Installed,
     index: FilterIndex,
+}
+
+impl Drop for Board {
+    fn drop(self) {
+        drop_parts!(self, Board: installed index);
+    }
 }
 
 impl Model for Board {

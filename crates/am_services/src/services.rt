@@ -6,7 +6,7 @@ ghost use Rattle.am_history.specs.State.{Service};
 ghost use Rattle.am_history.specs.Services.{is_service, is_too_many, running, services_of, starts_with, view_of, with_start};
 ghost use Rattle.am_services.specs.Apart.{again, fresh};
 
-use am_types::{Component, Intent, List, NoMemory, ServiceView};
+use am_types::{Component, Intent, List, NoMemory, ServiceView, drop_parts};
 use std::alloc::{AllocError, Global};
 use std::marker::Model;
 
@@ -31,10 +31,15 @@ impl Model for Running {
 }
 
 /// All services that run, in the order of their first start. It keeps the allocator for its later calls.
-#[derive(Drop)]
 pub struct Services {
     alloc: Global,
     running: Vec<Running>,
+}
+
+impl Drop for Services {
+    fn drop(self) {
+        drop_parts!(self, Services: alloc running);
+    }
 }
 
 impl Model for Services {

@@ -1,3 +1,4 @@
 pub mod Devices
 pub mod Files
 pub mod Setbacks
+pub mod Telling

@@ -1,8 +1,11 @@
-//! Why a run of either program doesn't come to its work, and the device file that both begin with.
+//! Why a run of either program doesn't come to its work, the device file that both begin with, and how both tell what
+//! became of it.
 #![tactic(auto)]
 
 mod device;
 mod setback;
+mod telling;
 
 pub use device::{parse_device, refusal};
 pub use setback::Setback;
+pub use telling::{print, tell};

@@ -6,13 +6,7 @@ use Rattle.am_http.specs.declared.end.Served.{Served}
 use Rattle.am_http.specs.Links.{Link, IsSameLink, Moments}
 use Rattle.am_http.specs.Sessions.{Session, HasFault}
 use Rattle.am_words.specs.declared.command.StepWords.{StepWords}
-use Rattle.am_shell.specs.Clocks.{ServesOn, with_clock}
-
--- a connection as it went
-record Went (old new : Link) (served : Served) : Type 0 where
-  session : Session old new served
-  fault : HasFault served.end old new
-  same : IsSameLink old new
+use Rattle.am_shell.specs.Clocks.{Connects, ServesOn, with_clock}
 
 -- over the clock that was handed in
 pub serves_handed : (asked : Option StepWords) (old new : Link) (served : Served) → asked ≡ None
@@ -20,30 +14,21 @@ pub serves_handed : (asked : Option StepWords) (old new : Link) (served : Served
 serves_handed asked old new served none session fault same =
     subst (λ (a : Option StepWords). ServesOn a served.end old new) (sym none) (record {
       served = served;
-      ends = refl;
       told = new.server.clock;
-      session = session;
-      fault = fault;
-      same = same;
+      went = record { ends = refl; session = session; fault = fault; same = same };
       clock = refl;
     })
 
 -- over a clock of its own, which tells the moments that the words ask for
 own_clock : (words : StepWords) (old new : Link) (first told : Moments) (served : Served)
     → ((calls : ℕ) → first calls ≡ Some (moment_at words.at words.step calls)) → new.server.clock ≡ old.server.clock
-    → Went (with_clock old first) (with_clock new told) served → ServesOn (Some words) served.end old new
-own_clock words old new first told served tells left before =
-    let went : Went (with_clock old (λ calls. Some (moment_at words.at words.step calls))) (with_clock new told) served =
-    subst (λ (moments : Moments). Went (with_clock old moments) (with_clock new told) served) (fun_ext tells) before in
-    record {
-      served = served;
-      ends = refl;
-      told = told;
-      session = went.session;
-      fault = went.fault;
-      same = went.same;
-      clock = left;
-    }
+    → Connects (with_clock old first) (with_clock new told) served served.end → ServesOn (Some words) served.end old new
+own_clock words old new first told served tells left went = record {
+  served = served;
+  told = told;
+  went = subst (λ (moments : Moments). Connects (with_clock old moments) (with_clock new told) served served.end) (fun_ext tells) went;
+  clock = left;
+}
 
 pub serves_own : (asked : Option StepWords) (words : StepWords) (old new : Link) (first told : Moments) (served : Served) → asked ≡ Some words
     → ((calls : ℕ) → first calls ≡ Some (moment_at words.at words.step calls)) → new.server.clock ≡ old.server.clock
@@ -51,4 +36,4 @@ pub serves_own : (asked : Option StepWords) (words : StepWords) (old new : Link)
     → IsSameLink (with_clock old first) (with_clock new told) → ServesOn asked served.end old new
 serves_own asked words old new first told served some tells left session fault same =
     subst (λ (a : Option StepWords). ServesOn a served.end old new) (sym some)
-    (own_clock words old new first told served tells left (record { session = session; fault = fault; same = same }))
+    (own_clock words old new first told served tells left (record { ends = refl; session = session; fault = fault; same = same }))

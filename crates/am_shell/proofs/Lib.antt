@@ -1,6 +1,5 @@
 pub mod ClockLemmas
 pub mod QuestionLemmas
-pub mod Ranges
 pub mod RunLemmas
 pub mod ServeLemmas
 pub mod ServingLemmas

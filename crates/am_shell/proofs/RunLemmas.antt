@@ -1,6 +1,7 @@
 -- What follows from how a session went: the cause of its status, and that a good device file gives the work.
 use Rattle.std.proofs.Common.{◌≡◌, ℕ, ◌⊎◌, inl, inr, List, Option, Some, None, Result, Ok, Err, refl, sym, ap, ◌∙◌, subst, arith}
 use Rattle.std.specs.Io.KnownBytes.{Appends}
+use Rattle.std.proofs.lemmas.Option.{same_Some}
 use Rattle.am_outside.specs.Counts.{HasRisen}
 use Rattle.am_outside.specs.Files.{bytes_of}
 use Rattle.am_types.specs.declared.device.Device.{Device}
@@ -17,14 +18,12 @@ use Rattle.am_shell.specs.declared.undone.Undone.{Undone}
 use Rattle.am_shell.specs.declared.undone.Undone.TheVariants as undone
 use Rattle.am_shell.specs.Devices.{IsRefused, IsUnread}
 use Rattle.am_shell.specs.Kept.{RefusesRows}
-use Rattle.am_shell.specs.Lines.{Tells, end_status, session_line, session_status, status_of, want_line}
-use Rattle.am_shell.specs.declared.session.Asked.{Asked}
+use Rattle.am_setback.specs.Telling.{Tells}
+use Rattle.am_shell.specs.Lines.{end_status, session_line, session_status, status_of, want_line}
+use Rattle.am_words.specs.declared.command.SessionWords.{SessionWords}
 use Rattle.am_shell.specs.Sessions.{Happens, Worked, Works, Unattached, Unopened}
 use Rattle.am_shell.specs.Outside.{Outside, Surroundings}
 use Rattle.am_shell.specs.Runs.{HasCause, Completes, RunsSession}
-
-some_is : {A : Type 0} {x y : A} → Some x ≡ Some y → x ≡ y
-some_is e = cc
 
 same_device : (read : Result Device ManifestFault) (x y : Device) → read ≡ Ok x → read ≡ Ok y → x ≡ y
 same_device read x y e f = cc
@@ -39,14 +38,14 @@ nothing_undone_has (undone.Setback setbacks.FileFault) status one e = grind arit
 nothing_undone_has why status one e = grind arith
 
 -- the cause of each status
-worked : (o : Result End Undone) (asked : Asked) (before after : Outside) → session_status o ≡ 0 → Happens o asked before after
+worked : (o : Result End Undone) (asked : SessionWords) (before after : Outside) → session_status o ≡ 0 → Happens o asked before after
     → Worked asked before after Input ⊎ Worked asked before after Close
 worked (Ok Input) asked before after s h = inl h
 worked (Ok Close) asked before after s h = inr h
 worked (Ok end) asked before after s h = absurd (omega arith)
 worked (Err why) asked before after s h = absurd (nothing_undone_has why 0 (inl refl) s)
 
-stopped : (o : Result End Undone) (asked : Asked) (before after : Outside) → session_status o ≡ 1 → Happens o asked before after
+stopped : (o : Result End Undone) (asked : SessionWords) (before after : Outside) → session_status o ≡ 1 → Happens o asked before after
     → Worked asked before after Refused ⊎ Worked asked before after Cut ⊎ Worked asked before after Limit
 stopped (Ok Refused) asked before after s h = inl h
 stopped (Ok Cut) asked before after s h = inr (inl h)
@@ -58,40 +57,40 @@ used : (o : Result End Undone) → session_status o ≡ 2 → ⊥
 used (Ok end) s = no_end_has end 2 (inl refl) s
 used (Err why) s = nothing_undone_has why 2 (inr (inr (inl refl))) s
 
-refused : (o : Result End Undone) (asked : Asked) (before after : Outside) → session_status o ≡ 3 → Happens o asked before after
+refused : (o : Result End Undone) (asked : SessionWords) (before after : Outside) → session_status o ≡ 3 → Happens o asked before after
     → IsRefused device_of before.files.files asked.device (session_line o)
 refused (Err (undone.Setback (setbacks.DeviceRefused line))) asked before after s h = h.0
 refused (Err why) asked before after s h = absurd (omega arith)
 refused (Ok end) asked before after s h = absurd (no_end_has end 3 (inr (inl refl)) s)
 
-unread : (o : Result End Undone) (asked : Asked) (before after : Outside) → session_status o ≡ 4 → Happens o asked before after
+unread : (o : Result End Undone) (asked : SessionWords) (before after : Outside) → session_status o ≡ 4 → Happens o asked before after
     → IsUnread asked.device before.files after.files
 unread (Err (undone.Setback setbacks.FileFault)) asked before after s h = h.0
 unread (Err why) asked before after s h = absurd (omega arith)
 unread (Ok end) asked before after s h = absurd (no_end_has end 4 (inr (inr (inl refl))) s)
 
-read_fault : (o : Result End Undone) (asked : Asked) (before after : Outside) → session_status o ≡ 5 → Happens o asked before after
+read_fault : (o : Result End Undone) (asked : SessionWords) (before after : Outside) → session_status o ≡ 5 → Happens o asked before after
     → HasRisen before.work.streams.input.faults after.work.streams.input.faults
-read_fault (Ok ReadFault) asked before after s h = h.works.session.fault
+read_fault (Ok ReadFault) asked before after s h = h.works.session.went.fault
 read_fault (Ok end) asked before after s h = absurd (omega arith)
 read_fault (Err undone.InputFault) asked before after s h = absurd h
 read_fault (Err (undone.Setback setbacks.FileFault)) asked before after s h = absurd (omega arith)
 read_fault (Err why) asked before after s h = absurd (omega arith)
 
-write_fault : (o : Result End Undone) (asked : Asked) (before after : Outside) → session_status o ≡ 6 → Happens o asked before after
+write_fault : (o : Result End Undone) (asked : SessionWords) (before after : Outside) → session_status o ≡ 6 → Happens o asked before after
     → HasRisen before.work.streams.output.faults after.work.streams.output.faults
-write_fault (Ok WriteFault) asked before after s h = h.works.session.fault
+write_fault (Ok WriteFault) asked before after s h = h.works.session.went.fault
 write_fault (Ok end) asked before after s h = absurd (omega arith)
 write_fault (Err why) asked before after s h = absurd (nothing_undone_has why 6 (inr (inr (inr refl))) s)
 
-unattached : (o : Result End Undone) (asked : Asked) (before after : Outside) → session_status o ≡ 7 → Happens o asked before after
+unattached : (o : Result End Undone) (asked : SessionWords) (before after : Outside) → session_status o ≡ 7 → Happens o asked before after
     → Unattached asked before after
 unattached (Err undone.StoreFault) asked before after s h = h.0
 unattached (Err (undone.Setback setbacks.FileFault)) asked before after s h = absurd (omega arith)
 unattached (Err why) asked before after s h = absurd (omega arith)
 unattached (Ok end) asked before after s h = absurd (no_end_has end 7 (inr (inr (inr (inl refl)))) s)
 
-unopened : (o : Result End Undone) (asked : Asked) (before after : Outside) → session_status o ≡ 10 → Happens o asked before after
+unopened : (o : Result End Undone) (asked : SessionWords) (before after : Outside) → session_status o ≡ 10 → Happens o asked before after
     → Unopened asked before (session_line o)
 unopened (Err (undone.RowsRefused line)) asked before after s h = h.0
 unopened (Err (undone.Setback setbacks.FileFault)) asked before after s h = absurd (omega arith)
@@ -99,7 +98,7 @@ unopened (Err why) asked before after s h = absurd (omega arith)
 unopened (Ok end) asked before after s h = absurd (no_end_has end 10 (inr (inr (inr (inr refl)))) s)
 
 -- a run whose line was written whole
-told_whole : (o : Result End Undone) (asked : Asked) (before after : Surroundings) (status : ℕ)
+told_whole : (o : Result End Undone) (asked : SessionWords) (before after : Surroundings) (status : ℕ)
     → Happens o asked before.outside after.outside → status ≡ session_status o → Appends before.errors.taken after.errors.taken (session_line o)
     → HasCause asked before after status
 told_whole o asked before after status h s a = record {
@@ -115,7 +114,7 @@ told_whole o asked before after status h s a = record {
 }
 
 -- a run whose line wasn't
-told_partly : (asked : Asked) (before after : Surroundings) (status : ℕ)
+told_partly : (asked : SessionWords) (before after : Surroundings) (status : ℕ)
     → status ≡ 6 → HasRisen before.errors.faults after.errors.faults → HasCause asked before after status
 told_partly asked before after status s f = record {
   worked = λ e. absurd (omega arith);
@@ -130,7 +129,7 @@ told_partly asked before after status s f = record {
 }
 
 -- how a run went tells the cause of its status
-causes : (o : Result End Undone) (asked : Asked) (before after : Surroundings) (status : ℕ)
+causes : (o : Result End Undone) (asked : SessionWords) (before after : Surroundings) (status : ℕ)
     → Happens o asked before.outside after.outside → Tells (session_line o) (session_status o) before.errors after.errors status → HasCause asked before after status
 causes o asked before after status h (inl (s, a)) = told_whole o asked before after status h s a
 causes o asked before after status h (inr (s, f, p)) = told_partly asked before after status s f
@@ -140,15 +139,15 @@ reads_so : (told : Option (List FileBytes)) (files : List FileBytes) (name name'
     → Describes told name' read → told ≡ Some files → name' ≡ name → bytes_of name files ≡ Some bytes → device_of bytes ≡ read
 reads_so None files name name' bytes read d t n b = cc
 reads_so (Some fs) files name name' bytes read d t n b =
-    let same : Some d.bytes ≡ Some bytes = sym d.held ∙ (ap (λ fs'. bytes_of name' fs') (some_is t) ∙ (ap (λ n'. bytes_of n' files) n ∙ b)) in
-    ap (λ bs. device_of bs) (sym (some_is same)) ∙ d.reads
+    let same : Some d.bytes ≡ Some bytes = sym d.held ∙ (ap (λ fs'. bytes_of name' fs') (same_Some _ _ t) ∙ (ap (λ n'. bytes_of n' files) n ∙ b)) in
+    ap (λ bs. device_of bs) (sym (same_Some _ _ same)) ∙ d.reads
 
 -- a told file isn't missing
 not_missing : (told : Option (List FileBytes)) (files : List FileBytes) (name name' bytes : List ℕ)
     → IsMissing told name' → told ≡ Some files → name' ≡ name → bytes_of name files ≡ Some bytes → ⊥
 not_missing None files name name' bytes m t n b = absurd m
 not_missing (Some fs) files name name' bytes m t n b =
-    let same : None ≡ Some bytes = sym m ∙ (ap (λ fs'. bytes_of name' fs') (some_is t) ∙ (ap (λ n'. bytes_of n' files) n ∙ b)) in cc
+    let same : None ≡ Some bytes = sym m ∙ (ap (λ fs'. bytes_of name' fs') (same_Some _ _ t) ∙ (ap (λ n'. bytes_of n' files) n ∙ b)) in cc
 
 -- the files failed
 unread_fault : (files : List FileBytes) (name name' bytes : List ℕ) (before after : Outside)
@@ -165,7 +164,7 @@ wanted errors errors' status (inl (s, a)) = inr s
 wanted errors errors' status (inr (s, f, p)) = inl f
 
 -- the device of a told file is the one that the run began with
-begun : (asked : Asked) (before : Outside) (files : List FileBytes) (bytes : List ℕ) (device' device : Device)
+begun : (asked : SessionWords) (before : Outside) (files : List FileBytes) (bytes : List ℕ) (device' device : Device)
     → Describes before.files.files asked.device (Ok device') → before.files.files ≡ Some files → bytes_of asked.device files ≡ Some bytes
     → device_of bytes ≡ Ok device → device' ≡ device
 begun asked before files bytes device' device file f b d =
@@ -173,7 +172,7 @@ begun asked before files bytes device' device file f b d =
     (reads_so before.files.files files asked.device asked.device bytes (Ok device') file f refl b) d
 
 -- how a session went tells that a good device file gave the work
-completes : (o : Result End Undone) (asked : Asked) (before after : Surroundings) (status : ℕ)
+completes : (o : Result End Undone) (asked : SessionWords) (before after : Surroundings) (status : ℕ)
     → Happens o asked before.outside after.outside → Tells (session_line o) (session_status o) before.errors after.errors status → Completes asked before after status
 completes (Err (undone.Setback (setbacks.DeviceRefused line))) asked before after status h t files bytes device f b d =
     let clash : Ok device ≡ Err h.0.fault =
@@ -193,7 +192,7 @@ completes (Ok end) asked before after status h t files bytes device f b d =
     inl (end, subst (λ (one : Device). Works asked one before.outside.work after.outside.work end) made h.works)
 
 -- a whole session
-runs : (o : Result End Undone) (asked : Asked) (before after : Surroundings) (status : ℕ)
+runs : (o : Result End Undone) (asked : SessionWords) (before after : Surroundings) (status : ℕ)
     → Happens o asked before.outside after.outside → Tells (session_line o) (session_status o) before.errors after.errors status → RunsSession asked before after status
 runs o asked before after status h t = record {
   went = record { work = o; happened = h; told = t };
@@ -202,7 +201,7 @@ runs o asked before after status h t = record {
 }
 
 -- a whole session, told by the line and the status that go with it
-pub runs_told : (o made : Result End Undone) (asked : Asked) (before after : Surroundings) (line : List ℕ) (code status : ℕ) → o ≡ made
+pub runs_told : (o made : Result End Undone) (asked : SessionWords) (before after : Surroundings) (line : List ℕ) (code status : ℕ) → o ≡ made
     → line ≡ session_line made → code ≡ session_status made → Happens o asked before.outside after.outside
     → Tells line code before.errors after.errors status → RunsSession asked before after status
 runs_told o made asked before after line code status is says means h t =

@@ -13,7 +13,7 @@ use Rattle.am_http.specs.declared.end.End.{End}
 use Rattle.am_http.specs.Links.{Streams, link_of}
 use Rattle.am_machine.specs.Managed as machine
 use Rattle.am_words.specs.declared.command.StepWords.{StepWords}
-use Rattle.am_shell.specs.declared.session.Asked.{Asked}
+use Rattle.am_words.specs.declared.command.SessionWords.{SessionWords}
 use Rattle.am_shell.specs.Clocks.{ServesOn}
 use Rattle.am_shell.specs.Kept.{IsOrigin, IsUnchanged, Leaves}
 use Rattle.am_shell.specs.Sessions.{sole_desk, Serves, Works}
@@ -47,14 +47,11 @@ serves origin asked before after first desk end is went =
     record {
       desk = desk;
       served = on.served;
-      ends = on.ends;
       told = on.told;
-      session = on.session;
-      same = on.same;
-      legal = on.same.desk.legal tt;
-      calls = on.session.answers.alone refl;
-      own = on.session.answers.own ∙ sym (on.session.answers.alone refl);
-      fault = on.fault;
+      went = on.went;
+      legal = on.went.same.desk.legal tt;
+      calls = on.went.session.answers.alone refl;
+      own = on.went.session.answers.own ∙ sym (on.went.session.answers.alone refl);
       clock = on.clock;
     }
 
@@ -63,7 +60,7 @@ formed : (origin : Origin) (asked : Option StepWords) (before after : Streams) (
     → All IsFormed s.desk.seen
 formed origin asked before after end s =
     subst (λ (entries : List Entry). All IsFormed entries) (sym s.calls)
-    (all_formed (opening_of origin) 0 s.desk.seen s.session.exchanges s.session.answers.answers)
+    (all_formed (opening_of origin) 0 s.desk.seen s.went.session.exchanges s.went.session.answers.answers)
 
 -- with the rows that the session has kept the device opens as the session left it
 pub found : (origin : Origin) (device : Device) (place : Option (List ℕ)) (history : List Entry) (old new : StoreView) → KeptIsFound → IsSound device
@@ -74,7 +71,7 @@ found origin device place history old new law sound begins left forms tells at i
     (law device origin.rows (opening_of origin) history sound begins.in_order begins.opens forms)
 
 -- the work of a session
-pub works : {K : Type 0} (asked : Asked) (device : Device) (before after : Workplace) (now : StoreView) (end : End)
+pub works : {K : Type 0} (asked : SessionWords) (device : Device) (before after : Workplace) (now : StoreView) (end : End)
     (place : Option (List ℕ)) (manager out : machine.Managed K) (made last : machine.Served K) → KeptIsFound → IsSound device → place ≡ asked.store
     → IsOrigin manager.origin device place before.store → manager.history ≡ [] → IsUnchanged before.store now
     → made ≡ record { managed = manager; handed = manager.history }
@@ -85,7 +82,7 @@ works {K} asked device before after now end place manager out made last law soun
     subst (λ (p : Option (List ℕ)). IsOrigin manager.origin device p before.store) asks begun in
     let session : Serves manager.origin asked.clock before.streams after.streams end =
     serves manager.origin asked.clock before.streams after.streams (desk_of made) (desk_of last) end (first_desk made manager is fresh) went in
-    let one : last.managed.origin ≡ manager.origin = session.same.desk.desk.origin in
+    let one : last.managed.origin ≡ manager.origin = session.went.same.desk.desk.origin in
     let kept : Leaves manager.origin asked.store last.managed.history before.store after.store =
     leaves_asked manager.origin asked.store last.managed.history before.store now after.store same begins.at_place
     (subst (λ (o : Origin). Leaves o o.place last.managed.history now after.store) one

@@ -1,21 +1,20 @@
 -- What a serving is, and how it is told.
-use Rattle.std.proofs.Common.{◌≡◌, ℕ, List, [], ◌++◌, length, Option, Some, None, Result, Ok, Err, IsTrue, refl, sym, ap, ◌∙◌, subst, inl, inr, arith, append_assoc, length-append}
+use Rattle.std.proofs.Common.{◌≡◌, ℕ, List, [], ◌++◌, length, Option, Some, None, Result, Ok, Err, IsTrue, refl, sym, ap, ◌∙◌, subst, arith, append_assoc, length-append}
 use Rattle.std.specs.Prelude.{All}
 use Rattle.am_types.specs.declared.device.Device.{Device}
 use Rattle.am_types.specs.declared.history.Entry.{Entry}
 use Rattle.am_model.specs.Sound.{IsSound}
 use Rattle.std.specs.Io.KnownBytes.{Appends}
 use Rattle.am_outside.specs.declared.failure.Failed.{Failed}
-use Rattle.am_outside.specs.Counts.{HasRisen}
 use Rattle.am_network.specs.Links.{Listening, listening_at}
 use Rattle.am_history.specs.Desks.{Origin}
 use Rattle.am_found.specs.Laws.{KeptIsFound}
 use Rattle.am_machine.specs.Managed as machine
 use Rattle.am_workers.specs.Serving.{Ended, IsFormed, MayReleaseAll, NetworkView, ServesAll}
 use Rattle.am_shell.specs.declared.serving.Done.{Done}
-use Rattle.am_shell.specs.declared.serving.Serving.{Serving}
+use Rattle.am_words.specs.declared.command.ServingWords.{ServingWords}
 use Rattle.am_http.specs.Sending.{Sends, WritesPart}
-use Rattle.am_http.proofs.SendLemmas.{appends_trans}
+use Rattle.am_http.proofs.SendLemmas.{appends_trans, part_more}
 use Rattle.am_shell.specs.Kept.{IsOrigin, IsUnchanged, Leaves}
 use Rattle.am_shell.specs.Outside.{StoreView}
 use Rattle.am_shell.specs.Servings.{IsLeft, Site, Works, listened}
@@ -40,7 +39,7 @@ listened_so before mid after port gates told gate_faults faults =
     ∙ ap (λ n. record { listening = listening_at before.listening port gates; faults = after.faults; gate_faults = n }) gate_faults
 
 -- a serving that ended
-pub works_serving : {K : Type 0} (asked : Serving) (device : Device) (before after : Site) (now : StoreView) (mid : NetworkView) (done : Done) (place : Option (List ℕ))
+pub works_serving : {K : Type 0} (asked : ServingWords) (device : Device) (before after : Site) (now : StoreView) (mid : NetworkView) (done : Done) (place : Option (List ℕ))
     (count : ℕ) (manager out : machine.Managed K) → KeptIsFound → IsSound device → place ≡ asked.store → count ≡ asked.workers
     → IsOrigin manager.origin device place before.store → manager.history ≡ [] → IsUnchanged before.store now
     → mid.listening ≡ listening_at before.network.listening asked.port asked.workers → mid.gate_faults ≡ before.network.gate_faults
@@ -81,7 +80,7 @@ attached_again {K} old now place Attached manager out attached same at_place one
     attached told at (sym (at_place told) ∙ (sym (ap (λ (o : Origin). o.place) one) ∙ stands))
 
 -- a keeper that comes back without a call leaves the rows
-pub left_again : {K : Type 0} (asked : Serving) (device : Device) (before now after : StoreView) (place : Option (List ℕ)) (manager : machine.Managed K)
+pub left_again : {K : Type 0} (asked : ServingWords) (device : Device) (before now after : StoreView) (place : Option (List ℕ)) (manager : machine.Managed K)
     → place ≡ asked.store → IsOrigin manager.origin device place before → manager.history ≡ [] → IsUnchanged before now
     → Leaves manager.origin manager.origin.place manager.history now after → IsLeft asked device before after
 left_again {K} asked device before now after place manager asks begun fresh same left =
@@ -104,17 +103,7 @@ cut old new xs ys part = (
   part.4,
 )
 
--- what came first whole, and a part of what is behind it
-pub behind : (old mid new : Option (List ℕ)) (xs ys : List ℕ) → Appends old mid xs → WritesPart mid new ys → WritesPart old new (xs ++ ys)
-behind old mid new xs ys first part = (
-  xs ++ part.0,
-  part.1,
-  ap (λ l. xs ++ l) part.2 ∙ sym (append_assoc xs part.0 part.1),
-  part.3,
-  appends_trans old mid new xs part.0 first part.4,
-)
-
 -- a piece that was sent behind what came first whole
 pub sends_behind : (old mid new : Option (List ℕ)) (xs ys : List ℕ) (result : Result (Unit {0}) Failed) → Appends old mid xs → Sends mid new ys result → Sends old new (xs ++ ys) result
 sends_behind old mid new xs ys (Ok done) first sent = appends_trans old mid new xs ys first sent
-sends_behind old mid new xs ys (Err e) first sent = behind old mid new xs ys first sent
+sends_behind old mid new xs ys (Err e) first sent = part_more old mid new xs ys first sent

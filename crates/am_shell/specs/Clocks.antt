@@ -25,12 +25,16 @@ with_clock link told = record link { server = record (link.server) { clock = tol
 abbrev pub timed : Option StepWords → Link → Link
 timed asked link = with_clock link (moments_for asked link.server.clock)
 
+-- a connection as it went, with its end, whose cause is told, and over the same link throughout
+pub record Connects (old new : Link) (served : Served) (end : End) : Type 0 where
+  pub ends : served.end ≡ end
+  pub session : Session old new served
+  pub fault : HasFault end old new
+  pub same : IsSameLink old new
+
 -- a connection over the clock of a session, which tells `told` at the end
 pub record ServesOn (asked : Option StepWords) (end : End) (old new : Link) : Type 0 where
   pub served : Served
-  pub ends : served.end ≡ end
   pub told : Moments
-  pub session : Session (timed asked old) (with_clock new told) served
-  pub fault : HasFault end (timed asked old) (with_clock new told)
-  pub same : IsSameLink (timed asked old) (with_clock new told)
+  pub went : Connects (timed asked old) (with_clock new told) served end
   pub clock : new.server.clock ≡ left_of asked old.server.clock told

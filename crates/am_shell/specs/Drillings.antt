@@ -1,17 +1,14 @@
 -- A drill that words ask for.
-use Rattle.std.specs.Prelude.{◌≡◌, ℕ, ◌<◌, ◌≤◌, ◌⊎◌}
+use Rattle.std.specs.Prelude.{ℕ, ◌⊎◌}
 use Rattle.am_drill.specs.Drills.{drilled}
 use Rattle.am_drill.specs.Tallies.{printed}
-use Rattle.am_shell.specs.declared.drilling.Drilling.{Drilling}
-use Rattle.am_shell.specs.Lines.{Prints, Tells, Voices, want_line}
-
--- the numbers that words ask for lie in their ranges
-abbrev pub IsInRange : Drilling → Type 0
-IsInRange asked = (0 < asked.packages) × (asked.packages ≤ 256)
+use Rattle.am_words.specs.declared.command.DrillWords.{DrillWords}
+use Rattle.am_setback.specs.Telling.{OnlyTold, Prints, Voices}
+use Rattle.am_shell.specs.Lines.{want_line, write_line}
 
 -- a run of a drill that is asked for: what is counted of the generated requests on the generated device is printed, or
 -- memory ran out
-abbrev pub RunsDrill : Drilling → Voices → Voices → ℕ → Type 0
+abbrev pub RunsDrill : DrillWords → Voices → Voices → ℕ → Type 0
 RunsDrill asked before after status =
-    Prints (printed (drilled asked.from asked.packages asked.requests)) before after status
-    ⊎ ((after.output ≡ before.output) × Tells want_line 8 before.errors after.errors status)
+    Prints write_line (printed (drilled asked.from asked.packages asked.requests)) 0 before after status
+    ⊎ OnlyTold want_line 8 before after status

@@ -1,37 +1,15 @@
 -- The lines that tell on the errors how a run went, and the statuses.
-use Rattle.std.specs.Prelude.{◌≡◌, ℕ, ◌⊎◌, codes, List, [], ◌++◌, Result, Ok, Err}
-use Rattle.std.specs.Io.KnownBytes.{Appends}
-use Rattle.am_outside.specs.Counts.{HasRisen}
+use Rattle.std.specs.Prelude.{ℕ, codes, List, [], ◌++◌, Result, Ok, Err}
 use Rattle.am_http.specs.declared.end.End.{End}
 use Rattle.am_http.specs.declared.end.End.TheVariants.{Input, Close, Refused, Cut, Limit, ReadFault, WriteFault}
-use Rattle.am_http.specs.Links.{SinkView}
-use Rattle.am_http.specs.Sending.{WritesPart}
 use Rattle.am_setback.specs.declared.setback.Setback.TheVariants as setbacks
 use Rattle.am_setback.specs.Setbacks.{setback_status}
 use Rattle.am_shell.specs.declared.undone.Undone.{Undone}
 use Rattle.am_shell.specs.declared.undone.Undone.TheVariants as undone
 
--- the line was written whole and the status is the one that goes with it, or the errors failed and took a part of it
-abbrev pub Tells : List ℕ → ℕ → SinkView → SinkView → ℕ → Type 0
-Tells line status errors errors' result =
-    ((result ≡ status) × Appends errors.taken errors'.taken line)
-    ⊎ ((result ≡ 6) × HasRisen errors.faults errors'.faults × WritesPart errors.taken errors'.taken line)
-
 -- the line of an output that failed
 abbrev pub write_line : List ℕ
 write_line = codes "am: write fault\n"
-
--- what a command is told on: the output and the errors
-pub record Voices : Type 0 where
-  pub output : SinkView
-  pub errors : SinkView
-
--- a text was printed whole, with status 0, or the output failed and took a part of it, and the errors tell that
-abbrev pub Prints : List ℕ → Voices → Voices → ℕ → Type 0
-Prints text before after status =
-    ((status ≡ 0) × Appends before.output.taken after.output.taken text × (after.errors ≡ before.errors))
-    ⊎ (HasRisen before.output.faults after.output.faults × WritesPart before.output.taken after.output.taken text
-    × Tells write_line 6 before.errors after.errors status)
 
 -- the line of words that are no command, and the one that memory ran out
 abbrev pub usage_line : List ℕ

@@ -2,8 +2,12 @@
 use Rattle.std.specs.Prelude.{ℕ, Bool, List}
 use Rattle.am_keeper.specs.declared.rows.Rows.{Rows}
 use Rattle.am_keeper.specs.declared.keeper.Store.{Ghosts as StoreGhosts}
-use Rattle.am_http.specs.Links.{SinkView, Streams}
-use Rattle.am_setback.specs.Files.{Shelf}
+use Rattle.am_outside.specs.declared.clock.Clock.{Ghosts as ClockGhosts}
+use Rattle.am_outside.specs.declared.files.Files.{Ghosts as FilesGhosts}
+use Rattle.am_outside.specs.declared.outside.Sink.{Ghosts as SinkGhosts}
+use Rattle.am_outside.specs.declared.outside.Source.{Ghosts as SourceGhosts}
+use Rattle.am_http.specs.Links.{SinkView, Streams, streams_of}
+use Rattle.am_setback.specs.Files.{Shelf, shelf_of}
 
 -- a store of kept rows: whether it tells its rows, those at each place, and its counts of failed attaches and of the
 -- faults of its keepers
@@ -36,3 +40,15 @@ store_of g store = record {
   failed = g.failed_attaches store;
   faults = g.keeper_faults store;
 }
+
+-- what a session works on, with the store, the input, the output and the clock
+abbrev pub workplace_of : {T K S W C : Type 0} → StoreGhosts T K → SourceGhosts S → SinkGhosts W → ClockGhosts C
+    → T → S → W → C → Workplace
+workplace_of t s w c store input output clock =
+    record { store = store_of t store; streams = streams_of s w c input output clock }
+
+-- and with the files
+abbrev pub outside_of : {F T K S W C : Type 0} → FilesGhosts F → StoreGhosts T K → SourceGhosts S → SinkGhosts W
+    → ClockGhosts C → F → T → S → W → C → Outside
+outside_of f t s w c files store input output clock =
+    record { files = shelf_of f files; work = workplace_of t s w c store input output clock }

@@ -2,26 +2,32 @@
 use Rattle.std.specs.Prelude.{◌≡◌, ℕ, ◌≤◌, ◌⊎◌, codes, List, ◌++◌, length, Some, None, Result, Ok, Err, ⊤}
 use Rattle.std.specs.Io.KnownBytes.{Consumes, IsAtEnd}
 use Rattle.am_outside.specs.Counts.{HasRisen}
+use Rattle.am_outside.specs.declared.files.Files.{Ghosts as FilesGhosts}
+use Rattle.am_outside.specs.declared.outside.Source.{Ghosts as SourceGhosts}
 use Rattle.am_model.specs.Boards.{caller_of}
 use Rattle.am_wire_fields.specs.declared.fault.WireFault.{WireFault}
 use Rattle.am_wire_fields.specs.Printing.{printed}
 use Rattle.am_queries.specs.declared.device.Described.{Described}
 use Rattle.am_queries.specs.Queries.{described}
 use Rattle.am_visible.specs.Answers.{answer_to}
-use Rattle.am_http.specs.Links.{SourceView}
+use Rattle.am_http.specs.Links.{SourceView, source_of}
 use Rattle.am_setback.specs.declared.setback.Setback.TheVariants as setbacks
 use Rattle.am_setback.specs.Devices.{ReadsAs}
-use Rattle.am_setback.specs.Files.{Shelf}
-use Rattle.am_shell.specs.declared.question.Question.{Question}
+use Rattle.am_setback.specs.Files.{Shelf, shelf_of}
+use Rattle.am_words.specs.declared.command.QuestionWords.{QuestionWords}
 use Rattle.am_shell.specs.declared.undone.Undone.{Undone}
 use Rattle.am_shell.specs.declared.undone.Undone.TheVariants as undone
 use Rattle.am_shell.specs.Devices.{FailsToOpen}
-use Rattle.am_shell.specs.Lines.{Prints, Tells, Voices, line_of, status_of}
+use Rattle.am_setback.specs.Telling.{OnlyTold, Prints, Voices}
+use Rattle.am_shell.specs.Lines.{line_of, status_of, write_line}
 
 -- what a question is answered from: the files, and the input
 pub record Desk : Type 0 where
   pub files : Shelf
   pub input : SourceView
+
+abbrev pub desk_of : {F S : Type 0} → FilesGhosts F → SourceGhosts S → F → S → Desk
+desk_of f s files input = record { files = shelf_of f files; input = source_of s input }
 
 -- the outside of a whole question: what it is answered from, and what it is told on
 pub record Booth : Type 0 where
@@ -54,7 +60,7 @@ FailsToRead (undone.Setback setbacks.NoMemory) before after = ⊤
 FailsToRead _ before after = ⊥
 
 -- the device file describes a device with its queries, in which the package that asks is that caller
-pub record IsAsked (asked : Question) (files : Shelf) (known : Described) (caller : ℕ) : Type 0 where
+pub record IsAsked (asked : QuestionWords) (files : Shelf) (known : Described) (caller : ℕ) : Type 0 where
   pub file : ReadsAs described files.files asked.device (Ok known)
   pub named : caller_of known.device.packages asked.«package» ≡ Some caller
 
@@ -69,7 +75,7 @@ IsNoReply (undone.Setback setbacks.NoMemory) reply = ⊤
 IsNoReply _ reply = ⊥
 
 -- what the caller is answered of the input, as text or by the first fault
-pub record Replies (asked : Question) (before after : Desk) (reply : Result (List ℕ) WireFault) : Type 0 where
+pub record Replies (asked : QuestionWords) (before after : Desk) (reply : Result (List ℕ) WireFault) : Type 0 where
   pub known : Described
   pub caller : ℕ
   pub asks : IsAsked asked before.files known caller
@@ -78,7 +84,7 @@ pub record Replies (asked : Question) (before after : Desk) (reply : Result (Lis
   pub answers : answer_to known caller bytes ≡ reply
 
 -- why a question isn't answered: the device file, the name, the input, or what was asked; else memory ran out
-abbrev pub FailsToAnswer : Undone → Question → Desk → Desk → Type 0
+abbrev pub FailsToAnswer : Undone → QuestionWords → Desk → Desk → Type 0
 FailsToAnswer (undone.Setback setback) asked before after =
     (setback ≡ setbacks.NoMemory)
     ⊎ (FailsToOpen setback described asked.device before.files after.files × (after.input ≡ before.input))
@@ -91,18 +97,17 @@ FailsToAnswer (undone.QueryRefused line) asked before after =
 FailsToAnswer _ asked before after = ⊥
 
 -- the text that answers the question, or why it isn't answered
-abbrev pub Happens : Result (List ℕ) Undone → Question → Desk → Desk → Type 0
+abbrev pub Happens : Result (List ℕ) Undone → QuestionWords → Desk → Desk → Type 0
 Happens (Ok text) asked before after = Replies asked before after (Ok text)
 Happens (Err why) asked before after = FailsToAnswer why asked before after
 
 -- how a question is told, on the output and the errors and by the status: the text of its answer is printed
 abbrev pub TellsAnswer : Result (List ℕ) Undone → Voices → Voices → ℕ → Type 0
-TellsAnswer (Ok text) before after status = Prints text before after status
-TellsAnswer (Err why) before after status =
-    (after.output ≡ before.output) × Tells (line_of why) (status_of why) before.errors after.errors status
+TellsAnswer (Ok text) before after status = Prints write_line text 0 before after status
+TellsAnswer (Err why) before after status = OnlyTold (line_of why) (status_of why) before after status
 
 -- a run of a question that is asked: how it went, and that the output, the errors and the status tell it
-pub record RunsQuestion (asked : Question) (before after : Booth) (status : ℕ) : Type 0 where
+pub record RunsQuestion (asked : QuestionWords) (before after : Booth) (status : ℕ) : Type 0 where
   pub work : Result (List ℕ) Undone
   pub happened : Happens work asked before.desk after.desk
   pub told : TellsAnswer work before.voices after.voices status

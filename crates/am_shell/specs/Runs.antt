@@ -3,40 +3,47 @@ use Rattle.std.specs.Prelude.{◌≡◌, ℕ, ◌⊎◌, List, Option, Some, Non
 use Rattle.std.specs.Io.KnownBytes.{Appends}
 use Rattle.am_outside.specs.Counts.{HasRisen}
 use Rattle.am_outside.specs.Files.{bytes_of}
+use Rattle.am_outside.specs.declared.clock.Clock.{Ghosts as ClockGhosts}
+use Rattle.am_outside.specs.declared.files.Files.{Ghosts as FilesGhosts}
+use Rattle.am_outside.specs.declared.outside.Sink.{Ghosts as SinkGhosts}
+use Rattle.am_outside.specs.declared.outside.Source.{Ghosts as SourceGhosts}
+use Rattle.am_network.specs.declared.network.Network.{Ghosts as NetworkGhosts}
+use Rattle.am_keeper.specs.declared.keeper.Store.{Ghosts as StoreGhosts}
 use Rattle.am_types.specs.declared.device.Device.{Device}
 use Rattle.am_outside.specs.declared.files.FileBytes.{FileBytes}
 use Rattle.am_manifest.specs.Devices.{device_of}
 use Rattle.am_http.specs.declared.end.End.{End}
 use Rattle.am_http.specs.declared.end.End.TheVariants.{Input, Close, Refused, Cut, Limit}
-use Rattle.am_http.specs.Links.{SourceView, SinkView, Moments}
+use Rattle.am_http.specs.Links.{SourceView, SinkView, Moments, sink_of, source_of}
 use Rattle.am_words.specs.Grammar.{read_command}
-use Rattle.am_workers.specs.Serving.{NetworkView}
+use Rattle.am_workers.specs.Serving.{NetworkView, network_of}
 use Rattle.am_words.specs.declared.command.Command.{Command}
 use Rattle.am_words.specs.declared.command.Command.TheVariants.{Session, Serve, Drill, Visible}
-use Rattle.am_setback.specs.Files.{Shelf}
-use Rattle.am_shell.specs.declared.session.Asked.{Asked}
+use Rattle.am_setback.specs.Files.{Shelf, shelf_of}
+use Rattle.am_words.specs.declared.command.SessionWords.{SessionWords}
 use Rattle.am_shell.specs.declared.undone.Undone.{Undone}
 use Rattle.am_shell.specs.Devices.{IsRefused, IsUnread}
 use Rattle.am_shell.specs.Drillings.{RunsDrill}
 use Rattle.am_shell.specs.Kept.{RefusesRows}
-use Rattle.am_shell.specs.Lines.{Tells, Voices, session_line, session_status, usage_line, want_line}
+use Rattle.am_setback.specs.Telling.{Tells, Voices}
+use Rattle.am_shell.specs.Lines.{session_line, session_status, usage_line, want_line}
 use Rattle.am_shell.specs.Sessions.{Happens, Worked, Works, Unattached, Unopened}
-use Rattle.am_shell.specs.Outside.{StoreView, Surroundings}
+use Rattle.am_shell.specs.Outside.{StoreView, Surroundings, store_of}
 use Rattle.am_shell.specs.Questions.{Booth, RunsQuestion}
 use Rattle.am_shell.specs.Servings.{Premises, RunsServing}
 
 -- how a session went, and that the errors and the status tell it
-pub record Went (asked : Asked) (before after : Surroundings) (status : ℕ) : Type 0 where
+pub record Went (asked : SessionWords) (before after : Surroundings) (status : ℕ) : Type 0 where
   pub work : Result End Undone
   pub happened : Happens work asked before.outside after.outside
   pub told : Tells (session_line work) (session_status work) before.errors after.errors status
 
 -- the session ended so
-abbrev pub Ends : Asked → Surroundings → Surroundings → End → Type 0
+abbrev pub Ends : SessionWords → Surroundings → Surroundings → End → Type 0
 Ends asked before after end = Worked asked before.outside after.outside end
 
 -- the cause of each status of a session; running out of memory, status 8, has none
-pub record HasCause (asked : Asked) (before after : Surroundings) (status : ℕ) : Type 0 where
+pub record HasCause (asked : SessionWords) (before after : Surroundings) (status : ℕ) : Type 0 where
   pub worked : status ≡ 0 → Ends asked before after Input ⊎ Ends asked before after Close
   pub stopped : status ≡ 1 →
       Ends asked before after Refused ⊎ Ends asked before after Cut ⊎ Ends asked before after Limit
@@ -55,12 +62,12 @@ pub record HasCause (asked : Asked) (before after : Surroundings) (status : ℕ)
       (line : List ℕ) × Unopened asked before.outside line × Appends before.errors.taken after.errors.taken line
 
 -- a row that was kept for the session that is asked for, of that device, is refused
-abbrev pub IsRowRefused : Asked → Device → Surroundings → Type 0
+abbrev pub IsRowRefused : SessionWords → Device → Surroundings → Type 0
 IsRowRefused asked device before = (line : List ℕ) × RefusesRows device asked.store before.outside.work.store line
 
 -- if the device file is told and describes a device, the session was served, unless the files, the store or the errors
 -- failed, a row that was kept is refused, or memory ran out
-abbrev pub Completes : Asked → Surroundings → Surroundings → ℕ → Type 0
+abbrev pub Completes : SessionWords → Surroundings → Surroundings → ℕ → Type 0
 Completes asked before after status =
     (files : List FileBytes) (bytes : List ℕ) (device : Device) →
     before.outside.files.files ≡ Some files → bytes_of asked.device files ≡ Some bytes → device_of bytes ≡ Ok device →
@@ -70,7 +77,7 @@ Completes asked before after status =
     ⊎ HasRisen before.errors.faults after.errors.faults ⊎ (status ≡ 8)
 
 -- a run of a session that is asked for: how it went, the cause of its status, and when it is the work
-pub record RunsSession (asked : Asked) (before after : Surroundings) (status : ℕ) : Type 0 where
+pub record RunsSession (asked : SessionWords) (before after : Surroundings) (status : ℕ) : Type 0 where
   pub went : Went asked before after status
   pub cause : HasCause asked before after status
   pub complete : Completes asked before after status
@@ -85,6 +92,18 @@ pub record World : Type 0 where
   pub clock : Moments
   pub network : NetworkView
   pub errors : SinkView
+
+abbrev pub world_of : {F T K S W C N G R L E : Type 0} → FilesGhosts F → StoreGhosts T K → SourceGhosts S → SinkGhosts W
+    → ClockGhosts C → NetworkGhosts N G R L → SinkGhosts E → F → T → S → W → C → N → E → World
+world_of f t s w c n e files store input output clock network errors = record {
+  files = shelf_of f files;
+  store = store_of t store;
+  input = source_of s input;
+  output = sink_of w output;
+  clock = c.moments clock;
+  network = network_of n network;
+  errors = sink_of e errors;
+}
 
 -- what a session, a drill, a question and a serving have of it
 abbrev pub for_session : World → Surroundings
@@ -122,22 +141,16 @@ pub record OnlyTells (line : List ℕ) (status : ℕ) (before after : World) (re
 -- a run of the command that the words say, if they say one, which leaves the rest of the world as it was
 abbrev pub RunsCommand : Option Command → World → World → ℕ → Type 0
 RunsCommand None before after status = OnlyTells usage_line 2 before after status
-RunsCommand (Some (Session device store clock)) before after status =
-    RunsSession (record { device = device; store = store; clock = clock })
-    (for_session before) (for_session after) status
-    × (after.network ≡ before.network)
-RunsCommand (Some (Serve device port workers store connections)) before after status =
-    RunsServing
-    (record { device = device; port = port; workers = workers; store = store; connections = connections })
-    (for_serving before) (for_serving after) status
+RunsCommand (Some (Session asked)) before after status =
+    RunsSession asked (for_session before) (for_session after) status × (after.network ≡ before.network)
+RunsCommand (Some (Serve asked)) before after status =
+    RunsServing asked (for_serving before) (for_serving after) status
     × (after.input ≡ before.input) × (after.clock ≡ before.clock)
-RunsCommand (Some (Drill from packages requests)) before after status =
-    RunsDrill (record { from = from; packages = packages; requests = requests })
-    (for_drill before) (for_drill after) status
+RunsCommand (Some (Drill asked)) before after status =
+    RunsDrill asked (for_drill before) (for_drill after) status
     × (after ≡ record before { output = after.output; errors = after.errors })
-RunsCommand (Some (Visible device «package»)) before after status =
-    RunsQuestion (record { device = device; «package» = «package» })
-    (for_question before) (for_question after) status
+RunsCommand (Some (Visible asked)) before after status =
+    RunsQuestion asked (for_question before) (for_question after) status
     × (after.store ≡ before.store) × (after.clock ≡ before.clock) × (after.network ≡ before.network)
 
 -- a whole run: that of its command, or memory ran out while the words were read

@@ -1,39 +1,46 @@
 -- A serving that words ask for: a device that many workers serve over a network.
-use Rattle.std.specs.Prelude.{◌≡◌, ℕ, ◌≤◌, ◌⊎◌, codes, decimal, List, [], ◌++◌, length, Some, IfSome, Result, Ok, Err, Bool, IsTrue, true, false}
+use Rattle.std.specs.Prelude.{◌≡◌, ℕ, ◌⊎◌, codes, decimal, List, [], ◌++◌, length, Some, Result, Ok, Err, Bool, IsTrue, true, false}
 use Rattle.am_types.specs.declared.device.Device.{Device}
 use Rattle.am_outside.specs.Counts.{HasRisen}
+use Rattle.am_outside.specs.declared.files.Files.{Ghosts as FilesGhosts}
+use Rattle.am_network.specs.declared.network.Network.{Ghosts as NetworkGhosts}
 use Rattle.am_network.specs.Links.{listening_at}
+use Rattle.am_keeper.specs.declared.keeper.Store.{Ghosts as StoreGhosts}
 use Rattle.am_history.specs.Desks.{Origin, opening_of}
 use Rattle.am_history.specs.History.{replay}
 use Rattle.am_found.specs.Found.{OpensAs}
 use Rattle.am_manifest.specs.Devices.{device_of}
-use Rattle.am_workers.specs.Serving.{Ended, NetworkView, ServesAll}
+use Rattle.am_workers.specs.Serving.{Ended, NetworkView, ServesAll, network_of}
 use Rattle.am_shell.specs.declared.serving.Done.{Done}
-use Rattle.am_shell.specs.declared.serving.Serving.{Serving}
+use Rattle.am_words.specs.declared.command.ServingWords.{ServingWords}
 use Rattle.am_setback.specs.declared.setback.Setback.{Setback}
 use Rattle.am_setback.specs.declared.setback.Setback.TheVariants as setbacks
 use Rattle.am_setback.specs.Devices.{Describes}
-use Rattle.am_setback.specs.Files.{Shelf}
+use Rattle.am_setback.specs.Files.{Shelf, shelf_of}
 use Rattle.am_shell.specs.declared.undone.Undone.{Undone}
 use Rattle.am_shell.specs.declared.undone.Undone.TheVariants as undone
 use Rattle.am_shell.specs.Devices.{FailsToOpen}
 use Rattle.am_shell.specs.Kept.{FailsToOpenRows, IsOrigin, IsUnchanged, Leaves}
-use Rattle.am_shell.specs.Lines.{Prints, Tells, Voices, line_of, network_line, status_of}
-use Rattle.am_shell.specs.Outside.{StoreView}
-
--- the numbers that words ask for lie in their ranges
-abbrev pub IsInRange : Serving → Type 0
-IsInRange asked = (1 ≤ asked.workers) × (asked.workers ≤ 64) × IfSome asked.connections (λ most. 1 ≤ most)
+use Rattle.am_setback.specs.Telling.{OnlyTold, Prints, Voices}
+use Rattle.am_shell.specs.Lines.{line_of, network_line, status_of, write_line}
+use Rattle.am_shell.specs.Outside.{StoreView, store_of}
 
 -- what a serving works on: the store of the kept rows, and the network
 pub record Site : Type 0 where
   pub store : StoreView
   pub network : NetworkView
 
+abbrev pub site_of : {T K N G R W : Type 0} → StoreGhosts T K → NetworkGhosts N G R W → T → N → Site
+site_of t n store network = record { store = store_of t store; network = network_of n network }
+
 -- what it is opened from, and works on
 pub record Grounds : Type 0 where
   pub files : Shelf
   pub site : Site
+
+abbrev pub grounds_of : {F T K N G R W : Type 0} → FilesGhosts F → StoreGhosts T K → NetworkGhosts N G R W
+    → F → T → N → Grounds
+grounds_of f t n files store network = record { files = shelf_of f files; site = site_of t n store network }
 
 -- the outside of a whole serving: that, and what it is told on
 pub record Premises : Type 0 where
@@ -51,7 +58,7 @@ listened network port gates faults = record {
 -- the serving that is asked for, of that device: it begins with the rows that were kept, and an empty history; its
 -- workers serve it over the network, which listened as was asked for; and it leaves the rows that its history has kept.
 -- With these the device opens as the serving left it. What is told of it are the history's length and what the workers did
-pub record Works (asked : Serving) (device : Device) (before after : Site) (done : Done) : Type 0 where
+pub record Works (asked : ServingWords) (device : Device) (before after : Site) (done : Done) : Type 0 where
   pub origin : Origin
   pub ended : Ended
   pub begins : IsOrigin origin device asked.store before.store
@@ -64,44 +71,44 @@ pub record Works (asked : Serving) (device : Device) (before after : Site) (done
   pub totals : done.totals ≡ ended.totals
 
 -- a manager began with the rows that were kept, and its keeper came back with these rows
-pub record IsLeft (asked : Serving) (device : Device) (before after : StoreView) : Type 0 where
+pub record IsLeft (asked : ServingWords) (device : Device) (before after : StoreView) : Type 0 where
   pub origin : Origin
   pub begins : IsOrigin origin device asked.store before
   pub store : Leaves origin asked.store [] before after
 
 -- no manager began, or memory ran out; the rows stay, and nothing was asked of the network unless memory ran out
-pub record IsUnbegun (why : Undone) (asked : Serving) (device : Device) (before after : Site) : Type 0 where
+pub record IsUnbegun (why : Undone) (asked : ServingWords) (device : Device) (before after : Site) : Type 0 where
   pub fails : FailsToOpenRows why device asked.store before.store after.store
   pub store : IsUnchanged before.store after.store ⊎ IsLeft asked device before.store after.store
   pub network : (why ≡ undone.Setback setbacks.NoMemory) ⊎ (after.network ≡ before.network)
 
 -- the network failed to listen, and the keeper of the manager that began came back
-pub record IsUnheard (why : Undone) (asked : Serving) (device : Device) (before after : Site) : Type 0 where
+pub record IsUnheard (why : Undone) (asked : ServingWords) (device : Device) (before after : Site) : Type 0 where
   pub is : why ≡ undone.NetworkFault
   pub risen : HasRisen before.network.faults after.network.faults
   pub store : IsLeft asked device before.store after.store
 
 -- the serving that is asked for, of that device, or why it didn't begin
-abbrev pub ServesOr : Result Done Undone → Serving → Device → Site → Site → Type 0
+abbrev pub ServesOr : Result Done Undone → ServingWords → Device → Site → Site → Type 0
 ServesOr (Ok done) asked device before after = Works asked device before after done
 ServesOr (Err why) asked device before after =
     IsUnbegun why asked device before after ⊎ IsUnheard why asked device before after
 
 -- the serving that is asked for, of the device that its file describes, or why it didn't begin
-pub record ServesFile (work : Result Done Undone) (asked : Serving) (before after : Grounds) : Type 0 where
+pub record ServesFile (work : Result Done Undone) (asked : ServingWords) (before after : Grounds) : Type 0 where
   pub device : Device
   pub file : Describes before.files.files asked.device (Ok device)
   pub serves : ServesOr work asked device before.site after.site
 
 -- the device file describes no device, or memory ran out as it was read, and nothing else was done
-pub record LacksDevice (work : Result Done Undone) (asked : Serving) (before after : Grounds) : Type 0 where
+pub record LacksDevice (work : Result Done Undone) (asked : ServingWords) (before after : Grounds) : Type 0 where
   pub setback : Setback
   pub is : work ≡ Err (undone.Setback setback)
   pub fails : FailsToOpen setback device_of asked.device before.files after.files
   pub site : after.site ≡ before.site
 
 -- how a serving that is asked for went
-abbrev pub Happens : Result Done Undone → Serving → Grounds → Grounds → Type 0
+abbrev pub Happens : Result Done Undone → ServingWords → Grounds → Grounds → Type 0
 Happens work asked before after = ServesFile work asked before after ⊎ LacksDevice work asked before after
 
 -- the line of a serving that ended: how long its history is, and how many links were served
@@ -109,15 +116,10 @@ abbrev pub done_line : Done → List ℕ
 done_line done =
     codes "history " ++ (decimal done.history ++ (codes " served " ++ (decimal done.totals.served ++ codes "\n")))
 
--- a line was told on the errors, with its status, and the output took nothing
-abbrev pub OnlyTold : List ℕ → ℕ → Voices → Voices → ℕ → Type 0
-OnlyTold line code before after status =
-    (after.output ≡ before.output) × Tells line code before.errors after.errors status
-
 -- how a serving that ended is told: its line is printed, unless a gate failed
 abbrev pub TellsDone : Bool → Done → Voices → Voices → ℕ → Type 0
 TellsDone true done before after status = OnlyTold network_line 9 before after status
-TellsDone false done before after status = Prints (done_line done) before after status
+TellsDone false done before after status = Prints write_line (done_line done) 0 before after status
 
 -- how a serving is told, on the output and the errors and by the status
 abbrev pub TellsServing : Result Done Undone → Voices → Voices → ℕ → Type 0
@@ -125,7 +127,7 @@ TellsServing (Ok done) before after status = TellsDone done.totals.failed done b
 TellsServing (Err why) before after status = OnlyTold (line_of why) (status_of why) before after status
 
 -- a run of a serving that is asked for: how it went, and that the output, the errors and the status tell it
-pub record RunsServing (asked : Serving) (before after : Premises) (status : ℕ) : Type 0 where
+pub record RunsServing (asked : ServingWords) (before after : Premises) (status : ℕ) : Type 0 where
   pub work : Result Done Undone
   pub happened : Happens work asked before.grounds after.grounds
   pub told : TellsServing work before.voices after.voices status

@@ -10,14 +10,13 @@ use Rattle.am_manifest.specs.Devices.{device_of}
 use Rattle.am_http.specs.declared.end.End.{End}
 use Rattle.am_http.specs.declared.end.Served.{Served}
 use Rattle.am_http.specs.Exchanges.{stored_entries}
-use Rattle.am_http.specs.Links.{IsSameLink, Moments, Streams, link_of}
-use Rattle.am_http.specs.Sessions.{Session, HasFault}
+use Rattle.am_http.specs.Links.{Moments, Streams, link_of}
 use Rattle.am_words.specs.declared.command.StepWords.{StepWords}
 use Rattle.am_setback.specs.Devices.{Describes}
-use Rattle.am_shell.specs.declared.session.Asked.{Asked}
+use Rattle.am_words.specs.declared.command.SessionWords.{SessionWords}
 use Rattle.am_shell.specs.declared.undone.Undone.{Undone}
 use Rattle.am_shell.specs.declared.undone.Undone.TheVariants as undone
-use Rattle.am_shell.specs.Clocks.{left_of, timed, with_clock}
+use Rattle.am_shell.specs.Clocks.{Connects, left_of, timed, with_clock}
 use Rattle.am_shell.specs.Devices.{FailsToOpen}
 use Rattle.am_shell.specs.Kept.{FailsToOpenRows, IsOrigin, IsUnchanged, Leaves, RefusesRows}
 use Rattle.am_shell.specs.Outside.{Outside, Workplace}
@@ -38,15 +37,12 @@ pub record Serves
     (origin : Origin) (asked : Option StepWords) (before after : Streams) (end : End) : Type 0 where
   pub desk : DeskView
   pub served : Served
-  pub ends : served.end ≡ end
   pub told : Moments
-  pub session :
-      Session (timed asked (link_of (sole_desk origin []) before)) (with_clock (link_of desk after) told) served
-  pub same : IsSameLink (timed asked (link_of (sole_desk origin []) before)) (with_clock (link_of desk after) told)
+  pub went :
+      Connects (timed asked (link_of (sole_desk origin []) before)) (with_clock (link_of desk after) told) served end
   pub legal : IsLegal (opening_of origin) desk.seen
-  pub calls : desk.seen ≡ stored_entries desk.seen session.exchanges
+  pub calls : desk.seen ≡ stored_entries desk.seen went.session.exchanges
   pub own : entries_of 0 desk.seen ≡ desk.seen
-  pub fault : HasFault end (timed asked (link_of (sole_desk origin []) before)) (with_clock (link_of desk after) told)
   pub clock : after.clock ≡ left_of asked before.clock told
 
 -- the store keeps its rows, and the input, the output and the clock tell what they told before: nothing was kept, read,
@@ -58,20 +54,20 @@ pub record IsIdle (before after : Workplace) : Type 0 where
   pub clock : after.streams.clock ≡ before.streams.clock
 
 -- the device file describes a device, and the store failed
-pub record Unattached (asked : Asked) (before after : Outside) : Type 0 where
+pub record Unattached (asked : SessionWords) (before after : Outside) : Type 0 where
   pub device : Device
   pub file : Describes before.files.files asked.device (Ok device)
   pub risen : HasRisen before.work.store.failed after.work.store.failed
 
 -- the device file describes a device, and a row that was kept for it is refused, whose package the line names
-pub record Unopened (asked : Asked) (before : Outside) (line : List ℕ) : Type 0 where
+pub record Unopened (asked : SessionWords) (before : Outside) (line : List ℕ) : Type 0 where
   pub device : Device
   pub file : Describes before.files.files asked.device (Ok device)
   pub refused : RefusesRows device asked.store before.work.store line
 
 -- the session that is asked for, of that device, with its end: it begins with the rows that were kept, and leaves those
 -- that its history has kept. With these the device opens as the session left it
-pub record Works (asked : Asked) (device : Device) (before after : Workplace) (end : End) : Type 0 where
+pub record Works (asked : SessionWords) (device : Device) (before after : Workplace) (end : End) : Type 0 where
   pub origin : Origin
   pub begins : IsOrigin origin device asked.store before.store
   pub session : Serves origin asked.clock before.streams after.streams end
@@ -80,13 +76,13 @@ pub record Works (asked : Asked) (device : Device) (before after : Workplace) (e
       → OpensAs device (after.store.rows at) (replay (opening_of origin) session.desk.seen)
 
 -- the session that is asked for, of the device that its file describes, ended so
-pub record Worked (asked : Asked) (before after : Outside) (end : End) : Type 0 where
+pub record Worked (asked : SessionWords) (before after : Outside) (end : End) : Type 0 where
   pub device : Device
   pub file : Describes before.files.files asked.device (Ok device)
   pub works : Works asked device before.work after.work end
 
 -- why a session that is asked for didn't begin: the device file, the store, a row, or memory ran out
-abbrev pub FailsToBegin : Undone → Asked → Outside → Outside → Type 0
+abbrev pub FailsToBegin : Undone → SessionWords → Outside → Outside → Type 0
 FailsToBegin (undone.Setback setback) asked before after =
     FailsToOpen setback device_of asked.device before.files after.files × IsIdle before.work after.work
 FailsToBegin undone.StoreFault asked before after = Unattached asked before after × IsIdle before.work after.work
@@ -94,12 +90,12 @@ FailsToBegin (undone.RowsRefused line) asked before after = Unopened asked befor
 FailsToBegin _ asked before after = ⊥
 
 -- how a session that is asked for went
-abbrev pub Happens : Result End Undone → Asked → Outside → Outside → Type 0
+abbrev pub Happens : Result End Undone → SessionWords → Outside → Outside → Type 0
 Happens (Ok end) asked before after = Worked asked before after end
 Happens (Err why) asked before after = FailsToBegin why asked before after
 
 -- the session that is asked for, of that device, or why it didn't begin
-abbrev pub ServesOr : Result End Undone → Asked → Device → Workplace → Workplace → Type 0
+abbrev pub ServesOr : Result End Undone → SessionWords → Device → Workplace → Workplace → Type 0
 ServesOr (Ok end) asked device before after = Works asked device before after end
 ServesOr (Err why) asked device before after =
     FailsToOpenRows why device asked.store before.store after.store × IsIdle before after

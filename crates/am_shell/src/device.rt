@@ -1,5 +1,5 @@
 //! The device file.
-ghost use Rattle.std.specs.Prelude.{◌≡◌, codes, IfOk};
+ghost use Rattle.std.specs.Prelude.{codes, IfOk};
 ghost use Rattle.am_model.specs.Sound.{IsSound};
 ghost use Rattle.am_manifest.specs.Devices.{device_of};
 ghost use Rattle.am_queries.specs.Queries.{described};

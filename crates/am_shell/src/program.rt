@@ -1,18 +1,15 @@
 //! The top call.
-ghost use Rattle.am_http.specs.Links.{source_of, sink_of};
-ghost use Rattle.am_workers.specs.Serving.{network_of};
-ghost use Rattle.am_setback.specs.Files.{shelf_of};
-ghost use Rattle.am_shell.specs.Outside.{store_of};
-ghost use Rattle.am_shell.specs.Runs.{Runs};
+ghost use Rattle.am_shell.specs.Runs.{Runs, world_of};
 
-use crate::drilling::{Drilling, run_drill};
-use crate::question::{Question, run_question};
-use crate::serving::{Serving, run_serving};
-use crate::session::{Asked, run_session};
-use crate::telling::{tell, tell_want};
+use crate::drilling::run_drill;
+use crate::question::run_question;
+use crate::serving::run_serving;
+use crate::session::run_session;
+use crate::telling::tell_want;
 use am_keeper::Store;
-use am_network::{Acceptor, Network};
+use am_network::Network;
 use am_outside::{Clock, Files, Sink, Source};
+use am_setback::tell;
 use am_types::Text;
 use am_words::{Command, WordsFault, read_command};
 use std::alloc::Global;
@@ -55,84 +52,23 @@ pub fn run<R, F: Files, S: Source, W: Sink, E: Sink, N: Network, T: Store, C: Cl
 ) -> u8
 where
     R: Threads + Wait + Clone + Drop + Send + Sync,
-    N::Gate: Send,
-    <N::Gate as Acceptor>::Reader: Send,
-    <N::Gate as Acceptor>::Writer: Send,
     T::Kept: Send,
     ensures { Runs words.now
-        (record {
-          files = shelf_of F.Files files.old;
-          store = store_of T.Store store.old;
-          input = source_of S.Source input.old;
-          output = sink_of W.Sink output.old;
-          clock = C.moments clock.old;
-          network = network_of N.Network network.old;
-          errors = sink_of E.Sink errors.old;
-        })
-        (record {
-          files = shelf_of F.Files files.new;
-          store = store_of T.Store store.new;
-          input = source_of S.Source input.new;
-          output = sink_of W.Sink output.new;
-          clock = C.moments clock.new;
-          network = network_of N.Network network.new;
-          errors = sink_of E.Sink errors.new;
-        })
+        (world_of F.Files T.Store S.Source W.Sink C.Clock N.Network E.Sink
+        files.old store.old input.old output.old clock.old network.old errors.old)
+        (world_of F.Files T.Store S.Source W.Sink C.Clock N.Network E.Sink
+        files.new store.new input.new output.new clock.new network.new errors.new)
         result }
 {
     match read_command(alloc, words) {
-        Ok(
-            Command::Session {
-                device,
-                store: place,
-                clock: own,
-            },
-        ) => {
-            let asked = Asked {
-                device,
-                store: place,
-                clock: own,
-            };
+        Ok(Command::Session(asked)) => {
             run_session(alloc, asked, files, input, output, errors, store, clock)
         }
-        Ok(
-            Command::Serve {
-                device,
-                port,
-                workers,
-                store: place,
-                connections,
-            },
-        ) => {
-            let asked = Serving {
-                device,
-                port,
-                workers,
-                store: place,
-                connections,
-            };
-            run_serving(
-                rt, alloc, asked, files, output, errors, network, store, clock,
-            )
-        }
-        Ok(
-            Command::Drill {
-                from,
-                packages,
-                requests,
-            },
-        ) => {
-            let asked = Drilling {
-                from,
-                packages,
-                requests,
-            };
-            run_drill(alloc, asked, output, errors)
-        }
-        Ok(Command::Visible { device, package }) => {
-            let asked = Question { device, package };
-            run_question(alloc, asked, files, input, output, errors)
-        }
+        Ok(Command::Serve(asked)) => run_serving(
+            rt, alloc, asked, files, output, errors, network, store, clock,
+        ),
+        Ok(Command::Drill(asked)) => run_drill(alloc, asked, output, errors),
+        Ok(Command::Visible(asked)) => run_question(alloc, asked, files, input, output, errors),
         Err(WordsFault::Usage) => tell("am: usage\n", 2, errors),
         Err(WordsFault::NoMemory) => tell_want(errors),
     }

@@ -1,21 +1,22 @@
 //! Which components a package sees: a question about a device, which is asked on the input.
-ghost use Rattle.std.specs.Prelude.{◌≡◌, ◌≤◌, ◌<◌, ℕ, IfOk, IfErr, Ok, length};
-ghost use Rattle.am_http.specs.Links.{sink_of, source_of};
+ghost use Rattle.std.specs.Prelude.{◌≡◌, ◌≤◌, ◌<◌, IfOk, IfErr, Ok, length};
+ghost use Rattle.am_http.specs.Links.{source_of};
 ghost use Rattle.am_model.specs.Sound.{IsSound};
 ghost use Rattle.am_visible.specs.Answers.{answer_to};
-ghost use Rattle.am_setback.specs.Files.{shelf_of};
-ghost use Rattle.am_shell.specs.Questions.{FailsToRead, Happens, IsNoReply, IsRead, ReadsMore, RunsQuestion, query_line};
+ghost use Rattle.am_setback.specs.Telling.{voices_of};
+ghost use Rattle.am_shell.specs.Questions.{FailsToRead, Happens, IsNoReply, IsRead, ReadsMore, RunsQuestion, desk_of, query_line};
 
 use crate::device::open_described;
-use crate::telling::{print, tell};
+use crate::telling::print;
 use crate::undone::Undone;
 use am_installed::caller_named;
 use am_outside::{Files, Sink, Source};
 use am_queries::Described;
-use am_setback::Setback;
+use am_setback::{Setback, tell};
 use am_types::{NoMemory, Text};
 use am_visible::answer;
 use am_wire_fields::{Unread, WireFault};
+use am_words::QuestionWords;
 use std::alloc::Global;
 
 /// How many bytes of the input are read at most, one more than a query's body may have.
@@ -24,21 +25,12 @@ const MOST_READ: usize = 65_537;
 /// How many bytes are read at once.
 const PIECE: usize = 4096;
 
-/// The question that words ask.
-#[derive(Drop)]
-pub struct Question {
-    /// The device file.
-    pub device: Text,
-    /// The package that asks; `android` is the system's.
-    pub package: Text,
-}
-
 /// Runs the question that is asked: reads the device file with the queries of its packages, then the input, to its end
 /// or as far as a query's body goes and one byte more, and prints the components that the package sees of those that
 /// the query finds. Answers the status, whose line it writes on the errors.
 pub fn run_question<F: Files, S: Source, W: Sink, E: Sink>(
     alloc: Global,
-    asked: Question,
+    asked: QuestionWords,
     files: &mut F,
     input: &mut S,
     output: &mut W,
@@ -46,12 +38,12 @@ pub fn run_question<F: Files, S: Source, W: Sink, E: Sink>(
 ) -> u8
     ensures { RunsQuestion asked
         (record {
-          desk = record { files = shelf_of F.Files files.old; input = source_of S.Source input.old };
-          voices = record { output = sink_of W.Sink output.old; errors = sink_of E.Sink errors.old };
+          desk = desk_of F.Files S.Source files.old input.old;
+          voices = voices_of W.Sink E.Sink output.old errors.old;
         })
         (record {
-          desk = record { files = shelf_of F.Files files.new; input = source_of S.Source input.new };
-          voices = record { output = sink_of W.Sink output.new; errors = sink_of E.Sink errors.new };
+          desk = desk_of F.Files S.Source files.new input.new;
+          voices = voices_of W.Sink E.Sink output.new errors.new;
         })
         result }
 {
@@ -64,13 +56,13 @@ pub fn run_question<F: Files, S: Source, W: Sink, E: Sink>(
 // All but the output and the line on the errors.
 fn answer_question<F: Files, S: Source>(
     alloc: Global,
-    asked: &Question,
+    asked: &QuestionWords,
     files: &mut F,
     input: &mut S,
 ) -> Result<Text, Undone>
     ensures { Happens result asked.now
-        (record { files = shelf_of F.Files files.old; input = source_of S.Source input.old })
-        (record { files = shelf_of F.Files files.new; input = source_of S.Source input.new }) }
+        (desk_of F.Files S.Source files.old input.old)
+        (desk_of F.Files S.Source files.new input.new) }
 {
     let known = open_described(alloc, files, &asked.device)?;
     let Some(caller) = caller_named(&known.device.packages, &asked.package) else {

@@ -1,45 +1,28 @@
 //! A device that many workers serve over a network.
-ghost use Rattle.std.specs.Prelude.{◌≡◌, ◌≤◌, OnErr, decimal};
+ghost use Rattle.std.specs.Prelude.{◌≤◌, OnErr, decimal};
 ghost use Rattle.am_outside.specs.Counts.{HasRisen};
 ghost use Rattle.am_model.specs.Sound.{IsSound};
-ghost use Rattle.am_http.specs.Links.{sink_of};
 ghost use Rattle.am_http.specs.Sending.{Sends};
-ghost use Rattle.am_workers.specs.Serving.{network_of};
-ghost use Rattle.am_setback.specs.Files.{shelf_of};
-ghost use Rattle.am_shell.specs.Outside.{store_of};
-ghost use Rattle.am_shell.specs.Servings.{Happens, IsInRange, RunsServing, ServesOr, TellsDone, done_line};
+ghost use Rattle.am_words.specs.Ranges.{IsServingInRange};
+ghost use Rattle.am_setback.specs.Telling.{voices_of};
+ghost use Rattle.am_shell.specs.Servings.{Happens, RunsServing, ServesOr, TellsDone, done_line, grounds_of, site_of};
 
 use crate::device::open_device;
 use crate::kept::{hand_back, open_manager};
-use crate::telling::tell;
 use crate::undone::Undone;
 use am_found::kept_is_found;
 use am_http::write_all;
 use am_keeper::Store;
-use am_network::{Acceptor, ListenFail, Network};
+use am_network::{ListenFail, Network};
 use am_outside::{Clock, Failed, Files, Sink};
-use am_setback::Setback;
-use am_types::{Device, Text};
+use am_setback::{Setback, tell};
+use am_types::Device;
+use am_words::ServingWords;
 use am_workers::{Totals, serve};
 use itoa::Buffer;
 use std::alloc::Global;
 use std::sync::Wait;
 use std::thread::Threads;
-
-/// The serving that words ask for.
-#[derive(Drop)]
-pub struct Serving {
-    /// The device file.
-    pub device: Text,
-    /// The port.
-    pub port: u16,
-    /// How many workers there are.
-    pub workers: u32,
-    /// The place of the kept rows.
-    pub store: Option<Text>,
-    /// How many links each worker serves at most.
-    pub connections: Option<u32>,
-}
 
 /// What is told of a serving that ended.
 #[derive(Clone, Copy, Debug, PartialEq, Eq)]
@@ -56,7 +39,7 @@ pub struct Done {
 pub fn run_serving<R, F: Files, W: Sink, E: Sink, N: Network, T: Store, C: Clock>(
     rt: &R,
     alloc: Global,
-    asked: Serving,
+    asked: ServingWords,
     files: &mut F,
     output: &mut W,
     errors: &mut E,
@@ -66,25 +49,16 @@ pub fn run_serving<R, F: Files, W: Sink, E: Sink, N: Network, T: Store, C: Clock
 ) -> u8
 where
     R: Threads + Wait + Clone + Drop + Send + Sync,
-    N::Gate: Send,
-    <N::Gate as Acceptor>::Reader: Send,
-    <N::Gate as Acceptor>::Writer: Send,
     T::Kept: Send,
-    requires range { IsInRange asked }
+    requires range { IsServingInRange asked }
     ensures { RunsServing asked
         (record {
-          grounds = record {
-            files = shelf_of F.Files files.old;
-            site = record { store = store_of T.Store store.old; network = network_of N.Network network.old };
-          };
-          voices = record { output = sink_of W.Sink output.old; errors = sink_of E.Sink errors.old };
+          grounds = grounds_of F.Files T.Store N.Network files.old store.old network.old;
+          voices = voices_of W.Sink E.Sink output.old errors.old;
         })
         (record {
-          grounds = record {
-            files = shelf_of F.Files files.new;
-            site = record { store = store_of T.Store store.new; network = network_of N.Network network.new };
-          };
-          voices = record { output = sink_of W.Sink output.new; errors = sink_of E.Sink errors.new };
+          grounds = grounds_of F.Files T.Store N.Network files.new store.new network.new;
+          voices = voices_of W.Sink E.Sink output.new errors.new;
         })
         result }
 {
@@ -98,7 +72,7 @@ where
 fn open_serving<R, F: Files, N: Network, T: Store, C: Clock>(
     rt: &R,
     alloc: Global,
-    asked: Serving,
+    asked: ServingWords,
     files: &mut F,
     network: &mut N,
     store: &mut T,
@@ -106,20 +80,11 @@ fn open_serving<R, F: Files, N: Network, T: Store, C: Clock>(
 ) -> Result<Done, Undone>
 where
     R: Threads + Wait + Clone + Drop + Send + Sync,
-    N::Gate: Send,
-    <N::Gate as Acceptor>::Reader: Send,
-    <N::Gate as Acceptor>::Writer: Send,
     T::Kept: Send,
-    requires range { IsInRange asked }
+    requires range { IsServingInRange asked }
     ensures { Happens result asked
-        (record {
-          files = shelf_of F.Files files.old;
-          site = record { store = store_of T.Store store.old; network = network_of N.Network network.old };
-        })
-        (record {
-          files = shelf_of F.Files files.new;
-          site = record { store = store_of T.Store store.new; network = network_of N.Network network.new };
-        }) }
+        (grounds_of F.Files T.Store N.Network files.old store.old network.old)
+        (grounds_of F.Files T.Store N.Network files.new store.new network.new) }
 {
     let device = open_device(alloc, files, &asked.device)?;
     serve_device(rt, alloc, device, asked, network, store, clock)
@@ -130,24 +95,21 @@ fn serve_device<R, N: Network, T: Store, C: Clock>(
     rt: &R,
     alloc: Global,
     device: Device,
-    asked: Serving,
+    asked: ServingWords,
     network: &mut N,
     store: &mut T,
     clock: &C,
 ) -> Result<Done, Undone>
 where
     R: Threads + Wait + Clone + Drop + Send + Sync,
-    N::Gate: Send,
-    <N::Gate as Acceptor>::Reader: Send,
-    <N::Gate as Acceptor>::Writer: Send,
     T::Kept: Send,
     requires sound { IsSound device }
-    requires range { IsInRange asked }
+    requires range { IsServingInRange asked }
     ensures { ServesOr result asked device
-        (record { store = store_of T.Store store.old; network = network_of N.Network network.old })
-        (record { store = store_of T.Store store.new; network = network_of N.Network network.new }) }
+        (site_of T.Store N.Network store.old network.old)
+        (site_of T.Store N.Network store.new network.new) }
 {
-    let Serving {
+    let ServingWords {
         device: _,
         port,
         workers,
@@ -176,8 +138,8 @@ where
 // Tells a serving that ended: prints its line, unless a gate failed.
 fn tell_done<W: Sink, E: Sink>(done: Done, output: &mut W, errors: &mut E) -> u8
     ensures { TellsDone done.totals.failed done
-        (record { output = sink_of W.Sink output.old; errors = sink_of E.Sink errors.old })
-        (record { output = sink_of W.Sink output.new; errors = sink_of E.Sink errors.new })
+        (voices_of W.Sink E.Sink output.old errors.old)
+        (voices_of W.Sink E.Sink output.new errors.new)
         result }
 {
     if done.totals.failed {

@@ -1,17 +1,15 @@
 //! One session of a device over an input and an output.
-ghost use Rattle.std.specs.Prelude.{◌≡◌, ◌≤◌, [], IfOk, OnErr};
+ghost use Rattle.std.specs.Prelude.{◌≡◌};
 ghost use Rattle.am_model.specs.Sound.{IsSound};
-ghost use Rattle.am_http.specs.Links.{link_of, sink_of, source_of, streams_of};
-ghost use Rattle.am_setback.specs.Files.{shelf_of};
+ghost use Rattle.am_http.specs.Links.{link_of, sink_of, streams_of};
 ghost use Rattle.am_shell.specs.Clocks.{ServesOn};
 ghost use Rattle.am_shell.specs.Sessions.{Happens, ServesOr};
 ghost use Rattle.am_shell.specs.Lines.{end_line, end_status};
-ghost use Rattle.am_shell.specs.Outside.{store_of};
+ghost use Rattle.am_shell.specs.Outside.{outside_of, workplace_of};
 ghost use Rattle.am_shell.specs.Runs.{RunsSession};
 
 use crate::device::open_device;
 use crate::kept::{hand_back, open_manager};
-use crate::telling::tell;
 use crate::undone::Undone;
 use am_desk::Desk;
 use am_found::kept_is_found;
@@ -19,20 +17,10 @@ use am_http::{Buffers, End, serve_connection};
 use am_keeper::Store;
 use am_machine::SoleDesk;
 use am_outside::{Clock, Files, Sink, Source, StepClock};
-use am_types::{Device, Text};
-use am_words::StepWords;
+use am_setback::tell;
+use am_types::Device;
+use am_words::{SessionWords, StepWords};
 use std::alloc::Global;
-
-/// The session that words ask for.
-#[derive(Drop)]
-pub struct Asked {
-    /// The device file.
-    pub device: Text,
-    /// The place of the kept rows.
-    pub store: Option<Text>,
-    /// The session's own clock.
-    pub clock: Option<StepWords>,
-}
 
 /// Runs the session that is asked for, from the input to the output: it begins with the rows that the store keeps at
 /// the place of the words, and its keeper is handed back to the store at the end. Its moments are those of the clock
@@ -40,7 +28,7 @@ pub struct Asked {
 /// writes on the errors.
 pub fn run_session<F: Files, S: Source, W: Sink, E: Sink, T: Store, C: Clock>(
     alloc: Global,
-    asked: Asked,
+    asked: SessionWords,
     files: &mut F,
     input: &mut S,
     output: &mut W,
@@ -50,23 +38,11 @@ pub fn run_session<F: Files, S: Source, W: Sink, E: Sink, T: Store, C: Clock>(
 ) -> u8
     ensures { RunsSession asked
         (record {
-          outside = record {
-            files = shelf_of F.Files files.old;
-            work = record {
-              store = store_of T.Store store.old;
-              streams = streams_of S.Source W.Sink C.Clock input.old output.old clock.old;
-            };
-          };
+          outside = outside_of F.Files T.Store S.Source W.Sink C.Clock files.old store.old input.old output.old clock.old;
           errors = sink_of E.Sink errors.old;
         })
         (record {
-          outside = record {
-            files = shelf_of F.Files files.new;
-            work = record {
-              store = store_of T.Store store.new;
-              streams = streams_of S.Source W.Sink C.Clock input.new output.new clock.new;
-            };
-          };
+          outside = outside_of F.Files T.Store S.Source W.Sink C.Clock files.new store.new input.new output.new clock.new;
           errors = sink_of E.Sink errors.new;
         })
         result }
@@ -80,7 +56,7 @@ pub fn run_session<F: Files, S: Source, W: Sink, E: Sink, T: Store, C: Clock>(
 // All but the line on the errors.
 fn open_session<F: Files, S: Source, W: Sink, T: Store, C: Clock>(
     alloc: Global,
-    asked: Asked,
+    asked: SessionWords,
     files: &mut F,
     input: &mut S,
     output: &mut W,
@@ -88,20 +64,8 @@ fn open_session<F: Files, S: Source, W: Sink, T: Store, C: Clock>(
     clock: &mut C,
 ) -> Result<End, Undone>
     ensures { Happens result asked
-        (record {
-          files = shelf_of F.Files files.old;
-          work = record {
-            store = store_of T.Store store.old;
-            streams = streams_of S.Source W.Sink C.Clock input.old output.old clock.old;
-          };
-        })
-        (record {
-          files = shelf_of F.Files files.new;
-          work = record {
-            store = store_of T.Store store.new;
-            streams = streams_of S.Source W.Sink C.Clock input.new output.new clock.new;
-          };
-        }) }
+        (outside_of F.Files T.Store S.Source W.Sink C.Clock files.old store.old input.old output.old clock.old)
+        (outside_of F.Files T.Store S.Source W.Sink C.Clock files.new store.new input.new output.new clock.new) }
 {
     let device = open_device(alloc, files, &asked.device)?;
     let end = serve_session(alloc, device, asked, input, output, store, clock)?;
@@ -112,7 +76,7 @@ fn open_session<F: Files, S: Source, W: Sink, T: Store, C: Clock>(
 fn serve_session<S: Source, W: Sink, T: Store, C: Clock>(
     alloc: Global,
     device: Device,
-    asked: Asked,
+    asked: SessionWords,
     input: &mut S,
     output: &mut W,
     store: &mut T,
@@ -120,16 +84,10 @@ fn serve_session<S: Source, W: Sink, T: Store, C: Clock>(
 ) -> Result<End, Undone>
     requires sound { IsSound device }
     ensures { ServesOr result asked device
-        (record {
-          store = store_of T.Store store.old;
-          streams = streams_of S.Source W.Sink C.Clock input.old output.old clock.old;
-        })
-        (record {
-          store = store_of T.Store store.new;
-          streams = streams_of S.Source W.Sink C.Clock input.new output.new clock.new;
-        }) }
+        (workplace_of T.Store S.Source W.Sink C.Clock store.old input.old output.old clock.old)
+        (workplace_of T.Store S.Source W.Sink C.Clock store.new input.new output.new clock.new) }
 {
-    let Asked {
+    let SessionWords {
         device: _,
         store: place,
         clock: own,

@@ -1,32 +1,17 @@
-//! What is told on the errors, and the status that goes with it.
-ghost use Rattle.std.specs.Prelude.{◌≡◌, codes};
+//! What is told of what was printed, and of words for which memory ran out.
 ghost use Rattle.am_http.specs.Links.{sink_of};
-ghost use Rattle.am_shell.specs.Lines.{Prints, Tells, want_line};
+ghost use Rattle.am_setback.specs.Telling.{Prints, Tells, voices_of};
+ghost use Rattle.am_shell.specs.Lines.{want_line, write_line};
 
-use am_http::write_all;
-use am_outside::{Failed, Sink};
-
-/// Writes a line on the errors, and answers the status that goes with it, or 6 where the line couldn't be written.
-pub fn tell<E: Sink>(line: &str, status: u8, errors: &mut E) -> u8
-    ensures { Tells line.now status (sink_of E.Sink errors.old) (sink_of E.Sink errors.new) result }
-{
-    match write_all(errors, line.as_bytes()) {
-        Ok(()) => status,
-        Err(Failed) => 6,
-    }
-}
+use am_outside::Sink;
+use am_setback::tell;
 
 /// Prints a text on the output, and answers the status: 0, or 6 where that fails, with its line on the errors.
 pub fn print<W: Sink, E: Sink>(text: &[u8], output: &mut W, errors: &mut E) -> u8
-    ensures { Prints text.now
-        (record { output = sink_of W.Sink output.old; errors = sink_of E.Sink errors.old })
-        (record { output = sink_of W.Sink output.new; errors = sink_of E.Sink errors.new })
-        result }
+    ensures { Prints write_line text.now 0
+        (voices_of W.Sink E.Sink output.old errors.old) (voices_of W.Sink E.Sink output.new errors.new) result }
 {
-    match write_all(output, text) {
-        Ok(()) => 0,
-        Err(Failed) => tell("am: write fault\n", 6, errors),
-    }
+    am_setback::print("am: write fault\n", text, 0, output, errors)
 }
 
 /// Writes on the errors that memory ran out before the words were read, and answers the status: 8, or 6 where the line

@@ -1,13 +1,30 @@
 //! The keeper that the store hands out.
+ghost use Rattle.std.specs.Prelude.{◌≡◌};
 
-use am_keeper::{GrantRow, KeepFail, Keeper, LinkRow, PackageRow};
+use am_keeper::{KeepFail, Keeper, Row};
 use am_keeper_sql::SqlKeeper;
+use am_types::drop_parts;
 
 /// A keeper over a database in a file, or in memory without a place. It is the keeper inside, as a type without
 /// parameters, which may go to another thread.
-#[derive(Drop)]
 pub struct FileKeeper {
     pub(crate) keeper: SqlKeeper,
+}
+
+impl Drop for FileKeeper {
+    fn drop(self) {
+        drop_parts!(self, FileKeeper: keeper);
+    }
+}
+
+impl FileKeeper {
+    /// The keeper inside.
+    pub(crate) fn inside(self) -> SqlKeeper
+        ensures { result ≡ self.keeper }
+    {
+        let FileKeeper { keeper } = self;
+        keeper
+    }
 }
 
 impl Keeper for FileKeeper {
@@ -27,15 +44,7 @@ impl Keeper for FileKeeper {
 
     ghost honest_by_nature = { λ k h. h.honest };
 
-    fn put_package(&mut self, row: &PackageRow) -> Result<(), KeepFail> {
-        self.keeper.put_package(row)
-    }
-
-    fn put_grant(&mut self, row: &GrantRow) -> Result<(), KeepFail> {
-        self.keeper.put_grant(row)
-    }
-
-    fn put_link(&mut self, row: &LinkRow) -> Result<(), KeepFail> {
-        self.keeper.put_link(row)
+    fn put(&mut self, row: &Row) -> Result<(), KeepFail> {
+        self.keeper.put(row)
     }
 }

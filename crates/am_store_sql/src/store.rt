@@ -61,7 +61,7 @@ impl Store for SqlStore {
     }
 
     fn detach(&mut self, keeper: FileKeeper) {
-        let FileKeeper { keeper } = keeper;
+        let keeper = keeper.inside();
         self.keeper_faults = self.keeper_faults.saturating_add(keeper.faults());
         // Where the close fails, the log beside the file has the rows that the file lacks.
         let _closed = keeper.close();

@@ -115,6 +115,20 @@ one_not_above number n high = by (eqb number n) refl
 pub one_next : (number n : ℕ) → (one_at number n ≤ 1) × (n < number → one_at number n ≡ 0) × (number + 1 ≤ n → one_at number n ≡ 0)
 one_next number n = (one_at_most number n, one_not_below number n, one_not_above number n)
 
+-- where one with the next number is counted besides, none is counted twice, and none from the one after it on
+counted_once : (new old : ℕ → ℕ) (next : ℕ) → ((n : ℕ) → new n ≡ one_at next n + old n) → ((n : ℕ) → old n ≤ 1) → ((n : ℕ) → next ≤ n → old n ≡ 0)
+    → (n : ℕ) → new n ≤ 1
+counted_once new old next rises once below n =
+    let most = rises n in
+    rises_once (new n) (old n) (one_at next n) next n (omega arith) (once n) (one_at_most next n) (one_not_below next n) (below n)
+
+counted_below : (new old : ℕ → ℕ) (next : ℕ) → ((n : ℕ) → new n ≡ one_at next n + old n) → ((n : ℕ) → next ≤ n → old n ≡ 0)
+    → (n : ℕ) → next + 1 ≤ n → new n ≡ 0
+counted_below new old next rises below n beyond =
+    let none = one_not_above next n beyond in
+    let before : old n ≡ 0 = below n (omega arith) in
+    rises n ∙ omega arith
+
 -- a new task in front of all others
 pub sound_new_task : (all : Tasks) (start : StartCall) (single : Bool) → IsSound all → length all.tasks < 64
     → IsSound (record {
@@ -125,20 +139,10 @@ pub sound_new_task : (all : Tasks) (start : StartCall) (single : Bool) → IsSou
 sound_new_task all start single sound room = record {
   few = omega arith;
   filled = All-cons IsFilled made all.tasks (omega arith, omega arith) sound.filled;
-  tasks_once = λ (n : ℕ). let most = tasks n in
-      rises_once (count_tasks n (made ∷ all.tasks)) (count_tasks n all.tasks) (one_at all.next_task n) all.next_task n (omega arith) (sound.tasks_once n)
-      (one_at_most all.next_task n) (one_not_below all.next_task n) (sound.tasks_below n);
-  tasks_below = λ (n : ℕ) (beyond : all.next_task + 1 ≤ n).
-      let none = one_not_above all.next_task n beyond in
-      let before : count_tasks n all.tasks ≡ 0 = sound.tasks_below n (omega arith) in
-      tasks n ∙ omega arith;
-  instances_once = λ (n : ℕ). let most = instances n in
-      rises_once (count_of n (made ∷ all.tasks)) (count_of n all.tasks) (one_at all.next_instance n) all.next_instance n (omega arith) (sound.instances_once n)
-      (one_at_most all.next_instance n) (one_not_below all.next_instance n) (sound.instances_below n);
-  instances_below = λ (n : ℕ) (beyond : all.next_instance + 1 ≤ n).
-      let none = one_not_above all.next_instance n beyond in
-      let before : count_of n all.tasks ≡ 0 = sound.instances_below n (omega arith) in
-      instances n ∙ omega arith;
+  tasks_once = counted_once (λ (n : ℕ). count_tasks n (made ∷ all.tasks)) (λ (n : ℕ). count_tasks n all.tasks) all.next_task tasks sound.tasks_once sound.tasks_below;
+  tasks_below = counted_below (λ (n : ℕ). count_tasks n (made ∷ all.tasks)) (λ (n : ℕ). count_tasks n all.tasks) all.next_task tasks sound.tasks_below;
+  instances_once = counted_once (λ (n : ℕ). count_of n (made ∷ all.tasks)) (λ (n : ℕ). count_of n all.tasks) all.next_instance instances sound.instances_once sound.instances_below;
+  instances_below = counted_below (λ (n : ℕ). count_of n (made ∷ all.tasks)) (λ (n : ℕ). count_of n all.tasks) all.next_instance instances sound.instances_below;
 }
   where
     made : Task

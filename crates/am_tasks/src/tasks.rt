@@ -20,7 +20,7 @@ use crate::plan::{Change, Keeping, Plan, plan_of};
 use crate::task::Task;
 use crate::views::{may_end, task_views};
 use am_types::{
-    Intent, Landed, List, NoMemory, PlaceFault, Placed, StartCall, TaskFault, TaskView,
+    Intent, Landed, List, NoMemory, PlaceFault, Placed, StartCall, TaskFault, TaskView, drop_parts,
 };
 use std::alloc::Global;
 use std::marker::Model;
@@ -32,12 +32,17 @@ const MOST: usize = 64;
 const LAST_NUMBER: u64 = 1_125_899_906_842_624;
 
 /// All tasks, from front to back.
-#[derive(Drop)]
 pub struct Tasks {
     alloc: Global,
     tasks: Vec<Task>,
     next_task: u64,
     next_instance: u64,
+}
+
+impl Drop for Tasks {
+    fn drop(self) {
+        drop_parts!(self, Tasks: alloc tasks next_task next_instance);
+    }
 }
 
 impl Model for Tasks {

@@ -90,7 +90,7 @@ fn second_handle<R: Time>(rt: &R, stream: &TcpStream) -> io::Result<TcpStream> {
     Err(io::Error::from(ErrorKind::Interrupted))
 }
 
-impl<R: Time + Drop> Acceptor for TcpGate<R> {
+impl<R: Time + Drop + Send> Acceptor for TcpGate<R> {
     ghost use Rattle.std.specs.Prelude.{None};
 
     type Reader = TcpReader;

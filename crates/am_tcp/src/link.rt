@@ -1,7 +1,7 @@
 //! The two ends of a connection.
 ghost use Rattle.std.specs.Prelude.{◌≡◌};
 
-use am_host::{ReaderSource, WriterSink};
+use am_host::Counted;
 use am_outside::Source;
 use std::io;
 use std::net::{Shutdown, TcpStream};
@@ -17,11 +17,11 @@ const LAST_PATIENCE_SECONDS: u64 = 1;
 const LAST_READS: u32 = 16;
 
 /// What comes over a connection. A time-out is a fault.
-pub type TcpReader = ReaderSource<TcpStream>;
+pub type TcpReader = Counted<TcpStream>;
 
 /// What goes over a connection. A time-out is a fault, and so is a write that takes nothing. A write to a peer that is
 /// gone fails, and raises no signal.
-pub type TcpWriter = WriterSink<TcpStream>;
+pub type TcpWriter = Counted<TcpStream>;
 
 /// Makes a connection ready: each response is sent at once, and no read or write waits for more than 30 seconds.
 pub(crate) fn prepare(stream: &TcpStream) -> io::Result<()> {
@@ -35,7 +35,7 @@ pub(crate) fn prepare(stream: &TcpStream) -> io::Result<()> {
 pub(crate) fn ends_of(reading: TcpStream, writing: TcpStream) -> (TcpReader, TcpWriter)
     ensures { (result.0.faults ≡ 0) × (result.1.faults ≡ 0) }
 {
-    (ReaderSource::new(reading), WriterSink::new(writing))
+    (Counted::new(reading), Counted::new(writing))
 }
 
 /// Ends a connection. The peer is told the end first, and what it still sends is read for a while and dropped: a

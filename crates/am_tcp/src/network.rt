@@ -66,7 +66,7 @@ fn open_gates<R: Time + Copy + Drop>(
     Ok(made)
 }
 
-impl<R: Net<Listener = TcpListener, Stream = TcpStream> + Time + Copy + Drop> Network
+impl<R: Net<Listener = TcpListener, Stream = TcpStream> + Time + Copy + Drop + Send> Network
     for TcpNetwork<R> {
     ghost use Rattle.std.specs.Prelude.{None};
 

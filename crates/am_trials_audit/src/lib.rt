@@ -4,10 +4,4 @@
 #[cfg(test)]
 mod audits;
 #[cfg(test)]
-mod histories;
-#[cfg(test)]
-mod limits;
-#[cfg(test)]
 mod rows;
-#[cfg(test)]
-mod transcripts;

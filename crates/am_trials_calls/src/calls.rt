@@ -51,53 +51,22 @@ fn try_sessions(rt: &(impl Runtime + Abort), alloc: Global, sessions: &str) -> R
     Ok(calls)
 }
 
-#[test]
-fn answers_reads(rt: HostRuntime) -> Result<(), Fail> {
-    assert_eq!(rt; try_sessions(&rt, rt.alloc(), reads::SESSIONS)?, 16);
-    Ok(())
-}
+/// The sessions by what is called, and how many calls they have.
+const SESSIONS: [(&str, &str, u32); 8] = [
+    ("reads", reads::SESSIONS, 16),
+    ("finding", finding::SESSIONS, 45),
+    ("explaining", explaining::SESSIONS, 116),
+    ("activities", activities::SESSIONS, 46),
+    ("services", services::SESSIONS, 17),
+    ("broadcasts", broadcasts::SESSIONS, 44),
+    ("pending intents", pending_intents::SESSIONS, 34),
+    ("packages", packages::SESSIONS, 59),
+];
 
 #[test]
-fn finds_and_reaches(rt: HostRuntime) -> Result<(), Fail> {
-    assert_eq!(rt; try_sessions(&rt, rt.alloc(), finding::SESSIONS)?, 45);
-    Ok(())
-}
-
-#[test]
-fn explains(rt: HostRuntime) -> Result<(), Fail> {
-    assert_eq!(rt; try_sessions(&rt, rt.alloc(), explaining::SESSIONS)?, 116);
-    Ok(())
-}
-
-#[test]
-fn starts_and_ends_activities(rt: HostRuntime) -> Result<(), Fail> {
-    assert_eq!(rt; try_sessions(&rt, rt.alloc(), activities::SESSIONS)?, 46);
-    Ok(())
-}
-
-#[test]
-fn starts_and_stops_services(rt: HostRuntime) -> Result<(), Fail> {
-    assert_eq!(rt; try_sessions(&rt, rt.alloc(), services::SESSIONS)?, 17);
-    Ok(())
-}
-
-#[test]
-fn sends_and_finishes(rt: HostRuntime) -> Result<(), Fail> {
-    assert_eq!(rt; try_sessions(&rt, rt.alloc(), broadcasts::SESSIONS)?, 44);
-    Ok(())
-}
-
-#[test]
-fn lends_pending_intents(rt: HostRuntime) -> Result<(), Fail> {
-    assert_eq!(rt;
-        try_sessions(&rt, rt.alloc(), pending_intents::SESSIONS)?,
-        34
-    );
-    Ok(())
-}
-
-#[test]
-fn installs_grants_and_stops(rt: HostRuntime) -> Result<(), Fail> {
-    assert_eq!(rt; try_sessions(&rt, rt.alloc(), packages::SESSIONS)?, 59);
+fn answers_calls(rt: HostRuntime) -> Result<(), Fail> {
+    for (called, sessions, calls) in SESSIONS {
+        assert_eq!(rt; try_sessions(&rt, rt.alloc(), sessions)?, calls, "{called}");
+    }
     Ok(())
 }

@@ -8,7 +8,7 @@ use self::devices::{WHOLE, device_file};
 use self::rows::{ANSWERED, BY_DATA, BY_KIND, UNREAD};
 use am_trials_runs::{Outside, QUIET, Runtime, session_over};
 use am_trials_spelling::{EMPTY, spelled_out};
-use am_trials_words::parts;
+use am_trials_words::{parts, try_each};
 use std::alloc::Global;
 use std::process::Abort;
 use std::str;
@@ -48,9 +48,7 @@ pub fn answers(
     requires { 0 < outside.now.most }
 {
     let left = session_over(rt, alloc, device, input.as_bytes(), outside)?;
-    assert_eq!(rt; left.output.taken(), wanted.as_bytes(), "{input}");
-    assert!(rt; left.errors.taken().is_empty(), "{input}");
-    assert_eq!(rt; left.status, 0, "{input}");
+    assert!(rt; left.is(0, wanted.as_bytes(), b""), "{input}");
     Ok(())
 }
 
@@ -66,99 +64,54 @@ fn try_answered(rt: &(impl Runtime + Abort), alloc: Global, row: &str) -> Result
     answers(rt, alloc, device, input.as_str(), wanted.as_str(), &QUIET)
 }
 
-/// A body that makes no request is answered by this refusal.
-fn try_unread(
-    rt: &(impl Runtime + Abort),
-    alloc: Global,
-    body: &str,
-    answer: &str,
-) -> Result<(), Fail> {
+/// The body of a row makes no request, and is answered by the refusal of the row.
+fn try_unread(rt: &(impl Runtime + Abort), alloc: Global, row: &str) -> Result<(), Fail> {
+    let (body, answer) = row.split_once(" -> ").ok_or("an answer")?;
     let input = request(alloc, KEY, body)?;
     let wanted = response(alloc, "400 Bad Request", "", answer)?;
     answers(rt, alloc, EMPTY, input.as_str(), wanted.as_str(), &QUIET)
 }
 
-/// A query with that body on the device with every key is answered by that body.
+/// A query with that body on the device with every key finds these components.
 fn try_query(
-    rt: &(impl Runtime + Abort),
-    alloc: Global,
-    body: &str,
-    answer: &str,
-) -> Result<(), Fail> {
-    let input = request(alloc, KEY, body)?;
-    let wanted = response(alloc, "200 OK", PLACE, answer)?;
-    answers(rt, alloc, WHOLE, input.as_str(), wanted.as_str(), &QUIET)
-}
-
-fn try_kind(
     rt: &(impl Runtime + Abort),
     alloc: Global,
     body: &str,
     found: &str,
 ) -> Result<(), Fail> {
     let answer = format!(in alloc; "{{\"components\":{found}}}")?;
-    try_query(rt, alloc, body, answer.as_str())
+    let input = request(alloc, KEY, body)?;
+    let wanted = response(alloc, "200 OK", PLACE, answer.as_str())?;
+    answers(rt, alloc, WHOLE, input.as_str(), wanted.as_str(), &QUIET)
 }
 
-fn try_data(
-    rt: &(impl Runtime + Abort),
-    alloc: Global,
-    intent: &str,
-    class: &str,
-) -> Result<(), Fail> {
+fn try_kind(rt: &(impl Runtime + Abort), alloc: Global, row: &str) -> Result<(), Fail> {
+    let (body, found) = row.split_once(" -> ").ok_or("an answer")?;
+    try_query(rt, alloc, body, found)
+}
+
+fn try_data(rt: &(impl Runtime + Abort), alloc: Global, row: &str) -> Result<(), Fail> {
+    let (intent, class) = row.split_once(" -> ").ok_or("a class")?;
     let body = format!(in alloc; "{{\"kind\":\"activity\",\"intent\":{intent}}}")?;
     let found = match class {
         "none" => String::from_str(alloc, "[]")?,
         _ => format!(in alloc; "[\"com.one/com.one{class}\"]")?,
     };
-    try_kind(rt, alloc, body.as_str(), found.as_str())
+    try_query(rt, alloc, body.as_str(), found.as_str())
 }
 
 #[test]
 fn answers_queries(rt: HostRuntime) -> Result<(), Fail> {
-    let mut rows: u32 = 0;
-    for row in ANSWERED.lines() {
-        if !row.starts_with('#') {
-            try_answered(&rt, rt.alloc(), row)?;
-            rows = rows.wrapping_add(1);
-        }
-    }
-    assert_eq!(rt; rows, 30);
-    Ok(())
+    try_each(ANSWERED, 30, |row| try_answered(&rt, rt.alloc(), row))
 }
 
 #[test]
 fn refuses_bodies(rt: HostRuntime) -> Result<(), Fail> {
-    let mut rows: u32 = 0;
-    for row in UNREAD.lines() {
-        let (body, answer) = row.split_once(" -> ").ok_or("an answer")?;
-        try_unread(&rt, rt.alloc(), body, answer)?;
-        rows = rows.wrapping_add(1);
-    }
-    assert_eq!(rt; rows, 8);
-    Ok(())
+    try_each(UNREAD, 8, |row| try_unread(&rt, rt.alloc(), row))
 }
 
 #[test]
-fn finds_each_kind(rt: HostRuntime) -> Result<(), Fail> {
-    let mut rows: u32 = 0;
-    for row in BY_KIND.lines() {
-        let (body, found) = row.split_once(" -> ").ok_or("an answer")?;
-        try_kind(&rt, rt.alloc(), body, found)?;
-        rows = rows.wrapping_add(1);
-    }
-    assert_eq!(rt; rows, 6);
-    Ok(())
-}
-
-#[test]
-fn finds_by_data(rt: HostRuntime) -> Result<(), Fail> {
-    let mut rows: u32 = 0;
-    for row in BY_DATA.lines() {
-        let (intent, class) = row.split_once(" -> ").ok_or("a class")?;
-        try_data(&rt, rt.alloc(), intent, class)?;
-        rows = rows.wrapping_add(1);
-    }
-    assert_eq!(rt; rows, 31);
-    Ok(())
+fn finds_each_kind_and_by_data(rt: HostRuntime) -> Result<(), Fail> {
+    try_each(BY_KIND, 6, |row| try_kind(&rt, rt.alloc(), row))?;
+    try_each(BY_DATA, 31, |row| try_data(&rt, rt.alloc(), row))
 }

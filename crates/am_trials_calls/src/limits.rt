@@ -7,9 +7,9 @@ use self::rows::{ROWS, first_call};
 use crate::calls::device_file;
 use am_trials_runs::{Left, Outside, QUIET, Runtime, session_over};
 use am_trials_spelling::push_frame;
+use am_trials_words::try_each;
 use std::alloc::Global;
 use std::process::Abort;
-use std::str;
 use std::test::Fail;
 
 /// The call with the number in the place of each `#`.
@@ -52,8 +52,7 @@ fn written(rt: &impl Runtime, alloc: Global, name: &str, input: &str) -> Result<
         None => device_file(name).ok_or("a device")?,
     };
     let left = session_over(rt, alloc, device, input.as_bytes(), &QUIET)?;
-    let taken = str::from_utf8(left.output.taken()).ok().ok_or("a text")?;
-    Ok(String::from_str(alloc, taken)?)
+    Ok(String::from_str(alloc, left.text()?)?)
 }
 
 fn try_row(rt: &(impl Runtime + Abort), alloc: Global, row: &str) -> Result<(), Fail> {
@@ -84,7 +83,7 @@ fn unfinished(rt: &impl Runtime, alloc: Global, count: u32) -> Result<Left, Fail
 /// How many of them were sent, and how the last one was answered.
 fn last_sent(rt: &impl Runtime, alloc: Global, count: u32) -> Result<(usize, bool), Fail> {
     let left = unfinished(rt, alloc, count)?;
-    let output = str::from_utf8(left.output.taken()).ok().ok_or("a text")?;
+    let output = left.text()?;
     let (_, last) = output.rsplit_once("HTTP/1.1 ").ok_or("a response")?;
     let sent = output.matches("HTTP/1.1 200 OK").count();
     Ok((sent, last.starts_with("200 OK")))
@@ -102,9 +101,5 @@ fn a_late_delivery_makes_room(rt: HostRuntime) -> Result<(), Fail> {
 
 #[test]
 fn refuses_one_more(rt: HostRuntime) -> Result<(), Fail> {
-    for row in ROWS.lines() {
-        try_row(&rt, rt.alloc(), row)?;
-    }
-    assert_eq!(rt; ROWS.lines().count(), 12);
-    Ok(())
+    try_each(ROWS, 12, |row| try_row(&rt, rt.alloc(), row))
 }

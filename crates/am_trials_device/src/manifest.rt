@@ -4,26 +4,10 @@ mod documents;
 
 use self::documents::{DATA, DEVICES, MANIFESTS, RIGHTS, SUMMARIES};
 use am_manifest::{ReadFault, print_fault, read_device, read_package};
-use am_trials_words::spelled_out;
+use am_trials_words::try_documents;
 use am_types::{Authority, Decl, Device, Filter, Kind, List, Mime, Mode, NoMemory, PathRule, Text};
 use std::alloc::{AllocError, Global};
-use std::process::Abort;
 use std::test::Fail;
-
-/// What is shown of a document.
-#[derive(Clone, Copy)]
-enum Shown {
-    /// Whether it is read as a device file, or its fault.
-    DeviceFault,
-    /// Whether it is read as a manifest, or its fault.
-    ManifestFault,
-    /// The packages of a device.
-    Packages,
-    /// The grants and the links of a device.
-    Rights,
-    /// The data of the filters of a manifest's first component.
-    Data,
-}
 
 /// The printed fault, or `read`.
 fn device_outcome(alloc: Global, bytes: &[u8]) -> Result<String, AllocError> {
@@ -79,42 +63,6 @@ fn rights_shown(alloc: Global, document: &str) -> Result<String, Fail> {
     let shown = rights(alloc, &device);
     drop(device);
     Ok(shown?)
-}
-
-/// What is shown of the document.
-fn show(alloc: Global, shown: Shown, document: &str) -> Result<String, Fail> {
-    match shown {
-        Shown::DeviceFault => Ok(device_outcome(alloc, document.as_bytes())?),
-        Shown::ManifestFault => {
-            let outcome = package_outcome(alloc, document)?;
-            Ok(String::from_str(alloc, outcome.as_str())?)
-        }
-        Shown::Packages => packages_shown(alloc, document),
-        Shown::Rights => rights_shown(alloc, document),
-        Shown::Data => data_shown(alloc, document),
-    }
-}
-
-/// Shows each document of a table, whose lines end as given.
-fn try_all(
-    rt: &impl Abort,
-    alloc: Global,
-    shown: Shown,
-    table: &str,
-    ending: &str,
-) -> Result<(), Fail> {
-    let mut document = String::new(alloc);
-    for line in table.lines() {
-        if let Some(wanted) = line.strip_prefix("= ") {
-            let found = show(alloc, shown, document.as_str())?;
-            assert_eq!(rt; found.as_str(), wanted, "{document}");
-            document = String::new(alloc);
-        } else {
-            document.push_str(spelled_out(alloc, line)?.as_str())?;
-            document.push_str(ending)?;
-        }
-    }
-    Ok(())
 }
 
 /// Adds a blank and each text.
@@ -254,37 +202,50 @@ fn data_shown(alloc: Global, document: &str) -> Result<String, Fail> {
 
 #[test]
 fn devices_are_read_or_have_a_first_fault(rt: HostRuntime) -> Result<(), Fail> {
-    try_all(&rt, rt.alloc(), Shown::DeviceFault, DEVICES, "\r\n")
+    let alloc = rt.alloc();
+    try_documents(alloc, DEVICES, "\r\n", |document| {
+        Ok(device_outcome(alloc, document.as_bytes())?)
+    })
 }
 
 #[test]
 fn marks_and_other_bytes(rt: HostRuntime) -> Result<(), Fail> {
-    let alloc = rt.alloc();
-    let marked = device_outcome(alloc, "\u{feff}system_key = \"s\"".as_bytes())?;
-    assert_eq!(rt; marked.as_str(), "read");
-    let other = device_outcome(alloc, b"system_key = \"s\" # \xff")?;
-    assert_eq!(rt; other.as_str(), "not_toml");
+    for (bytes, wanted) in [
+        ("\u{feff}system_key = \"s\"".as_bytes(), "read"),
+        (b"system_key = \"s\" # \xff".as_slice(), "not_toml"),
+    ] {
+        let outcome = device_outcome(rt.alloc(), bytes)?;
+        assert_eq!(rt; outcome.as_str(), wanted);
+    }
     Ok(())
 }
 
 #[test]
 fn manifests_are_read_or_have_a_first_fault(rt: HostRuntime) -> Result<(), Fail> {
-    try_all(&rt, rt.alloc(), Shown::ManifestFault, MANIFESTS, "\n")
+    let alloc = rt.alloc();
+    try_documents(alloc, MANIFESTS, "\n", |document| {
+        let outcome = package_outcome(alloc, document)?;
+        Ok(String::from_str(alloc, outcome.as_str())?)
+    })
 }
 
+/// Packages are as declared, rights are sorted, each once, and rows of data are merged.
 #[test]
-fn packages_are_as_declared(rt: HostRuntime) -> Result<(), Fail> {
-    try_all(&rt, rt.alloc(), Shown::Packages, SUMMARIES, "\n")
-}
-
-#[test]
-fn rights_are_sorted_each_once(rt: HostRuntime) -> Result<(), Fail> {
-    try_all(&rt, rt.alloc(), Shown::Rights, RIGHTS, "\n")
-}
-
-#[test]
-fn data_rows_are_merged(rt: HostRuntime) -> Result<(), Fail> {
-    try_all(&rt, rt.alloc(), Shown::Data, DATA, "\n")
+fn documents_are_as_declared(rt: HostRuntime) -> Result<(), Fail> {
+    let alloc = rt.alloc();
+    try_documents(
+        alloc,
+        SUMMARIES,
+        "\n",
+        |document| packages_shown(alloc, document),
+    )?;
+    try_documents(
+        alloc,
+        RIGHTS,
+        "\n",
+        |document| rights_shown(alloc, document),
+    )?;
+    try_documents(alloc, DATA, "\n", |document| data_shown(alloc, document))
 }
 
 #[test]

@@ -12,11 +12,10 @@ use self::shown::told;
 use am_explain::{Question, accounts};
 use am_resolve::Board;
 use am_trials_words::devices::{CASTS, PAGES, STARTS};
-use am_trials_words::{intent, kind_of, number, optional};
+use am_trials_words::{intent, kind_of, number, optional, try_answers};
 use am_types::{Account, Intent, List, NoMemory, Steps};
 use std::alloc::Global;
 use std::marker::Brand;
-use std::process::Abort;
 use std::sync::ledger::{Blank, Ledger};
 use std::test::Fail;
 
@@ -85,38 +84,27 @@ fn explained(alloc: Global, document: &str, words: &str) -> Result<String, NoMem
     told
 }
 
-/// Tries the rows of a table on a device, and counts them.
-fn tried(rt: &impl Abort, alloc: Global, document: &str, rows: &str) -> Result<u32, Fail> {
-    let mut count: u32 = 0;
-    for line in rows.lines() {
-        let (words, wanted) = line.split_once(" | ").unwrap_or((line, "no row"));
-        assert_eq!(rt;
-            explained(alloc, document, words)?.as_str(),
-            wanted,
-            "{words}"
-        );
-        count = count.wrapping_add(1);
-    }
-    Ok(count)
+/// Tries the rows of a table on a device.
+fn try_rows(alloc: Global, document: &str, rows: &str, wanted: u32) -> Result<(), Fail> {
+    try_answers(
+        rows,
+        " | ",
+        wanted,
+        |words| Ok(explained(alloc, document, words)?),
+    )
 }
 
 #[test]
 fn starts_are_explained(rt: HostRuntime) -> Result<(), Fail> {
-    let alloc = rt.alloc();
-    assert_eq!(rt; tried(&rt, alloc, STARTS, STARTED)?, 44);
-    Ok(())
+    try_rows(rt.alloc(), STARTS, STARTED, 44)
 }
 
 #[test]
 fn web_pages_are_explained(rt: HostRuntime) -> Result<(), Fail> {
-    let alloc = rt.alloc();
-    assert_eq!(rt; tried(&rt, alloc, PAGES, VIEWED)?, 13);
-    Ok(())
+    try_rows(rt.alloc(), PAGES, VIEWED, 13)
 }
 
 #[test]
 fn broadcasts_are_explained(rt: HostRuntime) -> Result<(), Fail> {
-    let alloc = rt.alloc();
-    assert_eq!(rt; tried(&rt, alloc, CASTS, BROADCASTS)?, 23);
-    Ok(())
+    try_rows(rt.alloc(), CASTS, BROADCASTS, 23)
 }

@@ -6,7 +6,7 @@ mod rows;
 use self::rows::{FILLED, PASSES, SAME};
 use crate::shown::shown;
 use am_filter::{fill_in, filter_equals, passes};
-use am_trials_words::{empty_intent, filter, intent, parts, says};
+use am_trials_words::{empty_intent, filter, intent, parts, says, try_each};
 use am_types::{Extra, FillFault, Filter, Intent, List, Named, Text, Why};
 use std::alloc::{AllocError, Global};
 use std::test::Fail;
@@ -42,15 +42,12 @@ fn name_of(why: Option<Why>) -> &'static str {
 
 #[test]
 fn intents_pass_filters(rt: HostRuntime) -> Result<(), Fail> {
-    let alloc = rt.alloc();
-    let mut rows: u32 = 0;
-    for line in PASSES.lines().filter(|line| !line.starts_with('#')) {
+    try_each(PASSES, 70, |line| {
         let (listed, asked, wanted) = parts(line);
-        assert_eq!(rt; name_of(reason(alloc, listed, asked)?), wanted, "{line}");
-        rows = rows.wrapping_add(1);
-    }
-    assert_eq!(rt; rows, 70);
-    Ok(())
+        let why = reason(rt.alloc(), listed, asked)?;
+        assert_eq!(rt; name_of(why), wanted, "{line}");
+        Ok(())
+    })
 }
 
 /// Whether the intent and that of the words are the same for a filter.
@@ -71,15 +68,11 @@ fn sameness(alloc: Global, one: &str, other: &str) -> Result<&'static str, Alloc
 
 #[test]
 fn intents_are_the_same_for_a_filter(rt: HostRuntime) -> Result<(), Fail> {
-    let alloc = rt.alloc();
-    let mut rows: u32 = 0;
-    for line in SAME.lines() {
+    try_each(SAME, 16, |line| {
         let (one, other, wanted) = parts(line);
-        assert_eq!(rt; sameness(alloc, one, other)?, wanted, "{line}");
-        rows = rows.wrapping_add(1);
-    }
-    assert_eq!(rt; rows, 16);
-    Ok(())
+        assert_eq!(rt; sameness(rt.alloc(), one, other)?, wanted, "{line}");
+        Ok(())
+    })
 }
 
 /// The intent of the words, with each field that it has.
@@ -121,19 +114,13 @@ fn filled(alloc: Global, kept: &str, other: &str) -> Result<String, AllocError> 
 #[test]
 fn intents_are_filled_in(rt: HostRuntime) -> Result<(), Fail> {
     let alloc = rt.alloc();
-    let mut rows: u32 = 0;
-    for line in FILLED.lines().filter(|line| !line.starts_with('#')) {
+    try_each(FILLED, 13, |line| {
         let (kept, other, wanted) = parts(line);
         let wanted = spelled(alloc, wanted)?;
-        assert_eq!(rt;
-            filled(alloc, kept, other)?.as_str(),
-            wanted.as_str(),
-            "{line}"
-        );
-        rows = rows.wrapping_add(1);
-    }
-    assert_eq!(rt; rows, 13);
-    Ok(())
+        let found = filled(alloc, kept, other)?;
+        assert_eq!(rt; found.as_str(), wanted.as_str(), "{line}");
+        Ok(())
+    })
 }
 
 /// As many extras, with the keys from the first on.

@@ -1,6 +1,6 @@
 //! What the clauses leave to be tried: that a caller is told which permission it needs.
 use am_gates::{Ruling, verdict};
-use am_trials_words::{number, says};
+use am_trials_words::{number, says, try_answers};
 use am_types::{Grant, List, Text};
 use std::alloc::{AllocError, Global};
 use std::test::Fail;
@@ -54,13 +54,5 @@ fn name_of(ruling: Ruling<'_>) -> &str {
 
 #[test]
 fn says_who_may_reach_a_component(rt: HostRuntime) -> Result<(), Fail> {
-    let alloc = rt.alloc();
-    let mut rows: u32 = 0;
-    for line in CALLERS.lines() {
-        let (words, wanted) = line.split_once(" -> ").unwrap_or((line, "no row"));
-        assert_eq!(rt; said(alloc, words)?.as_str(), wanted, "{words}");
-        rows = rows.wrapping_add(1);
-    }
-    assert_eq!(rt; rows, 9);
-    Ok(())
+    try_answers(CALLERS, " -> ", 9, |words| Ok(said(rt.alloc(), words)?))
 }

@@ -1,5 +1,6 @@
 //! Intents as words, with each field that they have.
-use am_types::{Component, Extra, Flags, Intent, List, Mime, Named, Text, Uri};
+use am_trials_words::named_flags;
+use am_types::{Extra, Flags, Intent, List, Named, Text, Uri};
 use std::alloc::{AllocError, Global};
 
 /// Adds a word of a key and a value.
@@ -17,22 +18,24 @@ fn push_optional(words: &mut String, key: &str, value: &Option<Text>) -> Result<
     }
 }
 
-/// Adds the names that the intent has, beside those of its data.
+/// Adds a word of a key and two values, with a slash between them.
+fn push_two(words: &mut String, key: &str, first: &Text, second: &Text) -> Result<(), AllocError> {
+    push(words, key, first.as_str())?;
+    push(words, "/", second.as_str())
+}
+
+/// Adds the names that the intent has, beside those of its URI.
 fn push_names(words: &mut String, intent: &Intent) -> Result<(), AllocError> {
     push_optional(words, "action=", &intent.action)?;
     push_optional(words, "identifier=", &intent.identifier)?;
     push_optional(words, "package=", &intent.package)?;
-    push_component(words, &intent.component)
-}
-
-fn push_component(words: &mut String, component: &Option<Component>) -> Result<(), AllocError> {
-    match component {
-        Some(component) => {
-            push(words, "component=", component.package.as_str())?;
-            push(words, "/", component.class.as_str())
-        }
-        None => Ok(()),
+    if let Some(component) = &intent.component {
+        push_two(words, "component=", &component.package, &component.class)?;
     }
+    if let Some(mime) = &intent.mime {
+        push_two(words, "type=", &mime.main, &mime.sub)?;
+    }
+    Ok(())
 }
 
 fn push_uri(alloc: Global, words: &mut String, uri: &Option<Uri>) -> Result<(), AllocError> {
@@ -53,16 +56,6 @@ fn push_port(alloc: Global, words: &mut String, port: Option<u32>) -> Result<(),
     }
 }
 
-fn push_mime(words: &mut String, mime: &Option<Mime>) -> Result<(), AllocError> {
-    match mime {
-        Some(mime) => {
-            push(words, "type=", mime.main.as_str())?;
-            push(words, "/", mime.sub.as_str())
-        }
-        None => Ok(()),
-    }
-}
-
 fn push_categories(words: &mut String, categories: &List<Text>) -> Result<(), AllocError> {
     for category in categories.as_slice() {
         push(words, "category=", category.as_str())?;
@@ -71,19 +64,7 @@ fn push_categories(words: &mut String, categories: &List<Text>) -> Result<(), Al
 }
 
 fn push_flags(words: &mut String, flags: Flags) -> Result<(), AllocError> {
-    let all = [
-        ("new_task", flags.new_task),
-        ("multiple_task", flags.multiple_task),
-        ("clear_task", flags.clear_task),
-        ("clear_top", flags.clear_top),
-        ("single_top", flags.single_top),
-        ("reorder_to_front", flags.reorder_to_front),
-        ("registered_only", flags.registered_only),
-        ("foreground", flags.foreground),
-        ("no_abort", flags.no_abort),
-        ("include_stopped", flags.include_stopped),
-    ];
-    for (name, is_set) in all {
+    for (name, is_set) in named_flags(flags) {
         if is_set {
             push(words, name, "")?;
         }
@@ -113,7 +94,6 @@ pub fn shown(alloc: Global, intent: &Intent) -> Result<String, AllocError> {
     let mut words = String::new(alloc);
     push_names(&mut words, intent)?;
     push_uri(alloc, &mut words, &intent.uri)?;
-    push_mime(&mut words, &intent.mime)?;
     push_categories(&mut words, &intent.categories)?;
     push_rest(alloc, &mut words, intent)?;
     Ok(words)

@@ -4,6 +4,7 @@ mod heads;
 use self::heads::{DEFECTS, FRAMES};
 use am_http::frame::{Defect, Framing, WholeFrame, frame};
 use am_trials_spelling::spelled_out;
+use am_trials_words::try_each;
 use std::alloc::Global;
 use std::process::Abort;
 use std::str;
@@ -51,26 +52,10 @@ fn try_row(rt: &impl Abort, alloc: Global, row: &str) -> Result<(), Fail> {
     Ok(())
 }
 
-/// Tries each row, and tells how many there are.
-fn try_rows(rt: &impl Abort, alloc: Global, table: &str) -> Result<u32, Fail> {
-    let mut rows: u32 = 0;
-    for row in table.lines() {
-        try_row(rt, alloc, row)?;
-        rows = rows.wrapping_add(1);
-    }
-    Ok(rows)
-}
-
 #[test]
-fn finds_frames(rt: HostRuntime) -> Result<(), Fail> {
-    assert_eq!(rt; try_rows(&rt, rt.alloc(), FRAMES)?, 34);
-    Ok(())
-}
-
-#[test]
-fn finds_defects(rt: HostRuntime) -> Result<(), Fail> {
-    assert_eq!(rt; try_rows(&rt, rt.alloc(), DEFECTS)?, 120);
-    Ok(())
+fn finds_frames_and_defects(rt: HostRuntime) -> Result<(), Fail> {
+    try_each(FRAMES, 34, |row| try_row(&rt, rt.alloc(), row))?;
+    try_each(DEFECTS, 120, |row| try_row(&rt, rt.alloc(), row))
 }
 
 #[test]

@@ -1,5 +1,5 @@
 //! What the program takes from the system: readers, writers, files and the clock.
-use am_host::{ReaderSource, SystemClock, SystemFiles, WriterSink};
+use am_host::{Counted, SystemClock, SystemFiles};
 use am_outside::{Clock, Failed, FileFail, Files, Sink, Source};
 use am_types::Text;
 use std::io::{self, ErrorKind, Read};
@@ -27,7 +27,7 @@ impl Read for Flaky {
 
 #[test]
 fn reads_again(rt: HostRuntime) {
-    let mut source = ReaderSource::new(Flaky { reads: 0 });
+    let mut source = Counted::new(Flaky { reads: 0 });
     let mut into = [0u8; 4];
     assert_eq!(rt; source.read(&mut into), Ok(1));
     assert_eq!(rt; into[0], b'x');
@@ -36,10 +36,10 @@ fn reads_again(rt: HostRuntime) {
 
 #[test]
 fn writes_some(rt: HostRuntime) {
-    let mut sink = WriterSink::new(Vec::new(rt.alloc()));
+    let mut sink = Counted::new(Vec::new(rt.alloc()));
     assert_eq!(rt; sink.write(b"abc"), Ok(3));
     assert_eq!(rt; sink.write(b""), Ok(0));
-    let mut full = WriterSink::new(io::empty());
+    let mut full = Counted::new(io::empty());
     assert_eq!(rt; full.write(b"abc"), Ok(3));
 }
 

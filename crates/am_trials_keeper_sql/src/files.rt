@@ -1,8 +1,9 @@
 //! Rows that are put into a file on the disk and found there again, and files that hold something else.
 
 use crate::disk::{place, remove};
-use am_keeper::{Attached, KeepFail};
-use am_keeper_sql::{SqlKeeper, attach_sql};
+use am_keeper::{Attached, KeepFail, Store};
+use am_keeper_sql::attach_sql;
+use am_store_sql::SqlStore;
 use am_trials_keeping::lines::show;
 use am_trials_keeping::puts::put_all;
 use am_types::Text;
@@ -54,20 +55,23 @@ const GRANT: &str =
 const ODD: &str =
     "INSERT INTO kept (kind, uid, word, name, access, manifest, truth) VALUES (3, 1, '', '', '', '', 0)";
 
-/// A keeper over the file.
-fn keeper_at(rt: &HostRuntime, path: &Text) -> Result<SqlKeeper, KeepFail> {
-    let Attached { keeper, rows } = attach_sql(rt, rt.alloc(), Some(path))?;
-    drop(rows);
-    Ok(keeper)
-}
-
 /// Attaches to the file, puts the rows of the lines, and closes it.
 fn put_into(rt: &HostRuntime, path: &Text, lines: &str) -> Result<(), KeepFail> {
-    let mut keeper = keeper_at(rt, path)?;
+    let Attached { mut keeper, rows } = attach_sql(rt, rt.alloc(), Some(path))?;
+    drop(rows);
     let done = put_all(rt.alloc(), &mut keeper, lines);
     let closed = keeper.close();
     done?;
     closed
+}
+
+/// Attaches the program's store, puts the rows of the lines, and drops the keeper with its rows in the log.
+fn put_and_drop(rt: &HostRuntime, path: &Text, lines: &str) -> Result<(), KeepFail> {
+    let Attached { mut keeper, rows } = SqlStore::new(*rt).attach(Some(path))?;
+    drop(rows);
+    let done = put_all(rt.alloc(), &mut keeper, lines);
+    drop(keeper);
+    done
 }
 
 /// All rows that an attach finds in the file, a line each.
@@ -90,36 +94,18 @@ fn run(rt: &HostRuntime, path: &Text, sql: &str) -> Result<usize, Error> {
 #[test]
 fn rows_are_found_again_in_their_file(rt: HostRuntime) -> Result<(), Fail> {
     let path = place(&rt)?;
-    assert_eq!(rt; put_into(&rt, &path, PUTS), Ok(()));
-    let told = found(&rt, &path)?;
-    assert_eq!(rt; told.as_str(), TOLD);
+    put_into(&rt, &path, PUTS)?;
+    assert_eq!(rt; found(&rt, &path)?.as_str(), TOLD);
+    put_into(&rt, &path, GONE)?;
+    assert_eq!(rt; found(&rt, &path)?.as_str(), TOLD_WITHOUT_IT);
     remove(&rt, &path)
-}
-
-#[test]
-fn so_they_are_once_a_package_is_gone(rt: HostRuntime) -> Result<(), Fail> {
-    let path = place(&rt)?;
-    assert_eq!(rt; put_into(&rt, &path, PUTS), Ok(()));
-    assert_eq!(rt; put_into(&rt, &path, GONE), Ok(()));
-    let told = found(&rt, &path)?;
-    assert_eq!(rt; told.as_str(), TOLD_WITHOUT_IT);
-    remove(&rt, &path)
-}
-
-/// Attaches, puts the rows of the lines, and drops the keeper with its rows in the log.
-fn put_and_drop(rt: &HostRuntime, path: &Text, lines: &str) -> Result<(), KeepFail> {
-    let mut keeper = keeper_at(rt, path)?;
-    let done = put_all(rt.alloc(), &mut keeper, lines);
-    drop(keeper);
-    done
 }
 
 #[test]
 fn so_they_are_without_a_close(rt: HostRuntime) -> Result<(), Fail> {
     let path = place(&rt)?;
-    assert_eq!(rt; put_and_drop(&rt, &path, PUTS), Ok(()));
-    let told = found(&rt, &path)?;
-    assert_eq!(rt; told.as_str(), TOLD);
+    put_and_drop(&rt, &path, PUTS)?;
+    assert_eq!(rt; found(&rt, &path)?.as_str(), TOLD);
     remove(&rt, &path)
 }
 
@@ -153,8 +139,8 @@ fn many(alloc: Global) -> Result<String, AllocError> {
 #[test]
 fn ten_thousand_rows_are_found_again(rt: HostRuntime) -> Result<(), Fail> {
     let path = place(&rt)?;
-    assert_eq!(rt; put_into(&rt, &path, ""), Ok(()));
-    assert!(rt; put_many(&rt, &path).is_ok());
+    put_into(&rt, &path, "")?;
+    put_many(&rt, &path)?;
     let told = found(&rt, &path)?;
     assert!(rt; told.as_str() == many(rt.alloc())?.as_str());
     remove(&rt, &path)
@@ -163,29 +149,22 @@ fn ten_thousand_rows_are_found_again(rt: HostRuntime) -> Result<(), Fail> {
 #[test]
 fn a_row_that_is_none_is_not_passed_over(rt: HostRuntime) -> Result<(), Fail> {
     let path = place(&rt)?;
-    assert_eq!(rt; put_into(&rt, &path, PUTS), Ok(()));
-    assert_eq!(rt; run(&rt, &path, ODD).ok(), Some(1));
+    put_into(&rt, &path, PUTS)?;
+    assert_eq!(rt; run(&rt, &path, ODD)?, 1);
     assert_eq!(rt; found(&rt, &path).err(), Some(KeepFail::Failed));
-    assert_eq!(rt;
-        run(&rt, &path, "DELETE FROM kept WHERE kind = 3").ok(),
-        Some(1)
-    );
-    let told = found(&rt, &path)?;
-    assert_eq!(rt; told.as_str(), TOLD);
+    let gone = run(&rt, &path, "DELETE FROM kept WHERE kind = 3")?;
+    assert_eq!(rt; gone, 1);
+    assert_eq!(rt; found(&rt, &path)?.as_str(), TOLD);
     remove(&rt, &path)
 }
 
 #[test]
 fn a_file_with_another_table_is_refused(rt: HostRuntime) -> Result<(), Fail> {
     let path = place(&rt)?;
-    assert_eq!(rt;
-        run(&rt, &path, "CREATE TABLE note (title TEXT) STRICT").ok(),
-        Some(0)
-    );
+    let made = run(&rt, &path, "CREATE TABLE note (title TEXT) STRICT")?;
+    assert_eq!(rt; made, 0);
     assert_eq!(rt; found(&rt, &path).err(), Some(KeepFail::Failed));
-    assert_eq!(rt;
-        run(&rt, &path, "INSERT INTO note VALUES ('a')").ok(),
-        Some(1)
-    );
+    let put = run(&rt, &path, "INSERT INTO note VALUES ('a')")?;
+    assert_eq!(rt; put, 1);
     remove(&rt, &path)
 }

@@ -1,12 +1,11 @@
 //! Rows that are put and told again by a keeper over a database in memory, and places that can't be opened.
 
-use am_keeper::{Attached, KeepFail, Keeper, PackageRow};
+use am_keeper::{Attached, KeepFail, Keeper, PackageRow, Row};
 use am_keeper_sql::{SqlKeeper, attach_sql};
 use am_trials_keeping::lines::show;
-use am_trials_keeping::puts::put;
+use am_trials_keeping::puts::put_all;
 use am_types::Text;
 use std::alloc::{AllocError, Global};
-use std::process::Abort;
 use std::test::Fail;
 
 /// Rows that are put in this order.
@@ -39,38 +38,40 @@ fn told(alloc: Global, keeper: &mut SqlKeeper) -> Result<String, KeepFail> {
     Ok(shown?)
 }
 
-/// Puts the row of each line in turn.
-fn try_puts(rt: &impl Abort, alloc: Global, keeper: &mut SqlKeeper) {
-    for line in PUTS.lines() {
-        assert_eq!(rt; put(alloc, keeper, line), Ok(()), "{line}");
-    }
-}
-
 #[test]
 fn a_row_takes_the_place_of_its_key(rt: HostRuntime) -> Result<(), Fail> {
     let alloc = rt.alloc();
     let Attached { mut keeper, rows } = attach_sql(&rt, alloc, None)?;
     let first = show(alloc, &rows);
     drop(rows);
-    try_puts(&rt, alloc, &mut keeper);
+    let put = put_all(alloc, &mut keeper, PUTS);
     let told = told(alloc, &mut keeper);
     let faults = keeper.faults();
-    drop(keeper);
-    let first = first?;
-    assert_eq!(rt; first.as_str(), "");
-    let told = told?;
-    assert_eq!(rt; told.as_str(), TOLD);
+    let closed = keeper.close();
+    put?;
+    assert_eq!(rt; first?.as_str(), "");
+    assert_eq!(rt; told?.as_str(), TOLD);
     assert_eq!(rt; faults, 0);
-    Ok(())
+    Ok(closed?)
+}
+
+/// Why an attach to the place fails, if it does.
+fn why_not(rt: &HostRuntime, path: &Text) -> Option<KeepFail> {
+    match attach_sql(rt, rt.alloc(), Some(path)) {
+        Ok(Attached { keeper, rows }) => {
+            drop(rows);
+            let _closed = keeper.close();
+            None
+        }
+        Err(fail) => Some(fail),
+    }
 }
 
 #[test]
 fn what_is_no_file_is_a_fault(rt: HostRuntime) -> Result<(), Fail> {
-    let alloc = rt.alloc();
     for place in PLACES {
-        let path = Text::of(alloc, place)?;
-        let failed = attach_sql(&rt, alloc, Some(&path)).err();
-        assert_eq!(rt; failed, Some(KeepFail::Failed), "at {place}");
+        let path = Text::of(rt.alloc(), place)?;
+        assert_eq!(rt; why_not(&rt, &path), Some(KeepFail::Failed), "at {place}");
     }
     Ok(())
 }
@@ -94,7 +95,10 @@ fn long(alloc: Global) -> Result<PackageRow, AllocError> {
 
 /// Puts the package, and tells whether it is the only one then, with its whole text.
 fn is_told_alone(keeper: &mut SqlKeeper, row: &PackageRow) -> Result<bool, KeepFail> {
-    keeper.put_package(row)?;
+    let put = Row::Package(row.clone()?);
+    let done = keeper.put(&put);
+    drop(put);
+    done?;
     let rows = keeper.told()?;
     let packages = rows.packages.as_slice();
     let is_whole = packages
@@ -119,7 +123,7 @@ fn a_long_text_is_told_whole(rt: HostRuntime) -> Result<(), Fail> {
     let Attached { mut keeper, rows } = attach_sql(&rt, alloc, None)?;
     drop(rows);
     let is_told = is_long_told(alloc, &mut keeper);
-    drop(keeper);
-    assert_eq!(rt; is_told, Ok(true));
-    Ok(())
+    let closed = keeper.close();
+    assert!(rt; is_told?);
+    Ok(closed?)
 }

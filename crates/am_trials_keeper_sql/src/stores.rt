@@ -1,36 +1,25 @@
 //! The store of the program: rows that are put into a file and found there again.
 
 use crate::disk::{place, remove};
-use am_keeper::{Attached, KeepFail, Keeper, PackageRow, Store};
+use am_keeper::{Attached, KeepFail, Store};
 use am_store_sql::SqlStore;
+use am_trials_keeping::puts::put_all;
 use am_types::Text;
 use std::alloc::Global;
 use std::test::Fail;
 
-fn package(alloc: Global) -> Result<PackageRow, Fail> {
-    Ok(PackageRow {
-        uid: 10_000,
-        name: Text::of(alloc, "com.a")?,
-        key: Text::of(alloc, "ka")?,
-        text: Text::of(alloc, "package = 'com.a'")?,
-        gone: false,
-    })
-}
-
-/// How many packages the file has, after one more is put if it is to be.
-fn packages_in(rt: &HostRuntime, path: &Text, puts: bool) -> Result<usize, Fail> {
-    let mut store = SqlStore::new(*rt);
-    let row = package(rt.alloc())?;
-    let Attached { mut keeper, rows } = store.attach(Some(path))?;
+/// How many packages an attach finds; then the rows of the lines are put.
+fn packages_in(
+    alloc: Global,
+    store: &mut SqlStore,
+    path: Option<&Text>,
+    lines: &str,
+) -> Result<usize, KeepFail> {
+    let Attached { mut keeper, rows } = store.attach(path)?;
     let count = rows.packages.as_slice().len();
     drop(rows);
-    let done = if puts {
-        keeper.put_package(&row)
-    } else {
-        Ok(())
-    };
+    let done = put_all(alloc, &mut keeper, lines);
     store.detach(keeper);
-    drop(row);
     done?;
     Ok(count)
 }
@@ -38,21 +27,21 @@ fn packages_in(rt: &HostRuntime, path: &Text, puts: bool) -> Result<usize, Fail>
 #[test]
 fn keeps_rows_in_a_file(rt: HostRuntime) -> Result<(), Fail> {
     let path = place(&rt)?;
-    assert_eq!(rt; packages_in(&rt, &path, true)?, 0);
-    assert_eq!(rt; packages_in(&rt, &path, false)?, 1);
+    for (lines, count) in [("uid=10000 name=com.a key=ka", 0), ("", 1)] {
+        let mut store = SqlStore::new(rt);
+        let found = packages_in(rt.alloc(), &mut store, Some(&path), lines);
+        assert_eq!(rt; found, Ok(count));
+    }
     remove(&rt, &path)
 }
 
 #[test]
 fn attaches_without_a_file_or_fails(rt: HostRuntime) -> Result<(), Fail> {
     let mut store = SqlStore::new(rt);
-    let Attached { keeper, rows } = store.attach(None)?;
-    let is_empty = rows.packages.as_slice().is_empty();
-    drop(rows);
-    store.detach(keeper);
-    assert!(rt; is_empty);
+    let found = packages_in(rt.alloc(), &mut store, None, "");
+    assert_eq!(rt; found, Ok(0));
     let absent = Text::of(rt.alloc(), "no/such/folder/file")?;
-    let failed = store.attach(Some(&absent)).err();
-    assert_eq!(rt; failed, Some(KeepFail::Failed));
+    let failed = packages_in(rt.alloc(), &mut store, Some(&absent), "");
+    assert_eq!(rt; failed, Err(KeepFail::Failed));
     Ok(())
 }

@@ -5,9 +5,10 @@ ghost use Rattle.am_keeper.specs.Rows.{IsInOrder};
 use crate::lines::package;
 use crate::puts::put;
 use am_keeper::{
-    Attached, KeepFail, Keeper, MemoryKeeper, MemoryStore, PackageRow, Rows, RowsBuilder, Store,
-    StoredRows,
+    Attached, KeepFail, Keeper, MemoryKeeper, MemoryStore, PackageRow, Row, Rows, RowsBuilder,
+    Store, StoredRows,
 };
+use am_trials_words::{try_answers, try_each};
 use am_types::{List, Text};
 use std::alloc::{AllocError, Global};
 use std::process::Abort;
@@ -82,12 +83,7 @@ fn put_answer(alloc: Global, keeper: &mut MemoryKeeper, line: &str) -> Result<St
 fn a_failing_call_changes_nothing(rt: HostRuntime) -> Result<(), Fail> {
     let alloc = rt.alloc();
     let mut keeper = failing_at(alloc, 2)?;
-    for row in PUTS.lines() {
-        let (line, wanted) = row.split_once(" | ").unwrap_or((row, "nothing"));
-        let found = put_answer(alloc, &mut keeper, line)?;
-        assert_eq!(rt; found.as_str(), wanted, "at {line}");
-    }
-    Ok(())
+    try_answers(PUTS, " | ", 4, |line| put_answer(alloc, &mut keeper, line))
 }
 
 /// How many grants are held, and how many there are.
@@ -166,10 +162,7 @@ fn try_failing(rt: &impl Abort, alloc: Global, row: &str) -> Result<(), Fail> {
 
 #[test]
 fn each_call_may_be_the_one_that_fails(rt: HostRuntime) -> Result<(), Fail> {
-    for row in COUNTS.lines() {
-        try_failing(&rt, rt.alloc(), row)?;
-    }
-    Ok(())
+    try_each(COUNTS, 4, |row| try_failing(&rt, rt.alloc(), row))
 }
 
 fn store_at_p(alloc: Global) -> Result<MemoryStore, AllocError> {
@@ -195,17 +188,17 @@ fn found(alloc: Global, store: &mut MemoryStore, path: &str) -> Result<usize, Ke
 }
 
 /// Attaches the store, puts the row, and gives the keeper back.
-fn put_once(store: &mut MemoryStore, path: &Text, row: &PackageRow) -> Result<(), KeepFail> {
+fn put_once(store: &mut MemoryStore, path: &Text, row: &Row) -> Result<(), KeepFail> {
     let Attached { mut keeper, rows } = store.attach(Some(path))?;
     drop(rows);
-    let done = keeper.put_package(row);
+    let done = keeper.put(row);
     store.detach(keeper);
     done
 }
 
 fn put_at_p(alloc: Global, store: &mut MemoryStore) -> Result<(), KeepFail> {
     let path = Text::of(alloc, "p")?;
-    let row = package(alloc, "uid=10001 name=com.a key=ka")?;
+    let row = Row::Package(package(alloc, "uid=10001 name=com.a key=ka")?);
     let done = put_once(store, &path, &row);
     drop(row);
     done

@@ -1,13 +1,13 @@
 //! Puts of rows that are written as lines of words.
 
 use crate::lines::row;
-use am_keeper::{KeepFail, Keeper, put_row};
+use am_keeper::{KeepFail, Keeper};
 use std::alloc::Global;
 
 /// Puts the row of a line.
 pub fn put<K: Keeper>(alloc: Global, keeper: &mut K, line: &str) -> Result<(), KeepFail> {
     let row = row(alloc, line)?;
-    let done = put_row(keeper, &row);
+    let done = keeper.put(&row);
     drop(row);
     done
 }

@@ -1,6 +1,7 @@
 //! Cells that are read as rows, and rows whose cells are written again.
 
 use am_rows::{Cell, Row, RowFault, row_cells, row_of};
+use am_trials_words::try_answers;
 use am_types::{List, Text};
 use std::alloc::{AllocError, Global};
 use std::test::Fail;
@@ -80,11 +81,7 @@ fn read_back(alloc: Global, line: &str) -> Result<String, Fail> {
 #[test]
 fn only_rows_come_back(rt: HostRuntime) -> Result<(), Fail> {
     let alloc = rt.alloc();
-    for row in CELLS.lines() {
-        let (line, wanted) = row.split_once(" | ").unwrap_or((row, "nothing"));
-        let found = read_back(alloc, line)?;
-        assert_eq!(rt; found.as_str(), wanted, "at {line}");
-    }
+    try_answers(CELLS, " | ", 7, |line| read_back(alloc, line))?;
     let few = List::new(vec![in alloc; Cell::Whole(1)]?);
     assert!(rt; matches!(row_of(&few), Err(RowFault::Shape)));
     Ok(())

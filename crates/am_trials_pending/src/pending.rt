@@ -5,7 +5,7 @@ mod rows;
 
 use self::rows::{AFTER_MANY, STEPS};
 use am_pending::Pending;
-use am_trials_words::empty_intent;
+use am_trials_words::{empty_intent, filled};
 use am_types::{
     Component, Extra, Intent, Kind, List, Named, PendingFault, PendingFlags, Steps, Text, Used,
 };
@@ -75,14 +75,7 @@ fn tell(alloc: Global, word: &str, intent: &mut Intent) -> Result<(), AllocError
 
 /// An intent with that action, or for that component, and with categories.
 fn intent(alloc: Global, word: &str, extras: List<Named>) -> Result<Intent, AllocError> {
-    let mut intent = unaimed(alloc, extras);
-    match tell(alloc, word, &mut intent) {
-        Ok(()) => Ok(intent),
-        Err(error) => {
-            drop(intent);
-            Err(error)
-        }
-    }
+    filled(unaimed(alloc, extras), |intent| tell(alloc, word, intent))
 }
 
 fn component(alloc: Global, package: &str, class: &str) -> Result<Component, AllocError> {
@@ -244,22 +237,6 @@ fn first_wrong<L: Ledger>(
     Ok(count)
 }
 
-fn tried<L: Ledger>(alloc: Global, blank: Blank) -> Result<usize, AllocError>
-    requires name { blank.name ≡ L.name }
-    requires parts { blank.parts ≡ L.parts }
-    requires some { 0 < blank.parts }
-{
-    let mut steps = Steps::<L>::new(blank);
-    let mut pending = Pending::new(alloc);
-    first_wrong(alloc, &mut pending, STEPS, &mut steps)
-}
-
-#[test]
-fn each_step_is_answered(rt: HostRuntime) -> Result<(), Fail> {
-    assert_eq!(rt; tried::<Brand>(rt.alloc(), Blank::new(1))?, 54);
-    Ok(())
-}
-
 /// Whether a record is made for that code.
 fn is_made<L: Ledger>(
     alloc: Global,
@@ -284,10 +261,10 @@ fn records_made<L: Ledger>(
     alloc: Global,
     pending: &mut Pending,
     steps: &mut Steps<L>,
-) -> Result<u32, AllocError>
+) -> Result<usize, AllocError>
     requires { pending.old.next ≤ 1 }
 {
-    let mut made = 0u32;
+    let mut made = 0usize;
     for code in 0..1030u32 {
         if is_made(alloc, pending, code, steps)? {
             made += 1;
@@ -297,37 +274,14 @@ fn records_made<L: Ledger>(
 }
 
 /// How many of 70 holders of one record are taken.
-fn holders_taken<L: Ledger>(pending: &mut Pending, steps: &mut Steps<L>) -> u32 {
-    let mut held = 0u32;
+fn holders_taken<L: Ledger>(pending: &mut Pending, steps: &mut Steps<L>) -> usize {
+    let mut held = 0usize;
     for to in 0..70u32 {
         if pending.give(1000, 10000, 20000 + to, steps).is_ok() {
             held += 1;
         }
     }
     held
-}
-
-/// How many of 1,030 records of a creator are made, and how many of 70 holders of one are taken.
-fn limited<L: Ledger>(alloc: Global, blank: Blank) -> Result<(u32, u32), AllocError>
-    requires name { blank.name ≡ L.name }
-    requires parts { blank.parts ≡ L.parts }
-    requires some { 0 < blank.parts }
-{
-    let mut steps = Steps::<L>::new(blank);
-    let mut pending = Pending::new(alloc);
-    let made = records_made(alloc, &mut pending, &mut steps);
-    let held = holders_taken(&mut pending, &mut steps);
-    drop(pending);
-    drop(steps);
-    Ok((made?, held))
-}
-
-#[test]
-fn a_creator_has_1024_records_and_a_token_64_holders(rt: HostRuntime) -> Result<(), Fail> {
-    let (made, held) = limited::<Brand>(rt.alloc(), Blank::new(1))?;
-    assert_eq!(rt; made, 1024);
-    assert_eq!(rt; held, 64);
-    Ok(())
 }
 
 /// An intent with a category of that number.
@@ -356,11 +310,11 @@ fn numbered<L: Ledger>(
     alloc: Global,
     pending: &mut Pending,
     steps: &mut Steps<L>,
-) -> Result<u32, AllocError>
+) -> Result<usize, AllocError>
     requires { pending.old.next ≤ 1025 }
     ensures { pending.new.next ≤ pending.old.next + 1024 }
 {
-    let mut right = 0u32;
+    let mut right = 0usize;
     for number in 0..1024u32 {
         if is_numbered(alloc, pending, number, steps)? {
             right += 1;
@@ -369,39 +323,16 @@ fn numbered<L: Ledger>(
     Ok(right)
 }
 
-/// How many of 1,024 categories are told apart when they are new, and how many when they are known.
-fn told_apart<L: Ledger>(alloc: Global, blank: Blank) -> Result<(u32, u32), AllocError>
-    requires name { blank.name ≡ L.name }
-    requires parts { blank.parts ≡ L.parts }
-    requires some { 0 < blank.parts }
-{
-    let mut steps = Steps::<L>::new(blank);
-    let mut pending = Pending::new(alloc);
-    let new = numbered(alloc, &mut pending, &mut steps);
-    let known = numbered(alloc, &mut pending, &mut steps);
-    drop(pending);
-    drop(steps);
-    Ok((new?, known?))
-}
-
-#[test]
-fn categories_tell_records_apart(rt: HostRuntime) -> Result<(), Fail> {
-    let (new, known) = told_apart::<Brand>(rt.alloc(), Blank::new(1))?;
-    assert_eq!(rt; new, 1024);
-    assert_eq!(rt; known, 1024);
-    Ok(())
-}
-
 /// How many of 2,000 records are made and ended in turn.
 fn ended_in_turn<L: Ledger>(
     alloc: Global,
     pending: &mut Pending,
     steps: &mut Steps<L>,
-) -> Result<u32, AllocError>
+) -> Result<usize, AllocError>
     requires { pending.old.next ≤ 1 }
     ensures { pending.new.next ≤ 2001 }
 {
-    let mut ended = 0u32;
+    let mut ended = 0usize;
     for code in 0..2000u32 {
         let made = is_made(alloc, pending, code, steps)?;
         let token = u64::from(code) + 1;
@@ -412,25 +343,79 @@ fn ended_in_turn<L: Ledger>(
     Ok(ended)
 }
 
-/// How many records ended, and the place of the first wrong answer after them.
-fn tried_after_many<L: Ledger>(alloc: Global, blank: Blank) -> Result<(u32, usize), AllocError>
+/// What is tried of the records, where there are none yet.
+#[derive(Clone, Copy, Debug)]
+enum Trial {
+    /// How many steps the table has, and the place of the first wrong answer.
+    Table,
+    /// How many of 1,030 records of a creator are made, and how many of 70 holders of one are taken.
+    Limits,
+    /// How many of 1,024 categories are told apart when they are new, and how many when they are known.
+    Categories,
+    /// How many of 2,000 records end in turn, and the place of the first wrong answer after them.
+    AfterMany,
+}
+
+/// The two numbers of a trial.
+fn numbers<L: Ledger>(
+    alloc: Global,
+    trial: Trial,
+    pending: &mut Pending,
+    steps: &mut Steps<L>,
+) -> Result<(usize, usize), AllocError>
+    requires { pending.old.next ≤ 1 }
+{
+    match trial {
+        Trial::Table => {
+            let wrong = first_wrong(alloc, pending, STEPS, steps)?;
+            Ok((STEPS.lines().count(), wrong))
+        }
+        Trial::Limits => {
+            let made = records_made(alloc, pending, steps)?;
+            Ok((made, holders_taken(pending, steps)))
+        }
+        Trial::Categories => {
+            let new = numbered(alloc, pending, steps)?;
+            Ok((new, numbered(alloc, pending, steps)?))
+        }
+        Trial::AfterMany => {
+            let ended = ended_in_turn(alloc, pending, steps)?;
+            Ok((ended, first_wrong(alloc, pending, AFTER_MANY, steps)?))
+        }
+    }
+}
+
+fn counted<L: Ledger>(
+    alloc: Global,
+    trial: Trial,
+    blank: Blank,
+) -> Result<(usize, usize), AllocError>
     requires name { blank.name ≡ L.name }
     requires parts { blank.parts ≡ L.parts }
     requires some { 0 < blank.parts }
 {
     let mut steps = Steps::<L>::new(blank);
     let mut pending = Pending::new(alloc);
-    let ended = ended_in_turn(alloc, &mut pending, &mut steps);
-    let right = first_wrong(alloc, &mut pending, AFTER_MANY, &mut steps);
+    let found = numbers(alloc, trial, &mut pending, &mut steps);
     drop(pending);
     drop(steps);
-    Ok((ended?, right?))
+    found
+}
+
+/// The two numbers of a trial, by a new counter.
+fn tried(alloc: Global, trial: Trial) -> Result<(usize, usize), AllocError> {
+    counted::<Brand>(alloc, trial, Blank::new(1))
 }
 
 #[test]
-fn steps_are_answered_after_many_records_ended(rt: HostRuntime) -> Result<(), Fail> {
-    let (ended, right) = tried_after_many::<Brand>(rt.alloc(), Blank::new(1))?;
-    assert_eq!(rt; ended, 2000);
-    assert_eq!(rt; right, 5);
+fn records_are_answered_limited_and_told_apart(rt: HostRuntime) -> Result<(), Fail> {
+    for (trial, wanted) in [
+        (Trial::Table, (54, 54)),
+        (Trial::Limits, (1024, 64)),
+        (Trial::Categories, (1024, 1024)),
+        (Trial::AfterMany, (2000, 5)),
+    ] {
+        assert_eq!(rt; tried(rt.alloc(), trial)?, wanted, "{trial:?}");
+    }
     Ok(())
 }

@@ -6,10 +6,10 @@ mod inputs;
 use self::inputs::{CLIENTS, CONNECTIONS};
 use am_trials_runs::{Left, Outside, QUIET, Runtime, session_over};
 use am_trials_spelling::{EMPTY, spelled_out};
+use am_trials_words::try_each;
 use am_types::NoMemory;
 use std::alloc::Global;
 use std::process::Abort;
-use std::str;
 use std::test::Fail;
 
 /// All comes and goes at once.
@@ -73,9 +73,8 @@ fn end(errors: &[u8]) -> &'static str {
 /// The responses, by status and body, and the end.
 fn outcome(rt: &impl Runtime, alloc: Global, input: &[u8]) -> Result<String, Fail> {
     let left = serve(rt, alloc, input, &WHOLE)?;
-    let taken = str::from_utf8(left.output.taken()).ok().ok_or("a text")?;
     let mut words = String::new(alloc);
-    for response in taken.split("HTTP/1.1 ").skip(1) {
+    for response in left.text()?.split("HTTP/1.1 ").skip(1) {
         push_response(&mut words, response)?;
     }
     words.push_str(end(left.errors.taken()))?;
@@ -99,26 +98,10 @@ fn try_row(rt: &(impl Runtime + Abort), alloc: Global, row: &str) -> Result<(), 
     Ok(())
 }
 
-/// Tries each row, and tells how many there are.
-fn try_rows(rt: &(impl Runtime + Abort), alloc: Global, table: &str) -> Result<u32, Fail> {
-    let mut rows: u32 = 0;
-    for row in table.lines() {
-        try_row(rt, alloc, row)?;
-        rows = rows.wrapping_add(1);
-    }
-    Ok(rows)
-}
-
 #[test]
-fn answers_clients(rt: HostRuntime) -> Result<(), Fail> {
-    assert_eq!(rt; try_rows(&rt, rt.alloc(), CLIENTS)?, 10);
-    Ok(())
-}
-
-#[test]
-fn answers_frames_and_ends(rt: HostRuntime) -> Result<(), Fail> {
-    assert_eq!(rt; try_rows(&rt, rt.alloc(), CONNECTIONS)?, 20);
-    Ok(())
+fn answers_clients_and_ends(rt: HostRuntime) -> Result<(), Fail> {
+    try_each(CLIENTS, 10, |row| try_row(&rt, rt.alloc(), row))?;
+    try_each(CONNECTIONS, 20, |row| try_row(&rt, rt.alloc(), row))
 }
 
 /// A session with that input ends so after these bytes.
@@ -137,31 +120,20 @@ fn try_session(
     Ok(())
 }
 
+/// Two queries are answered.
+fn try_twice(rt: &(impl Runtime + Abort), alloc: Global, outside: &Outside) -> Result<(), Fail>
+    requires { 0 < outside.now.most }
+{
+    let (input, output) = (twice(alloc, QUERY)?, twice(alloc, ANSWER)?);
+    let wanted = ("ended", output.as_slice());
+    try_session(rt, alloc, input.as_slice(), outside, wanted)
+}
+
 #[test]
 fn answers_in_any_pieces(rt: HostRuntime) -> Result<(), Fail> {
-    let alloc = rt.alloc();
-    let (input, output) = (twice(alloc, QUERY)?, twice(alloc, ANSWER)?);
-    try_session(
-        &rt,
-        alloc,
-        input.as_slice(),
-        &BYTES,
-        ("ended", output.as_slice()),
-    )?;
-    try_session(
-        &rt,
-        alloc,
-        input.as_slice(),
-        &QUIET,
-        ("ended", output.as_slice()),
-    )?;
-    try_session(
-        &rt,
-        alloc,
-        input.as_slice(),
-        &WHOLE,
-        ("ended", output.as_slice()),
-    )
+    try_twice(&rt, rt.alloc(), &BYTES)?;
+    try_twice(&rt, rt.alloc(), &QUIET)?;
+    try_twice(&rt, rt.alloc(), &WHOLE)
 }
 
 #[test]
@@ -232,7 +204,7 @@ fn answers_65536_frames(rt: HostRuntime) -> Result<(), Fail> {
     let alloc = rt.alloc();
     let left = serve(&rt, alloc, many(alloc, 65_537)?.as_slice(), &WHOLE)?;
     assert_eq!(rt; end(left.errors.taken()), "limit");
-    let output = str::from_utf8(left.output.taken()).ok().ok_or("a text")?;
-    assert_eq!(rt; output.split("HTTP/1.1 404 Not Found").count(), 65_537);
+    let answers = left.text()?.split("HTTP/1.1 404 Not Found").count();
+    assert_eq!(rt; answers, 65_537);
     Ok(())
 }

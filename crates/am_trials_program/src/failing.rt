@@ -4,11 +4,12 @@ ghost use Rattle.am_outside.specs.Counts.{HasRisen};
 ghost use Rattle.am_keeper.specs.Rows.{IsInOrder};
 
 use am_keeper::{
-    Attached, GrantRow, KeepFail, Keeper, LinkRow, MemoryKeeper, MemoryStore, PackageRow, Rows,
-    RowsBuilder, Store, StoredRows,
+    Attached, KeepFail, Keeper, MemoryKeeper, MemoryStore, Row, Rows, RowsBuilder, Store,
+    StoredRows,
 };
-use am_trials_runs::{Left, QUIET, Runtime, run_over};
-use am_trials_spelling::{Exchanged, push_frame, session_of};
+use am_trials_runs::{QUIET, Runtime, asked_over, run_over};
+use am_trials_spelling::{Exchanged, session_of};
+use am_trials_words::try_sections;
 use am_types::{List, Text};
 use std::alloc::Global;
 use std::process::Abort;
@@ -50,18 +51,8 @@ impl Keeper for SilentKeeper {
 
     ghost honest_by_nature = { λ k h. h };
 
-    fn put_package(&mut self, row: &PackageRow) -> Result<(), KeepFail> {
-        let done = self.keeper.put_package(row);
-        self.counted(done)
-    }
-
-    fn put_grant(&mut self, row: &GrantRow) -> Result<(), KeepFail> {
-        let done = self.keeper.put_grant(row);
-        self.counted(done)
-    }
-
-    fn put_link(&mut self, row: &LinkRow) -> Result<(), KeepFail> {
-        let done = self.keeper.put_link(row);
+    fn put(&mut self, row: &Row) -> Result<(), KeepFail> {
+        let done = self.keeper.put(row);
         self.counted(done)
     }
 }
@@ -178,23 +169,6 @@ fn store_of(alloc: Global, path: Text, rows: Rows) -> Result<MemoryStore, Fail>
     Ok(MemoryStore::new(alloc, List::new(places), List::new(Vec::new(alloc))))
 }
 
-/// A session over the store that asks for the status.
-fn asked_for_status(
-    rt: &impl Runtime,
-    alloc: Global,
-    store: &mut MemoryStore,
-) -> Result<Left, Fail> {
-    let mut input = String::new(alloc);
-    push_frame(&mut input, "GET /v1/status | sys | ")?;
-    Ok(run_over(rt, alloc, WORDS, BARE, input.as_bytes(), &QUIET, store)?)
-}
-
-/// Whether the output ends with so many packages.
-fn ends_with_packages(alloc: Global, output: &[u8], packages: usize) -> Result<bool, Fail> {
-    let wanted = format!(in alloc; "\"packages\":{packages}}}")?;
-    Ok(output.ends_with(wanted.as_bytes()))
-}
-
 /// A session over those rows, at that place, has so many packages.
 fn try_again(
     rt: &(impl Runtime + Abort),
@@ -206,12 +180,12 @@ fn try_again(
     requires { IsInOrder rows }
 {
     let mut store = store_of(alloc, path, rows)?;
-    let left = asked_for_status(rt, alloc, &mut store);
+    let asked = "GET /v1/status | sys | ";
+    let left = asked_over(rt, alloc, WORDS, BARE, asked, &mut store);
     drop(store);
     let left = left?;
-    let is_told = ends_with_packages(alloc, left.output.taken(), packages);
-    drop(left);
-    assert!(rt; is_told?, "{packages} packages");
+    let wanted = format!(in alloc; "\"packages\":{packages}}}")?;
+    assert!(rt; left.text()?.ends_with(wanted.as_str()), "{wanted}");
     Ok(())
 }
 
@@ -295,11 +269,10 @@ fn try_session(rt: &(impl Runtime + Abort), alloc: Global, session: &str) -> Res
 
 #[test]
 fn goes_on_when_the_keeper_fails(rt: HostRuntime) -> Result<(), Fail> {
-    let mut sessions: u32 = 0;
-    for session in SESSIONS.split("\n= ") {
-        try_session(&rt, rt.alloc(), session)?;
-        sessions = sessions.wrapping_add(1);
-    }
-    assert_eq!(rt; sessions, 6);
-    Ok(())
+    try_sections(
+        SESSIONS,
+        "\n= ",
+        6,
+        |session| try_session(&rt, rt.alloc(), session),
+    )
 }

@@ -5,7 +5,7 @@ mod rows;
 
 use self::rows::HISTORIES;
 use am_queue::{LAST_MOMENT, Queues};
-use am_trials_words::empty_intent;
+use am_trials_words::{empty_intent, lent, listed};
 use am_types::{
     Aim, Answer, Component, FinishFault, Item, ItemKind, List, Ordered, Outcome, SendFault,
     Sending, Spot, Steps, Text,
@@ -129,49 +129,40 @@ fn show_finished(alloc: Global, finished: Result<(), FinishFault>) -> Result<Str
     )
 }
 
-/// A normal delivery, without its aim and its intent.
-fn show_normal(alloc: Global, item: &Item) -> Result<String, AllocError> {
+/// Adds a normal delivery, without its aim and its intent.
+fn push_normal(shown: &mut String, item: &Item) -> Result<(), AllocError> {
     let (delivery, broadcast) = (item.delivery, item.broadcast);
-    format!(in alloc; "{delivery}.{broadcast}n")
+    write!(shown, "{delivery}.{broadcast}n")
 }
 
-/// An item with the letter of its kind and the code of its outcome.
-fn show_coded(
-    alloc: Global,
+/// Adds an item with the letter of its kind and the code of its outcome.
+fn push_coded(
+    shown: &mut String,
     item: &Item,
     letter: &str,
     outcome: &Outcome,
-) -> Result<String, AllocError> {
+) -> Result<(), AllocError> {
     let (delivery, broadcast, code) = (item.delivery, item.broadcast, outcome.code);
-    format!(in alloc; "{delivery}.{broadcast}{letter}{code}")
+    write!(shown, "{delivery}.{broadcast}{letter}{code}")
 }
 
-fn show_item(alloc: Global, item: &Item) -> Result<String, AllocError> {
+fn push_item(shown: &mut String, item: &Item) -> Result<(), AllocError> {
     match &item.what {
-        ItemKind::Normal { .. } => show_normal(alloc, item),
-        ItemKind::InOrder { outcome, .. } => show_coded(alloc, item, "o", outcome),
-        ItemKind::Final { outcome } => show_coded(alloc, item, "f", outcome),
+        ItemKind::Normal { .. } => push_normal(shown, item),
+        ItemKind::InOrder { outcome, .. } => push_coded(shown, item, "o", outcome),
+        ItemKind::Final { outcome } => push_coded(shown, item, "f", outcome),
     }
 }
 
 fn show_items(alloc: Global, items: &[Item]) -> Result<String, AllocError> {
-    let mut shown = String::new(alloc);
-    for item in items {
-        if !shown.is_empty() {
-            shown.push_str(",")?;
-        }
-        shown.push_str(show_item(alloc, item)?.as_str())?;
-    }
-    if shown.is_empty() {
-        shown.push_str("-")?;
-    }
-    Ok(shown)
+    listed(alloc, items, ",", |shown, item| push_item(shown, item))
 }
 
 fn show_inbox(alloc: Global, queues: &Queues, uid: u32) -> Result<String, Fail> {
-    let items = queues.inbox(uid)?;
-    let shown = show_items(alloc, items.as_slice());
-    drop(items);
+    let shown = lent(
+        queues.inbox(uid)?,
+        |items| show_items(alloc, items.as_slice()),
+    );
     Ok(shown?)
 }
 
@@ -274,10 +265,10 @@ fn seen(alloc: Global, queues: &mut Queues, history: &str, copying: bool) -> Res
 
 /// What is seen of a history that begins with empty queues.
 fn seen_anew(alloc: Global, history: &str, copying: bool) -> Result<String, Fail> {
-    let mut queues = Queues::new(alloc);
-    let seen = seen(alloc, &mut queues, history, copying);
-    drop(queues);
-    seen
+    lent(
+        Queues::new(alloc),
+        |queues| seen(alloc, queues, history, copying),
+    )
 }
 
 #[test]
@@ -320,10 +311,10 @@ fn try_64(rt: &impl Abort, alloc: Global, queues: &mut Queues, word: &str) -> Re
 #[test]
 fn a_sender_has_64_live_broadcasts(rt: HostRuntime) -> Result<(), Fail> {
     for word in ["n:0:p", "o:0:p", "w:0:p"] {
-        let mut queues = Queues::new(rt.alloc());
-        let tried = try_64(&rt, rt.alloc(), &mut queues, word);
-        drop(queues);
-        tried?;
+        lent(
+            Queues::new(rt.alloc()),
+            |queues| try_64(&rt, rt.alloc(), queues, word),
+        )?;
     }
     Ok(())
 }
@@ -340,10 +331,10 @@ fn try_late(rt: &impl Abort, alloc: Global, queues: &mut Queues) -> Result<(), F
 
 #[test]
 fn a_sender_sends_again_once_its_broadcasts_are_late(rt: HostRuntime) -> Result<(), Fail> {
-    let mut queues = Queues::new(rt.alloc());
-    let tried = try_late(&rt, rt.alloc(), &mut queues);
-    drop(queues);
-    tried
+    lent(
+        Queues::new(rt.alloc()),
+        |queues| try_late(&rt, rt.alloc(), queues),
+    )
 }
 
 /// What a sending to so many receivers shows.
@@ -372,10 +363,10 @@ fn try_many(rt: &impl Abort, alloc: Global, queues: &mut Queues, kind: u8) -> Re
 #[test]
 fn a_broadcast_has_1024_receivers(rt: HostRuntime) -> Result<(), Fail> {
     for kind in [b'n', b'o'] {
-        let mut queues = Queues::new(rt.alloc());
-        let tried = try_many(&rt, rt.alloc(), &mut queues, kind);
-        drop(queues);
-        tried?;
+        lent(
+            Queues::new(rt.alloc()),
+            |queues| try_many(&rt, rt.alloc(), queues, kind),
+        )?;
     }
     Ok(())
 }
@@ -392,8 +383,8 @@ fn try_thousand(rt: &impl Abort, alloc: Global, queues: &mut Queues) -> Result<(
 
 #[test]
 fn a_thousand_deliveries_are_due_at_once(rt: HostRuntime) -> Result<(), Fail> {
-    let mut queues = Queues::new(rt.alloc());
-    let tried = try_thousand(&rt, rt.alloc(), &mut queues);
-    drop(queues);
-    tried
+    lent(
+        Queues::new(rt.alloc()),
+        |queues| try_thousand(&rt, rt.alloc(), queues),
+    )
 }

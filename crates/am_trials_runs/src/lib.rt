@@ -8,10 +8,13 @@ use am_keeper::{MemoryStore, PackageRow, Row, RowsBuilder, Store, StoredRows};
 use am_network::{Acceptor, GatePlan, MemoryNetwork, Network};
 use am_outside::{FileBytes, MemoryFiles, MemorySink, MemorySource, StepClock};
 use am_shell::run;
+use am_trials_spelling::push_frame;
 use am_trials_words::texts;
-use am_types::{List, NoMemory, Text};
+use am_types::{List, NoMemory, Text, drop_parts};
 use std::alloc::Global;
+use std::str;
 use std::sync::Wait;
+use std::test::Fail;
 use std::thread::Threads;
 
 /// What a run of the program takes of the runtime.
@@ -40,11 +43,28 @@ pub const QUIET: Outside = Outside {
 };
 
 /// What a run leaves: its status, its output and its errors.
-#[derive(Drop)]
 pub struct Left {
     pub status: u8,
     pub output: MemorySink,
     pub errors: MemorySink,
+}
+
+impl Drop for Left {
+    fn drop(self) {
+        drop_parts!(self, Left: status output errors);
+    }
+}
+
+impl Left {
+    /// Whether the run ended with this status, this output and these errors.
+    pub fn is(&self, status: u8, output: &[u8], errors: &[u8]) -> bool {
+        self.status == status && self.output.taken() == output && self.errors.taken() == errors
+    }
+
+    /// The output, as a text.
+    pub fn text(&self) -> Result<&str, Fail> {
+        Ok(str::from_utf8(self.output.taken()).ok().ok_or("a text")?)
+    }
 }
 
 /// The number of the failing call, if that object is to fail.
@@ -182,6 +202,20 @@ where
     )
 }
 
+/// Runs the words over the device file `d`, the call, a network without links, and the store.
+pub fn asked_over(
+    rt: &impl Runtime,
+    alloc: Global,
+    words: &str,
+    device: &str,
+    call: &str,
+    store: &mut MemoryStore,
+) -> Result<Left, Fail> {
+    let mut input = String::new(alloc);
+    push_frame(&mut input, call)?;
+    Ok(run_over(rt, alloc, words, device, input.as_bytes(), &QUIET, store)?)
+}
+
 /// Runs the words over the device file `d`, the input, the store and the network.
 pub fn run_on<R: Runtime, N: Network, T: Store>(
     rt: &R,
@@ -195,9 +229,6 @@ pub fn run_on<R: Runtime, N: Network, T: Store>(
 ) -> Result<Left, NoMemory>
 where
     T::Kept: Send,
-    N::Gate: Send,
-    <N::Gate as Acceptor>::Reader: Send,
-    <N::Gate as Acceptor>::Writer: Send,
     requires { 0 < outside.now.most }
 {
     let words = texts(alloc, words, "")?;

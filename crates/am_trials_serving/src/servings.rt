@@ -8,13 +8,13 @@ use self::rows::{KEEPING, SERVINGS};
 use crate::sessions::{device_file, text_of, try_end};
 use am_keeper::MemoryStore;
 use am_network::{GatePlan, LinkPlan, MemoryGate, MemoryLink, MemoryNetwork};
-use am_trials_runs::{Outside, QUIET, Runtime, network_of, run_on, run_over, sink, source, store};
-use am_trials_spelling::push_frame;
-use am_trials_words::parts;
+use am_trials_runs::{
+    Outside, QUIET, Runtime, asked_over, network_of, run_on, sink, source, store,
+};
+use am_trials_words::{parts, try_sections};
 use am_types::List;
 use std::alloc::Global;
 use std::process::Abort;
-use std::str;
 use std::test::Fail;
 
 /// The links of a gate that is to come.
@@ -175,15 +175,13 @@ fn try_gates(
     network: &MemoryNetwork,
     gates: &str,
 ) -> Result<(), Fail> {
-    let mut number: usize = 0;
-    for part in gates.split("\n: ") {
+    let released = network.released();
+    assert_eq!(rt; released.len(), gates.split("\n: ").count(), "{gates}");
+    for (gate, part) in released.iter().zip(gates.split("\n: ")) {
         let (failing, rows) = gate_parts(part);
-        let gate = network.released().get(number).ok_or("a gate")?;
         try_gate(rt, alloc, gate, rows)?;
         assert_eq!(rt; gate.faults() == 1, failing.is_some(), "{rows}");
-        number = number.wrapping_add(1);
     }
-    assert_eq!(rt; network.released().len(), number, "{gates}");
     Ok(())
 }
 
@@ -213,13 +211,7 @@ fn try_rows(rt: &(impl Runtime + Abort), alloc: Global, rows: &str) -> Result<()
 
 #[test]
 fn serves_links(rt: HostRuntime) -> Result<(), Fail> {
-    let mut servings: u32 = 0;
-    for rows in SERVINGS.split("\n# ") {
-        try_rows(&rt, rt.alloc(), rows)?;
-        servings = servings.wrapping_add(1);
-    }
-    assert_eq!(rt; servings, 8);
-    Ok(())
+    try_sections(SERVINGS, "\n# ", 8, |rows| try_rows(&rt, rt.alloc(), rows))
 }
 
 #[test]
@@ -227,12 +219,18 @@ fn keeps_what_a_link_installs(rt: HostRuntime) -> Result<(), Fail> {
     let alloc = rt.alloc();
     let mut kept = store(alloc, &QUIET)?;
     try_serving(&rt, alloc, &mut kept, KEEPING)?;
-    let words = "session --device d --store q";
-    let mut input = String::new(alloc);
-    push_frame(&mut input, "GET /v1/status | sys | ")?;
-    let (device, input) = (device_file("bare"), input.as_bytes());
-    let left = run_over(&rt, alloc, words, device, input, &QUIET, &mut kept)?;
-    let output = str::from_utf8(left.output.taken()).ok().ok_or("a text")?;
-    assert!(rt; output.ends_with(r#"{"history":0,"moment":0,"packages":1}"#));
+    let (words, device) = ("session --device d --store q", device_file("bare"));
+    let left = asked_over(
+        &rt,
+        alloc,
+        words,
+        device,
+        "GET /v1/status | sys | ",
+        &mut kept,
+    )?;
+    assert!(rt;
+        left.text()?
+            .ends_with(r#"{"history":0,"moment":0,"packages":1}"#)
+    );
     Ok(())
 }

@@ -6,7 +6,7 @@ mod rows;
 use self::rows::ROWS;
 use am_trials_runs::{Left, Outside, QUIET, Runtime, try_run};
 use am_trials_spelling::{EMPTY, spelled_out};
-use am_trials_words::parts;
+use am_trials_words::{parts, try_each};
 use std::alloc::Global;
 use std::process::Abort;
 use std::test::Fail;
@@ -100,7 +100,7 @@ pub fn text_of(alloc: Global, text: &str) -> Result<Vec<u8>, Fail> {
 
 /// The run of the row ended so, and wrote this output.
 pub fn try_end(
-    rt: &(impl Runtime + Abort),
+    rt: &impl Abort,
     alloc: Global,
     left: &Left,
     wanted: &str,
@@ -109,9 +109,10 @@ pub fn try_end(
 ) -> Result<(), Fail> {
     let (status, errors) = end(alloc, wanted)?;
     let output = text_of(alloc, output)?;
-    assert_eq!(rt; left.status, status, "{row}");
-    assert_eq!(rt; left.output.taken(), output.as_slice(), "{row}");
-    assert_eq!(rt; left.errors.taken(), errors.as_slice(), "{row}");
+    assert!(rt;
+        left.is(status, output.as_slice(), errors.as_slice()),
+        "{row}"
+    );
     Ok(())
 }
 
@@ -136,13 +137,5 @@ fn try_row(rt: &(impl Runtime + Abort), alloc: Global, row: &str) -> Result<(), 
 
 #[test]
 fn ends_with_a_status(rt: HostRuntime) -> Result<(), Fail> {
-    let mut rows: u32 = 0;
-    for row in ROWS.lines() {
-        if !row.starts_with('#') {
-            try_row(&rt, rt.alloc(), row)?;
-            rows = rows.wrapping_add(1);
-        }
-    }
-    assert_eq!(rt; rows, 73);
-    Ok(())
+    try_each(ROWS, 73, |row| try_row(&rt, rt.alloc(), row))
 }

@@ -301,9 +301,7 @@ fn try_waiting(rt: &(impl Runtime + Abort), alloc: Global, waiting: u32) -> Resu
         &mut store,
         &mut network,
     )?;
-    assert_eq!(rt; left.output.taken(), b"history 2 served 2\n".as_slice());
-    assert!(rt; left.errors.taken().is_empty());
-    assert_eq!(rt; left.status, 0);
+    assert!(rt; left.is(0, b"history 2 served 2\n", b""), "{words}");
     try_places(rt, network.released.as_slice(), waiting)
 }
 

@@ -4,7 +4,7 @@ mod rows;
 
 use self::rows::CALLS;
 use am_tasks::Tasks;
-use am_trials_words::{empty_intent, flags, last, number, optional};
+use am_trials_words::{empty_intent, flags, last, lent, listed, number, optional};
 use am_types::{
     Component, InstanceView, Intent, Landed, Mode, NoMemory, PlaceFault, Placed, StartCall,
     TaskFault, TaskView, Text,
@@ -177,24 +177,15 @@ fn tell_task(told: &mut String, task: &TaskView) -> Result<(), AllocError> {
 
 /// The tasks with blanks between them, or a hyphen if there are none.
 fn tell_tasks(alloc: Global, tasks: &[TaskView]) -> Result<String, AllocError> {
-    let mut told = String::new(alloc);
-    for task in tasks {
-        if !told.is_empty() {
-            told.push_str(" ")?;
-        }
-        tell_task(&mut told, task)?;
-    }
-    if told.is_empty() {
-        told.push_str("-")?;
-    }
-    Ok(told)
+    listed(alloc, tasks, " ", |told, task| tell_task(told, task))
 }
 
 /// The tasks that the uid sees.
 fn told(alloc: Global, tasks: &Tasks, uid: u32) -> Result<String, NoMemory> {
-    let views = tasks.views(uid)?;
-    let told = tell_tasks(alloc, views.as_slice());
-    drop(views);
+    let told = lent(
+        tasks.views(uid)?,
+        |views| tell_tasks(alloc, views.as_slice()),
+    );
     Ok(told?)
 }
 
@@ -230,10 +221,11 @@ fn try_lines(rt: &impl Abort, alloc: Global, tasks: &mut Tasks) -> Result<u32, F
 
 #[test]
 fn calls_answer_in_order(rt: HostRuntime) -> Result<(), Fail> {
-    let mut tasks = Tasks::new(rt.alloc());
-    let rows = try_lines(&rt, rt.alloc(), &mut tasks);
-    drop(tasks);
-    assert_eq!(rt; rows?, 103);
+    let rows = lent(
+        Tasks::new(rt.alloc()),
+        |tasks| try_lines(&rt, rt.alloc(), tasks),
+    )?;
+    assert_eq!(rt; rows, 103);
     Ok(())
 }
 
@@ -251,44 +243,47 @@ fn repeated(
     Ok(last)
 }
 
-/// Starts as many tasks as there may be, one too many, and an activity in the last of them.
-fn try_tasks(rt: &impl Abort, alloc: Global, tasks: &mut Tasks) -> Result<(), Fail> {
-    let many = repeated(alloc, tasks, "one.A new_task multiple_task", 64)?;
-    assert_eq!(rt; many.as_str(), "fresh 64 64");
-    let full = placed(alloc, tasks, "one.A new_task multiple_task")?;
-    assert_eq!(rt; full.as_str(), "tasks_full");
-    let found = placed(alloc, tasks, "one.B new_task")?;
-    assert_eq!(rt; found.as_str(), "fresh 64 65");
+/// Starts that are made so often each, and the answer of the last: as many tasks as there may be, one too many, and an
+/// activity in the last of them.
+const STARTS_OF_TASKS: [(&str, u32, &str); 3] = [
+    ("one.A new_task multiple_task", 64, "fresh 64 64"),
+    ("one.A new_task multiple_task", 1, "tasks_full"),
+    ("one.B new_task", 1, "fresh 64 65"),
+];
+
+/// As many activities in a task as there may be, one too many, and two that take the place of others.
+const STARTS_IN_A_TASK: [(&str, u32, &str); 5] = [
+    ("one.A new_task", 1, "fresh 1 1"),
+    ("one.B from=1", 63, "fresh 1 64"),
+    ("one.B from=1", 1, "task_full"),
+    ("one.B clear_top from=1", 1, "fresh 1 65"),
+    ("one.C new_task clear_task", 1, "fresh 1 66"),
+];
+
+/// Makes the starts in order.
+fn try_starts(
+    rt: &impl Abort,
+    alloc: Global,
+    tasks: &mut Tasks,
+    starts: &[(&str, u32, &str)],
+) -> Result<(), Fail> {
+    for (words, count, wanted) in starts {
+        let last = repeated(alloc, tasks, words, *count)?;
+        assert_eq!(rt; last.as_str(), *wanted, "{words}");
+    }
     Ok(())
 }
 
 #[test]
 fn there_are_at_most_64_tasks(rt: HostRuntime) -> Result<(), Fail> {
-    let mut tasks = Tasks::new(rt.alloc());
-    let tried = try_tasks(&rt, rt.alloc(), &mut tasks);
-    drop(tasks);
-    tried
-}
-
-/// Starts as many activities in a task as there may be, one too many, and two that take the place of others.
-fn try_instances(rt: &impl Abort, alloc: Global, tasks: &mut Tasks) -> Result<(), Fail> {
-    let root = placed(alloc, tasks, "one.A new_task")?;
-    assert_eq!(rt; root.as_str(), "fresh 1 1");
-    let many = repeated(alloc, tasks, "one.B from=1", 63)?;
-    assert_eq!(rt; many.as_str(), "fresh 1 64");
-    let full = placed(alloc, tasks, "one.B from=1")?;
-    assert_eq!(rt; full.as_str(), "task_full");
-    let in_place = placed(alloc, tasks, "one.B clear_top from=1")?;
-    assert_eq!(rt; in_place.as_str(), "fresh 1 65");
-    let root = placed(alloc, tasks, "one.C new_task clear_task")?;
-    assert_eq!(rt; root.as_str(), "fresh 1 66");
-    Ok(())
+    lent(Tasks::new(rt.alloc()), |tasks| {
+        try_starts(&rt, rt.alloc(), tasks, &STARTS_OF_TASKS)
+    })
 }
 
 #[test]
 fn a_task_has_at_most_64_instances(rt: HostRuntime) -> Result<(), Fail> {
-    let mut tasks = Tasks::new(rt.alloc());
-    let tried = try_instances(&rt, rt.alloc(), &mut tasks);
-    drop(tasks);
-    tried
+    lent(Tasks::new(rt.alloc()), |tasks| {
+        try_starts(&rt, rt.alloc(), tasks, &STARTS_IN_A_TASK)
+    })
 }

@@ -3,28 +3,18 @@
 mod rows;
 
 use self::rows::{PATHS, SCHEMES, TYPES, URIS};
-use am_trials_words::{filter, parts};
+use am_trials_words::{filter, parts, try_answers, try_each};
 use am_types::{Filter, Text, Uri};
 use am_uri::{is_scheme, parse_mime, parse_uri, passes_path};
 use std::alloc::{AllocError, Global};
 use std::test::Fail;
 
-/// The text of a row, and what is wanted of it.
-fn row(line: &str) -> (&str, &str) {
-    line.split_once(" -> ").unwrap_or((line, "no row"))
-}
-
 #[test]
 fn schemes_are_known(rt: HostRuntime) -> Result<(), Fail> {
-    let mut rows: u32 = 0;
-    for line in SCHEMES.lines() {
-        let (text, wanted) = row(line);
+    try_answers(SCHEMES, " -> ", 17, |text| {
         let said = if is_scheme(text) { "scheme" } else { "none" };
-        assert_eq!(rt; said, wanted, "at {text}");
-        rows = rows.wrapping_add(1);
-    }
-    assert_eq!(rt; rows, 17);
-    Ok(())
+        Ok(String::from_str(rt.alloc(), said)?)
+    })
 }
 
 /// What is read from the text as a MIME type.
@@ -38,13 +28,7 @@ fn mime_read(alloc: Global, text: &str) -> Result<String, AllocError> {
 #[test]
 fn types_are_read(rt: HostRuntime) -> Result<(), Fail> {
     let alloc = rt.alloc();
-    let mut rows: u32 = 0;
-    for line in TYPES.lines() {
-        let (text, wanted) = row(line);
-        assert_eq!(rt; mime_read(alloc, text)?.as_str(), wanted, "at {text}");
-        rows = rows.wrapping_add(1);
-    }
-    assert_eq!(rt; rows, 29);
+    try_answers(TYPES, " -> ", 29, |text| Ok(mime_read(alloc, text)?))?;
     assert_eq!(rt; mime_read(alloc, "a/b\n")?.as_str(), "BadCharacter");
     Ok(())
 }
@@ -88,15 +72,7 @@ fn shown(alloc: Global, uri: &Uri) -> Result<String, AllocError> {
 
 #[test]
 fn uris_are_read(rt: HostRuntime) -> Result<(), Fail> {
-    let alloc = rt.alloc();
-    let mut rows: u32 = 0;
-    for line in URIS.lines() {
-        let (text, wanted) = row(line);
-        assert_eq!(rt; uri_read(alloc, text)?.as_str(), wanted, "at {text}");
-        rows = rows.wrapping_add(1);
-    }
-    assert_eq!(rt; rows, 83);
-    Ok(())
+    try_answers(URIS, " -> ", 83, |text| Ok(uri_read(rt.alloc(), text)?))
 }
 
 /// The front, and then as many bytes `a` as make this length.
@@ -143,15 +119,11 @@ fn passing(alloc: Global, rule: &str, path: &str) -> Result<&'static str, AllocE
 
 #[test]
 fn paths_pass_their_rules(rt: HostRuntime) -> Result<(), Fail> {
-    let alloc = rt.alloc();
-    let mut rows: u32 = 0;
-    for line in PATHS.lines().filter(|line| !line.starts_with('#')) {
+    try_each(PATHS, 34, |line| {
         let (rule, path, wanted) = parts(line);
-        assert_eq!(rt; passing(alloc, rule, path)?, wanted, "{line}");
-        rows = rows.wrapping_add(1);
-    }
-    assert_eq!(rt; rows, 34);
-    Ok(())
+        assert_eq!(rt; passing(rt.alloc(), rule, path)?, wanted, "{line}");
+        Ok(())
+    })
 }
 
 #[test]

@@ -7,7 +7,7 @@ ghost use Rattle.am_model.specs.Sound.{IsSound};
 use self::documents::{ASKED, DEVICE, FILES, SEEN};
 use am_queries::{Described, read_described};
 use am_resolve::Board;
-use am_trials_words::{number, parts};
+use am_trials_words::{number, parts, try_each};
 use am_types::{List, ManifestFault, NoMemory, Queries, Text};
 use am_visible::{VisibleFault, answer, answer_file, sees};
 use am_wire_fields::{Unread, WireFault};
@@ -54,13 +54,11 @@ fn seen(alloc: Global, caller: &str) -> Result<String, NoMemory> {
 
 #[test]
 fn callers_see_packages(rt: HostRuntime) -> Result<(), Fail> {
-    let alloc = rt.alloc();
-    for line in SEEN.lines() {
+    try_each(SEEN, 13, |line| {
         let (caller, wanted, _) = parts(line);
-        assert_eq!(rt; seen(alloc, caller)?.as_str(), wanted, "{line}");
-    }
-    assert_eq!(rt; SEEN.lines().count(), 13);
-    Ok(())
+        assert_eq!(rt; seen(rt.alloc(), caller)?.as_str(), wanted, "{line}");
+        Ok(())
+    })
 }
 
 /// The line without its newline, which must be there.
@@ -140,14 +138,12 @@ fn answered(
 
 #[test]
 fn packages_are_answered(rt: HostRuntime) -> Result<(), Fail> {
-    let alloc = rt.alloc();
-    for row in ASKED.lines() {
+    try_each(ASKED, 31, |row| {
         let (name, question, wanted) = parts(row);
-        let found = answered(alloc, DEVICE, name, question)?;
+        let found = answered(rt.alloc(), DEVICE, name, question)?;
         assert_eq!(rt; found.as_str(), wanted, "{row}");
-    }
-    assert_eq!(rt; ASKED.lines().count(), 31);
-    Ok(())
+        Ok(())
+    })
 }
 
 #[test]

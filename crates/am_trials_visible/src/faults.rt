@@ -5,6 +5,7 @@ mod documents;
 use self::documents::{ASKING, FILES, TABLES};
 use am_manifest::read_device;
 use am_queries::read_queries;
+use am_trials_words::{spelled_out, try_answers, try_documents};
 use am_types::{List, Queries, Signature, Text};
 use std::alloc::{AllocError, Global};
 use std::test::Fail;
@@ -21,50 +22,21 @@ fn outcome(alloc: Global, document: &str) -> Result<String, AllocError> {
     }
 }
 
-/// Adds the line, with `<3:a>` spelled out.
-fn push_line(all: &mut String, line: &str) -> Result<(), Fail> {
-    let Some((front, behind)) = line.split_once('<') else {
-        all.push_str(line)?;
-        return Ok(());
-    };
-    let (count, behind) = behind.split_once(':').ok_or("a count")?;
-    let (part, behind) = behind.split_once('>').ok_or("a part")?;
-    all.push_str(front)?;
-    push_often(all, count.parse::<usize>().unwrap_or(0), part)?;
-    all.push_str(behind)?;
-    Ok(())
-}
-
-fn push_often(all: &mut String, count: usize, part: &str) -> Result<(), AllocError> {
-    for _ in 0..count {
-        all.push_str(part)?;
-    }
-    Ok(())
-}
-
-/// The device file of one package whose manifest has that table `queries`.
-fn device_with(alloc: Global, queries: &str) -> Result<String, Fail> {
+/// The device file of one package whose manifest has that table `queries`, in which `<3:a>` is spelled out.
+fn device_with(alloc: Global, queries: &str) -> Result<String, AllocError> {
     let mut all = String::from_str(alloc, "system_key = \"s\"\npackage = [{ key = \"k\", ")?;
     all.push_str("manifest = { package = \"p\", queries = ")?;
-    push_line(&mut all, queries)?;
+    all.push_str(spelled_out(alloc, queries)?.as_str())?;
     all.push_str(" } }]\n")?;
     Ok(all)
 }
 
 #[test]
 fn tables_are_read_or_have_a_first_fault(rt: HostRuntime) -> Result<(), Fail> {
-    let alloc = rt.alloc();
-    for line in TABLES.lines() {
-        let (queries, wanted) = line.split_once(" => ").unwrap_or((line, "no row"));
-        let document = device_with(alloc, queries)?;
-        assert_eq!(rt;
-            outcome(alloc, document.as_str())?.as_str(),
-            wanted,
-            "{line}"
-        );
-    }
-    assert_eq!(rt; TABLES.lines().count(), 109);
-    Ok(())
+    try_answers(TABLES, " => ", 109, |queries| {
+        let document = device_with(rt.alloc(), queries)?;
+        Ok(outcome(rt.alloc(), document.as_str())?)
+    })
 }
 
 fn is_read(alloc: Global, document: &str) -> bool {
@@ -91,18 +63,7 @@ fn a_device_is_read_without_its_queries(rt: HostRuntime) -> Result<(), Fail> {
 #[test]
 fn the_faults_of_a_device_come_first(rt: HostRuntime) -> Result<(), Fail> {
     let alloc = rt.alloc();
-    let mut document = String::new(alloc);
-    for line in FILES.lines() {
-        if let Some(wanted) = line.strip_prefix("= ") {
-            let found = outcome(alloc, document.as_str())?;
-            assert_eq!(rt; found.as_str(), wanted, "{document}");
-            document.clear();
-        } else {
-            push_line(&mut document, line)?;
-            document.push('\n')?;
-        }
-    }
-    Ok(())
+    try_documents(alloc, FILES, "\n", |document| Ok(outcome(alloc, document)?))
 }
 
 /// Adds a word with its key, if there is one.
@@ -180,16 +141,5 @@ fn asking(alloc: Global, document: &str) -> Result<String, Fail> {
 #[test]
 fn packages_ask_to_see_others(rt: HostRuntime) -> Result<(), Fail> {
     let alloc = rt.alloc();
-    let mut document = String::new(alloc);
-    for line in ASKING.lines() {
-        if let Some(wanted) = line.strip_prefix("= ") {
-            let found = asking(alloc, document.as_str())?;
-            assert_eq!(rt; found.as_str(), wanted, "{document}");
-            document.clear();
-        } else {
-            document.push_str(line)?;
-            document.push('\n')?;
-        }
-    }
-    Ok(())
+    try_documents(alloc, ASKING, "\n", |document| asking(alloc, document))
 }

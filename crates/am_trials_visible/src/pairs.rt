@@ -7,7 +7,7 @@ ghost use Rattle.am_model.specs.Sound.{IsSound};
 use self::rows::PAIRS;
 use am_queries::{Described, read_described};
 use am_resolve::Board;
-use am_trials_words::parts;
+use am_trials_words::{parts, try_each};
 use am_types::{NoMemory, Text};
 use am_visible::{answer_file, meets, sees};
 use std::alloc::{AllocError, Global};
@@ -84,14 +84,11 @@ fn answered(alloc: Global, document: &str) -> Result<&'static str, NoMemory> {
 #[test]
 fn filters_meet_signatures(rt: HostRuntime) -> Result<(), Fail> {
     let alloc = rt.alloc();
-    let mut rows: u32 = 0;
-    for line in PAIRS.lines().filter(|line| !line.starts_with('#')) {
+    try_each(PAIRS, 122, |line| {
         let (filter, signature, wanted) = parts(line);
         let document = device_with(alloc, filter, signature)?;
         assert_eq!(rt; verdict(alloc, document.as_str())?, wanted, "{line}");
         assert_eq!(rt; answered(alloc, document.as_str())?, wanted, "{line}");
-        rows = rows.wrapping_add(1);
-    }
-    assert_eq!(rt; rows, 122);
-    Ok(())
+        Ok(())
+    })
 }

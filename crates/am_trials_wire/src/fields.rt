@@ -2,7 +2,7 @@
 mod bodies;
 
 use self::bodies::BODIES;
-use am_trials_words::spelled_out;
+use am_trials_words::{spelled_out, try_answers};
 use am_types::{MimeFault, UriFault};
 use am_uri::Form;
 use am_wire_fields::{
@@ -11,7 +11,6 @@ use am_wire_fields::{
 };
 use serde_json::Value;
 use std::alloc::{AllocError, Global};
-use std::process::Abort;
 use std::test::Fail;
 
 fn tell_natural(alloc: Global, told: &mut String, object: &Value) -> Result<(), Unread> {
@@ -88,23 +87,15 @@ fn outcome(alloc: Global, body: &[u8]) -> Result<String, AllocError> {
     }
 }
 
-fn try_row(rt: &impl Abort, alloc: Global, row: &str) -> Result<(), Fail> {
-    let (body, wanted) = row.split_once(" -> ").ok_or("a row")?;
+/// What a body that is to be spelled out says, or the printed fault.
+fn spelled_outcome(alloc: Global, body: &str) -> Result<String, Fail> {
     let body = spelled_out(alloc, body)?;
-    let said = outcome(alloc, body.as_bytes())?;
-    assert_eq!(rt; said.as_str(), wanted, "{row}");
-    Ok(())
+    Ok(outcome(alloc, body.as_bytes())?)
 }
 
 #[test]
 fn reads(rt: HostRuntime) -> Result<(), Fail> {
-    let mut rows: u32 = 0;
-    for row in BODIES.lines() {
-        try_row(&rt, rt.alloc(), row)?;
-        rows = rows.wrapping_add(1);
-    }
-    assert_eq!(rt; rows, 42);
-    Ok(())
+    try_answers(BODIES, " -> ", 42, |body| spelled_outcome(rt.alloc(), body))
 }
 
 #[test]

@@ -3,6 +3,7 @@ mod rows;
 
 use self::rows::ROWS;
 use crate::endpoints::parts_of;
+use am_trials_words::try_each;
 use am_types::Request;
 use am_wire::read_request;
 use am_wire_routes::Endpoint;
@@ -28,14 +29,9 @@ fn written(alloc: Global, endpoint: Endpoint, body: &str) -> Result<(Endpoint, S
     Ok((reader, text?))
 }
 
-/// A body is written as this text, which is read and written again as itself.
-fn try_body(
-    rt: &impl Abort,
-    alloc: Global,
-    endpoint: Endpoint,
-    body: &str,
-    wanted: &str,
-) -> Result<(), Fail> {
+/// The body of a row is written as the row's text, which is read and written again as itself.
+fn try_row(rt: &impl Abort, alloc: Global, row: &str) -> Result<(), Fail> {
+    let (endpoint, body, wanted) = parts_of(row)?;
     let (reader, text) = written(alloc, endpoint, body)?;
     assert_eq!(rt; text.as_str(), wanted, "{body}");
     let (_, again) = written(alloc, reader, text.as_str())?;
@@ -43,18 +39,7 @@ fn try_body(
     Ok(())
 }
 
-fn try_row(rt: &impl Abort, alloc: Global, row: &str) -> Result<(), Fail> {
-    let (endpoint, body, wanted) = parts_of(row)?;
-    try_body(rt, alloc, endpoint, body, wanted)
-}
-
 #[test]
 fn requests_are_read_back(rt: HostRuntime) -> Result<(), Fail> {
-    let mut rows: u32 = 0;
-    for row in ROWS.lines() {
-        try_row(&rt, rt.alloc(), row)?;
-        rows = rows.wrapping_add(1);
-    }
-    assert_eq!(rt; rows, 17);
-    Ok(())
+    try_each(ROWS, 17, |row| try_row(&rt, rt.alloc(), row))
 }

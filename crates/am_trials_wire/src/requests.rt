@@ -5,6 +5,7 @@ mod shown;
 use self::rows::ROWS;
 use self::shown::shown;
 use crate::endpoints::parts_of;
+use am_trials_words::try_each;
 use am_wire::read_request;
 use am_wire_fields::Unread;
 use am_wire_routes::Endpoint;
@@ -101,14 +102,9 @@ fn outcome(alloc: Global, endpoint: Endpoint, body: &str) -> Result<String, Fail
     }
 }
 
-/// What becomes of the body with its signs spelled out is what is wanted.
-fn try_body(
-    rt: &impl Abort,
-    alloc: Global,
-    endpoint: Endpoint,
-    body: &str,
-    wanted: &str,
-) -> Result<(), Fail> {
+/// What becomes of the body of a row with its signs spelled out is what the row wants.
+fn try_row(rt: &impl Abort, alloc: Global, row: &str) -> Result<(), Fail> {
+    let (endpoint, body, wanted) = parts_of(row)?;
     let spelled = spelled_out(alloc, body)?;
     let found = outcome(alloc, endpoint, spelled.as_str())?;
     let wanted = spelled_out(alloc, wanted)?;
@@ -116,18 +112,7 @@ fn try_body(
     Ok(())
 }
 
-fn try_row(rt: &impl Abort, alloc: Global, row: &str) -> Result<(), Fail> {
-    let (endpoint, body, wanted) = parts_of(row)?;
-    try_body(rt, alloc, endpoint, body, wanted)
-}
-
 #[test]
 fn bodies(rt: HostRuntime) -> Result<(), Fail> {
-    let mut rows: u32 = 0;
-    for row in ROWS.lines() {
-        try_row(&rt, rt.alloc(), row)?;
-        rows = rows.wrapping_add(1);
-    }
-    assert_eq!(rt; rows, 647);
-    Ok(())
+    try_each(ROWS, 647, |row| try_row(&rt, rt.alloc(), row))
 }

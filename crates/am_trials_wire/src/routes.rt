@@ -2,6 +2,7 @@
 mod cases;
 
 use self::cases::CASES;
+use am_trials_words::try_each;
 use am_wire_routes::{RouteFault, Routes};
 use std::alloc::Global;
 use std::process::Abort;
@@ -25,13 +26,7 @@ fn try_row(rt: &impl Abort, alloc: Global, routes: &Routes, row: &str) -> Result
 fn routes_requests(rt: HostRuntime) -> Result<(), Fail> {
     let alloc = rt.alloc();
     let routes = Routes::new(alloc)?;
-    let mut rows: u32 = 0;
-    for row in CASES.lines() {
-        try_row(&rt, alloc, &routes, row)?;
-        rows = rows.wrapping_add(1);
-    }
-    assert_eq!(rt; rows, 49);
-    Ok(())
+    try_each(CASES, 49, |row| try_row(&rt, alloc, &routes, row))
 }
 
 #[test]

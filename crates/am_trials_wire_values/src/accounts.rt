@@ -2,22 +2,22 @@
 mod rows;
 
 use self::rows::ROWS;
-use crate::parts::{component_a, none};
+use crate::parts::{component_a, none, try_lines};
 use crate::replies::reply_line;
 use am_types::{Account, Aim, List, Narrowing, Reply, Rule, Standing, Text, Why};
 use std::alloc::{AllocError, Global};
 use std::test::Fail;
 
 fn every_reason(alloc: Global) -> Result<Standing, AllocError> {
-    let mut reasons = Vec::new(alloc);
-    reasons.push(Why::Action)?;
-    reasons.push(Why::Scheme)?;
-    reasons.push(Why::Host)?;
-    reasons.push(Why::Path)?;
-    reasons.push(Why::Type_)?;
-    reasons.push(Why::Category)?;
-    reasons.push(Why::Action)?;
-    Ok(Standing::Filters(List::new(reasons)))
+    Ok(Standing::Filters(List::new(vec![in alloc;
+        Why::Action,
+        Why::Scheme,
+        Why::Host,
+        Why::Path,
+        Why::Type_,
+        Why::Category,
+        Why::Action,
+    ]?)))
 }
 
 fn rule(n: u32, alloc: Global) -> Result<Rule, AllocError> {
@@ -70,12 +70,7 @@ fn accounts(n: u32, alloc: Global) -> Result<List<Account>, AllocError> {
 #[test]
 fn every_account_is_written(rt: HostRuntime) -> Result<(), Fail> {
     let alloc = rt.alloc();
-    let mut n: u32 = 0;
-    for line in ROWS.lines() {
-        let found = reply_line(alloc, Reply::Accounts(accounts(n, alloc)?))?;
-        assert_eq!(rt; found.as_str(), line, "{n}");
-        n = n.wrapping_add(1);
-    }
-    assert_eq!(rt; n, 20);
-    Ok(())
+    try_lines(&rt, alloc, ROWS, 20, |n| {
+        reply_line(alloc, Reply::Accounts(accounts(n, alloc)?))
+    })
 }

@@ -1,10 +1,9 @@
 //! Intents, filters and outcomes for the tables.
-use am_trials_words::{empty_filter, intent, texts};
-use am_types::{
-    Authority, Component, Extra, Filter, Glob, Intent, List, Mime, Named, Ordered, Outcome,
-    PathRule, Text, Uri,
-};
+use am_trials_words::{filled, intent};
+use am_types::{Component, Extra, Intent, List, Named, Ordered, Outcome, Text};
 use std::alloc::{AllocError, Global};
+use std::process::Abort;
+use std::test::Fail;
 
 pub fn none<T>(alloc: Global) -> List<T> {
     List::new(Vec::new(alloc))
@@ -15,12 +14,6 @@ pub fn component_a(alloc: Global) -> Result<Component, AllocError> {
     let package = Text::of(alloc, "com.a")?;
     let class = Text::of(alloc, "com.a.Main")?;
     Ok(Component { package, class })
-}
-
-fn mime(alloc: Global, main: &str, sub: &str) -> Result<Mime, AllocError> {
-    let main = Text::of(alloc, main)?;
-    let sub = Text::of(alloc, sub)?;
-    Ok(Mime { main, sub })
 }
 
 /// An intent with an action alone.
@@ -48,110 +41,27 @@ pub fn extras(alloc: Global) -> Result<List<Named>, AllocError> {
     Ok(List::new(extras))
 }
 
-fn uri(alloc: Global) -> Result<Uri, AllocError> {
-    let text = Text::of(alloc, "http://h/a%20b")?;
-    let scheme = Text::of(alloc, "http")?;
-    let host = Text::of(alloc, "h")?;
-    let path = Text::of(alloc, "/a b")?;
-    Ok(Uri {
-        text,
-        scheme,
-        host: Some(host),
-        port: None,
-        path,
-    })
-}
-
-/// An intent's words: all but its URI, its type and its extras, with every flag.
+/// An intent's words: all but its extras, with every flag.
 const FULL_WORDS: &str =
-    "action=a.X identifier=i category=c.A category=c.B package=com.a component=com.a/com.a.Main new_task multiple_task clear_task clear_top single_top reorder_to_front registered_only foreground no_abort include_stopped";
-
-/// Gives the intent its URI, its type and its extras.
-fn tell_rest(alloc: Global, full: &mut Intent) -> Result<(), AllocError> {
-    full.uri = Some(uri(alloc)?);
-    full.mime = Some(mime(alloc, "text", "plain")?);
-    full.extras = extras(alloc)?;
-    Ok(())
-}
+    "action=a.X identifier=i category=c.A category=c.B package=com.a component=com.a/com.a.Main uri=http://h/a%20b type=text/plain new_task multiple_task clear_task clear_top single_top reorder_to_front registered_only foreground no_abort include_stopped";
 
 /// An intent with all that one may have.
 pub fn full(alloc: Global) -> Result<Intent, AllocError> {
-    let mut full = intent(alloc, FULL_WORDS)?;
-    match tell_rest(alloc, &mut full) {
-        Ok(()) => Ok(full),
-        Err(error) => {
-            drop(full);
-            Err(error)
-        }
-    }
+    filled(intent(alloc, FULL_WORDS)?, |full| {
+        full.extras = extras(alloc)?;
+        Ok(())
+    })
 }
 
-pub const FULL: &str =
+const FULL: &str =
     r#"{"action":"a.X","categories":["c.A","c.B"],"component":"com.a/com.a.Main","data":"http://h/a%20b","extras":{"k":"\"v\"","n":-9223372036854775808,"t":false},"flags":["NEW_TASK","MULTIPLE_TASK","CLEAR_TASK","CLEAR_TOP","SINGLE_TOP","REORDER_TO_FRONT","REGISTERED_ONLY","FOREGROUND","NO_ABORT","INCLUDE_STOPPED"],"identifier":"i","package":"com.a","type":"text/plain"}"#;
 
-fn authority(alloc: Global, host: &str, port: Option<u32>) -> Result<Authority, AllocError> {
-    let host = Text::of(alloc, host)?;
-    Ok(Authority { host, port })
-}
+/// The words of a filter with all that one may have.
+pub const FILTER_WORDS: &str =
+    "action=a.X action=a.Y category=c.A scheme=ftp scheme=http host=h:80 host=*.i path=/a prefix=/b suffix=c pattern=/d.* type=text/* priority=-1000";
 
-fn authorities(alloc: Global) -> Result<List<Authority>, AllocError> {
-    let mut authorities = Vec::new(alloc);
-    authorities.push(authority(alloc, "h", Some(80))?)?;
-    authorities.push(authority(alloc, "*.i", None)?)?;
-    Ok(List::new(authorities))
-}
-
-fn paths(alloc: Global) -> Result<List<PathRule>, AllocError> {
-    let mut paths = Vec::new(alloc);
-    paths.push(PathRule::Literal(Text::of(alloc, "/a")?))?;
-    paths.push(PathRule::Prefix(Text::of(alloc, "/b")?))?;
-    paths.push(PathRule::Suffix(Text::of(alloc, "c")?))?;
-    if let Ok(glob) = Glob::new(Text::of(alloc, "/d.*")?) {
-        paths.push(PathRule::Pattern(glob))?;
-    }
-    Ok(List::new(paths))
-}
-
-fn types(alloc: Global) -> Result<List<Mime>, AllocError> {
-    let mut types = Vec::new(alloc);
-    types.push(mime(alloc, "text", "*")?)?;
-    Ok(List::new(types))
-}
-
-/// Gives the filter all that one may have.
-fn tell_filter(alloc: Global, filter: &mut Filter) -> Result<(), AllocError> {
-    filter.actions = texts(alloc, "action=a.X action=a.Y", "action=")?;
-    filter.categories = texts(alloc, "category=c.A", "category=")?;
-    filter.schemes = texts(alloc, "scheme=ftp scheme=http", "scheme=")?;
-    filter.authorities = authorities(alloc)?;
-    filter.paths = paths(alloc)?;
-    filter.types = types(alloc)?;
-    filter.priority = -1000;
-    Ok(())
-}
-
-/// A filter with all that one may have.
-pub fn filter(alloc: Global) -> Result<Filter, AllocError> {
-    let mut filter = empty_filter(alloc);
-    match tell_filter(alloc, &mut filter) {
-        Ok(()) => Ok(filter),
-        Err(error) => {
-            drop(filter);
-            Err(error)
-        }
-    }
-}
-
-pub const FILTER: &str =
+const FILTER: &str =
     r#"{"actions":["a.X","a.Y"],"categories":["c.A"],"data":[{"scheme":"ftp"},{"scheme":"http"},{"host":"h","port":80},{"host":"*.i"},{"path":"/a"},{"pathPrefix":"/b"},{"pathSuffix":"c"},{"pathPattern":"/d.*"},{"mimeType":"text/*"}],"priority":-1000}"#;
-
-/// A filter with an action alone.
-pub fn bare_filter(alloc: Global) -> Result<Filter, AllocError> {
-    let actions = texts(alloc, "action=a.X", "action=")?;
-    let mut filter = empty_filter(alloc);
-    filter.actions = actions;
-    Ok(filter)
-}
 
 /// An outcome with all that one may have.
 pub fn outcome(alloc: Global) -> Result<Outcome, AllocError> {
@@ -179,9 +89,31 @@ pub fn ordered(initial: Outcome, wanted: bool) -> Option<Ordered> {
 }
 
 /// The line with what stands for a name in its place.
-pub fn with(alloc: Global, line: &str, name: &str, whole: &str) -> Result<String, AllocError> {
+fn with(alloc: Global, line: &str, name: &str, whole: &str) -> Result<String, AllocError> {
     match line.split_once(name) {
         Some((before, after)) => format!(in alloc; "{before}{whole}{after}"),
         None => String::from_str(alloc, line),
     }
+}
+
+/// What is written for the numbers from 0 on is what the lines of the table have, of which there are as many as wanted.
+pub fn try_lines<F: Fn(u32) -> Result<String, Fail>>(
+    rt: &impl Abort,
+    alloc: Global,
+    table: &str,
+    wanted: u32,
+    written: F,
+) -> Result<(), Fail>
+    requires { F.IsAlwaysCallable written }
+{
+    let mut n: u32 = 0;
+    for line in table.lines() {
+        let found = written(n)?;
+        let line = with(alloc, line, "FULL", FULL)?;
+        let line = with(alloc, line.as_str(), "FILTER", FILTER)?;
+        assert_eq!(rt; found.as_str(), line.as_str(), "{n}");
+        n = n.wrapping_add(1);
+    }
+    assert_eq!(rt; n, wanted);
+    Ok(())
 }

@@ -2,7 +2,7 @@
 mod rows;
 
 use self::rows::ROWS;
-use crate::parts::{FULL, component_a, full, no_outcome, none, outcome, small, with};
+use crate::parts::{component_a, full, no_outcome, none, outcome, small, try_lines};
 use am_types::{
     Aim, Component, Entry, InstanceView, Item, ItemKind, Landed, Limit, List, ManifestFault,
     Placed, Receiving, Reply, Request, Rule, ServiceView, TaskView, Text,
@@ -228,8 +228,8 @@ fn limit(n: u32) -> Limit {
 
 /// The status and the text of a reply.
 pub fn reply_line(alloc: Global, reply: Reply) -> Result<String, Fail> {
-    let text = reply_text(alloc, &reply);
     let status = reply_status(&reply);
+    let text = reply_text(alloc, &reply);
     drop(reply);
     let text = text?;
     Ok(format!(in alloc; "{status} {text}")?)
@@ -238,13 +238,11 @@ pub fn reply_line(alloc: Global, reply: Reply) -> Result<String, Fail> {
 #[test]
 fn every_reply_is_written(rt: HostRuntime) -> Result<(), Fail> {
     let alloc = rt.alloc();
-    let mut n: u32 = 0;
-    for line in ROWS.lines() {
-        let found = reply_line(alloc, answered(n, alloc)?)?;
-        let wanted = with(alloc, line, "FULL", FULL)?;
-        assert_eq!(rt; found.as_str(), wanted.as_str(), "{n}");
-        n = n.wrapping_add(1);
-    }
-    assert_eq!(rt; n, 59);
-    Ok(())
+    try_lines(
+        &rt,
+        alloc,
+        ROWS,
+        59,
+        |n| reply_line(alloc, answered(n, alloc)?),
+    )
 }

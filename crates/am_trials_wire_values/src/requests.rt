@@ -3,8 +3,9 @@ mod rows;
 
 use self::rows::ROWS;
 use crate::parts::{
-    FILTER, FULL, bare_filter, component_a, filter, full, no_outcome, ordered, outcome, small, with,
+    FILTER_WORDS, component_a, full, no_outcome, ordered, outcome, small, try_lines,
 };
+use am_trials_words::filter;
 use am_types::{Answer, Kind, Ordered, PendingFlags, Request, Text};
 use am_wire_values::{request_value, route_of};
 use std::alloc::{AllocError, Global};
@@ -30,7 +31,7 @@ fn asked(n: u32, alloc: Global) -> Result<Request, AllocError> {
         11..=14 => sent(n, alloc),
         15 => registered(alloc),
         16 => Ok(Request::Register {
-            filter: bare_filter(alloc)?,
+            filter: filter(alloc, "action=a.X")?,
             permission: None,
         }),
         17 => Ok(Request::Unregister { number: 7 }),
@@ -43,7 +44,7 @@ fn asked(n: u32, alloc: Global) -> Result<Request, AllocError> {
 fn registered(alloc: Global) -> Result<Request, AllocError> {
     let permission = Text::of(alloc, "p.X")?;
     Ok(Request::Register {
-        filter: filter(alloc)?,
+        filter: filter(alloc, FILTER_WORDS)?,
         permission: Some(permission),
     })
 }
@@ -204,8 +205,8 @@ fn text_of(alloc: Global, request: &Request) -> Result<String, AllocError> {
 /// The route and the text of a request.
 fn written(n: u32, alloc: Global) -> Result<String, Fail> {
     let request = asked(n, alloc)?;
-    let text = text_of(alloc, &request);
     let route = route_of(&request);
+    let text = text_of(alloc, &request);
     drop(request);
     let text = text?;
     Ok(format!(in alloc; "{route} {text}")?)
@@ -213,15 +214,5 @@ fn written(n: u32, alloc: Global) -> Result<String, Fail> {
 
 #[test]
 fn every_request_is_written(rt: HostRuntime) -> Result<(), Fail> {
-    let alloc = rt.alloc();
-    let mut n: u32 = 0;
-    for line in ROWS.lines() {
-        let found = written(n, alloc)?;
-        let wanted = with(alloc, line, "FULL", FULL)?;
-        let wanted = with(alloc, wanted.as_str(), "FILTER", FILTER)?;
-        assert_eq!(rt; found.as_str(), wanted.as_str(), "{n}");
-        n = n.wrapping_add(1);
-    }
-    assert_eq!(rt; n, 40);
-    Ok(())
+    try_lines(&rt, rt.alloc(), ROWS, 40, |n| written(n, rt.alloc()))
 }

@@ -1,19 +1,12 @@
 //! Filters from words.
-use crate::{empty_filter, last, texts};
+use crate::{empty_filter, filled, last, texts};
 use am_types::{Authority, Filter, Glob, List, Mime, PathRule, Text};
 use std::alloc::{AllocError, Global};
 
 /// The filter of the words `action=`, `category=`, `scheme=`, `host=HOST` or `host=HOST:PORT`, `path=`, `prefix=`,
 /// `suffix=`, `pattern=`, `type=MAIN/SUB` and `priority=`, each of which but the last may be there many times.
 pub fn filter(alloc: Global, words: &str) -> Result<Filter, AllocError> {
-    let mut filter = empty_filter(alloc);
-    match tell(alloc, words, &mut filter) {
-        Ok(()) => Ok(filter),
-        Err(error) => {
-            drop(filter);
-            Err(error)
-        }
-    }
+    filled(empty_filter(alloc), |filter| tell(alloc, words, filter))
 }
 
 fn tell(alloc: Global, words: &str, filter: &mut Filter) -> Result<(), AllocError> {

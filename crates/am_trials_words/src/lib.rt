@@ -1,11 +1,15 @@
-//! Words `key=value` behind blanks, and the values that the trials make of them.
+//! Words `key=value` behind blanks, the values that the trials make of them, and the tables that they try.
 #![tactic(auto)]
 
 pub mod devices;
 mod filters;
+mod lending;
+mod tables;
 
 pub use self::filters::filter;
 use self::filters::mime;
+pub use self::lending::{filled, lent};
+pub use self::tables::{try_answers, try_documents, try_each, try_sections};
 use am_types::{Component, Extra, Filter, Flags, Intent, Kind, List, Named, Text, Uri, UriFault};
 use am_uri::parse_uri;
 use std::alloc::{AllocError, Global};
@@ -78,19 +82,25 @@ pub fn flags(words: &str) -> Flags {
     }
 }
 
+/// The flags by their names, and whether each is set.
+pub fn named_flags(flags: Flags) -> [(&'static str, bool); 10] {
+    [
+        ("NEW_TASK", flags.new_task),
+        ("MULTIPLE_TASK", flags.multiple_task),
+        ("CLEAR_TASK", flags.clear_task),
+        ("CLEAR_TOP", flags.clear_top),
+        ("SINGLE_TOP", flags.single_top),
+        ("REORDER_TO_FRONT", flags.reorder_to_front),
+        ("REGISTERED_ONLY", flags.registered_only),
+        ("FOREGROUND", flags.foreground),
+        ("NO_ABORT", flags.no_abort),
+        ("INCLUDE_STOPPED", flags.include_stopped),
+    ]
+}
+
 /// An intent that asks for nothing.
 pub fn empty_intent(alloc: Global) -> Intent {
-    Intent {
-        action: None,
-        uri: None,
-        mime: None,
-        identifier: None,
-        categories: List::new(Vec::new(alloc)),
-        package: None,
-        component: None,
-        flags: Flags::default(),
-        extras: List::new(Vec::new(alloc)),
-    }
+    Intent::empty(alloc)
 }
 
 /// The intent of the words `action=`, `identifier=`, `category=`, `package=`, `component=`, of its data, of its extras
@@ -99,14 +109,7 @@ pub fn empty_intent(alloc: Global) -> Intent {
 /// Its data are the type of `type=MAIN/SUB`, and the URI of `uri=` or of the parts `scheme=`, `host=`, `port=` and
 /// `path=`, of which the scheme must be there.
 pub fn intent(alloc: Global, words: &str) -> Result<Intent, AllocError> {
-    let mut intent = empty_intent(alloc);
-    match tell(alloc, words, &mut intent) {
-        Ok(()) => Ok(intent),
-        Err(error) => {
-            drop(intent);
-            Err(error)
-        }
-    }
+    filled(empty_intent(alloc), |intent| tell(alloc, words, intent))
 }
 
 fn tell(alloc: Global, words: &str, intent: &mut Intent) -> Result<(), AllocError> {
@@ -223,6 +226,28 @@ pub fn spelled_out(alloc: Global, text: &str) -> Result<String, AllocError> {
         all.push_str(part)?;
     }
     all.push_str(behind)?;
+    Ok(all)
+}
+
+/// The items as they are pushed, with that between each two of them; a hyphen if there are none.
+pub fn listed<T, F: FnMut(&mut String, &T) -> Result<(), AllocError>>(
+    alloc: Global,
+    items: &[T],
+    between: &str,
+    mut push: F,
+) -> Result<String, AllocError>
+    requires { F.IsAlwaysCallable push }
+{
+    let mut all = String::new(alloc);
+    for item in items {
+        if !all.is_empty() {
+            all.push_str(between)?;
+        }
+        push(&mut all, item)?;
+    }
+    if all.is_empty() {
+        all.push_str("-")?;
+    }
     Ok(all)
 }
 

@@ -1,10 +1,9 @@
 ghost use Rattle.std.specs.Prelude.{◌≡◌};
 
-use crate::{Decl, List, Text, copies};
+use crate::{Decl, List, Text, copies, drop_parts};
 use std::alloc::AllocError;
 
 /// An installed package.
-#[derive(Drop)]
 pub struct Package {
     /// From 10,000 to 4,294,967,294.
     pub uid: u32,
@@ -13,6 +12,12 @@ pub struct Package {
     pub key: Text,
     pub stopped: bool,
     pub decls: List<Decl>,
+}
+
+impl Drop for Package {
+    fn drop(self) {
+        drop_parts!(self, Package: uid name key stopped decls);
+    }
 }
 
 impl Clone for Package {

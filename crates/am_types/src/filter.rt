@@ -1,6 +1,6 @@
 ghost use Rattle.std.specs.Prelude.{◌≡◌};
 
-use crate::{Glob, List, Mime, Text, copies};
+use crate::{Glob, List, Mime, Text, copies, drop_parts};
 use std::alloc::AllocError;
 
 /// A host, and the port that goes with it, as a filter lists them.
@@ -49,7 +49,6 @@ impl Clone for PathRule {
 }
 
 /// An intent filter: what a component, or a registered receiver, is willing to get.
-#[derive(Drop)]
 pub struct Filter {
     /// Sorted by bytes, each once.
     pub actions: List<Text>,
@@ -64,6 +63,12 @@ pub struct Filter {
     /// In the order read, repeats included.
     pub types: List<Mime>,
     pub priority: i32,
+}
+
+impl Drop for Filter {
+    fn drop(self) {
+        drop_parts!(self, Filter: actions categories schemes authorities paths types priority);
+    }
 }
 
 impl Clone for Filter {

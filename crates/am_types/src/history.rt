@@ -1,10 +1,9 @@
 ghost use Rattle.std.specs.Prelude.{◌≡◌};
 
-use crate::{Reply, Request};
+use crate::{Reply, Request, drop_parts};
 use std::alloc::AllocError;
 
 /// A stored call in the history.
-#[derive(Drop)]
 pub struct Entry {
     pub desk: u32,
     pub uid: u32,
@@ -15,6 +14,12 @@ pub struct Entry {
     pub request: Request,
     /// False where the keeper failed, so that the request had no effect.
     pub kept: bool,
+}
+
+impl Drop for Entry {
+    fn drop(self) {
+        drop_parts!(self, Entry: desk uid now weight request kept);
+    }
 }
 
 impl Clone for Entry {
@@ -33,11 +38,16 @@ impl Clone for Entry {
 }
 
 /// A reply with its place in the history.
-#[derive(Drop)]
 pub struct Shown {
     /// The number of entries before the call.
     pub at: u64,
     /// Whether the call is entry `at`.
     pub stored: bool,
     pub reply: Reply,
+}
+
+impl Drop for Shown {
+    fn drop(self) {
+        drop_parts!(self, Shown: at stored reply);
+    }
 }

@@ -1,15 +1,21 @@
 ghost use Rattle.std.specs.Prelude.{◌≡◌};
 
-use crate::{List, Mime, Text, Uri, copies};
-use std::alloc::AllocError;
+use crate::{List, Mime, Text, Uri, copies, drop_parts};
+use std::alloc::{AllocError, Global};
 
 /// The name of an app component.
-#[derive(Drop, PartialEq, Eq, Hash)]
+#[derive(PartialEq, Eq, Hash)]
 pub struct Component {
     /// The package that declares it.
     pub package: Text,
     /// The full class, with its package.
     pub class: Text,
+}
+
+impl Drop for Component {
+    fn drop(self) {
+        drop_parts!(self, Component: package class);
+    }
 }
 
 impl Clone for Component {
@@ -77,7 +83,6 @@ pub struct Flags {
 }
 
 /// What an app asks for: an action, data, and who may get it.
-#[derive(Drop)]
 pub struct Intent {
     pub action: Option<Text>,
     pub uri: Option<Uri>,
@@ -92,6 +97,51 @@ pub struct Intent {
     pub flags: Flags,
     /// Sorted by key, each key once.
     pub extras: List<Named>,
+}
+
+impl Drop for Intent {
+    fn drop(self) {
+        drop_parts!(self, Intent: action uri mime identifier categories package component flags extras);
+    }
+}
+
+impl Intent {
+    ghost use Rattle.am_types.specs.Intents.{no_intent};
+
+    /// The intent that says nothing. Takes no memory.
+    pub fn empty(alloc: Global) -> Intent
+        ensures { result ≡ no_intent }
+    {
+        Intent {
+            action: None,
+            uri: None,
+            mime: None,
+            identifier: None,
+            categories: List::new(Vec::new(alloc)),
+            package: None,
+            component: None,
+            flags: Flags::default(),
+            extras: List::new(Vec::new(alloc)),
+        }
+    }
+
+    /// Hands its extras over, and drops the rest. Takes no memory.
+    pub fn into_extras(self) -> List<Named>
+        ensures { result ≡ self.extras }
+    {
+        let Intent {
+            action: _,
+            uri: _,
+            mime: _,
+            identifier: _,
+            categories: _,
+            package: _,
+            component: _,
+            flags: _,
+            extras,
+        } = self;
+        extras
+    }
 }
 
 impl Clone for Intent {

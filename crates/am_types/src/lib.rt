@@ -11,6 +11,7 @@ mod glob;
 mod history;
 mod intent;
 mod list;
+mod macros;
 mod manifest;
 mod pending;
 mod reply;

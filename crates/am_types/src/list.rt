@@ -1,13 +1,19 @@
 ghost use Rattle.std.specs.Prelude.{◌≡◌, List as Items};
 ghost use Rattle.std.specs.List.{AllZip};
 
+use crate::drop_parts;
 use std::alloc::AllocError;
 use std::marker::Model;
 
 /// A list of values. Contracts see it as the list of its items.
-#[derive(Drop)]
 pub struct List<T> {
     items: Vec<T>,
+}
+
+impl<T: Drop> Drop for List<T> {
+    fn drop(self) {
+        drop_parts!(self, List: items);
+    }
 }
 
 impl<T> Model for List<T> {
@@ -37,7 +43,8 @@ impl<T> List<T> {
     pub fn into_items(self) -> Vec<T>
         ensures { result.items ≡ self }
     {
-        self.items
+        let List { items } = self;
+        items
     }
 }
 

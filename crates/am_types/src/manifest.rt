@@ -1,6 +1,6 @@
 ghost use Rattle.std.specs.Prelude.{◌≡◌};
 
-use crate::{Filter, List, Text, copies};
+use crate::{Filter, List, Text, copies, drop_parts};
 use std::alloc::AllocError;
 use std::fmt;
 
@@ -23,7 +23,6 @@ pub enum Mode {
 }
 
 /// A component as its manifest declares it.
-#[derive(Drop)]
 pub struct Decl {
     pub kind: Kind,
     /// The full class, with its package.
@@ -38,6 +37,12 @@ pub struct Decl {
     pub affinity: Text,
     /// Each lists an action.
     pub filters: List<Filter>,
+}
+
+impl Drop for Decl {
+    fn drop(self) {
+        drop_parts!(self, Decl: kind class exported enabled permission mode affinity filters);
+    }
 }
 
 impl Clone for Decl {

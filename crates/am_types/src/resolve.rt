@@ -1,6 +1,6 @@
 ghost use Rattle.std.specs.Prelude.{◌≡◌};
 
-use crate::{Component, Filter, List, Text, copies};
+use crate::{Component, Filter, List, Text, copies, drop_parts};
 use std::alloc::AllocError;
 
 /// A component that an intent finds.
@@ -38,11 +38,16 @@ pub enum Target {
 }
 
 /// A receiver that an app registered while it runs.
-#[derive(Drop)]
 pub struct Registration {
     pub number: u64,
     pub uid: u32,
     pub filter: Filter,
     /// What a sender must hold.
     pub permission: Option<Text>,
+}
+
+impl Drop for Registration {
+    fn drop(self) {
+        drop_parts!(self, Registration: number uid filter permission);
+    }
 }

@@ -1,10 +1,9 @@
 ghost use Rattle.std.specs.Prelude.{◌≡◌};
 
-use crate::{Text, copies};
+use crate::{Text, copies, drop_parts};
 use std::alloc::AllocError;
 
 /// A URI with its parts.
-#[derive(Drop)]
 pub struct Uri {
     /// The whole text, as it was written, of at most 1,024 bytes.
     pub text: Text,
@@ -16,6 +15,12 @@ pub struct Uri {
     pub port: Option<u32>,
     /// The path, percent-decoded.
     pub path: Text,
+}
+
+impl Drop for Uri {
+    fn drop(self) {
+        drop_parts!(self, Uri: text scheme host port path);
+    }
 }
 
 impl Clone for Uri {

@@ -1,5 +1,5 @@
 -- What is read as the body of a query is one.
-use Rattle.std.proofs.Common.{◌≡◌, ℕ, true, List, Result, Ok, Err, refl, subst}
+use Rattle.std.proofs.Common.{◌≡◌, ℕ, true, List, [], ◌∷◌, Result, Ok, Err, refl, subst}
 use Rattle.std.specs.Prelude.{IfOk, IsTrue, codes}
 use Rattle.serde_json.specs.Data.{Data}
 use Rattle.am_types.specs.declared.request.Request.{Request}
@@ -8,10 +8,11 @@ use Rattle.am_wire_routes.specs.declared.endpoint.Endpoint.TheVariants.{Query}
 use Rattle.am_wire_fields.specs.declared.fault.Unread.{Unread}
 use Rattle.am_wire_fields.specs.declared.fault.WireFault.{WireFault}
 use Rattle.am_wire_fields.specs.Bodies.{value_of}
+use Rattle.am_wire_fields.specs.Fields.{optional_truth}
 use Rattle.am_wire_fields.specs.Reading.{◌>>=◌, Gives}
 use Rattle.am_wire_intents.specs.Intents.{required_intent}
 use Rattle.am_wire.specs.Words.{kind_of}
-use Rattle.am_wire.specs.Activities.{default_only_of, fields_of, query_fields, query_in}
+use Rattle.am_wire.specs.Activities.{fields_of, query_in}
 use Rattle.am_wire.specs.Requests.{posted, request_in, request_of}
 use Rattle.am_visible.specs.Answers.{is_query}
 
@@ -29,10 +30,10 @@ same x y h = cc
 query_read : (body : Data) (r : Request) → query_in body ≡ Ok r → is_query r ≡ true
 unfolding query_in
 query_read body =
-    behind (fields_of query_fields body) _ (λ known.
+    behind (fields_of (codes "kind" ∷ codes "intent" ∷ codes "defaultOnly" ∷ []) body) _ (λ known.
     behind (kind_of body) _ (λ kind.
     behind (required_intent (codes "intent") body) _ (λ intent.
-    behind (default_only_of body) _ (λ default_only r h.
+    behind (optional_truth (codes "defaultOnly") body) _ (λ default_only r h.
     subst (λ (one : Request). is_query one ≡ true) (same (asks.Query kind intent default_only) r h) refl))))
 
 request_read : (text : List ℕ) (r : Request) → request_of Query text ≡ Ok r → is_query r ≡ true

@@ -2,7 +2,6 @@
 use Rattle.std.specs.Prelude.{ℕ, Bool, false, List, [], ◌∷◌, codes, if◌then◌else◌, Option, Some, None, Result, Ok}
 use Rattle.serde_json.specs.Data.{Data}
 use Rattle.serde_json.specs.Find.{get, as_str}
-use Rattle.am_types.specs.declared.intent.Intent.{Intent}
 use Rattle.am_types.specs.declared.manifest.Kind.{Kind}
 use Rattle.am_types.specs.declared.manifest.Kind.TheVariants.{Activity, Service, Receiver}
 use Rattle.am_types.specs.declared.request.Request.{Request}
@@ -42,30 +41,17 @@ permission_for Activity body = Ok None
 permission_for Service body = Ok None
 permission_for Receiver body = optional_text Any 1024 (codes "permission") body
 
--- what is asked besides a kind and an intent
-unfoldable pub asked_with : Kind → Data → Result (Option (List ℕ) × Option (List ℕ) × Option (List ℕ)) WireFault
-asked_with kind body = do
+-- what is asked besides a kind and an intent, and what it makes
+unfoldable pub asked_with : {A : Type 0} → (Option (List ℕ) → Option (List ℕ) → Option (List ℕ) → A) → Kind → Data → Result A WireFault
+asked_with make kind body = do
   caller ← optional_text Any 1024 (codes "as") body
   permission ← permission_for kind body
   shown ← optional_text Any 1024 (codes "of") body
-  Ok (caller, permission, shown)
-
--- a question about that kind and that intent
-unfoldable pub explain_about : Kind → Intent → Data → Result Request WireFault
-explain_about kind intent body = do
-  caller ← optional_text Any 1024 (codes "as") body
-  permission ← permission_for kind body
-  shown ← optional_text Any 1024 (codes "of") body
-  Ok (asks.Explain kind intent caller permission shown)
-
--- a question that has no fields but its own
-unfoldable pub explain_of : Data → Result Request WireFault
-explain_of body = do
-  kind ← kind_of body
-  intent ← required_intent (codes "intent") body
-  explain_about kind intent body
+  Ok (make caller permission shown)
 
 unfoldable pub explain_in : Data → Result Request WireFault
 explain_in body = do
   known ← fields_of (explain_fields (asks_receivers body)) body
-  explain_of body
+  kind ← kind_of body
+  intent ← required_intent (codes "intent") body
+  asked_with (asks.Explain kind intent) kind body

@@ -1,5 +1,5 @@
 -- Queries, activities and services.
-use Rattle.std.specs.Prelude.{ℕ, Bool, List, [], ◌∷◌, codes, Result, Ok}
+use Rattle.std.specs.Prelude.{ℕ, List, [], ◌∷◌, codes, Result, Ok}
 use Rattle.serde_json.specs.Data.{Data}
 use Rattle.am_types.specs.declared.request.Request.{Request}
 use Rattle.am_types.specs.declared.request.Request.TheVariants as asks
@@ -27,20 +27,12 @@ number_in name body = do
   known ← fields_of (name ∷ []) body
   required_natural name body
 
--- the fields of a query
-unfoldable pub query_fields : List (List ℕ)
-query_fields = codes "kind" ∷ codes "intent" ∷ codes "defaultOnly" ∷ []
-
--- whether a query asks only for filters that list the default category
-unfoldable pub default_only_of : Data → Result Bool WireFault
-default_only_of body = optional_truth (codes "defaultOnly") body
-
 unfoldable pub query_in : Data → Result Request WireFault
 query_in body = do
-  known ← fields_of query_fields body
+  known ← fields_of (codes "kind" ∷ codes "intent" ∷ codes "defaultOnly" ∷ []) body
   kind ← kind_of body
   intent ← required_intent (codes "intent") body
-  default_only ← default_only_of body
+  default_only ← optional_truth (codes "defaultOnly") body
   Ok (asks.Query kind intent default_only)
 
 unfoldable pub start_in : Data → Result Request WireFault
@@ -49,11 +41,6 @@ start_in body = do
   intent ← required_intent (codes "intent") body
   source ← optional_natural (codes "source") body
   Ok (asks.Start intent source)
-
-unfoldable pub finish_activity_in : Data → Result Request WireFault
-finish_activity_in body = do
-  instance ← number_in (codes "instance") body
-  Ok (asks.FinishActivity instance)
 
 unfoldable pub start_service_in : Data → Result Request WireFault
 start_service_in body = do
@@ -66,8 +53,3 @@ stop_service_in body = do
   known ← fields_of (codes "component" ∷ []) body
   component ← required_component (codes "component") body
   Ok (asks.StopService component)
-
-unfoldable pub history_in : Data → Result Request WireFault
-history_in body = do
-  from ← number_in (codes "from") body
-  Ok (asks.History from)

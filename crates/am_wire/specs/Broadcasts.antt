@@ -15,7 +15,7 @@ use Rattle.am_wire_fields.specs.Reading.{◌>>=◌}
 use Rattle.am_wire_intents.specs.Extras.{optional_extras}
 use Rattle.am_wire_intents.specs.Intents.{required_intent}
 use Rattle.am_wire_intents.specs.Filters.{required_filter}
-use Rattle.am_wire.specs.Activities.{fields_of, number_in}
+use Rattle.am_wire.specs.Activities.{fields_of}
 
 -- the truth is `true`, and nothing else
 abbrev pub is_true : Option Bool → Bool
@@ -59,43 +59,26 @@ ordered_if true body = do
   ordered ← ordered_in body
   Ok (Some ordered)
 
--- what a broadcast has besides its intent
-unfoldable pub sent_with : Data → Result (Option (List ℕ) × Option Ordered) WireFault
-sent_with body = do
+-- what a broadcast has besides its intent, and what it makes
+unfoldable pub sent_with : {A : Type 0} → (Option (List ℕ) → Option Ordered → A) → Data → Result A WireFault
+sent_with make body = do
   permission ← optional_text Any 1024 (codes "permission") body
   is_ordered ← optional_truth (codes "ordered") body
   ordered ← ordered_if is_ordered body
-  Ok (permission, ordered)
-
--- a broadcast that has no fields but its own
-unfoldable pub send_of : Data → Result Request WireFault
-send_of body = do
-  intent ← required_intent (codes "intent") body
-  permission ← optional_text Any 1024 (codes "permission") body
-  is_ordered ← optional_truth (codes "ordered") body
-  ordered ← ordered_if is_ordered body
-  Ok (asks.Send intent permission ordered)
+  Ok (make permission ordered)
 
 unfoldable pub send_in : Data → Result Request WireFault
 send_in body = do
   known ← fields_of (send_fields (is_ordered body)) body
-  send_of body
-
--- the fields of a receiver to be registered
-unfoldable pub register_fields : List (List ℕ)
-register_fields = codes "filter" ∷ codes "permission" ∷ []
+  intent ← required_intent (codes "intent") body
+  sent_with (asks.Send intent) body
 
 unfoldable pub register_in : Data → Result Request WireFault
 register_in body = do
-  known ← fields_of register_fields body
+  known ← fields_of (codes "filter" ∷ codes "permission" ∷ []) body
   filter ← required_filter (codes "filter") body
   permission ← optional_text Any 1024 (codes "permission") body
   Ok (asks.Register filter permission)
-
-unfoldable pub unregister_in : Data → Result Request WireFault
-unregister_in body = do
-  number ← number_in (codes "number") body
-  Ok (asks.Unregister number)
 
 -- the answer sets an outcome: its field `code` is there
 unfoldable pub sets_outcome : Data → Bool
@@ -122,15 +105,10 @@ outcome_if true body = do
   outcome ← outcome_in body
   Ok (Some outcome)
 
--- an answer that has no fields but its own
-unfoldable pub finish_of : Data → Result Request WireFault
-finish_of body = do
+unfoldable pub finish_in : Data → Result Request WireFault
+finish_in body = do
+  known ← fields_of (finish_fields (sets_outcome body)) body
   delivery ← required_natural (codes "delivery") body
   abort ← optional_truth (codes "abort") body
   set ← outcome_if (sets_outcome body) body
   Ok (asks.Finish delivery (record { set = set; abort = abort }))
-
-unfoldable pub finish_in : Data → Result Request WireFault
-finish_in body = do
-  known ← fields_of (finish_fields (sets_outcome body)) body
-  finish_of body

@@ -41,16 +41,6 @@ package_in body = do
   known ← fields_of (codes "package" ∷ []) body
   required_text Any 1024 (codes "package") body
 
-unfoldable pub uninstall_in : Data → Result Request WireFault
-uninstall_in body = do
-  name ← package_in body
-  Ok (asks.Uninstall name)
-
-unfoldable pub force_stop_in : Data → Result Request WireFault
-force_stop_in body = do
-  name ← package_in body
-  Ok (asks.ForceStop name)
-
 -- the fields of a grant
 unfoldable pub grant_fields : List (List ℕ)
 grant_fields = codes "package" ∷ codes "permission" ∷ codes "held" ∷ []
@@ -63,14 +53,10 @@ grant_in body = do
   held ← required_truth (codes "held") body
   Ok (asks.Grant name permission held)
 
--- the fields of a link
-unfoldable pub link_fields : List (List ℕ)
-link_fields = codes "package" ∷ codes "host" ∷ codes "approved" ∷ []
-
 -- a link; its host is put in lower ASCII case
 unfoldable pub link_in : Data → Result Request WireFault
 link_in body = do
-  known ← fields_of link_fields body
+  known ← fields_of (codes "package" ∷ codes "host" ∷ codes "approved" ∷ []) body
   name ← required_text Any 1024 (codes "package") body
   host ← required_text Any 1024 (codes "host") body
   approved ← required_truth (codes "approved") body

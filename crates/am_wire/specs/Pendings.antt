@@ -9,22 +9,17 @@ use Rattle.am_wire_fields.specs.Numbers.{required_natural, required_whole}
 use Rattle.am_wire_fields.specs.Texts.{required_text}
 use Rattle.am_wire_fields.specs.Reading.{◌>>=◌}
 use Rattle.am_wire_intents.specs.Intents.{required_intent, optional_intent}
-use Rattle.am_wire.specs.Activities.{fields_of, number_in}
+use Rattle.am_wire.specs.Activities.{fields_of}
 use Rattle.am_wire.specs.Words.{pending_kind_of, pending_flags_of}
 
--- a request for a pending intent that has no fields but its own
-unfoldable pub get_of : Data → Result Request WireFault
-get_of body = do
+unfoldable pub pending_get_in : Data → Result Request WireFault
+pending_get_in body = do
+  known ← fields_of (codes "kind" ∷ codes "code" ∷ codes "intent" ∷ codes "flags" ∷ []) body
   kind ← pending_kind_of body
   code ← required_whole (codes "code") body
   intent ← required_intent (codes "intent") body
   flags ← pending_flags_of body
   Ok (asks.PendingGet kind code intent flags)
-
-unfoldable pub pending_get_in : Data → Result Request WireFault
-pending_get_in body = do
-  known ← fields_of (codes "kind" ∷ codes "code" ∷ codes "intent" ∷ codes "flags" ∷ []) body
-  get_of body
 
 unfoldable pub pending_send_in : Data → Result Request WireFault
 pending_send_in body = do
@@ -32,11 +27,6 @@ pending_send_in body = do
   token ← required_natural (codes "token") body
   fill ← optional_intent (codes "fill") body
   Ok (asks.PendingSend token fill)
-
-unfoldable pub pending_cancel_in : Data → Result Request WireFault
-pending_cancel_in body = do
-  token ← number_in (codes "token") body
-  Ok (asks.PendingCancel token)
 
 unfoldable pub pending_give_in : Data → Result Request WireFault
 pending_give_in body = do

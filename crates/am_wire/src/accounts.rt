@@ -4,11 +4,11 @@ ghost use Rattle.serde_json.specs.Find.{as_str};
 ghost use Rattle.serde_json.specs.View.{view};
 ghost use Rattle.am_wire_fields.specs.Reading.{Gives};
 ghost use Rattle.am_wire.specs.Activities.{fields_of};
-ghost use Rattle.am_wire.specs.Accounts.{is_receiver, asks_receivers, explain_fields, permission_for, asked_with, explain_about, explain_of, explain_in};
+ghost use Rattle.am_wire.specs.Accounts.{is_receiver, asks_receivers, explain_fields, permission_for, asked_with, explain_in};
 
 use crate::activities::fields_where;
 use crate::words::kind_of;
-use am_types::{Intent, Kind, Request, Text};
+use am_types::{Kind, Request, Text};
 use am_uri::Form;
 use am_wire_fields::{Unread, optional_text, or_drop};
 use am_wire_intents::required_intent;
@@ -68,7 +68,7 @@ fn asked_with(
     kind: Kind,
     body: &Value,
 ) -> Result<(Option<Text>, Option<Text>, Option<Text>), Unread>
-    ensures { Gives result (asked_with kind (view body.now)) }
+    ensures { Gives result (asked_with (λ caller permission shown. (caller, permission, shown)) kind (view body.now)) }
 {
     let caller = optional_text(alloc, Form::Any, 1024, "as", body)?;
     let permission = permission_for(alloc, kind, body)?;
@@ -76,11 +76,15 @@ fn asked_with(
     Ok((caller, permission, shown))
 }
 
-/// A question about that kind and that intent: perhaps the texts `as`, `permission` and `of`.
-#[tactic(auto, unfolding(crate::specs::Accounts::explain_about, crate::specs::Accounts::asked_with))]
-fn explain_about(alloc: Global, kind: Kind, intent: Intent, body: &Value) -> Result<Request, Unread>
-    ensures { Gives result (explain_about kind intent (view body.now)) }
+/// A question whom an intent would reach: `kind`, `intent`, and perhaps the texts `as` and `of`. Only where `kind` says
+/// `receiver` may there be the text `permission`, which is read before `of`.
+#[tactic(auto, unfolding(crate::specs::Accounts::explain_in, crate::specs::Accounts::asked_with))]
+pub fn explain_in(alloc: Global, body: &Value) -> Result<Request, Unread>
+    ensures { Gives result (explain_in (view body.now)) }
 {
+    only_explain_fields(alloc, asks_receivers(body), body)?;
+    let kind = kind_of(alloc, body)?;
+    let intent = required_intent(alloc, "intent", body)?;
     let (caller, permission, shown) = or_drop!(asked_with(alloc, kind, body), intent);
     Ok(Request::Explain {
         kind,
@@ -89,24 +93,4 @@ fn explain_about(alloc: Global, kind: Kind, intent: Intent, body: &Value) -> Res
         permission,
         shown,
     })
-}
-
-/// A question that has no fields but its own.
-#[tactic(auto, unfolding(crate::specs::Accounts::explain_of))]
-fn explain_of(alloc: Global, body: &Value) -> Result<Request, Unread>
-    ensures { Gives result (explain_of (view body.now)) }
-{
-    let kind = kind_of(alloc, body)?;
-    let intent = required_intent(alloc, "intent", body)?;
-    explain_about(alloc, kind, intent, body)
-}
-
-/// A question whom an intent would reach: `kind`, `intent`, and perhaps the texts `as` and `of`. Only where `kind` says
-/// `receiver` may there be the text `permission`, which is read before `of`.
-#[tactic(auto, unfolding(crate::specs::Accounts::explain_in))]
-pub fn explain_in(alloc: Global, body: &Value) -> Result<Request, Unread>
-    ensures { Gives result (explain_in (view body.now)) }
-{
-    only_explain_fields(alloc, asks_receivers(body), body)?;
-    explain_of(alloc, body)
 }

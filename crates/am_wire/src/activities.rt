@@ -1,15 +1,16 @@
 //! Queries, activities and services.
-ghost use Rattle.std.specs.Prelude.{map, if◌then◌else◌};
+ghost use Rattle.std.specs.Prelude.{[], ◌∷◌, codes, map, if◌then◌else◌};
 ghost use Rattle.serde_json.specs.View.{view};
+ghost use Rattle.am_wire_fields.specs.Fields.{optional_truth};
 ghost use Rattle.am_wire_fields.specs.Reading.{Gives};
-ghost use Rattle.am_wire.specs.Activities.{fields_of, plain_in, number_in, query_fields, default_only_of, query_in, start_in, finish_activity_in, start_service_in, stop_service_in, history_in};
+ghost use Rattle.am_wire.specs.Activities.{fields_of, plain_in, number_in, query_in, start_in, start_service_in, stop_service_in};
 
 use crate::words::kind_of;
 use am_types::Request;
 use am_wire_fields::{
-    Unread, only_fields, optional_natural, optional_truth, or_drop, required_natural,
+    Unread, only_fields, optional_natural, optional_truth, or_drop, required, required_natural,
 };
-use am_wire_intents::{required_component, required_intent};
+use am_wire_intents::{component_in, required_intent};
 use serde_json::Value;
 use std::alloc::Global;
 
@@ -59,17 +60,15 @@ pub fn number_in(alloc: Global, name: &str, body: &Value) -> Result<u64, Unread>
 }
 
 /// Refuses a body with other fields than those of a query.
-#[tactic(auto, unfolding(crate::specs::Activities::query_fields))]
 fn only_query_fields(alloc: Global, body: &Value) -> Result<(), Unread>
-    ensures { Gives result (fields_of query_fields (view body.now)) }
+    ensures { Gives result (fields_of (codes "kind" ∷ codes "intent" ∷ codes "defaultOnly" ∷ []) (view body.now)) }
 {
     fields_of(alloc, &["kind", "intent", "defaultOnly"], body)
 }
 
 /// Whether a query asks only for filters that list the default category: `defaultOnly`, false where it isn't there.
-#[tactic(auto, unfolding(crate::specs::Activities::default_only_of))]
-fn default_only_of(alloc: Global, body: &Value) -> Result<bool, Unread>
-    ensures { Gives result (default_only_of (view body.now)) }
+fn default_only_in(alloc: Global, body: &Value) -> Result<bool, Unread>
+    ensures { Gives result (optional_truth (codes "defaultOnly") (view body.now)) }
 {
     optional_truth(alloc, "defaultOnly", body)
 }
@@ -82,7 +81,7 @@ pub fn query_in(alloc: Global, body: &Value) -> Result<Request, Unread>
     only_query_fields(alloc, body)?;
     let kind = kind_of(alloc, body)?;
     let intent = required_intent(alloc, "intent", body)?;
-    let default_only = or_drop!(default_only_of(alloc, body), intent);
+    let default_only = or_drop!(default_only_in(alloc, body), intent);
     Ok(Request::Query {
         kind,
         intent,
@@ -101,15 +100,6 @@ pub fn start_in(alloc: Global, body: &Value) -> Result<Request, Unread>
     Ok(Request::Start { intent, source })
 }
 
-/// The end of an activity: the number `instance`.
-#[tactic(auto, unfolding(crate::specs::Activities::finish_activity_in))]
-pub fn finish_activity_in(alloc: Global, body: &Value) -> Result<Request, Unread>
-    ensures { Gives result (finish_activity_in (view body.now)) }
-{
-    let instance = number_in(alloc, "instance", body)?;
-    Ok(Request::FinishActivity { instance })
-}
-
 /// A start of a service: `intent`.
 #[tactic(auto, unfolding(crate::specs::Activities::start_service_in))]
 pub fn start_service_in(alloc: Global, body: &Value) -> Result<Request, Unread>
@@ -121,20 +111,12 @@ pub fn start_service_in(alloc: Global, body: &Value) -> Result<Request, Unread>
 }
 
 /// The stop of a service: `component`.
-#[tactic(auto, unfolding(crate::specs::Activities::stop_service_in))]
+#[tactic(auto, unfolding(crate::specs::Activities::stop_service_in, am_wire_intents::specs::Components::required_component))]
 pub fn stop_service_in(alloc: Global, body: &Value) -> Result<Request, Unread>
     ensures { Gives result (stop_service_in (view body.now)) }
 {
     fields_of(alloc, &["component"], body)?;
-    let component = required_component(alloc, "component", body)?;
+    let value = required(alloc, "component", body)?;
+    let component = component_in(alloc, "component", value)?;
     Ok(Request::StopService { component })
-}
-
-/// The stored calls: `from`, the number of the first one.
-#[tactic(auto, unfolding(crate::specs::Activities::history_in))]
-pub fn history_in(alloc: Global, body: &Value) -> Result<Request, Unread>
-    ensures { Gives result (history_in (view body.now)) }
-{
-    let from = number_in(alloc, "from", body)?;
-    Ok(Request::History { from })
 }

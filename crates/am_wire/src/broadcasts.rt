@@ -1,18 +1,19 @@
 //! Broadcasts, registered receivers and deliveries.
-ghost use Rattle.std.specs.Prelude.{◌≡◌};
+ghost use Rattle.std.specs.Prelude.{◌≡◌, [], ◌∷◌, codes};
 ghost use Rattle.serde_json.specs.View.{view};
 ghost use Rattle.am_wire_fields.specs.Reading.{Gives};
+ghost use Rattle.am_wire_intents.specs.Filters.{required_filter};
 ghost use Rattle.am_wire.specs.Activities.{fields_of};
-ghost use Rattle.am_wire.specs.Broadcasts.{is_ordered, send_fields, ordered_in, ordered_if, sent_with, send_of, send_in, register_fields, register_in, unregister_in, sets_outcome, finish_fields, outcome_in, outcome_if, finish_of, finish_in};
+ghost use Rattle.am_wire.specs.Broadcasts.{is_ordered, send_fields, ordered_in, ordered_if, sent_with, send_in, register_in, sets_outcome, finish_fields, outcome_in, outcome_if, finish_in};
 
-use crate::activities::{fields_of, fields_where, number_in};
-use am_types::{Answer, Ordered, Outcome, Request, Text};
+use crate::activities::{fields_of, fields_where};
+use am_types::{Answer, Filter, Ordered, Outcome, Request, Text};
 use am_uri::Form;
 use am_wire_fields::{
-    Unread, field, optional_text, optional_truth, optional_whole, or_drop, required_natural,
-    required_whole,
+    Unread, field, optional_text, optional_truth, optional_whole, or_drop, required,
+    required_natural, required_whole,
 };
-use am_wire_intents::{optional_extras, required_filter, required_intent};
+use am_wire_intents::{filter_in, optional_extras, required_intent};
 use serde_json::Value;
 use std::alloc::Global;
 
@@ -83,7 +84,7 @@ fn ordered_if(alloc: Global, ordered: bool, body: &Value) -> Result<Option<Order
 /// ordered one.
 #[tactic(auto, unfolding(crate::specs::Broadcasts::sent_with))]
 fn sent_with(alloc: Global, body: &Value) -> Result<(Option<Text>, Option<Ordered>), Unread>
-    ensures { Gives result (sent_with (view body.now)) }
+    ensures { Gives result (sent_with (λ permission ordered. (permission, ordered)) (view body.now)) }
 {
     let permission = optional_text(alloc, Form::Any, 1024, "permission", body)?;
     let is_ordered = optional_truth(alloc, "ordered", body)?;
@@ -91,11 +92,13 @@ fn sent_with(alloc: Global, body: &Value) -> Result<(Option<Text>, Option<Ordere
     Ok((permission, ordered))
 }
 
-/// A broadcast that has no fields but its own.
-#[tactic(auto, unfolding(crate::specs::Broadcasts::send_of, crate::specs::Broadcasts::sent_with))]
-fn send_of(alloc: Global, body: &Value) -> Result<Request, Unread>
-    ensures { Gives result (send_of (view body.now)) }
+/// A broadcast: `intent`, perhaps the text `permission`, and `ordered`, which is false where it isn't there. Only where
+/// it says `true` may there be `code`, `data`, `extras` and `result`.
+#[tactic(auto, unfolding(crate::specs::Broadcasts::send_in, crate::specs::Broadcasts::sent_with))]
+pub fn send_in(alloc: Global, body: &Value) -> Result<Request, Unread>
+    ensures { Gives result (send_in (view body.now)) }
 {
+    only_send_fields(alloc, is_ordered(body), body)?;
     let intent = required_intent(alloc, "intent", body)?;
     let (permission, ordered) = or_drop!(sent_with(alloc, body), intent);
     Ok(Request::Send {
@@ -105,22 +108,20 @@ fn send_of(alloc: Global, body: &Value) -> Result<Request, Unread>
     })
 }
 
-/// A broadcast: `intent`, perhaps the text `permission`, and `ordered`, which is false where it isn't there. Only where
-/// it says `true` may there be `code`, `data`, `extras` and `result`.
-#[tactic(auto, unfolding(crate::specs::Broadcasts::send_in))]
-pub fn send_in(alloc: Global, body: &Value) -> Result<Request, Unread>
-    ensures { Gives result (send_in (view body.now)) }
-{
-    only_send_fields(alloc, is_ordered(body), body)?;
-    send_of(alloc, body)
-}
-
 /// Refuses a body with other fields than those of a receiver to be registered.
-#[tactic(auto, unfolding(crate::specs::Broadcasts::register_fields))]
 fn only_register_fields(alloc: Global, body: &Value) -> Result<(), Unread>
-    ensures { Gives result (fields_of register_fields (view body.now)) }
+    ensures { Gives result (fields_of (codes "filter" ∷ codes "permission" ∷ []) (view body.now)) }
 {
     fields_of(alloc, &["filter", "permission"], body)
+}
+
+/// The filter of a receiver to be registered.
+#[tactic(auto, unfolding(am_wire_intents::specs::Filters::required_filter))]
+fn required_filter(alloc: Global, body: &Value) -> Result<Filter, Unread>
+    ensures { Gives result (required_filter (codes "filter") (view body.now)) }
+{
+    let value = required(alloc, "filter", body)?;
+    filter_in(alloc, "filter", value)
 }
 
 /// A receiver to be registered: `filter`, and perhaps the text `permission`.
@@ -129,21 +130,12 @@ pub fn register_in(alloc: Global, body: &Value) -> Result<Request, Unread>
     ensures { Gives result (register_in (view body.now)) }
 {
     only_register_fields(alloc, body)?;
-    let filter = required_filter(alloc, "filter", body)?;
+    let filter = required_filter(alloc, body)?;
     let permission = or_drop!(
         optional_text(alloc, Form::Any, 1024, "permission", body),
         filter
     );
     Ok(Request::Register { filter, permission })
-}
-
-/// The receiver to be taken back: its `number`.
-#[tactic(auto, unfolding(crate::specs::Broadcasts::unregister_in))]
-pub fn unregister_in(alloc: Global, body: &Value) -> Result<Request, Unread>
-    ensures { Gives result (unregister_in (view body.now)) }
-{
-    let number = number_in(alloc, "number", body)?;
-    Ok(Request::Unregister { number })
 }
 
 /// Whether an answer sets an outcome: its field `code` is there.
@@ -191,20 +183,6 @@ fn outcome_if(alloc: Global, sets: bool, body: &Value) -> Result<Option<Outcome>
     Ok(Some(outcome))
 }
 
-/// An answer that has no fields but its own.
-#[tactic(auto, unfolding(crate::specs::Broadcasts::finish_of))]
-fn finish_of(alloc: Global, body: &Value) -> Result<Request, Unread>
-    ensures { Gives result (finish_of (view body.now)) }
-{
-    let delivery = required_natural(alloc, "delivery", body)?;
-    let abort = optional_truth(alloc, "abort", body)?;
-    let set = outcome_if(alloc, sets_outcome(body), body)?;
-    Ok(Request::Finish {
-        delivery,
-        answer: Answer { set, abort },
-    })
-}
-
 /// The answer to a delivery: the number `delivery`, `abort`, which is false where it isn't there, and perhaps `code`.
 /// Only where that is there may there be `data` and `extras`.
 #[tactic(auto, unfolding(crate::specs::Broadcasts::finish_in))]
@@ -212,5 +190,11 @@ pub fn finish_in(alloc: Global, body: &Value) -> Result<Request, Unread>
     ensures { Gives result (finish_in (view body.now)) }
 {
     only_finish_fields(alloc, sets_outcome(body), body)?;
-    finish_of(alloc, body)
+    let delivery = required_natural(alloc, "delivery", body)?;
+    let abort = optional_truth(alloc, "abort", body)?;
+    let set = outcome_if(alloc, sets_outcome(body), body)?;
+    Ok(Request::Finish {
+        delivery,
+        answer: Answer { set, abort },
+    })
 }

@@ -1,12 +1,12 @@
 //! Packages, grants and links.
-ghost use Rattle.std.specs.Prelude.{◌≡◌, IfOk};
+ghost use Rattle.std.specs.Prelude.{◌≡◌, [], ◌∷◌, codes, IfOk};
 ghost use Rattle.serde_json.specs.Find.{as_str};
 ghost use Rattle.serde_json.specs.View.{view};
 ghost use Rattle.am_model.specs.Sound.{is_visible};
 ghost use Rattle.am_model.specs.Texts.{lowered};
 ghost use Rattle.am_wire_fields.specs.Reading.{Gives};
 ghost use Rattle.am_wire.specs.Activities.{fields_of};
-ghost use Rattle.am_wire.specs.Packages.{key_of, key_in, install_in, package_in, uninstall_in, force_stop_in, grant_fields, grant_in, link_fields, link_in};
+ghost use Rattle.am_wire.specs.Packages.{key_of, key_in, install_in, package_in, grant_fields, grant_in, link_in};
 
 use crate::activities::fields_of;
 use am_types::{Request, Text};
@@ -61,29 +61,11 @@ pub fn install_in(alloc: Global, body: &Value) -> Result<Request, Unread>
 
 /// What a body says whose only field is the text `package`.
 #[tactic(auto, unfolding(crate::specs::Packages::package_in))]
-fn package_in(alloc: Global, body: &Value) -> Result<Text, Unread>
+pub fn package_in(alloc: Global, body: &Value) -> Result<Text, Unread>
     ensures { Gives result (package_in (view body.now)) }
 {
     fields_of(alloc, &["package"], body)?;
     required_text(alloc, Form::Any, 1024, "package", body)
-}
-
-/// A package to be removed: the text `package`.
-#[tactic(auto, unfolding(crate::specs::Packages::uninstall_in))]
-pub fn uninstall_in(alloc: Global, body: &Value) -> Result<Request, Unread>
-    ensures { Gives result (uninstall_in (view body.now)) }
-{
-    let package = package_in(alloc, body)?;
-    Ok(Request::Uninstall { package })
-}
-
-/// A package to be stopped: the text `package`.
-#[tactic(auto, unfolding(crate::specs::Packages::force_stop_in))]
-pub fn force_stop_in(alloc: Global, body: &Value) -> Result<Request, Unread>
-    ensures { Gives result (force_stop_in (view body.now)) }
-{
-    let package = package_in(alloc, body)?;
-    Ok(Request::ForceStop { package })
 }
 
 /// Refuses a body with other fields than those of a grant.
@@ -120,9 +102,8 @@ fn lowered(alloc: Global, text: &str) -> Result<Text, AllocError>
 }
 
 /// Refuses a body with other fields than those of a link.
-#[tactic(auto, unfolding(crate::specs::Packages::link_fields))]
 fn only_link_fields(alloc: Global, body: &Value) -> Result<(), Unread>
-    ensures { Gives result (fields_of link_fields (view body.now)) }
+    ensures { Gives result (fields_of (codes "package" ∷ codes "host" ∷ codes "approved" ∷ []) (view body.now)) }
 {
     fields_of(alloc, &["package", "host", "approved"], body)
 }

@@ -1,9 +1,9 @@
 //! Pending intents.
 ghost use Rattle.serde_json.specs.View.{view};
 ghost use Rattle.am_wire_fields.specs.Reading.{Gives};
-ghost use Rattle.am_wire.specs.Pendings.{get_of, pending_get_in, pending_send_in, pending_cancel_in, pending_give_in};
+ghost use Rattle.am_wire.specs.Pendings.{pending_get_in, pending_send_in, pending_give_in};
 
-use crate::activities::{fields_of, number_in};
+use crate::activities::fields_of;
 use crate::words::{pending_flags_of, pending_kind_of};
 use am_types::Request;
 use am_uri::Form;
@@ -12,11 +12,12 @@ use am_wire_intents::{optional_intent, required_intent};
 use serde_json::Value;
 use std::alloc::Global;
 
-/// A request for a pending intent that has no fields but its own.
-#[tactic(auto, unfolding(crate::specs::Pendings::get_of))]
-fn get_of(alloc: Global, body: &Value) -> Result<Request, Unread>
-    ensures { Gives result (get_of (view body.now)) }
+/// A request for a pending intent: `kind`, the signed number `code`, `intent` and the list `flags`.
+#[tactic(auto, unfolding(crate::specs::Pendings::pending_get_in))]
+pub fn pending_get_in(alloc: Global, body: &Value) -> Result<Request, Unread>
+    ensures { Gives result (pending_get_in (view body.now)) }
 {
+    fields_of(alloc, &["kind", "code", "intent", "flags"], body)?;
     let kind = pending_kind_of(alloc, body)?;
     let code = required_whole(alloc, "code", body)?;
     let intent = required_intent(alloc, "intent", body)?;
@@ -29,15 +30,6 @@ fn get_of(alloc: Global, body: &Value) -> Result<Request, Unread>
     })
 }
 
-/// A request for a pending intent: `kind`, the signed number `code`, `intent` and the list `flags`.
-#[tactic(auto, unfolding(crate::specs::Pendings::pending_get_in))]
-pub fn pending_get_in(alloc: Global, body: &Value) -> Result<Request, Unread>
-    ensures { Gives result (pending_get_in (view body.now)) }
-{
-    fields_of(alloc, &["kind", "code", "intent", "flags"], body)?;
-    get_of(alloc, body)
-}
-
 /// A use of a pending intent: the number `token`, and perhaps the intent `fill`.
 #[tactic(auto, unfolding(crate::specs::Pendings::pending_send_in))]
 pub fn pending_send_in(alloc: Global, body: &Value) -> Result<Request, Unread>
@@ -47,15 +39,6 @@ pub fn pending_send_in(alloc: Global, body: &Value) -> Result<Request, Unread>
     let token = required_natural(alloc, "token", body)?;
     let fill = optional_intent(alloc, "fill", body)?;
     Ok(Request::PendingSend { token, fill })
-}
-
-/// The end of a pending intent: the number `token`.
-#[tactic(auto, unfolding(crate::specs::Pendings::pending_cancel_in))]
-pub fn pending_cancel_in(alloc: Global, body: &Value) -> Result<Request, Unread>
-    ensures { Gives result (pending_cancel_in (view body.now)) }
-{
-    let token = number_in(alloc, "token", body)?;
-    Ok(Request::PendingCancel { token })
 }
 
 /// A pending intent to be given to a package: the number `token` and the text `package`.

@@ -5,11 +5,11 @@ ghost use Rattle.am_wire.specs.Requests.{request_in, posted, request_of};
 
 use crate::accounts::explain_in;
 use crate::activities::{
-    finish_activity_in, history_in, plain_in, query_in, start_in, start_service_in, stop_service_in,
+    number_in, plain_in, query_in, start_in, start_service_in, stop_service_in,
 };
-use crate::broadcasts::{finish_in, register_in, send_in, unregister_in};
-use crate::packages::{force_stop_in, grant_in, install_in, link_in, uninstall_in};
-use crate::pendings::{pending_cancel_in, pending_get_in, pending_give_in, pending_send_in};
+use crate::broadcasts::{finish_in, register_in, send_in};
+use crate::packages::{grant_in, install_in, link_in, package_in};
+use crate::pendings::{pending_get_in, pending_give_in, pending_send_in};
 use am_types::Request;
 use am_wire_fields::{Unread, json_value};
 use am_wire_routes::Endpoint;
@@ -25,7 +25,9 @@ fn request_in(alloc: Global, endpoint: Endpoint, body: &Value) -> Result<Request
         Endpoint::Query => query_in(alloc, body),
         Endpoint::Explain => explain_in(alloc, body),
         Endpoint::Start => start_in(alloc, body),
-        Endpoint::FinishActivity => finish_activity_in(alloc, body),
+        Endpoint::FinishActivity => Ok(Request::FinishActivity {
+            instance: number_in(alloc, "instance", body)?,
+        }),
         Endpoint::Back => plain_in(alloc, Request::Back, body),
         Endpoint::ListTasks => Ok(Request::ListTasks),
         Endpoint::StartService => start_service_in(alloc, body),
@@ -33,20 +35,30 @@ fn request_in(alloc: Global, endpoint: Endpoint, body: &Value) -> Result<Request
         Endpoint::Services => Ok(Request::Services),
         Endpoint::Send => send_in(alloc, body),
         Endpoint::Register => register_in(alloc, body),
-        Endpoint::Unregister => unregister_in(alloc, body),
+        Endpoint::Unregister => Ok(Request::Unregister {
+            number: number_in(alloc, "number", body)?,
+        }),
         Endpoint::Inbox => Ok(Request::Inbox),
         Endpoint::Finish => finish_in(alloc, body),
         Endpoint::PendingGet => pending_get_in(alloc, body),
         Endpoint::PendingSend => pending_send_in(alloc, body),
-        Endpoint::PendingCancel => pending_cancel_in(alloc, body),
+        Endpoint::PendingCancel => Ok(Request::PendingCancel {
+            token: number_in(alloc, "token", body)?,
+        }),
         Endpoint::PendingGive => pending_give_in(alloc, body),
         Endpoint::Install => install_in(alloc, body),
-        Endpoint::Uninstall => uninstall_in(alloc, body),
+        Endpoint::Uninstall => Ok(Request::Uninstall {
+            package: package_in(alloc, body)?,
+        }),
         Endpoint::Grant => grant_in(alloc, body),
         Endpoint::Link => link_in(alloc, body),
-        Endpoint::ForceStop => force_stop_in(alloc, body),
+        Endpoint::ForceStop => Ok(Request::ForceStop {
+            package: package_in(alloc, body)?,
+        }),
         Endpoint::Tick => plain_in(alloc, Request::Tick, body),
-        Endpoint::History => history_in(alloc, body),
+        Endpoint::History => Ok(Request::History {
+            from: number_in(alloc, "from", body)?,
+        }),
         Endpoint::Status => Ok(Request::Status),
     }
 }

@@ -17,8 +17,6 @@ use Rattle.am_wire_fields.specs.Fields.{field, if_said, only_fields, required}
 use Rattle.am_wire_fields.specs.Lists.{optional_texts}
 use Rattle.am_wire_fields.specs.Reading.{◌>>=◌}
 use Rattle.am_wire_fields.specs.Texts.{text_in, optional_text}
-use Rattle.am_wire_intents.specs.declared.intents.Asked.{Asked}
-use Rattle.am_wire_intents.specs.declared.intents.Carried.{Carried}
 use Rattle.am_wire_intents.specs.Components.{optional_component}
 use Rattle.am_wire_intents.specs.Extras.{optional_extras}
 use Rattle.am_wire_intents.specs.Flags.{flags_of}
@@ -59,38 +57,19 @@ categories_of form parent = do
   texts ← optional_texts form (codes "categories") parent
   Ok (sorted_texts texts)
 
--- the fields of an intent from `action` to `data`
-unfoldable pub asked_in : Data → Result Asked WireFault
-asked_in parent = do
+-- what the fields of an intent say
+unfoldable pub intent_of : Data → Result Intent WireFault
+intent_of parent = do
   action ← optional_text Any 1024 (codes "action") parent
   categories ← categories_of Any parent
   component ← optional_component (codes "component") parent
   uri ← optional_uri (codes "data") parent
-  Ok (record { action = action; categories = categories; component = component; uri = uri })
-
--- the fields of an intent from `extras` to `type`
-unfoldable pub carried_in : Data → Result Carried WireFault
-carried_in parent = do
   extras ← optional_extras parent
   flags ← flags_of parent
   identifier ← optional_text Any 1024 (codes "identifier") parent
   name ← optional_text Any 1024 (codes "package") parent
   mime ← optional_mime (codes "type") parent
-  Ok (record { extras = extras; flags = flags; identifier = identifier; «package» = name; mime = mime })
-
--- an intent of both
-abbrev pub intent_of : Asked → Carried → Intent
-intent_of asked carried = record {
-  action = asked.action;
-  uri = asked.uri;
-  mime = carried.mime;
-  identifier = carried.identifier;
-  categories = asked.categories;
-  «package» = carried.«package»;
-  component = asked.component;
-  flags = carried.flags;
-  extras = carried.extras;
-}
+  Ok (record { action = action; uri = uri; mime = mime; identifier = identifier; categories = categories; «package» = name; component = component; flags = flags; extras = extras })
 
 -- the fields of an intent
 abbrev pub intent_fields : List (List ℕ)
@@ -102,9 +81,7 @@ intent_fields =
 unfoldable pub intent_in : List ℕ → Data → Result Intent WireFault
 intent_in name value = do
   known ← only_fields name intent_fields value
-  asked ← asked_in value
-  carried ← carried_in value
-  Ok (intent_of asked carried)
+  intent_of value
 
 -- a field that must be there and is an intent
 unfoldable pub required_intent : List ℕ → Data → Result Intent WireFault

@@ -3,11 +3,11 @@ ghost use Rattle.std.specs.Prelude.{◌≡◌, IfOk, Some, option_map};
 ghost use Rattle.serde_json.specs.View.{view};
 ghost use Rattle.am_uri.specs.Parts.{both};
 ghost use Rattle.am_wire_fields.specs.Reading.{Gives};
-ghost use Rattle.am_wire_intents.specs.Components.{component_in, full_class, measured, of_parts, optional_component, parts_of, required_component};
+ghost use Rattle.am_wire_intents.specs.Components.{component_in, full_class, measured, of_parts, optional_component, parts_of};
 
 use am_types::{Component, Text};
 use am_uri::{Form, starts_with_dot};
-use am_wire_fields::{Unread, if_said, required, too_long, wrong_kind};
+use am_wire_fields::{Unread, if_said, too_long, wrong_kind};
 use serde_json::Value;
 use std::alloc::{AllocError, Global};
 
@@ -85,19 +85,6 @@ pub fn component_in(alloc: Global, name: &str, value: &Value) -> Result<Componen
         None => Err(wrong_kind(alloc, name)),
         Some(text) => named(alloc, name, text),
     }
-}
-
-/// The component that a field names, which must be there.
-///
-/// # Errors
-///
-/// Where the field isn't there or is null, and then as for [`component_in`].
-#[tactic(auto, unfolding(crate::specs::Components::required_component))]
-pub fn required_component(alloc: Global, name: &str, object: &Value) -> Result<Component, Unread>
-    ensures { Gives result (required_component name.now (view object.now)) }
-{
-    let value = required(alloc, name, object)?;
-    component_in(alloc, name, value)
 }
 
 /// The component that a field names: none where the field isn't there or is null.

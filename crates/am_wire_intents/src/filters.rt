@@ -2,7 +2,7 @@
 ghost use Rattle.std.specs.Prelude.{◌≡◌, map};
 ghost use Rattle.serde_json.specs.View.{view};
 ghost use Rattle.am_wire_fields.specs.Reading.{Gives, GivesBy};
-ghost use Rattle.am_wire_intents.specs.Filters.{actions_at, filter_in, filter_of, priority_at, required_filter, some_values};
+ghost use Rattle.am_wire_intents.specs.Filters.{actions_at, filter_in, priority_at, some_values};
 
 use crate::intents::categories_of;
 use crate::rows::rows_at;
@@ -57,26 +57,6 @@ fn priority_at(alloc: Global, filter: &Value) -> Result<i32, Unread>
     Ok(number as i32)
 }
 
-/// What the fields of a filter say.
-#[tactic(auto, unfolding(crate::specs::Filters::filter_of))]
-fn filter_of(alloc: Global, filter: &Value) -> Result<Filter, Unread>
-    ensures { Gives result (filter_of (view filter.now)) }
-{
-    let actions = actions_at(alloc, filter)?;
-    let categories = categories_of(alloc, Form::Filled, filter)?;
-    let rows = rows_at(alloc, filter)?;
-    let priority = or_drop!(priority_at(alloc, filter), rows);
-    Ok(Filter {
-        actions,
-        categories,
-        schemes: rows.schemes,
-        authorities: rows.authorities,
-        paths: rows.paths,
-        types: rows.types,
-        priority,
-    })
-}
-
 /// The filter that a value is: an object with the field `actions`, of one action or more, and perhaps `categories`,
 /// `data` (rows with the keys `scheme`, `host`, `port`, `path`, `pathPrefix`, `pathSuffix`, `pathPattern` and
 /// `mimeType`) and `priority`. No text is empty. Texts have at most 1,024 bytes, and lists at most 64 entries. `name` is
@@ -86,7 +66,7 @@ fn filter_of(alloc: Global, filter: &Value) -> Result<Filter, Unread>
 ///
 /// Where the value is no object, then where it has another field, the least by bytes, and then the first fault of its
 /// fields in the order above.
-#[tactic(auto, unfolding(crate::specs::Filters::filter_in))]
+#[tactic(auto, unfolding(crate::specs::Filters::filter_in, crate::specs::Filters::filter_of))]
 pub fn filter_in(alloc: Global, name: &str, value: &Value) -> Result<Filter, Unread>
     ensures { Gives result (filter_in name.now (view value.now)) }
 {
@@ -96,18 +76,17 @@ pub fn filter_in(alloc: Global, name: &str, value: &Value) -> Result<Filter, Unr
         &["actions", "categories", "data", "priority"],
         value,
     )?;
-    filter_of(alloc, value)
-}
-
-/// The filter that a field is, which must be there.
-///
-/// # Errors
-///
-/// Where the field isn't there or is null, and then as for [`filter_in`].
-#[tactic(auto, unfolding(crate::specs::Filters::required_filter))]
-pub fn required_filter(alloc: Global, name: &str, object: &Value) -> Result<Filter, Unread>
-    ensures { Gives result (required_filter name.now (view object.now)) }
-{
-    let value = required(alloc, name, object)?;
-    filter_in(alloc, name, value)
+    let actions = actions_at(alloc, value)?;
+    let categories = categories_of(alloc, Form::Filled, value)?;
+    let rows = rows_at(alloc, value)?;
+    let priority = or_drop!(priority_at(alloc, value), rows);
+    Ok(Filter {
+        actions,
+        categories,
+        schemes: rows.schemes,
+        authorities: rows.authorities,
+        paths: rows.paths,
+        types: rows.types,
+        priority,
+    })
 }

@@ -1,20 +1,18 @@
 //! Intents.
-ghost use Rattle.std.specs.Prelude.{◌≡◌};
 ghost use Rattle.serde_json.specs.View.{view};
 ghost use Rattle.am_model.specs.MimeTypes.{mime_of};
 ghost use Rattle.am_model.specs.Uris.{uri_of};
 ghost use Rattle.am_wire_fields.specs.Fields.{only_fields};
 ghost use Rattle.am_wire_fields.specs.Reading.{Gives};
-ghost use Rattle.am_wire_intents.specs.Intents.{asked_in, carried_in, categories_of, intent_fields, intent_in, intent_of, mime_in, mime_or_fault, optional_intent, optional_mime, optional_uri, required_intent, uri_in, uri_or_fault};
+ghost use Rattle.am_wire_intents.specs.Intents.{categories_of, intent_fields, intent_in, intent_of, mime_or_fault, optional_intent, optional_mime, optional_uri, required_intent, uri_or_fault};
 
 use crate::components::optional_component;
 use crate::extras::optional_extras;
 use crate::flags::flags_of;
-use am_types::{Component, Flags, Intent, List, Mime, MimeFault, Named, Text, Uri, UriFault};
+use am_types::{Intent, List, Mime, MimeFault, Text, Uri, UriFault};
 use am_uri::{Form, parse_mime, parse_uri, sorted};
 use am_wire_fields::{
-    Unread, WireFault, if_said, only_fields, optional_text, optional_texts, or_drop, required,
-    text_in,
+    Unread, WireFault, if_said, only_fields, optional_text, optional_texts, required, text_in,
 };
 use serde_json::Value;
 use std::alloc::Global;
@@ -31,21 +29,15 @@ fn uri_of(alloc: Global, text: &Text) -> Result<Uri, Unread>
     }
 }
 
-/// The URI that a value says.
-#[tactic(auto, unfolding(crate::specs::Intents::uri_in))]
-fn uri_in(alloc: Global, name: &str, value: &Value) -> Result<Uri, Unread>
-    ensures { Gives result (uri_in name.now (view value.now)) }
-{
-    let text = text_in(alloc, Form::Any, 1024, name, value)?;
-    uri_of(alloc, &text)
-}
-
 /// The URI that a field says, if it is there.
-#[tactic(auto, unfolding(crate::specs::Intents::optional_uri))]
+#[tactic(auto, unfolding(crate::specs::Intents::optional_uri, crate::specs::Intents::uri_in))]
 fn optional_uri(alloc: Global, name: &str, object: &Value) -> Result<Option<Uri>, Unread>
     ensures { Gives result (optional_uri name.now (view object.now)) }
 {
-    if_said!(name, object, |value| uri_in(alloc, name, value))
+    if_said!(name, object, |value| {
+        let text = text_in(alloc, Form::Any, 1024, name, value)?;
+        uri_of(alloc, &text)
+    })
 }
 
 /// The MIME type that a text is.
@@ -60,21 +52,15 @@ pub fn mime_of(alloc: Global, text: &Text) -> Result<Mime, Unread>
     }
 }
 
-/// The MIME type that a value says.
-#[tactic(auto, unfolding(crate::specs::Intents::mime_in))]
-fn mime_in(alloc: Global, name: &str, value: &Value) -> Result<Mime, Unread>
-    ensures { Gives result (mime_in name.now (view value.now)) }
-{
-    let text = text_in(alloc, Form::Any, 1024, name, value)?;
-    mime_of(alloc, &text)
-}
-
 /// The MIME type that a field says, if it is there.
-#[tactic(auto, unfolding(crate::specs::Intents::optional_mime))]
+#[tactic(auto, unfolding(crate::specs::Intents::optional_mime, crate::specs::Intents::mime_in))]
 fn optional_mime(alloc: Global, name: &str, object: &Value) -> Result<Option<Mime>, Unread>
     ensures { Gives result (optional_mime name.now (view object.now)) }
 {
-    if_said!(name, object, |value| mime_in(alloc, name, value))
+    if_said!(name, object, |value| {
+        let text = text_in(alloc, Form::Any, 1024, name, value)?;
+        mime_of(alloc, &text)
+    })
 }
 
 /// The categories that an intent or a filter lists, each of the form, sorted by bytes, each once.
@@ -86,58 +72,30 @@ pub fn categories_of(alloc: Global, form: Form, object: &Value) -> Result<List<T
     Ok(sorted(alloc, texts)?)
 }
 
-/// What an intent asks for, and of which component.
-#[derive(Drop)]
-pub struct Asked {
-    pub action: Option<Text>,
-    pub categories: List<Text>,
-    pub component: Option<Component>,
-    pub uri: Option<Uri>,
-}
-
-/// What goes with an intent.
-#[derive(Drop)]
-pub struct Carried {
-    pub extras: List<Named>,
-    pub flags: Flags,
-    pub identifier: Option<Text>,
-    pub package: Option<Text>,
-    pub mime: Option<Mime>,
-}
-
-/// The fields of an intent from `action` to `data`.
-#[tactic(auto, unfolding(crate::specs::Intents::asked_in))]
-fn asked_in(alloc: Global, object: &Value) -> Result<Asked, Unread>
-    ensures { Gives result (asked_in (view object.now)) }
+/// What the fields of an intent say.
+#[tactic(auto, unfolding(crate::specs::Intents::intent_of))]
+fn intent_of(alloc: Global, object: &Value) -> Result<Intent, Unread>
+    ensures { Gives result (intent_of (view object.now)) }
 {
     let action = optional_text(alloc, Form::Any, 1024, "action", object)?;
     let categories = categories_of(alloc, Form::Any, object)?;
     let component = optional_component(alloc, "component", object)?;
     let uri = optional_uri(alloc, "data", object)?;
-    Ok(Asked {
-        action,
-        categories,
-        component,
-        uri,
-    })
-}
-
-/// The fields of an intent from `extras` to `type`.
-#[tactic(auto, unfolding(crate::specs::Intents::carried_in))]
-fn carried_in(alloc: Global, object: &Value) -> Result<Carried, Unread>
-    ensures { Gives result (carried_in (view object.now)) }
-{
     let extras = optional_extras(alloc, object)?;
     let flags = flags_of(alloc, object)?;
     let identifier = optional_text(alloc, Form::Any, 1024, "identifier", object)?;
     let package = optional_text(alloc, Form::Any, 1024, "package", object)?;
     let mime = optional_mime(alloc, "type", object)?;
-    Ok(Carried {
-        extras,
-        flags,
-        identifier,
-        package,
+    Ok(Intent {
+        action,
+        uri,
         mime,
+        identifier,
+        categories,
+        package,
+        component,
+        flags,
+        extras,
     })
 }
 
@@ -163,23 +121,6 @@ fn only_intent_fields(alloc: Global, name: &str, value: &Value) -> Result<(), Un
     )
 }
 
-/// The intent of both.
-fn intent_of(asked: Asked, carried: Carried) -> Intent
-    ensures { result ≡ intent_of asked carried }
-{
-    Intent {
-        action: asked.action,
-        uri: asked.uri,
-        mime: carried.mime,
-        identifier: carried.identifier,
-        categories: asked.categories,
-        package: carried.package,
-        component: asked.component,
-        flags: carried.flags,
-        extras: carried.extras,
-    }
-}
-
 /// The intent that a value is: an object with the fields `action`, `categories`, `component`, `data` (a URI), `extras`,
 /// `flags`, `identifier`, `package` and `type` (a MIME type), each of which may be absent or null. Texts have at most
 /// 1,024 bytes, and lists at most 64 entries. `name` is what a fault calls the value.
@@ -193,9 +134,7 @@ pub fn intent_in(alloc: Global, name: &str, value: &Value) -> Result<Intent, Unr
     ensures { Gives result (intent_in name.now (view value.now)) }
 {
     only_intent_fields(alloc, name, value)?;
-    let asked = asked_in(alloc, value)?;
-    let carried = or_drop!(carried_in(alloc, value), asked);
-    Ok(intent_of(asked, carried))
+    intent_of(alloc, value)
 }
 
 /// The intent that a field is, which must be there.

@@ -9,8 +9,8 @@ mod flags;
 mod intents;
 mod rows;
 
-pub use components::{component_in, optional_component, required_component};
+pub use components::{component_in, optional_component};
 pub use extras::{extras_in, optional_extras};
-pub use filters::{filter_in, required_filter};
+pub use filters::filter_in;
 pub use flags::flags_of;
 pub use intents::{intent_in, optional_intent, required_intent};

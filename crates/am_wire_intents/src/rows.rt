@@ -7,7 +7,7 @@ ghost use Rattle.am_wire_fields.specs.Fields.{only_fields};
 ghost use Rattle.am_wire_fields.specs.Lists.{each};
 ghost use Rattle.am_wire_fields.specs.Reading.{Gives, GivesBy};
 ghost use Rattle.am_wire_fields.specs.Texts.{optional_text};
-ghost use Rattle.am_wire_intents.specs.Filters.{authority_at, paths_at, port_at, row_fields, row_in, row_of, row_type, rows_at, scheme_at, scheme_of, type_at};
+ghost use Rattle.am_wire_intents.specs.Filters.{authority_at, paths_at, port_at, row_fields, row_in, rows_at, scheme_at, scheme_of, type_at};
 
 use crate::intents::mime_of;
 use am_filter::{DataRow, DataRows, Paths, merge_rows};
@@ -110,37 +110,14 @@ fn paths_at(alloc: Global, row: &Value) -> Result<Paths, Unread>
     })
 }
 
-/// The type that a text is, which isn't empty.
-#[tactic(auto, unfolding(crate::specs::Filters::row_type))]
-fn row_type(alloc: Global, value: &Value) -> Result<Mime, Unread>
-    ensures { Gives result (row_type (view value.now)) }
-{
-    let text = text_in(alloc, Form::Filled, 1024, "mimeType", value)?;
-    mime_of(alloc, &text)
-}
-
-/// The type of a row.
-#[tactic(auto, unfolding(crate::specs::Filters::type_at))]
+/// The type of a row, whose text isn't empty.
+#[tactic(auto, unfolding(crate::specs::Filters::type_at, crate::specs::Filters::row_type))]
 fn type_at(alloc: Global, row: &Value) -> Result<Option<Mime>, Unread>
     ensures { Gives result (type_at (view row.now)) }
 {
-    if_said!("mimeType", row, |value| row_type(alloc, value))
-}
-
-/// What the keys of a row say.
-#[tactic(auto, unfolding(crate::specs::Filters::row_of))]
-fn row_of(alloc: Global, row: &Value) -> Result<DataRow, Unread>
-    ensures { Gives result (row_of (view row.now)) }
-{
-    let scheme = scheme_at(alloc, row)?;
-    let authority = authority_at(alloc, row)?;
-    let paths = paths_at(alloc, row)?;
-    let mime = or_drop!(type_at(alloc, row), paths);
-    Ok(DataRow {
-        scheme,
-        authority,
-        paths,
-        mime,
+    if_said!("mimeType", row, |value| {
+        let text = text_in(alloc, Form::Filled, 1024, "mimeType", value)?;
+        mime_of(alloc, &text)
     })
 }
 
@@ -166,12 +143,21 @@ fn only_row_fields(alloc: Global, value: &Value) -> Result<(), Unread>
 }
 
 /// An entry of `data`.
-#[tactic(auto, unfolding(crate::specs::Filters::row_in))]
-fn row_in(alloc: Global, value: &Value) -> Result<DataRow, Unread>
-    ensures { Gives result (row_in (view value.now)) }
+#[tactic(auto, unfolding(crate::specs::Filters::row_in, crate::specs::Filters::row_of))]
+fn row_in(alloc: Global, row: &Value) -> Result<DataRow, Unread>
+    ensures { Gives result (row_in (view row.now)) }
 {
-    only_row_fields(alloc, value)?;
-    row_of(alloc, value)
+    only_row_fields(alloc, row)?;
+    let scheme = scheme_at(alloc, row)?;
+    let authority = authority_at(alloc, row)?;
+    let paths = paths_at(alloc, row)?;
+    let mime = or_drop!(type_at(alloc, row), paths);
+    Ok(DataRow {
+        scheme,
+        authority,
+        paths,
+        mime,
+    })
 }
 
 /// Each value as a data row.

@@ -22,7 +22,7 @@ use Rattle.am_types.specs.declared.request.Request.{Request}
 use Rattle.am_types.specs.declared.request.Request.TheVariants as asks
 use Rattle.am_wire_values.specs.Fields.{put_given, natural, whole, some_whole, some_listed, texts_data, some_texts, some_truth}
 use Rattle.am_wire_values.specs.Filters.{scheme_row, authority_row, path_row, type_row, rows_of, filter_data}
-use Rattle.am_wire_values.specs.Intents.{component_data, mime_data, uri_data, extra_data, with_extras, extras_data, some_extras, asked, aimed, carried, intent_data}
+use Rattle.am_wire_values.specs.Intents.{component_data, mime_data, uri_data, extra_data, with_extras, extras_data, some_extras, intent_data}
 use Rattle.am_wire_values.specs.Names.{names_set, flags_named, pending_named, kind_name, pending_name}
 use Rattle.am_wire_values.specs.Requests.{with_one, with_two, with_outcome, with_ordered, with_order, with_set, query_data, explain_data, start_data, send_data, register_data, finish_data, get_data, pending_send_data, grant_data, link_data, request_data}
 
@@ -129,7 +129,7 @@ some_extras_none (e ∷ es) = extras_none (e ∷ es)
 
 -- an intent
 pub intent_none : (i : Intent) → has_float (intent_data i) ≡ false
-unfolding intent_data asked aimed carried
+unfolding intent_data
 intent_none i =
     let ms-a : Members = put_given (codes "action") (option_map string i.action) no_members in
     let none-a : members_have_float ms-a ≡ false = given_none (codes "action") (option_map string i.action) no_members (option_none string text_none i.action) refl in

@@ -1,5 +1,6 @@
 -- No reply has a float in its value.
-use Rattle.std.proofs.Common.{◌≡◌, ℕ, false, List, [], ◌∷◌, Option, Some, None, codes, refl}
+use Rattle.std.proofs.Common.{◌≡◌, ℕ, false, List, [], ◌∷◌, Option, Some, None, option_map, codes, refl}
+use Rattle.serde_json.specs.Data.{Data, string}
 use Rattle.serde_json.specs.View.{items_of}
 use Rattle.serde_json.specs.Written.{has_float, items_have_float}
 use Rattle.am_types.specs.declared.account.Account.{Account}
@@ -16,18 +17,15 @@ use Rattle.am_types.specs.declared.rule.Rule.{Rule}
 use Rattle.am_types.specs.declared.task.InstanceView.{InstanceView}
 use Rattle.am_types.specs.declared.task.ServiceView.{ServiceView}
 use Rattle.am_types.specs.declared.task.TaskView.{TaskView}
+use Rattle.am_wire_values.specs.Fields.{natural, or_null}
 use Rattle.am_wire_values.specs.Intents.{component_data}
-use Rattle.am_wire_values.specs.Replies.{account_data, aim_data, entries_data, entry_data, instance_data, item_data, number_after, number_or_null, offered_data, reason_data, receiving_data, reply_data, service_data, skipped_data, standing_data, task_data, text_or_null, waiting_data}
+use Rattle.am_wire_values.specs.Replies.{account_data, aim_data, entries_data, entry_data, instance_data, item_data, number_after, offered_data, reason_data, receiving_data, reply_data, service_data, skipped_data, standing_data, task_data, waiting_data}
 use Rattle.am_wire_values.specs.Rules.{error_data, named_by, rule_name}
 use Rattle.am_wire_values.proofs.Floats.{neither, mapped_none, whole_none, extras_none, intent_none, request_none}
 
-number_none : (o : Option ℕ) → has_float (number_or_null o) ≡ false
-number_none None = refl
-number_none (Some n) = refl
-
-text_none : (o : Option (List ℕ)) → has_float (text_or_null o) ≡ false
-text_none None = refl
-text_none (Some t) = refl
+or_null_none : {A : Type 0} (write : A → Data) → ((x : A) → has_float (write x) ≡ false) → (o : Option A) → has_float (or_null (option_map write o)) ≡ false
+or_null_none write none None = refl
+or_null_none write none (Some x) = none x
 
 instance_none : (v : InstanceView) → has_float (instance_data v) ≡ false
 instance_none v = neither _ _ (intent_none v.intent) refl
@@ -67,9 +65,9 @@ account_none account = standing_none account.to account.standing
 item_none : (broadcast delivery : ℕ) (what : ItemKind) → has_float (item_data broadcast delivery what) ≡ false
 item_none b d (Normal aim intent) = neither _ _ (intent_none intent) (neither _ _ (aim_none aim) refl)
 item_none b d (InOrder aim intent outcome) =
-    neither _ _ (whole_none outcome.code) (neither _ _ (text_none outcome.text) (neither _ _ (extras_none outcome.extras)
+    neither _ _ (whole_none outcome.code) (neither _ _ (or_null_none string (λ t. refl) outcome.text) (neither _ _ (extras_none outcome.extras)
     (neither _ _ (intent_none intent) (neither _ _ (aim_none aim) refl))))
-item_none b d (Final outcome) = neither _ _ (whole_none outcome.code) (neither _ _ (text_none outcome.text) (neither _ _ (extras_none outcome.extras) refl))
+item_none b d (Final outcome) = neither _ _ (whole_none outcome.code) (neither _ _ (or_null_none string (λ t. refl) outcome.text) (neither _ _ (extras_none outcome.extras) refl))
 
 entry_none : (at : ℕ) (e : Entry) → has_float (entry_data at e) ≡ false
 unfolding entry_data
@@ -90,12 +88,12 @@ reply_none (says.Components found) = neither _ _ (mapped_none component_data (λ
 reply_none (says.Accounts accounts) = neither _ _ (mapped_none account_data account_none accounts) refl
 reply_none (says.Choose found) = neither _ _ (mapped_none component_data (λ c. refl) found) refl
 reply_none (says.Placed landed) = refl
-reply_none (says.Finished instance) = neither _ _ (number_none instance) refl
+reply_none (says.Finished instance) = neither _ _ (or_null_none natural (λ n. refl) instance) refl
 reply_none (says.Tasks tasks) = neither _ _ (mapped_none task_data task_none tasks) refl
 reply_none (says.Services services) = neither _ _ (mapped_none service_data service_none services) refl
 reply_none (says.Registered number) = refl
 reply_none (says.Items items) = neither _ _ (mapped_none waiting_data (λ i. item_none i.broadcast i.delivery i.what) items) refl
-reply_none (says.Token token) = neither _ _ (number_none token) refl
+reply_none (says.Token token) = neither _ _ (or_null_none natural (λ n. refl) token) refl
 reply_none (says.Installed uid) = refl
 reply_none (says.Refused rule) = error_none (rule_name rule) (named_by rule)
 reply_none (says.Started component starts) = refl

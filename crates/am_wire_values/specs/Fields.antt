@@ -1,6 +1,6 @@
 -- Members of an object, of which some may be absent.
 use Rattle.std.specs.Prelude.{ℕ, ℤ, unsigned_abs, ◌==◌, Bool, true, List, [], ◌∷◌, map, Option, Some, None, if◌then◌else◌}
-use Rattle.serde_json.specs.Data.{Data, boolean, number, unsigned, string, array, Members, put}
+use Rattle.serde_json.specs.Data.{Data, null, boolean, number, unsigned, string, array, Members, put}
 use Rattle.serde_json.specs.Find.{of_integer}
 use Rattle.serde_json.specs.View.{items_of}
 
@@ -8,6 +8,11 @@ use Rattle.serde_json.specs.View.{items_of}
 abbrev pub put_given : List ℕ → Option Data → Members → Members
 put_given name None members = members
 put_given name (Some value) members = put name value members
+
+-- the value, or `null`
+abbrev pub or_null : Option Data → Data
+or_null None = null
+or_null (Some value) = value
 
 -- a number from 0 on
 abbrev pub natural : ℕ → Data

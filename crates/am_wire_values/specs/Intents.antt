@@ -43,27 +43,15 @@ abbrev pub some_extras : List Named → Option Data
 some_extras [] = None
 some_extras (first ∷ others) = Some (extras_data (first ∷ others))
 
--- what an intent asks for
-unfoldable pub asked : Intent → Members
-asked intent =
-    put_given (codes "type") (option_map mime_data intent.mime)
-    (put_given (codes "data") (option_map uri_data intent.uri)
-    (put_given (codes "categories") (some_texts intent.categories)
-    (put_given (codes "action") (option_map string intent.action) no_members)))
-
--- and who may get it
-unfoldable pub aimed : Intent → Members → Members
-aimed intent members =
-    put_given (codes "package") (option_map string intent.«package»)
-    (put_given (codes "identifier") (option_map string intent.identifier)
-    (put_given (codes "component") (option_map component_data intent.component) members))
-
--- and what goes with it
-unfoldable pub carried : Intent → Members → Members
-carried intent members =
-    put_given (codes "flags") (some_texts (names_set (flags_named intent.flags)))
-    (put_given (codes "extras") (some_extras intent.extras) members)
-
 -- the value of an intent
 unfoldable pub intent_data : Intent → Data
-intent_data intent = object (carried intent (aimed intent (asked intent)))
+intent_data intent =
+    object (put_given (codes "flags") (some_texts (names_set (flags_named intent.flags)))
+    (put_given (codes "extras") (some_extras intent.extras)
+    (put_given (codes "package") (option_map string intent.«package»)
+    (put_given (codes "identifier") (option_map string intent.identifier)
+    (put_given (codes "component") (option_map component_data intent.component)
+    (put_given (codes "type") (option_map mime_data intent.mime)
+    (put_given (codes "data") (option_map uri_data intent.uri)
+    (put_given (codes "categories") (some_texts intent.categories)
+    (put_given (codes "action") (option_map string intent.action) no_members)))))))))

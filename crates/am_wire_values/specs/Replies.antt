@@ -1,6 +1,6 @@
 -- The value and the status of a reply. The fields of each object stand in the order of their bytes.
-use Rattle.std.specs.Prelude.{ℕ, suc, nat_lt, List, [], ◌∷◌, map, codes, true, false, Option, Some, None, if◌then◌else◌}
-use Rattle.serde_json.specs.Data.{Data, null, boolean, string, object, Members, no_members, member}
+use Rattle.std.specs.Prelude.{ℕ, suc, nat_lt, List, [], ◌∷◌, map, codes, true, false, Option, Some, None, option_map, if◌then◌else◌}
+use Rattle.serde_json.specs.Data.{Data, boolean, string, object, Members, no_members, member}
 use Rattle.am_types.specs.declared.account.Account.{Account}
 use Rattle.am_types.specs.declared.account.Standing.{Standing}
 use Rattle.am_types.specs.declared.account.Standing.TheVariants as stands
@@ -20,7 +20,7 @@ use Rattle.am_types.specs.declared.task.InstanceView.{InstanceView}
 use Rattle.am_types.specs.declared.task.Landed.{Landed}
 use Rattle.am_types.specs.declared.task.ServiceView.{ServiceView}
 use Rattle.am_types.specs.declared.task.TaskView.{TaskView}
-use Rattle.am_wire_values.specs.Fields.{natural, whole, listed}
+use Rattle.am_wire_values.specs.Fields.{natural, or_null, whole, listed}
 use Rattle.am_wire_values.specs.Intents.{component_data, extras_data, intent_data}
 use Rattle.am_wire_values.specs.Names.{narrowing_name, placed_name, why_name}
 use Rattle.am_wire_values.specs.Requests.{request_data}
@@ -37,16 +37,6 @@ landed_data landed =
     object (member (codes "instance") (natural landed.instance)
     (member (codes "placed") (string (placed_name landed.how))
     (member (codes "task") (natural landed.task) no_members)))
-
--- a number, or `null`
-abbrev pub number_or_null : Option ℕ → Data
-number_or_null None = null
-number_or_null (Some n) = natural n
-
--- a text, or `null`
-abbrev pub text_or_null : Option (List ℕ) → Data
-text_or_null None = null
-text_or_null (Some text) = string text
 
 -- an instance of an activity
 abbrev pub instance_data : InstanceView → Data
@@ -121,11 +111,11 @@ item_data broadcast delivery (Normal aim intent) =
     (member (codes "to") (aim_data aim) no_members)))))
 item_data broadcast delivery (InOrder aim intent outcome) =
     object (member (codes "broadcast") (natural broadcast) (member (codes "code") (whole outcome.code)
-    (member (codes "data") (text_or_null outcome.text) (member (codes "delivery") (natural delivery)
+    (member (codes "data") (or_null (option_map string outcome.text)) (member (codes "delivery") (natural delivery)
     (member (codes "extras") (extras_data outcome.extras) (member (codes "intent") (intent_data intent)
     (member (codes "ordered") (boolean true) (member (codes "to") (aim_data aim) no_members))))))))
 item_data broadcast delivery (Final outcome) =
-    object (member (codes "code") (whole outcome.code) (member (codes "data") (text_or_null outcome.text)
+    object (member (codes "code") (whole outcome.code) (member (codes "data") (or_null (option_map string outcome.text))
     (member (codes "delivery") (natural delivery) (member (codes "extras") (extras_data outcome.extras)
     (member (codes "result") (natural broadcast) no_members)))))
 
@@ -156,12 +146,12 @@ reply_data (says.Components found) = components_data (codes "components") found
 reply_data (says.Accounts accounts) = object (member (codes "accounts") (listed (map account_data accounts)) no_members)
 reply_data (says.Choose found) = components_data (codes "choose") found
 reply_data (says.Placed landed) = landed_data landed
-reply_data (says.Finished instance) = object (member (codes "finished") (number_or_null instance) no_members)
+reply_data (says.Finished instance) = object (member (codes "finished") (or_null (option_map natural instance)) no_members)
 reply_data (says.Tasks tasks) = object (member (codes "tasks") (listed (map task_data tasks)) no_members)
 reply_data (says.Services services) = object (member (codes "services") (listed (map service_data services)) no_members)
 reply_data (says.Registered number) = object (member (codes "number") (natural number) no_members)
 reply_data (says.Items items) = object (member (codes "items") (listed (map waiting_data items)) no_members)
-reply_data (says.Token token) = object (member (codes "token") (number_or_null token) no_members)
+reply_data (says.Token token) = object (member (codes "token") (or_null (option_map natural token)) no_members)
 reply_data (says.Installed uid) = object (member (codes "uid") (natural uid) no_members)
 reply_data (says.Refused rule) = refusal_data rule
 reply_data (says.Started component starts) =

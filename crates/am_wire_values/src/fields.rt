@@ -1,11 +1,11 @@
 //! Members of an object, of which some may be absent.
 ghost use Rattle.std.specs.Prelude.{◌≡◌, ◌++◌, ◌∷◌, [], IfOk, OnOk, map, option_map};
-ghost use Rattle.serde_json.specs.Data.{string, put as with_member};
+ghost use Rattle.serde_json.specs.Data.{boolean, string, put as with_member};
 ghost use Rattle.serde_json.specs.View.{view, members_view};
-ghost use Rattle.am_wire_values.specs.Fields.{listed, put_given, some_listed, some_texts, some_truth, some_whole};
+ghost use Rattle.am_wire_values.specs.Fields.{listed, put_given, some_listed, some_texts, some_truth, some_whole, whole};
 ghost use Rattle.am_wire_values.specs.Names.{names_set};
 
-use crate::shown::{put_shown, values};
+use crate::shown::values;
 use am_types::{List, Text};
 use serde_json::{Map, Value, put};
 use std::alloc::{AllocError, Global};
@@ -40,36 +40,22 @@ pub(crate) fn put_word(
     put(members, alloc, name, Value::try_from_str(alloc, word)?)
 }
 
-/// Puts a number under a name, unless it is 0.
-pub(crate) fn put_some_whole(
-    alloc: Global,
-    members: &mut Members,
-    name: &str,
-    number: i64,
-) -> Result<(), AllocError>
-    ensures { OnOk result (members_view members.new.entries ≡ put_given name.now (some_whole number) (members_view members.old.entries)) }
+/// The number, unless it is 0.
+pub(crate) fn some_whole(number: i64) -> Option<i64>
+    ensures { option_map whole result ≡ some_whole number }
 {
     if number.unsigned_abs() == 0 {
-        Ok(())
+        None
     } else {
-        put_shown(alloc, members, name, &number)
+        Some(number)
     }
 }
 
-/// Puts `true` under a name, where the truth is that.
-pub(crate) fn put_some_truth(
-    alloc: Global,
-    members: &mut Members,
-    name: &str,
-    truth: bool,
-) -> Result<(), AllocError>
-    ensures { OnOk result (members_view members.new.entries ≡ put_given name.now (some_truth truth) (members_view members.old.entries)) }
+/// The truth, unless it is false.
+pub(crate) fn some_truth(truth: bool) -> Option<bool>
+    ensures { option_map boolean result ≡ some_truth truth }
 {
-    if truth {
-        put_shown(alloc, members, name, &true)
-    } else {
-        Ok(())
-    }
+    if truth { Some(true) } else { None }
 }
 
 /// Puts texts under a name, unless there are none.

@@ -4,7 +4,7 @@ ghost use Rattle.serde_json.specs.View.{view, members_view};
 ghost use Rattle.am_wire_values.specs.Fields.{put_given, some_listed};
 ghost use Rattle.am_wire_values.specs.Filters.{authority_row, filter_data, path_row, row_of, rows_of};
 
-use crate::fields::{Members, put_given, put_some_texts, put_some_whole, some_listed};
+use crate::fields::{Members, put_given, put_some_texts, some_listed, some_whole};
 use crate::shown::{Shown, one, put_shown, put_some};
 use am_types::{Authority, Filter, PathRule};
 use serde_json::{Map, Value};
@@ -21,7 +21,7 @@ pub fn filter_value(alloc: Global, filter: &Filter) -> Result<Value, AllocError>
     put_some_texts(alloc, &mut members, "categories", &filter.categories)?;
     put_rows(alloc, &mut members, filter)?;
     let priority = i64::from(filter.priority);
-    put_some_whole(alloc, &mut members, "priority", priority)?;
+    put_some(alloc, &mut members, "priority", &some_whole(priority))?;
     Ok(Value::Object(members))
 }
 

@@ -1,9 +1,8 @@
 //! Intents as values.
 ghost use Rattle.std.specs.Prelude.{◌≡◌, IfOk, OnOk, codes};
-ghost use Rattle.serde_json.specs.Data.{no_members};
 ghost use Rattle.serde_json.specs.View.{view, members_view};
 ghost use Rattle.am_wire_values.specs.Fields.{put_given};
-ghost use Rattle.am_wire_values.specs.Intents.{aimed, asked, carried, component_data, extra_data, extras_data, intent_data, mime_data, some_extras, uri_data, with_extras};
+ghost use Rattle.am_wire_values.specs.Intents.{component_data, extra_data, extras_data, intent_data, mime_data, some_extras, uri_data, with_extras};
 
 use crate::fields::{Members, put_given, put_some_texts, some_listed};
 use crate::names::flag_values;
@@ -18,9 +17,16 @@ pub fn intent_value(alloc: Global, intent: &Intent) -> Result<Value, AllocError>
     ensures { IfOk result (λ value. view value ≡ intent_data intent.now) }
 {
     let mut members = Map::new(alloc);
-    put_asked(alloc, &mut members, intent)?;
-    put_aimed(alloc, &mut members, intent)?;
-    put_carried(alloc, &mut members, intent)?;
+    put_some(alloc, &mut members, "action", &intent.action)?;
+    put_some_texts(alloc, &mut members, "categories", &intent.categories)?;
+    put_some(alloc, &mut members, "data", &intent.uri)?;
+    put_some(alloc, &mut members, "type", &intent.mime)?;
+    put_some(alloc, &mut members, "component", &intent.component)?;
+    put_some(alloc, &mut members, "identifier", &intent.identifier)?;
+    put_some(alloc, &mut members, "package", &intent.package)?;
+    put_some_extras(alloc, &mut members, &intent.extras)?;
+    let flags = flag_values(alloc, intent.flags)?;
+    put_given(alloc, &mut members, "flags", some_listed(flags))?;
     Ok(Value::Object(members))
 }
 
@@ -30,38 +36,6 @@ impl Shown for Intent {
     fn value(&self, alloc: Global) -> Result<Value, AllocError> {
         intent_value(alloc, self)
     }
-}
-
-/// What an intent asks for.
-#[tactic(auto, unfolding(crate::specs::Intents::asked))]
-fn put_asked(alloc: Global, members: &mut Members, intent: &Intent) -> Result<(), AllocError>
-    requires { members_view members.old.entries ≡ no_members }
-    ensures { OnOk result (members_view members.new.entries ≡ asked intent.now) }
-{
-    put_some(alloc, members, "action", &intent.action)?;
-    put_some_texts(alloc, members, "categories", &intent.categories)?;
-    put_some(alloc, members, "data", &intent.uri)?;
-    put_some(alloc, members, "type", &intent.mime)
-}
-
-/// And who may get it.
-#[tactic(auto, unfolding(crate::specs::Intents::aimed))]
-fn put_aimed(alloc: Global, members: &mut Members, intent: &Intent) -> Result<(), AllocError>
-    ensures { OnOk result (members_view members.new.entries ≡ aimed intent.now (members_view members.old.entries)) }
-{
-    put_some(alloc, members, "component", &intent.component)?;
-    put_some(alloc, members, "identifier", &intent.identifier)?;
-    put_some(alloc, members, "package", &intent.package)
-}
-
-/// And what goes with it.
-#[tactic(auto, unfolding(crate::specs::Intents::carried))]
-fn put_carried(alloc: Global, members: &mut Members, intent: &Intent) -> Result<(), AllocError>
-    ensures { OnOk result (members_view members.new.entries ≡ carried intent.now (members_view members.old.entries)) }
-{
-    put_some_extras(alloc, members, &intent.extras)?;
-    let flags = flag_values(alloc, intent.flags)?;
-    put_given(alloc, members, "flags", some_listed(flags))
 }
 
 /// Puts extras, unless there are none.

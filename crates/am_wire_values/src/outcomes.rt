@@ -1,9 +1,9 @@
 //! Outcomes of ordered broadcasts in requests.
 ghost use Rattle.std.specs.Prelude.{◌≡◌, OnOk};
 ghost use Rattle.serde_json.specs.View.{members_view};
-ghost use Rattle.am_wire_values.specs.Requests.{with_order, with_ordered, with_outcome, with_set};
+ghost use Rattle.am_wire_values.specs.Requests.{with_ordered, with_outcome};
 
-use crate::fields::{Members, put_some_truth, put_some_whole};
+use crate::fields::{Members, some_truth, some_whole};
 use crate::intents::put_some_extras;
 use crate::shown::{put_shown, put_some};
 use am_types::{Ordered, Outcome};
@@ -11,7 +11,11 @@ use std::alloc::{AllocError, Global};
 
 /// Puts what an outcome has beside its code.
 #[tactic(auto, unfolding(crate::specs::Requests::with_outcome))]
-fn put_outcome(alloc: Global, members: &mut Members, outcome: &Outcome) -> Result<(), AllocError>
+pub(crate) fn put_outcome(
+    alloc: Global,
+    members: &mut Members,
+    outcome: &Outcome,
+) -> Result<(), AllocError>
     ensures { OnOk result (members_view members.new.entries ≡ with_outcome outcome.now (members_view members.old.entries)) }
 {
     put_some(alloc, members, "data", &outcome.text)?;
@@ -20,42 +24,15 @@ fn put_outcome(alloc: Global, members: &mut Members, outcome: &Outcome) -> Resul
 
 /// Puts how an ordered broadcast starts.
 #[tactic(auto, unfolding(crate::specs::Requests::with_ordered))]
-fn put_ordered(alloc: Global, members: &mut Members, ordered: &Ordered) -> Result<(), AllocError>
+pub(crate) fn put_ordered(
+    alloc: Global,
+    members: &mut Members,
+    ordered: &Ordered,
+) -> Result<(), AllocError>
     ensures { OnOk result (members_view members.new.entries ≡ with_ordered ordered.now (members_view members.old.entries)) }
 {
     put_shown(alloc, members, "ordered", &true)?;
     put_outcome(alloc, members, &ordered.initial)?;
-    put_some_whole(alloc, members, "code", ordered.initial.code)?;
-    put_some_truth(alloc, members, "result", ordered.wanted)
-}
-
-/// Puts how a broadcast starts, if it is ordered.
-pub(crate) fn put_order(
-    alloc: Global,
-    members: &mut Members,
-    ordered: &Option<Ordered>,
-) -> Result<(), AllocError>
-    ensures { OnOk result (members_view members.new.entries ≡ with_order ordered.now (members_view members.old.entries)) }
-{
-    match ordered {
-        None => Ok(()),
-        Some(ordered) => put_ordered(alloc, members, ordered),
-    }
-}
-
-/// Puts an outcome, if one is set.
-pub(crate) fn put_set(
-    alloc: Global,
-    members: &mut Members,
-    set: &Option<Outcome>,
-) -> Result<(), AllocError>
-    ensures { OnOk result (members_view members.new.entries ≡ with_set set.now (members_view members.old.entries)) }
-{
-    match set {
-        None => Ok(()),
-        Some(outcome) => {
-            put_shown(alloc, members, "code", &outcome.code)?;
-            put_outcome(alloc, members, outcome)
-        }
-    }
+    put_some(alloc, members, "code", &some_whole(ordered.initial.code))?;
+    put_some(alloc, members, "result", &some_truth(ordered.wanted))
 }

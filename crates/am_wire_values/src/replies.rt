@@ -8,7 +8,7 @@ ghost use Rattle.am_wire_values.specs.Replies.{reply_data, status_of};
 
 use crate::fields::{Members, listed};
 use crate::rules::{put_refusal, rule_status};
-use crate::shown::{put_shown, put_three, put_two};
+use crate::shown::{put_all, put_shown};
 use crate::views::{entry_values, put_landed};
 use am_types::{Entry, NoMemory, Reply};
 use serde_json::{Map, Value, put};
@@ -58,19 +58,12 @@ fn put_reply(alloc: Global, members: &mut Members, reply: &Reply) -> Result<(), 
         Reply::Installed(uid) => put_shown(alloc, members, "uid", uid),
         Reply::Refused(rule) => put_refusal(alloc, members, rule),
         Reply::Started { component, starts } => {
-            put_two(alloc, members, "component", component, "starts", starts)
+            put_all!(alloc, members, "component" => component, "starts" => starts)
         }
         Reply::Sent {
             broadcast,
             receivers,
-        } => put_two(
-            alloc,
-            members,
-            "broadcast",
-            broadcast,
-            "receivers",
-            receivers,
-        ),
+        } => put_all!(alloc, members, "broadcast" => broadcast, "receivers" => receivers),
         Reply::Entries { from, entries } => {
             put_stored(alloc, members, *from, entries.as_slice())
         }
@@ -78,9 +71,8 @@ fn put_reply(alloc: Global, members: &mut Members, reply: &Reply) -> Result<(), 
             history,
             moment,
             packages,
-        } => put_three(
-            alloc, members, "history", history, "moment", moment, "packages", packages,
-        ),
+        } =>
+            put_all!(alloc, members, "history" => history, "moment" => moment, "packages" => packages),
         Reply::Plain => Ok(()),
     }
 }

@@ -4,10 +4,10 @@ ghost use Rattle.serde_json.specs.Data.{object, no_members};
 ghost use Rattle.serde_json.specs.View.{view, members_view};
 ghost use Rattle.am_wire_values.specs.Requests.{explain_data, finish_data, get_data, query_data, request_data, send_data};
 
-use crate::fields::{Members, listed, put_some_truth, put_word};
+use crate::fields::{Members, listed, put_word, some_truth};
 use crate::names::{kind_name, pending_flag_values, pending_name};
-use crate::outcomes::{put_order, put_set};
-use crate::shown::{Shown, put_shown, put_some, put_three, put_two, put_with};
+use crate::outcomes::{put_ordered, put_outcome};
+use crate::shown::{Shown, put_all, put_shown, put_some};
 use am_types::{Answer, Intent, Kind, Ordered, PendingFlags, Request, Text};
 use serde_json::{Map, Value, put};
 use std::alloc::{AllocError, Global};
@@ -49,9 +49,10 @@ fn put_request(alloc: Global, members: &mut Members, request: &Request) -> Resul
             permission,
             shown,
         } => put_explain(alloc, members, *kind, intent, caller, permission, shown),
-        Request::Start { intent, source } => put_with(
-            alloc, members, "intent", intent, "source", source,
-        ),
+        Request::Start { intent, source } => {
+            put_shown(alloc, members, "intent", intent)?;
+            put_some(alloc, members, "source", source)
+        }
         Request::FinishActivity { instance } => put_shown(alloc, members, "instance", instance),
         Request::StartService { intent } => put_shown(alloc, members, "intent", intent),
         Request::StopService { component } => put_shown(alloc, members, "component", component),
@@ -60,14 +61,10 @@ fn put_request(alloc: Global, members: &mut Members, request: &Request) -> Resul
             permission,
             ordered,
         } => put_send(alloc, members, intent, permission, ordered),
-        Request::Register { filter, permission } => put_with(
-            alloc,
-            members,
-            "filter",
-            filter,
-            "permission",
-            permission,
-        ),
+        Request::Register { filter, permission } => {
+            put_shown(alloc, members, "filter", filter)?;
+            put_some(alloc, members, "permission", permission)
+        }
         Request::Unregister { number } => put_shown(alloc, members, "number", number),
         Request::Finish { delivery, answer } => put_finish(alloc, members, *delivery, answer),
         Request::PendingGet {
@@ -76,36 +73,28 @@ fn put_request(alloc: Global, members: &mut Members, request: &Request) -> Resul
             intent,
             flags,
         } => put_get(alloc, members, *kind, *code, intent, *flags),
-        Request::PendingSend { token, fill } => put_with(
-            alloc, members, "token", token, "fill", fill,
-        ),
+        Request::PendingSend { token, fill } => {
+            put_shown(alloc, members, "token", token)?;
+            put_some(alloc, members, "fill", fill)
+        }
         Request::PendingCancel { token } => put_shown(alloc, members, "token", token),
-        Request::PendingGive { token, package } => put_two(
-            alloc, members, "package", package, "token", token,
-        ),
-        Request::Install { text, key } => put_two(alloc, members, "key", key, "manifest", text),
+        Request::PendingGive { token, package } => {
+            put_all!(alloc, members, "package" => package, "token" => token)
+        }
+        Request::Install { text, key } =>
+            put_all!(alloc, members, "key" => key, "manifest" => text),
         Request::Uninstall { package } => put_shown(alloc, members, "package", package),
         Request::Grant {
             package,
             permission,
             held,
-        } => put_three(
-            alloc,
-            members,
-            "package",
-            package,
-            "permission",
-            permission,
-            "held",
-            held,
-        ),
+        } =>
+            put_all!(alloc, members, "package" => package, "permission" => permission, "held" => held),
         Request::Link {
             package,
             host,
             approved,
-        } => put_three(
-            alloc, members, "package", package, "host", host, "approved", approved,
-        ),
+        } => put_all!(alloc, members, "package" => package, "host" => host, "approved" => approved),
         Request::ForceStop { package } => put_shown(alloc, members, "package", package),
         Request::History { from } => put_shown(alloc, members, "from", from),
         Request::Back
@@ -130,7 +119,7 @@ fn put_query(
 {
     put_word(alloc, members, "kind", kind_name(kind))?;
     put_shown(alloc, members, "intent", intent)?;
-    put_some_truth(alloc, members, "defaultOnly", default_only)
+    put_some(alloc, members, "defaultOnly", &some_truth(default_only))
 }
 
 #[tactic(auto, unfolding(crate::specs::Requests::explain_data))]
@@ -164,8 +153,12 @@ fn put_send(
     requires { members_view members.old.entries ≡ no_members }
     ensures { OnOk result (object (members_view members.new.entries) ≡ send_data intent.now permission.now ordered.now) }
 {
-    put_with(alloc, members, "intent", intent, "permission", permission)?;
-    put_order(alloc, members, ordered)
+    put_shown(alloc, members, "intent", intent)?;
+    put_some(alloc, members, "permission", permission)?;
+    match ordered {
+        None => Ok(()),
+        Some(ordered) => put_ordered(alloc, members, ordered),
+    }
 }
 
 #[tactic(auto, unfolding(crate::specs::Requests::finish_data))]
@@ -179,8 +172,14 @@ fn put_finish(
     ensures { OnOk result (object (members_view members.new.entries) ≡ finish_data delivery answer.now) }
 {
     put_shown(alloc, members, "delivery", &delivery)?;
-    put_some_truth(alloc, members, "abort", answer.abort)?;
-    put_set(alloc, members, &answer.set)
+    put_some(alloc, members, "abort", &some_truth(answer.abort))?;
+    match &answer.set {
+        None => Ok(()),
+        Some(outcome) => {
+            put_shown(alloc, members, "code", &outcome.code)?;
+            put_outcome(alloc, members, outcome)
+        }
+    }
 }
 
 #[tactic(auto, unfolding(crate::specs::Requests::get_data))]

@@ -1,10 +1,9 @@
 //! What is shown as a JSON value: alone, in an array, or under a name.
 ghost use Rattle.std.specs.Prelude.{◌≡◌, IfOk, OnOk, map, option_map};
-ghost use Rattle.serde_json.specs.Data.{boolean, no_members, object, put as with_member, string};
+ghost use Rattle.serde_json.specs.Data.{boolean, put as with_member, string};
 ghost use Rattle.serde_json.specs.View.{view, members_view};
-ghost use Rattle.am_wire_values.specs.Fields.{listed, natural, put_given, whole};
-ghost use Rattle.am_wire_values.specs.Replies.{number_or_null, text_or_null};
-ghost use Rattle.am_wire_values.specs.Requests.{with_one, with_two};
+ghost use Rattle.am_wire_values.specs.Fields.{listed, natural, or_null, put_given, whole};
+ghost use Rattle.am_wire_values.specs.Requests.{with_one};
 
 use crate::fields::{Members, listed};
 use am_types::{List, Text};
@@ -64,26 +63,14 @@ impl Shown for Text {
     }
 }
 
-/// A number, or `null`.
-impl Shown for Option<u64> {
-    ghost as_data = { number_or_null };
+/// What there is, or `null`.
+impl<T: Shown> Shown for Option<T> {
+    ghost as_data = { λ shown. or_null (option_map T.as_data shown) };
 
     fn value(&self, alloc: Global) -> Result<Value, AllocError> {
         match self {
             None => Ok(Value::Null),
-            Some(number) => number.value(alloc),
-        }
-    }
-}
-
-/// A text, or `null`.
-impl Shown for Option<Text> {
-    ghost as_data = { text_or_null };
-
-    fn value(&self, alloc: Global) -> Result<Value, AllocError> {
-        match self {
-            None => Ok(Value::Null),
-            Some(text) => text.value(alloc),
+            Some(shown) => shown.value(alloc),
         }
     }
 }
@@ -135,53 +122,6 @@ pub(crate) fn put_some<T: Shown>(
     }
 }
 
-/// Puts two that are shown, each under its name.
-pub(crate) fn put_two<T: Shown, U: Shown>(
-    alloc: Global,
-    members: &mut Members,
-    name: &str,
-    shown: &T,
-    other: &str,
-    more: &U,
-) -> Result<(), AllocError>
-    ensures { OnOk result (members_view members.new.entries ≡ with_member other.now (U.as_data more.now) (with_member name.now (T.as_data shown.now) (members_view members.old.entries))) }
-{
-    put_shown(alloc, members, name, shown)?;
-    put_shown(alloc, members, other, more)
-}
-
-/// Puts three that are shown, each under its name.
-pub(crate) fn put_three<T: Shown, U: Shown, V: Shown>(
-    alloc: Global,
-    members: &mut Members,
-    name: &str,
-    shown: &T,
-    other: &str,
-    more: &U,
-    last: &str,
-    rest: &V,
-) -> Result<(), AllocError>
-    ensures { OnOk result (members_view members.new.entries ≡ with_member last.now (V.as_data rest.now) (with_member other.now (U.as_data more.now) (with_member name.now (T.as_data shown.now) (members_view members.old.entries)))) }
-{
-    put_two(alloc, members, name, shown, other, more)?;
-    put_shown(alloc, members, last, rest)
-}
-
-/// Puts what is shown, and another if there is one, each under its name.
-pub(crate) fn put_with<T: Shown, U: Shown>(
-    alloc: Global,
-    members: &mut Members,
-    name: &str,
-    shown: &T,
-    other: &str,
-    more: &Option<U>,
-) -> Result<(), AllocError>
-    ensures { OnOk result (members_view members.new.entries ≡ put_given other.now (option_map U.as_data more.now) (with_member name.now (T.as_data shown.now) (members_view members.old.entries))) }
-{
-    put_shown(alloc, members, name, shown)?;
-    put_some(alloc, members, other, more)
-}
-
 /// An object with one field.
 pub(crate) fn one<T: Shown>(alloc: Global, name: &str, shown: &T) -> Result<Value, AllocError>
     ensures { IfOk result (λ value. view value ≡ with_one name.now (T.as_data shown.now)) }
@@ -191,34 +131,23 @@ pub(crate) fn one<T: Shown>(alloc: Global, name: &str, shown: &T) -> Result<Valu
     Ok(Value::Object(members))
 }
 
-/// An object with two fields.
-pub(crate) fn two<T: Shown, U: Shown>(
-    alloc: Global,
-    name: &str,
-    shown: &T,
-    other: &str,
-    more: &U,
-) -> Result<Value, AllocError>
-    ensures { IfOk result (λ value. view value ≡ with_two name.now (T.as_data shown.now) other.now (U.as_data more.now)) }
-{
-    let mut members = Map::new(alloc);
-    put_two(alloc, &mut members, name, shown, other, more)?;
-    Ok(Value::Object(members))
+/// Puts what is shown, each under its name.
+macro_rules! put_all {
+    ($alloc:expr, $members:expr, $($name:literal => $shown:expr),+) => {{
+        $($crate::shown::put_shown($alloc, $members, $name, $shown)?;)+
+        Ok(())
+    }};
 }
 
-/// An object with three fields.
-pub(crate) fn three<T: Shown, U: Shown, V: Shown>(
-    alloc: Global,
-    name: &str,
-    shown: &T,
-    other: &str,
-    more: &U,
-    last: &str,
-    rest: &V,
-) -> Result<Value, AllocError>
-    ensures { IfOk result (λ value. view value ≡ object (with_member last.now (V.as_data rest.now) (with_member other.now (U.as_data more.now) (with_member name.now (T.as_data shown.now) no_members)))) }
-{
-    let mut members = Map::new(alloc);
-    put_three(alloc, &mut members, name, shown, other, more, last, rest)?;
-    Ok(Value::Object(members))
+pub(crate) use put_all;
+
+/// An object of what is shown, each under its name.
+macro_rules! object_of {
+    ($alloc:expr, $($name:literal => $shown:expr),+) => {{
+        let mut members = serde_json::Map::new($alloc);
+        $($crate::shown::put_shown($alloc, &mut members, $name, $shown)?;)+
+        Ok(serde_json::Value::Object(members))
+    }};
 }
+
+pub(crate) use object_of;

@@ -1,11 +1,11 @@
 //! What replies show: tasks, services, receivers, items and stored calls.
-ghost use Rattle.std.specs.Prelude.{◌≡◌, IfOk, OnOk, codes, map};
+ghost use Rattle.std.specs.Prelude.{◌≡◌, IfOk, OnOk, codes, map, option_map};
 ghost use Rattle.serde_json.specs.Data.{object, no_members, string, put as with_member};
 ghost use Rattle.serde_json.specs.View.{view, members_view};
 ghost use Rattle.am_types.specs.declared.broadcast.ItemKind.TheVariants.{Normal, InOrder, Final};
-ghost use Rattle.am_wire_values.specs.Fields.{natural, whole};
+ghost use Rattle.am_wire_values.specs.Fields.{natural, or_null, whole};
 ghost use Rattle.am_wire_values.specs.Intents.{extras_data};
-ghost use Rattle.am_wire_values.specs.Replies.{aim_data, entries_data, entry_data, instance_data, item_data, judged, landed_data, number_after, receiving_data, service_data, skipped_data, task_data, text_or_null, waiting_data};
+ghost use Rattle.am_wire_values.specs.Replies.{aim_data, entries_data, entry_data, instance_data, item_data, judged, landed_data, number_after, receiving_data, service_data, skipped_data, task_data, waiting_data};
 ghost use Rattle.am_wire_values.specs.Rules.{named_by, rule_name};
 
 use crate::fields::{Members, put_word};
@@ -13,7 +13,7 @@ use crate::intents::extras_value;
 use crate::names::placed_name;
 use crate::routes::route_of;
 use crate::rules::{named_by, rule_name};
-use crate::shown::{Shown, put_shown, three, two};
+use crate::shown::{Shown, object_of, put_shown};
 use am_types::{
     Aim, Entry, InstanceView, Intent, Item, ItemKind, Landed, Outcome, Receiving, Rule,
     ServiceView, TaskView,
@@ -39,15 +39,7 @@ impl Shown for InstanceView {
     ghost as_data = { instance_data };
 
     fn value(&self, alloc: Global) -> Result<Value, AllocError> {
-        three(
-            alloc,
-            "component",
-            &self.component,
-            "instance",
-            &self.instance,
-            "intent",
-            &self.intent,
-        )
+        object_of!(alloc, "component" => &self.component, "instance" => &self.instance, "intent" => &self.intent)
     }
 }
 
@@ -55,7 +47,7 @@ impl Shown for TaskView {
     ghost as_data = { task_data };
 
     fn value(&self, alloc: Global) -> Result<Value, AllocError> {
-        two(alloc, "instances", &self.instances, "task", &self.task)
+        object_of!(alloc, "instances" => &self.instances, "task" => &self.task)
     }
 }
 
@@ -63,15 +55,7 @@ impl Shown for ServiceView {
     ghost as_data = { service_data };
 
     fn value(&self, alloc: Global) -> Result<Value, AllocError> {
-        three(
-            alloc,
-            "component",
-            &self.component,
-            "intent",
-            &self.intent,
-            "starts",
-            &self.starts,
-        )
+        object_of!(alloc, "component" => &self.component, "intent" => &self.intent, "starts" => &self.starts)
     }
 }
 
@@ -153,27 +137,14 @@ impl Shown for Receiving {
 fn normal_value(alloc: Global, item: &Item, aim: &Aim, intent: &Intent) -> Result<Value, AllocError>
     ensures { IfOk result (λ value. view value ≡ item_data item.now.broadcast item.now.delivery (Normal aim.now intent.now)) }
 {
-    let mut members = Map::new(alloc);
-    put_normal(alloc, &mut members, item, aim, intent)?;
-    Ok(Value::Object(members))
-}
-
-/// Puts what a delivery of a normal broadcast says.
-fn put_normal(
-    alloc: Global,
-    members: &mut Members,
-    item: &Item,
-    aim: &Aim,
-    intent: &Intent,
-) -> Result<(), AllocError>
-    requires { members_view members.old.entries ≡ no_members }
-    ensures { OnOk result (object (members_view members.new.entries) ≡ item_data item.now.broadcast item.now.delivery (Normal aim.now intent.now)) }
-{
-    put_shown(alloc, members, "broadcast", &item.broadcast)?;
-    put_shown(alloc, members, "delivery", &item.delivery)?;
-    put_shown(alloc, members, "intent", intent)?;
-    put_shown(alloc, members, "ordered", &false)?;
-    put_shown(alloc, members, "to", aim)
+    object_of!(
+        alloc,
+        "broadcast" => &item.broadcast,
+        "delivery" => &item.delivery,
+        "intent" => intent,
+        "ordered" => &false,
+        "to" => aim
+    )
 }
 
 /// A delivery of an ordered broadcast, with the result so far.
@@ -187,27 +158,12 @@ fn ordered_value(
     ensures { IfOk result (λ value. view value ≡ item_data item.now.broadcast item.now.delivery (InOrder aim.now intent.now outcome.now)) }
 {
     let mut members = Map::new(alloc);
-    put_ordered(alloc, &mut members, item, aim, intent, outcome)?;
+    put_shown(alloc, &mut members, "broadcast", &item.broadcast)?;
+    put_outcome(alloc, &mut members, item, outcome)?;
+    put_shown(alloc, &mut members, "intent", intent)?;
+    put_shown(alloc, &mut members, "ordered", &true)?;
+    put_shown(alloc, &mut members, "to", aim)?;
     Ok(Value::Object(members))
-}
-
-/// Puts what a delivery of an ordered broadcast says.
-fn put_ordered(
-    alloc: Global,
-    members: &mut Members,
-    item: &Item,
-    aim: &Aim,
-    intent: &Intent,
-    outcome: &Outcome,
-) -> Result<(), AllocError>
-    requires { members_view members.old.entries ≡ no_members }
-    ensures { OnOk result (object (members_view members.new.entries) ≡ item_data item.now.broadcast item.now.delivery (InOrder aim.now intent.now outcome.now)) }
-{
-    put_shown(alloc, members, "broadcast", &item.broadcast)?;
-    put_outcome(alloc, members, item, outcome)?;
-    put_shown(alloc, members, "intent", intent)?;
-    put_shown(alloc, members, "ordered", &true)?;
-    put_shown(alloc, members, "to", aim)
 }
 
 /// Puts the result of an ordered broadcast so far.
@@ -217,7 +173,7 @@ fn put_outcome(
     item: &Item,
     outcome: &Outcome,
 ) -> Result<(), AllocError>
-    ensures { OnOk result (members_view members.new.entries ≡ with_member (codes "extras") (extras_data outcome.now.extras) (with_member (codes "delivery") (natural item.now.delivery) (with_member (codes "data") (text_or_null outcome.now.text) (with_member (codes "code") (whole outcome.now.code) (members_view members.old.entries))))) }
+    ensures { OnOk result (members_view members.new.entries ≡ with_member (codes "extras") (extras_data outcome.now.extras) (with_member (codes "delivery") (natural item.now.delivery) (with_member (codes "data") (or_null (option_map string outcome.now.text)) (with_member (codes "code") (whole outcome.now.code) (members_view members.old.entries))))) }
 {
     put_shown(alloc, members, "code", &outcome.code)?;
     put_shown(alloc, members, "data", &outcome.text)?;
@@ -262,28 +218,20 @@ fn number_after(at: u64) -> u64
 }
 
 /// A stored call with its number.
+#[tactic(auto, unfolding(crate::specs::Replies::entry_data))]
 fn entry_value(alloc: Global, at: u64, call: &Entry) -> Result<Value, AllocError>
     ensures { IfOk result (λ value. view value ≡ entry_data at call.entry.now) }
 {
     let mut members = Map::new(alloc);
-    put_entry(alloc, &mut members, at, call)?;
+    put_shown(alloc, &mut members, "at", &at)?;
+    put_shown(alloc, &mut members, "desk", &call.desk)?;
+    put_shown(alloc, &mut members, "kept", &call.kept)?;
+    put_shown(alloc, &mut members, "now", &call.now)?;
+    put_shown(alloc, &mut members, "request", &call.request)?;
+    put_word(alloc, &mut members, "route", route_of(&call.request))?;
+    put_shown(alloc, &mut members, "uid", &call.uid)?;
+    put_shown(alloc, &mut members, "weight", &call.weight)?;
     Ok(Value::Object(members))
-}
-
-/// Puts what a stored call says.
-#[tactic(auto, unfolding(crate::specs::Replies::entry_data))]
-fn put_entry(alloc: Global, members: &mut Members, at: u64, call: &Entry) -> Result<(), AllocError>
-    requires { members_view members.old.entries ≡ no_members }
-    ensures { OnOk result (object (members_view members.new.entries) ≡ entry_data at call.entry.now) }
-{
-    put_shown(alloc, members, "at", &at)?;
-    put_shown(alloc, members, "desk", &call.desk)?;
-    put_shown(alloc, members, "kept", &call.kept)?;
-    put_shown(alloc, members, "now", &call.now)?;
-    put_shown(alloc, members, "request", &call.request)?;
-    put_word(alloc, members, "route", route_of(&call.request))?;
-    put_shown(alloc, members, "uid", &call.uid)?;
-    put_shown(alloc, members, "weight", &call.weight)
 }
 
 /// Stored calls that follow each other, each as a value.

@@ -11,7 +11,7 @@ use Rattle.am_uri.specs.declared.text.Form.TheVariants.{Any}
 use Rattle.am_wire_fields.specs.Texts.{optional_text}
 use Rattle.am_wire_intents.specs.Intents.{required_intent}
 use Rattle.am_wire.specs.Activities.{fields_of}
-use Rattle.am_wire.specs.Accounts.{is_receiver, text_at, asks_receivers, explain_fields, permission_for, explain_about, explain_of, explain_in}
+use Rattle.am_wire.specs.Accounts.{is_receiver, text_at, asks_receivers, explain_fields, permission_for, asked_with, explain_in}
 use Rattle.am_wire.specs.Words.{kind_of}
 use Rattle.am_wire_values.specs.Intents.{intent_data}
 use Rattle.am_wire_values.specs.Names.{kind_name}
@@ -51,7 +51,7 @@ fields_again : (value : Data) (kind : Kind) (intent : Intent) (caller permission
     → fields_of (explain_fields (asks_receivers (object (members_with es)))) (object (members_with es)) ≡ Ok tt
     → permission_for kind (object (members_with es)) ≡ Ok permission
     → explain_in (object (members_with es)) ≡ Ok (asks.Explain kind intent caller permission shown)
-unfolding explain_in explain_of explain_about
+unfolding explain_in asked_with
 fields_again value kind intent caller permission shown es k said-intent said-as said-of apart at-kind at-intent at-as at-of known required =
     let d = object (members_with es) in
     let got = asks.Explain kind intent caller permission shown in
@@ -90,7 +90,7 @@ explain_of_again value Receiver intent caller permission shown k one two three f
     (text_field Any 1024 (codes "permission") value permission es k three refl refl)
 
 pub explain_again : (value : Data) (r : Request) → IsKept value → explain_in value ≡ Ok r → explain_in (request_data r) ≡ Ok r
-unfolding explain_in explain_of explain_about request_data
+unfolding explain_in asked_with request_data
 explain_again value r k h =
     let one = step (fields_of (explain_fields (asks_receivers value)) value) _ r h in
     let two = step (kind_of value) _ r one.later in

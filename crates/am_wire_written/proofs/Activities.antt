@@ -12,7 +12,7 @@ use Rattle.am_wire_fields.specs.Fields.{required}
 use Rattle.am_wire_fields.specs.Lists.{word_in}
 use Rattle.am_wire_fields.specs.Numbers.{required_natural}
 use Rattle.am_wire_fields.specs.Reading.{◌>>=◌}
-use Rattle.am_wire.specs.Activities.{fields_of, plain_in, number_in, finish_activity_in, history_in}
+use Rattle.am_wire.specs.Activities.{fields_of, plain_in, number_in}
 use Rattle.am_wire.specs.Words.{kind_words, kind_named, kind_among, kind_of}
 use Rattle.am_wire_values.specs.Fields.{natural}
 use Rattle.am_wire_values.specs.Names.{kind_name}
@@ -31,7 +31,7 @@ unfolding plain_in
 plain_again r = steps (fields_of [] (object no_members)) (λ known. Ok r) tt r (fields_known [] [] refl) refl
 
 -- a body whose only field is a number
-pub number_again : (name : List ℕ) (value : Data) (n : ℕ) → IsKept value → are_listed (name ∷ []) ((name, Some (natural n)) ∷ []) ≡ true → value_at name ((name, Some (natural n)) ∷ []) ≡ Some (natural n)
+number_again : (name : List ℕ) (value : Data) (n : ℕ) → IsKept value → are_listed (name ∷ []) ((name, Some (natural n)) ∷ []) ≡ true → value_at name ((name, Some (natural n)) ∷ []) ≡ Some (natural n)
     → number_in name value ≡ Ok n → number_in name (with_one name (natural n)) ≡ Ok n
 unfolding number_in
 number_again name value n k listed at h =
@@ -49,6 +49,13 @@ made_again read write again make written value r k h =
     subst P (same_ok (make one.value) r one.later)
     (ap (λ d. read d >>= λ x. Ok (make x)) (written one.value)
     ∙ steps (read (write one.value)) (λ x. Ok (make x)) one.value (make one.value) (again value one.value k one.first) refl)
+
+-- and so is one that is made of a number
+pub numbered : (name : List ℕ) (make : ℕ → Request)
+    → ((n : ℕ) → (are_listed (name ∷ []) ((name, Some (natural n)) ∷ []) ≡ true) × (value_at name ((name, Some (natural n)) ∷ []) ≡ Some (natural n)) × (request_data (make n) ≡ with_one name (natural n)))
+    → (value : Data) (r : Request) → IsKept value → (number_in name value >>= λ n. Ok (make n)) ≡ Ok r → (number_in name (request_data r) >>= λ n. Ok (make n)) ≡ Ok r
+numbered name make is value r k h =
+    made_again (number_in name) (λ n. with_one name (natural n)) (λ value n k h. let e = is n in number_again name value n k e.0 e.1 h) make (λ n. let e = is n in e.2) value r k h
 
 -- a kind is read of its word
 pub named_at : (words : List (List ℕ)) (word : List ℕ) (kind : Kind) (es : List Entry) → lists words word ≡ true → kind_named word ≡ kind → are_apart es ≡ true → value_at (codes "kind") es ≡ Some (string word)
@@ -72,13 +79,3 @@ kind_part = record {
   write = λ kind. Some (string (kind_name kind));
   again = λ value kind es k h apart is. kind_at kind es apart is;
 }
-
-pub finish_activity_again : (value : Data) (r : Request) → IsKept value → finish_activity_in value ≡ Ok r → finish_activity_in (request_data r) ≡ Ok r
-unfolding finish_activity_in request_data
-finish_activity_again value r k h =
-    made_again (number_in (codes "instance")) (λ n. with_one (codes "instance") (natural n)) (λ value n k h. number_again (codes "instance") value n k refl refl h) asks.FinishActivity (λ n. refl) value r k h
-
-pub history_again : (value : Data) (r : Request) → IsKept value → history_in value ≡ Ok r → history_in (request_data r) ≡ Ok r
-unfolding history_in request_data
-history_again value r k h =
-    made_again (number_in (codes "from")) (λ n. with_one (codes "from") (natural n)) (λ value n k h. number_again (codes "from") value n k refl refl h) asks.History (λ n. refl) value r k h

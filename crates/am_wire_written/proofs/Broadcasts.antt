@@ -13,12 +13,11 @@ use Rattle.am_wire_fields.specs.Numbers.{required_natural, required_whole, optio
 use Rattle.am_wire_fields.specs.Texts.{optional_text}
 use Rattle.am_wire_intents.specs.Extras.{optional_extras}
 use Rattle.am_wire_intents.specs.Intents.{required_intent}
-use Rattle.am_wire.specs.Activities.{fields_of, number_in}
-use Rattle.am_wire.specs.Broadcasts.{is_true, truth_at, is_ordered, send_fields, or_zero, ordered_in, ordered_if, send_of, send_in, unregister_in, sets_outcome, finish_fields, outcome_in, outcome_if, finish_of, finish_in}
+use Rattle.am_wire.specs.Activities.{fields_of}
+use Rattle.am_wire.specs.Broadcasts.{is_true, truth_at, is_ordered, send_fields, or_zero, ordered_in, ordered_if, sent_with, send_in, sets_outcome, finish_fields, outcome_in, outcome_if, finish_in}
 use Rattle.am_wire_values.specs.Fields.{natural, whole, some_whole, some_truth}
 use Rattle.am_wire_values.specs.Intents.{intent_data, some_extras}
-use Rattle.am_wire_values.specs.Requests.{with_one, with_outcome, with_ordered, send_data, finish_data, request_data}
-use Rattle.am_wire_written.proofs.Activities.{made_again, number_again}
+use Rattle.am_wire_values.specs.Requests.{with_outcome, with_ordered, send_data, finish_data, request_data}
 use Rattle.am_wire_written.proofs.Extras.{extras_field}
 use Rattle.am_wire_written.proofs.Intents.{required_intent_again}
 use Rattle.am_wire_written.proofs.Kept.{IsKept}
@@ -78,7 +77,7 @@ truth_is es b apart is = truth_field (codes "ordered") b es apart is
 send_of_again : (value : Data) (intent : Intent) (permission : Option (List ℕ)) (b : Bool) (ordered : Option Ordered) → IsKept value
     → required_intent (codes "intent") value ≡ Ok intent → optional_text Any 1024 (codes "permission") value ≡ Ok permission → ordered_if b value ≡ Ok ordered
     → send_in (send_data intent permission ordered) ≡ Ok (asks.Send intent permission ordered)
-unfolding send_in send_of send_data with_ordered with_outcome send_fields ordered_if
+unfolding send_in sent_with send_data with_ordered with_outcome send_fields ordered_if
 send_of_again value intent permission b None k one two three =
     let es = plain_entries intent permission in
     let got = asks.Send intent permission None in
@@ -101,7 +100,7 @@ send_of_again value intent permission b (Some o) k one two three =
     (steps (ordered_in (object (members_with es))) (λ ordered. Ok (Some ordered)) o (Some o) (ordered_again value o es k (ordered_is b value o three) refl refl refl refl refl) refl) refl))))
 
 pub send_again : (value : Data) (r : Request) → IsKept value → send_in value ≡ Ok r → send_in (request_data r) ≡ Ok r
-unfolding send_in send_of request_data
+unfolding send_in sent_with request_data
 send_again value r k h =
     let one = step (fields_of (send_fields (is_ordered value)) value) _ r h in
     let two = step (required_intent (codes "intent") value) _ r one.later in
@@ -111,11 +110,6 @@ send_again value r k h =
     let got = asks.Send two.value three.value five.value in
     let P : Request → Type 0 = λ r. send_in (request_data r) ≡ Ok r in
     subst P (same_ok got r five.later) (send_of_again value two.value three.value four.value five.value k two.first three.first five.first)
-
-pub unregister_again : (value : Data) (r : Request) → IsKept value → unregister_in value ≡ Ok r → unregister_in (request_data r) ≡ Ok r
-unfolding unregister_in request_data
-unregister_again value r k h =
-    made_again (number_in (codes "number")) (λ n. with_one (codes "number") (natural n)) (λ value n k h. number_again (codes "number") value n k refl refl h) asks.Unregister (λ n. refl) value r k h
 
 -- ---- answers
 
@@ -153,7 +147,7 @@ sets es o apart is = ap is_some (field_at (codes "code") es apart ∙ ap unless_
 
 finish_of_again : (value : Data) (delivery : ℕ) (abort b : Bool) (set : Option Outcome) → IsKept value → required_natural (codes "delivery") value ≡ Ok delivery → outcome_if b value ≡ Ok set
     → finish_in (finish_data delivery (record { set = set; abort = abort })) ≡ Ok (asks.Finish delivery (record { set = set; abort = abort }))
-unfolding finish_in finish_of finish_data with_outcome finish_fields outcome_if
+unfolding finish_in finish_data with_outcome finish_fields outcome_if
 finish_of_again value delivery abort b None k one three =
     let es = answer_entries delivery abort in
     let d = object (members_with es) in
@@ -174,7 +168,7 @@ finish_of_again value delivery abort b (Some o) k one three =
     (steps (outcome_if (sets_outcome d) d) _ (Some o) got (ap (λ b. outcome_if b d) some ∙ steps (outcome_in d) (λ outcome. Ok (Some outcome)) o (Some o) (outcome_again value o es k (outcome_is b value o three) refl refl refl refl) refl) refl)))
 
 pub finish_again : (value : Data) (r : Request) → IsKept value → finish_in value ≡ Ok r → finish_in (request_data r) ≡ Ok r
-unfolding finish_in finish_of request_data
+unfolding finish_in request_data
 finish_again value r k h =
     let one = step (fields_of (finish_fields (sets_outcome value)) value) _ r h in
     let two = step (required_natural (codes "delivery") value) _ r one.later in

@@ -22,7 +22,7 @@ use Rattle.am_wire_fields.specs.Texts.{text_in, optional_text}
 use Rattle.am_wire_intents.specs.Filters.{row_in, rows_at, some_values, actions_at, priority_of, priority_if_said, priority_at, filter_of, filter_fields, filter_in, required_filter}
 use Rattle.am_wire_intents.specs.Intents.{categories_of}
 use Rattle.am_wire.specs.Activities.{fields_of}
-use Rattle.am_wire.specs.Broadcasts.{register_fields, register_in}
+use Rattle.am_wire.specs.Broadcasts.{register_in}
 use Rattle.am_wire_values.specs.Fields.{whole, some_whole, some_listed, texts_data, some_texts}
 use Rattle.am_wire_values.specs.Filters.{scheme_row, authority_row, path_row, type_row, rows_of, filter_data}
 use Rattle.am_wire_values.specs.Requests.{register_data, request_data}
@@ -244,7 +244,7 @@ filter_field parent f es k h few apart is =
     (required_at (codes "filter") es (filter_data f) apart is (no_null f)) (filter_again (codes "filter") s.value f (required_kept (codes "filter") parent s.value k s.first) s.later few)
 
 pub register_again : (value : Data) (r : Request) → IsKept value → register_in value ≡ Ok r → HasFewRows r → register_in (request_data r) ≡ Ok r
-unfolding register_fields register_in request_data register_data
+unfolding register_in request_data register_data
 register_again value r k h =
     let fields = codes "filter" ∷ codes "permission" ∷ [] in
     let one = step (fields_of fields value) _ r h in

@@ -10,12 +10,10 @@ use Rattle.am_wire_fields.specs.Fields.{unless_null, field, only_fields}
 use Rattle.am_wire_fields.specs.Lists.{list_if_said, optional_list, texts_in, optional_texts}
 use Rattle.am_wire_fields.specs.Reading.{◌>>=◌}
 use Rattle.am_wire_fields.specs.Texts.{text_in}
-use Rattle.am_wire_intents.specs.declared.intents.Asked.{Asked}
-use Rattle.am_wire_intents.specs.declared.intents.Carried.{Carried}
 use Rattle.am_wire_intents.specs.Flags.{flags_of}
-use Rattle.am_wire_intents.specs.Intents.{categories_of, asked_in, carried_in, intent_of, intent_fields, intent_in, required_intent, optional_intent}
+use Rattle.am_wire_intents.specs.Intents.{categories_of, intent_of, intent_fields, intent_in, required_intent, optional_intent}
 use Rattle.am_wire_values.specs.Fields.{some_texts}
-use Rattle.am_wire_values.specs.Intents.{component_data, mime_data, uri_data, some_extras, asked, aimed, carried, intent_data}
+use Rattle.am_wire_values.specs.Intents.{component_data, mime_data, uri_data, some_extras, intent_data}
 use Rattle.am_wire_values.specs.Names.{names_set, flags_named}
 use Rattle.am_wire_written.proofs.Components.{component_field, mime_field, uri_field}
 use Rattle.am_wire_written.proofs.Extras.{extras_field}
@@ -79,43 +77,8 @@ intent_entries i =
     ∷ (codes "data", option_map uri_data i.uri) ∷ (codes "categories", some_texts i.categories) ∷ (codes "action", option_map string i.action) ∷ []
 
 pub intent_is : (i : Intent) → intent_data i ≡ object (members_with (intent_entries i))
-unfolding intent_data asked aimed carried intent_entries
+unfolding intent_data intent_entries
 intent_is i = refl
-
-asked_again : (value : Data) (i : Intent) (a : Asked) → IsKept value → asked_in value ≡ Ok a → a.action ≡ i.action → a.categories ≡ i.categories → a.component ≡ i.component → a.uri ≡ i.uri
-    → asked_in (object (members_with (intent_entries i))) ≡ Ok a
-unfolding asked_in intent_entries
-asked_again value i a k h e1 e2 e3 e4 =
-    let es = intent_entries i in
-    let one = step _ _ a h in
-    let two = step _ _ a one.later in
-    let three = step _ _ a two.later in
-    let four = step _ _ a three.later in
-    let is : record { action = one.value; categories = two.value; component = three.value; uri = four.value } ≡ a = same_ok _ a four.later in
-    steps _ _ one.value a (text_field Any 1024 (codes "action") value one.value es k one.first refl (ap (option_map string) (sym e1 ∙ ap (λ (a : Asked). a.action) (sym is))))
-    (steps _ _ two.value a (categories_again Any value two.value es k two.first refl (ap some_texts (sym e2 ∙ ap (λ (a : Asked). a.categories) (sym is))))
-    (steps _ _ three.value a (component_field (codes "component") value three.value es k three.first refl (ap (option_map component_data) (sym e3 ∙ ap (λ (a : Asked). a.component) (sym is))))
-    (steps _ _ four.value a (uri_field (codes "data") value four.value es k four.first refl (ap (option_map uri_data) (sym e4 ∙ ap (λ (a : Asked). a.uri) (sym is))))
-    four.later)))
-
-carried_again : (value : Data) (i : Intent) (c : Carried) → IsKept value → carried_in value ≡ Ok c → c.extras ≡ i.extras → c.flags ≡ i.flags → c.identifier ≡ i.identifier → c.«package» ≡ i.«package» → c.mime ≡ i.mime
-    → carried_in (object (members_with (intent_entries i))) ≡ Ok c
-unfolding carried_in intent_entries
-carried_again value i c k h e1 e2 e3 e4 e5 =
-    let es = intent_entries i in
-    let one = step _ _ c h in
-    let two = step (flags_of value) _ c one.later in
-    let three = step _ _ c two.later in
-    let four = step _ _ c three.later in
-    let five = step _ _ c four.later in
-    let is : record { extras = one.value; flags = two.value; identifier = three.value; «package» = four.value; mime = five.value } ≡ c = same_ok _ c five.later in
-    let flags : two.value ≡ i.flags = ap (λ (c : Carried). c.flags) is ∙ e2 in
-    steps _ _ one.value c (extras_field value one.value es k one.first refl (ap some_extras (sym e1 ∙ ap (λ (c : Carried). c.extras) (sym is))))
-    (steps _ _ two.value c (flags_field two.value es refl (ap (λ f. some_texts (names_set (flags_named f))) (sym flags)))
-    (steps _ _ three.value c (text_field Any 1024 (codes "identifier") value three.value es k three.first refl (ap (option_map string) (sym e3 ∙ ap (λ (c : Carried). c.identifier) (sym is))))
-    (steps _ _ four.value c (text_field Any 1024 (codes "package") value four.value es k four.first refl (ap (option_map string) (sym e4 ∙ ap (λ (c : Carried). c.«package») (sym is))))
-    (steps _ _ five.value c (mime_field (codes "type") value five.value es k five.first refl (ap (option_map mime_data) (sym e5 ∙ ap (λ (c : Carried). c.mime) (sym is))))
-    five.later))))
 
 fields_listed : (i : Intent) (name : List ℕ) → only_fields name intent_fields (object (members_with (intent_entries i))) ≡ Ok tt
 unfolding intent_entries
@@ -123,18 +86,33 @@ fields_listed i name = only_listed name intent_fields (intent_entries i) refl
 
 -- an intent is read of what is written for it
 pub intent_again : (name : List ℕ) → IsReread (intent_in name) intent_data
-unfolding intent_in
+unfolding intent_in intent_of intent_entries
 intent_again name value i k h =
-    let one = step (only_fields name intent_fields value) _ i h in
-    let two = step (asked_in value) _ i one.later in
-    let three = step (carried_in value) _ i two.later in
-    let is : intent_of two.value three.value ≡ i = same_ok _ i three.later in
-    let of = λ (A : Type 0) (part : Intent → A). ap part is in
+    let known = step (only_fields name intent_fields value) _ i h in
+    let one = step _ _ i known.later in
+    let two = step _ _ i one.later in
+    let three = step _ _ i two.later in
+    let four = step _ _ i three.later in
+    let five = step _ _ i four.later in
+    let six = step (flags_of value) _ i five.later in
+    let seven = step _ _ i six.later in
+    let eight = step _ _ i seven.later in
+    let nine = step _ _ i eight.later in
+    let is = same_ok _ i nine.later in
+    let es = intent_entries i in
+    let flags : six.value ≡ i.flags = ap (λ (i : Intent). i.flags) is in
     ap (intent_in name) (intent_is i)
     ∙ steps _ _ tt i (fields_listed i name)
-    (steps _ _ two.value i (asked_again value i two.value k two.first (of _ (λ i. i.action)) (of _ (λ i. i.categories)) (of _ (λ i. i.component)) (of _ (λ i. i.uri)))
-    (steps _ _ three.value i (carried_again value i three.value k three.first (of _ (λ i. i.extras)) (of _ (λ i. i.flags)) (of _ (λ i. i.identifier)) (of _ (λ i. i.«package»)) (of _ (λ i. i.mime)))
-    three.later))
+    (steps _ _ one.value i (text_field Any 1024 (codes "action") value one.value es k one.first refl (ap (λ (i : Intent). option_map string i.action) (sym is)))
+    (steps _ _ two.value i (categories_again Any value two.value es k two.first refl (ap (λ (i : Intent). some_texts i.categories) (sym is)))
+    (steps _ _ three.value i (component_field (codes "component") value three.value es k three.first refl (ap (λ (i : Intent). option_map component_data i.component) (sym is)))
+    (steps _ _ four.value i (uri_field (codes "data") value four.value es k four.first refl (ap (λ (i : Intent). option_map uri_data i.uri) (sym is)))
+    (steps _ _ five.value i (extras_field value five.value es k five.first refl (ap (λ (i : Intent). some_extras i.extras) (sym is)))
+    (steps _ _ six.value i (flags_field six.value es refl (ap (λ f. some_texts (names_set (flags_named f))) (sym flags)))
+    (steps _ _ seven.value i (text_field Any 1024 (codes "identifier") value seven.value es k seven.first refl (ap (λ (i : Intent). option_map string i.identifier) (sym is)))
+    (steps _ _ eight.value i (text_field Any 1024 (codes "package") value eight.value es k eight.first refl (ap (λ (i : Intent). option_map string i.«package») (sym is)))
+    (steps _ _ nine.value i (mime_field (codes "type") value nine.value es k nine.first refl (ap (λ (i : Intent). option_map mime_data i.mime) (sym is)))
+    nine.later)))))))))
 
 pub no_null : (i : Intent) → unless_null (Some (intent_data i)) ≡ Some (intent_data i)
 unfolding intent_data

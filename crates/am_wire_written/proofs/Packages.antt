@@ -14,9 +14,8 @@ use Rattle.am_wire_fields.specs.declared.fault.WireFault.TheVariants.{WrongKind,
 use Rattle.am_wire_fields.specs.Fields.{required, required_truth}
 use Rattle.am_wire_fields.specs.Texts.{text_of, text_in, required_text}
 use Rattle.am_wire.specs.Activities.{fields_of}
-use Rattle.am_wire.specs.Packages.{key_of, key_in, package_in, uninstall_in, force_stop_in, link_fields, link_in}
+use Rattle.am_wire.specs.Packages.{key_of, key_in, package_in, link_in}
 use Rattle.am_wire_values.specs.Requests.{with_one, link_data, request_data}
-use Rattle.am_wire_written.proofs.Activities.{made_again}
 use Rattle.am_wire_written.proofs.Kept.{IsKept}
 use Rattle.am_wire_written.proofs.Objects.{Entry, members_with, value_at, are_apart}
 use Rattle.am_wire_written.proofs.Options.{IsReread}
@@ -49,7 +48,7 @@ key_part = record { name = codes "key"; read = key_in; write = λ key. Some (str
 
 -- ---- names
 
-package_again : IsReread package_in (λ name. with_one (codes "package") (string name))
+pub package_again : IsReread package_in (λ name. with_one (codes "package") (string name))
 unfolding package_in
 package_again value name k h =
     let fields = codes "package" ∷ [] in
@@ -57,14 +56,6 @@ package_again value name k h =
     let es : List Entry = (codes "package", Some (string name)) ∷ [] in
     steps (fields_of fields (object (members_with es))) (λ known. required_text Any 1024 (codes "package") (object (members_with es))) tt name (fields_known fields es refl)
     (required_text_again Any 1024 (codes "package") value name es k one.later refl refl)
-
-pub uninstall_again : (value : Data) (r : Request) → IsKept value → uninstall_in value ≡ Ok r → uninstall_in (request_data r) ≡ Ok r
-unfolding uninstall_in request_data
-uninstall_again value r k h = made_again package_in (λ name. with_one (codes "package") (string name)) package_again asks.Uninstall (λ name. refl) value r k h
-
-pub force_stop_again : (value : Data) (r : Request) → IsKept value → force_stop_in value ≡ Ok r → force_stop_in (request_data r) ≡ Ok r
-unfolding force_stop_in request_data
-force_stop_again value r k h = made_again package_in (λ name. with_one (codes "package") (string name)) package_again asks.ForceStop (λ name. refl) value r k h
 
 -- ---- links
 
@@ -93,7 +84,7 @@ host_at value host es h apart is =
     (required_at (codes "host") es (string (lowered host)) apart is refl) (host_of (as_str one.value) host one.later)
 
 pub link_again : (value : Data) (r : Request) → IsKept value → link_in value ≡ Ok r → link_in (request_data r) ≡ Ok r
-unfolding link_fields link_in request_data link_data
+unfolding link_in request_data link_data
 link_again value r k h =
     let fields = codes "package" ∷ codes "host" ∷ codes "approved" ∷ [] in
     let one = step (fields_of fields value) _ r h in

@@ -8,14 +8,14 @@ use Rattle.am_types.specs.declared.request.Request.{Request}
 use Rattle.am_types.specs.declared.request.Request.TheVariants as asks
 use Rattle.am_wire_fields.specs.Numbers.{required_whole}
 use Rattle.am_wire_intents.specs.Intents.{required_intent}
-use Rattle.am_wire.specs.Activities.{fields_of, number_in}
-use Rattle.am_wire.specs.Pendings.{get_of, pending_get_in, pending_cancel_in}
+use Rattle.am_wire.specs.Activities.{fields_of}
+use Rattle.am_wire.specs.Pendings.{pending_get_in}
 use Rattle.am_wire.specs.Words.{pending_words, pending_kind_of, pending_flags_of}
-use Rattle.am_wire_values.specs.Fields.{natural, whole, texts_data}
+use Rattle.am_wire_values.specs.Fields.{whole, texts_data}
 use Rattle.am_wire_values.specs.Intents.{intent_data}
 use Rattle.am_wire_values.specs.Names.{pending_name, names_set, pending_named}
-use Rattle.am_wire_values.specs.Requests.{with_one, get_data, request_data}
-use Rattle.am_wire_written.proofs.Activities.{made_again, named_at, number_again}
+use Rattle.am_wire_values.specs.Requests.{get_data, request_data}
+use Rattle.am_wire_written.proofs.Activities.{named_at}
 use Rattle.am_wire_written.proofs.Flags.{pending_flags_at}
 use Rattle.am_wire_written.proofs.Intents.{required_intent_again}
 use Rattle.am_wire_written.proofs.Kept.{IsKept}
@@ -31,7 +31,7 @@ kind_at Service es apart is = named_at pending_words (codes "service") Service e
 kind_at Receiver es apart is = named_at pending_words (codes "broadcast") Receiver es refl refl apart is
 
 pub pending_get_again : (value : Data) (r : Request) → IsKept value → pending_get_in value ≡ Ok r → pending_get_in (request_data r) ≡ Ok r
-unfolding pending_get_in get_of request_data get_data
+unfolding pending_get_in request_data get_data
 pending_get_again value r k h =
     let fields = codes "kind" ∷ codes "code" ∷ codes "intent" ∷ codes "flags" ∷ [] in
     let one = step (fields_of fields value) _ r h in
@@ -51,8 +51,3 @@ pending_get_again value r k h =
     (steps (required_whole (codes "code") (object (members_with es))) _ three.value got (required_whole_again (codes "code") value three.value es k three.first refl refl)
     (steps (required_intent (codes "intent") (object (members_with es))) _ four.value got (required_intent_again (codes "intent") value four.value es k four.first refl refl)
     (steps (pending_flags_of (object (members_with es))) _ five.value got (pending_flags_at five.value es refl refl) refl)))))
-
-pub pending_cancel_again : (value : Data) (r : Request) → IsKept value → pending_cancel_in value ≡ Ok r → pending_cancel_in (request_data r) ≡ Ok r
-unfolding pending_cancel_in request_data
-pending_cancel_again value r k h =
-    made_again (number_in (codes "token")) (λ n. with_one (codes "token") (natural n)) (λ value n k h. number_again (codes "token") value n k refl refl h) asks.PendingCancel (λ n. refl) value r k h

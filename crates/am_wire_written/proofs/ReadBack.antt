@@ -3,39 +3,39 @@ use Rattle.std.proofs.Common.{◌≡◌, ℕ, ◌≤◌, cond, List, Option, Som
 use Rattle.std.specs.Prelude.{codes}
 use Rattle.std.specs.Str.{IsUtf8, is_utf8}
 use Rattle.std.proofs.lemmas.Str.{is_utf8-from_IsUtf8, IsUtf8-string_bytes}
-use Rattle.serde_json.specs.Data.{Data, depth}
+use Rattle.serde_json.specs.Data.{Data, string, depth}
 use Rattle.serde_json.specs.Read.{max_depth, read}
 use Rattle.am_types.specs.declared.request.Request.{Request}
 use Rattle.am_types.specs.declared.request.Request.TheVariants as asks
 use Rattle.am_wire_fields.specs.declared.fault.WireFault.TheVariants.{NotJson}
 use Rattle.am_wire_fields.specs.Bodies.{json_of, value_of}
-use Rattle.am_wire.specs.Activities.{query_fields, default_only_of, query_in, start_in, start_service_in, stop_service_in}
-use Rattle.am_wire.specs.Packages.{install_in, grant_fields, grant_in}
+use Rattle.am_wire.specs.Activities.{query_in, start_in, start_service_in, stop_service_in}
+use Rattle.am_wire.specs.Packages.{install_in, package_in, grant_fields, grant_in}
 use Rattle.am_wire.specs.Pendings.{pending_send_in, pending_give_in}
 use Rattle.am_wire.specs.Requests.{request_in, posted, request_of}
-use Rattle.am_wire_values.specs.Requests.{query_data, start_data, pending_send_data, grant_data, request_data}
+use Rattle.am_wire_values.specs.Requests.{with_one, query_data, start_data, pending_send_data, grant_data, request_data}
 use Rattle.am_wire_written.specs.Written.{endpoint_at, IsReadable, HasFewRows}
 use Rattle.am_wire_written.proofs.Accounts.{explain_again}
-use Rattle.am_wire_written.proofs.Activities.{plain_again, kind_part, finish_activity_again, history_again}
-use Rattle.am_wire_written.proofs.Broadcasts.{send_again, unregister_again, finish_again}
+use Rattle.am_wire_written.proofs.Activities.{plain_again, kind_part, made_again, numbered}
+use Rattle.am_wire_written.proofs.Broadcasts.{send_again, finish_again}
 use Rattle.am_wire_written.proofs.Depths.{request_within}
 use Rattle.am_wire_written.proofs.Filters.{register_again}
 use Rattle.am_wire_written.proofs.Kept.{IsKept, kept_read}
-use Rattle.am_wire_written.proofs.Packages.{key_part, uninstall_again, force_stop_again, link_again}
+use Rattle.am_wire_written.proofs.Packages.{key_part, package_again, link_again}
 use Rattle.am_wire_written.proofs.Parts as parts
-use Rattle.am_wire_written.proofs.Pendings.{pending_get_again, pending_cancel_again}
+use Rattle.am_wire_written.proofs.Pendings.{pending_get_again}
 use Rattle.am_wire_written.proofs.Steps.{step, steps, same_ok}
 use Rattle.am_wire_written.proofs.Texts.{if_read}
 
 -- a request that was read of a value is read of its own value
 value_again : (value : Data) (r : Request) → IsKept value → HasFewRows r → request_in (endpoint_at r) value ≡ Ok r → request_in (endpoint_at r) (request_data r) ≡ Ok r
-unfolding request_in query_fields default_only_of query_in start_in start_service_in stop_service_in install_in grant_fields grant_in pending_send_in pending_give_in query_data start_data pending_send_data grant_data request_data
+unfolding request_in query_in start_in start_service_in stop_service_in install_in grant_fields grant_in pending_send_in pending_give_in query_data start_data pending_send_data grant_data request_data
 value_again value (asks.Query kind intent default_only) k few h =
     parts.three_again kind_part (parts.intent (codes "intent")) (parts.truth_or_false (codes "defaultOnly")) asks.Query (λ x y z. ((refl, refl, refl), refl, refl, refl)) value (asks.Query kind intent default_only) k h
 value_again value (asks.Explain kind intent caller permission shown) k few h = explain_again value (asks.Explain kind intent caller permission shown) k h
 value_again value (asks.Start intent source) k few h =
     parts.two_again (parts.intent (codes "intent")) (parts.number_if (codes "source")) asks.Start (λ x y. ((refl, refl, refl), refl, refl)) value (asks.Start intent source) k h
-value_again value (asks.FinishActivity instance) k few h = finish_activity_again value (asks.FinishActivity instance) k h
+value_again value (asks.FinishActivity instance) k few h = numbered (codes "instance") asks.FinishActivity (λ n. (refl, refl, refl)) value (asks.FinishActivity instance) k h
 value_again value asks.Back k few h = plain_again asks.Back
 value_again value asks.ListTasks k few h = refl
 value_again value (asks.StartService intent) k few h =
@@ -45,24 +45,26 @@ value_again value (asks.StopService component) k few h =
 value_again value asks.Services k few h = refl
 value_again value (asks.Send intent permission ordered) k few h = send_again value (asks.Send intent permission ordered) k h
 value_again value (asks.Register filter permission) k few h = register_again value (asks.Register filter permission) k h few
-value_again value (asks.Unregister registered) k few h = unregister_again value (asks.Unregister registered) k h
+value_again value (asks.Unregister registered) k few h = numbered (codes "number") asks.Unregister (λ n. (refl, refl, refl)) value (asks.Unregister registered) k h
 value_again value asks.Inbox k few h = refl
 value_again value (asks.Finish delivery answer) k few h = finish_again value (asks.Finish delivery answer) k h
 value_again value (asks.PendingGet kind code intent flags) k few h = pending_get_again value (asks.PendingGet kind code intent flags) k h
 value_again value (asks.PendingSend token fill) k few h =
     parts.two_again (parts.number (codes "token")) (parts.intent_if (codes "fill")) asks.PendingSend (λ x y. ((refl, refl, refl), refl, refl)) value (asks.PendingSend token fill) k h
-value_again value (asks.PendingCancel token) k few h = pending_cancel_again value (asks.PendingCancel token) k h
+value_again value (asks.PendingCancel token) k few h = numbered (codes "token") asks.PendingCancel (λ n. (refl, refl, refl)) value (asks.PendingCancel token) k h
 value_again value (asks.PendingGive token name) k few h =
     parts.two_again (parts.number (codes "token")) (parts.text 1024 (codes "package")) asks.PendingGive (λ x y. ((refl, refl, refl), refl, refl)) value (asks.PendingGive token name) k h
 value_again value (asks.Install text key) k few h =
     parts.two_again (parts.text 65536 (codes "manifest")) key_part asks.Install (λ x y. ((refl, refl, refl), refl, refl)) value (asks.Install text key) k h
-value_again value (asks.Uninstall name) k few h = uninstall_again value (asks.Uninstall name) k h
+value_again value (asks.Uninstall name) k few h =
+    made_again package_in (λ name. with_one (codes "package") (string name)) package_again asks.Uninstall (λ name. refl) value (asks.Uninstall name) k h
 value_again value (asks.Grant name permission held) k few h =
     parts.three_again (parts.text 1024 (codes "package")) (parts.text 1024 (codes "permission")) (parts.truth (codes "held")) asks.Grant (λ x y z. ((refl, refl, refl), refl, refl, refl)) value (asks.Grant name permission held) k h
 value_again value (asks.Link name host approved) k few h = link_again value (asks.Link name host approved) k h
-value_again value (asks.ForceStop name) k few h = force_stop_again value (asks.ForceStop name) k h
+value_again value (asks.ForceStop name) k few h =
+    made_again package_in (λ name. with_one (codes "package") (string name)) package_again asks.ForceStop (λ name. refl) value (asks.ForceStop name) k h
 value_again value asks.Tick k few h = plain_again asks.Tick
-value_again value (asks.History from) k few h = history_again value (asks.History from) k h
+value_again value (asks.History from) k few h = numbered (codes "from") asks.History (λ n. (refl, refl, refl)) value (asks.History from) k h
 value_again value asks.Status k few h = refl
 
 json_is : (o : Option Data) (value : Data) → json_of o ≡ Ok value → o ≡ Some value

@@ -1,10 +1,12 @@
 -- Words, and what they say.
-use Rattle.std.proofs.Common.{◌≡◌, refl, List, [], ◌∷◌, Some, None}
+use Rattle.std.proofs.Common.{◌≡◌, refl, List, [], ◌∷◌, Option, Some, None}
 use Rattle.std.specs.Prelude.{codes, ⊤}
 use Rattle.am_words.specs.Options.{Text, options_in, options_of}
 use Rattle.am_words.specs.Values.{number_of, number_in, optional_number_in, path_of, optional_path_of, clock_of}
 use Rattle.am_words.specs.Grammar.{drill_of, named, read_command, serve_of, session_of, visible_of}
+use Rattle.am_words.specs.declared.command.Command.{Command}
 use Rattle.am_words.specs.declared.command.Command.TheVariants.{Session, Serve, Drill, Visible}
+use Rattle.am_words.specs.declared.command.StepWords.{StepWords}
 
 unfoldable on_literals : ⊤
 unfolding options_in options_of number_of number_in optional_number_in path_of optional_path_of clock_of drill_of named read_command serve_of session_of visible_of
@@ -13,43 +15,46 @@ on_literals = tt
 abbrev no_command : List Text → Type 0
 no_command words = read_command words ≡ None
 
+abbrev session : Text → Option Text → Option StepWords → Command
+session device store clock = Session (record { device = device; store = store; clock = clock })
+
 -- ---- a command with its options in both forms and in any order
 
-session_plain : read_command (codes "session" ∷ codes "--device" ∷ codes "d.toml" ∷ []) ≡ Some (Session (codes "d.toml") None None)
+session_plain : read_command (codes "session" ∷ codes "--device" ∷ codes "d.toml" ∷ []) ≡ Some (session (codes "d.toml") None None)
 unfolding on_literals
 session_plain = refl
 
 session_whole : read_command (codes "session" ∷ codes "--step=10" ∷ codes "--store" ∷ codes "rows" ∷ codes "--at" ∷ codes "0" ∷ codes "--device=d.toml" ∷ [])
-    ≡ Some (Session (codes "d.toml") (Some (codes "rows")) (Some (record { at = 0; step = 10 })))
+    ≡ Some (session (codes "d.toml") (Some (codes "rows")) (Some (record { at = 0; step = 10 })))
 unfolding on_literals
 session_whole = refl
 
 serve_plain : read_command (codes "serve" ∷ codes "--device" ∷ codes "d" ∷ codes "--port" ∷ codes "1" ∷ codes "--workers=64" ∷ [])
-    ≡ Some (Serve (codes "d") 1 64 None None)
+    ≡ Some (Serve (record { device = codes "d"; port = 1; workers = 64; store = None; connections = None }))
 unfolding on_literals
 serve_plain = refl
 
 serve_whole : read_command (codes "serve" ∷ codes "--connections=1000000" ∷ codes "--workers=1" ∷ codes "--port=65535" ∷ codes "--store=s" ∷ codes "--device=d" ∷ [])
-    ≡ Some (Serve (codes "d") 65535 1 (Some (codes "s")) (Some 1000000))
+    ≡ Some (Serve (record { device = codes "d"; port = 65535; workers = 1; store = Some (codes "s"); connections = Some 1000000 }))
 unfolding on_literals
 serve_whole = refl
 
 drill_whole : read_command (codes "drill" ∷ codes "--from" ∷ codes "18446744073709551615" ∷ codes "--packages=256" ∷ codes "--requests=0" ∷ [])
-    ≡ Some (Drill 18446744073709551615 256 0)
+    ≡ Some (Drill (record { from = 18446744073709551615; packages = 256; requests = 0 }))
 unfolding on_literals
 drill_whole = refl
 
-visible_whole : read_command (codes "visible" ∷ codes "--as" ∷ codes "com.a" ∷ codes "--device" ∷ codes "d" ∷ []) ≡ Some (Visible (codes "d") (codes "com.a"))
+visible_whole : read_command (codes "visible" ∷ codes "--as" ∷ codes "com.a" ∷ codes "--device" ∷ codes "d" ∷ []) ≡ Some (Visible (record { device = codes "d"; «package» = codes "com.a" }))
 unfolding on_literals
 visible_whole = refl
 
 -- ---- values
 
-empty_package : read_command (codes "visible" ∷ codes "--as=" ∷ codes "--device" ∷ codes "d" ∷ []) ≡ Some (Visible (codes "d") [])
+empty_package : read_command (codes "visible" ∷ codes "--as=" ∷ codes "--device" ∷ codes "d" ∷ []) ≡ Some (Visible (record { device = codes "d"; «package» = [] }))
 unfolding on_literals
 empty_package = refl
 
-empty_word : read_command (codes "visible" ∷ codes "--as" ∷ [] ∷ codes "--device" ∷ codes "d" ∷ []) ≡ Some (Visible (codes "d") [])
+empty_word : read_command (codes "visible" ∷ codes "--as" ∷ [] ∷ codes "--device" ∷ codes "d" ∷ []) ≡ Some (Visible (record { device = codes "d"; «package» = [] }))
 unfolding on_literals
 empty_word = refl
 
@@ -57,7 +62,7 @@ empty_file : no_command (codes "session" ∷ codes "--device=" ∷ [])
 unfolding on_literals
 empty_file = refl
 
-hyphen_within : read_command (codes "session" ∷ codes "--device=-x" ∷ []) ≡ Some (Session (codes "-x") None None)
+hyphen_within : read_command (codes "session" ∷ codes "--device=-x" ∷ []) ≡ Some (session (codes "-x") None None)
 unfolding on_literals
 hyphen_within = refl
 
@@ -65,7 +70,7 @@ hyphen_apart : no_command (codes "session" ∷ codes "--device" ∷ codes "-x" �
 unfolding on_literals
 hyphen_apart = refl
 
-equals_within : read_command (codes "session" ∷ codes "--device=a=b" ∷ []) ≡ Some (Session (codes "a=b") None None)
+equals_within : read_command (codes "session" ∷ codes "--device=a=b" ∷ []) ≡ Some (session (codes "a=b") None None)
 unfolding on_literals
 equals_within = refl
 

@@ -26,7 +26,7 @@ session_of value = do
   device ← path_of (value (codes "device"))
   store ← optional_path_of (value (codes "store"))
   clock ← clock_of (value (codes "at")) (value (codes "step"))
-  Some (Session device store clock)
+  Some (Session (record { device = device; store = store; clock = clock }))
 
 unfoldable pub serve_of : (Text → Option Text) → Option Command
 serve_of value = do
@@ -35,20 +35,26 @@ serve_of value = do
   workers ← number_in 1 64 (value (codes "workers"))
   store ← optional_path_of (value (codes "store"))
   connections ← optional_number_in 1 1000000 (value (codes "connections"))
-  Some (Serve device port workers store connections)
+  Some (Serve (record {
+    device = device;
+    port = port;
+    workers = workers;
+    store = store;
+    connections = connections;
+  }))
 
 unfoldable pub drill_of : (Text → Option Text) → Option Command
 drill_of value = do
   from ← number_in 0 18446744073709551615 (value (codes "from"))
   packages ← number_in 1 256 (value (codes "packages"))
   requests ← number_in 0 65535 (value (codes "requests"))
-  Some (Drill from packages requests)
+  Some (Drill (record { from = from; packages = packages; requests = requests }))
 
 unfoldable pub visible_of : (Text → Option Text) → Option Command
 visible_of value = do
   device ← path_of (value (codes "device"))
   caller ← value (codes "as")
-  Some (Visible device caller)
+  Some (Visible (record { device = device; «package» = caller }))
 
 -- ---- the words
 

@@ -3,3 +3,4 @@ pub mod Values
 pub mod Parsed
 pub mod Grammar
 pub mod Answers
+pub mod Ranges

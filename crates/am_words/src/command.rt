@@ -7,43 +7,59 @@ use std::alloc::AllocError;
 #[derive(Drop)]
 pub enum Command {
     /// One session over the standard streams.
-    Session {
-        /// The device file.
-        device: Text,
-        /// The file of the kept rows.
-        store: Option<Text>,
-        /// The clock of the session, if it isn't the machine's.
-        clock: Option<StepWords>,
-    },
+    Session(SessionWords),
     /// Sessions over connections.
-    Serve {
-        /// The device file.
-        device: Text,
-        /// The port, from 1.
-        port: u16,
-        /// How many workers there are, from 1 to 64.
-        workers: u32,
-        /// The file of the kept rows.
-        store: Option<Text>,
-        /// How many connections each worker serves before it ends, from 1 to 1,000,000.
-        connections: Option<u32>,
-    },
+    Serve(ServingWords),
     /// A generated device and generated requests.
-    Drill {
-        /// What the drawn numbers begin with.
-        from: u64,
-        /// How many packages the device has, from 1 to 256.
-        packages: u32,
-        /// How many requests there are, up to 65,535.
-        requests: u32,
-    },
+    Drill(DrillWords),
     /// The components that a package may see.
-    Visible {
-        /// The device file.
-        device: Text,
-        /// The package that asks.
-        package: Text,
-    },
+    Visible(QuestionWords),
+}
+
+/// The session that words ask for.
+#[derive(Drop)]
+pub struct SessionWords {
+    /// The device file.
+    pub device: Text,
+    /// The place of the kept rows.
+    pub store: Option<Text>,
+    /// The session's own clock, if it isn't the machine's.
+    pub clock: Option<StepWords>,
+}
+
+/// The serving that words ask for.
+#[derive(Drop)]
+pub struct ServingWords {
+    /// The device file.
+    pub device: Text,
+    /// The port, from 1.
+    pub port: u16,
+    /// How many workers there are, from 1 to 64.
+    pub workers: u32,
+    /// The place of the kept rows.
+    pub store: Option<Text>,
+    /// How many links each worker serves before it ends, from 1 to 1,000,000.
+    pub connections: Option<u32>,
+}
+
+/// The drill that words ask for.
+#[derive(Drop)]
+pub struct DrillWords {
+    /// The number that decides all draws.
+    pub from: u64,
+    /// How many packages the device has, from 1 to 256.
+    pub packages: u32,
+    /// How many requests there are, up to 65,535.
+    pub requests: u32,
+}
+
+/// The question that words ask.
+#[derive(Drop)]
+pub struct QuestionWords {
+    /// The device file.
+    pub device: Text,
+    /// The package that asks; `android` is the system's.
+    pub package: Text,
 }
 
 /// A clock that begins at a moment and goes on by a step at each call, in milliseconds.

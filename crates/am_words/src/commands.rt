@@ -1,12 +1,13 @@
 //! The commands.
-ghost use Rattle.std.specs.Prelude.{◌≡◌, map};
+ghost use Rattle.std.specs.Prelude.{IfOk};
 ghost use Rattle.clap.specs.Words.{first_value, found_of};
-ghost use Rattle.am_words.specs.Grammar.{command_of, drill_names, drill_of, named, read_command, serve_names, serve_of, session_names, session_of, visible_names, visible_of};
+ghost use Rattle.am_words.specs.Grammar.{command_of, drill_names, drill_of, read_command, serve_names, serve_of, session_names, session_of, visible_names, visible_of};
 ghost use Rattle.am_words.specs.Answers.{Reads};
+ghost use Rattle.am_words.specs.Ranges.{IsInRange, ReadsCommand};
 
 use crate::options::{borrowed, read_options};
 use crate::values::{clock_of, number_in, optional_number_in, optional_path_of, path_of};
-use crate::{Command, WordsFault};
+use crate::{Command, DrillWords, QuestionWords, ServingWords, SessionWords, WordsFault};
 use am_types::Text;
 use clap::ArgMatches;
 use std::alloc::Global;
@@ -22,68 +23,68 @@ static VISIBLE: [&str; 2] = ["device", "as"];
 /// The session that its options make.
 #[tactic(auto, unfolding(crate::specs::Grammar::session_of))]
 fn session_of(alloc: Global, matches: &ArgMatches<'_>) -> Result<Command, WordsFault>
-    ensures { Reads result (session_of (first_value (found_of matches.now))) }
+    ensures { ReadsCommand result (session_of (first_value (found_of matches.now))) }
 {
     let device = path_of(alloc, matches.get_str("device"))?;
     let store = optional_path_of(alloc, matches.get_str("store"))?;
     let clock = clock_of(matches.get_str("at"), matches.get_str("step"))?;
-    Ok(Command::Session {
+    Ok(Command::Session(SessionWords {
         device,
         store,
         clock,
-    })
+    }))
 }
 
 /// The service that its options make.
 #[tactic(auto, unfolding(crate::specs::Grammar::serve_of))]
 fn serve_of(alloc: Global, matches: &ArgMatches<'_>) -> Result<Command, WordsFault>
-    ensures { Reads result (serve_of (first_value (found_of matches.now))) }
+    ensures { ReadsCommand result (serve_of (first_value (found_of matches.now))) }
 {
     let device = path_of(alloc, matches.get_str("device"))?;
     let port = number_in(1, 65535, matches.get_str("port"))?;
     let workers = number_in(1, 64, matches.get_str("workers"))?;
     let store = optional_path_of(alloc, matches.get_str("store"))?;
     let connections = optional_number_in(1, 1000000, matches.get_str("connections"))?;
-    Ok(Command::Serve {
+    Ok(Command::Serve(ServingWords {
         device,
         port: port as u16,
         workers: workers as u32,
         store,
-        connections: connections.map(|number| number as u32),
-    })
+        connections,
+    }))
 }
 
 /// The drill that its options make.
 #[tactic(auto, unfolding(crate::specs::Grammar::drill_of))]
 fn drill_of(matches: &ArgMatches<'_>) -> Result<Command, WordsFault>
-    ensures { Reads result (drill_of (first_value (found_of matches.now))) }
+    ensures { ReadsCommand result (drill_of (first_value (found_of matches.now))) }
 {
     let from = number_in(0, 18446744073709551615, matches.get_str("from"))?;
     let packages = number_in(1, 256, matches.get_str("packages"))?;
     let requests = number_in(0, 65535, matches.get_str("requests"))?;
-    Ok(Command::Drill {
+    Ok(Command::Drill(DrillWords {
         from,
         packages: packages as u32,
         requests: requests as u32,
-    })
+    }))
 }
 
 /// The question that its options make.
 #[tactic(auto, unfolding(crate::specs::Grammar::visible_of))]
 fn visible_of(alloc: Global, matches: &ArgMatches<'_>) -> Result<Command, WordsFault>
-    ensures { Reads result (visible_of (first_value (found_of matches.now))) }
+    ensures { ReadsCommand result (visible_of (first_value (found_of matches.now))) }
 {
     let device = path_of(alloc, matches.get_str("device"))?;
     let Some(package) = matches.get_str("as") else {
         return Err(WordsFault::Usage);
     };
     let package = Text::of(alloc, package)?;
-    Ok(Command::Visible { device, package })
+    Ok(Command::Visible(QuestionWords { device, package }))
 }
 
 /// The session that the words say.
 fn session(alloc: Global, words: &[Text]) -> Result<Command, WordsFault>
-    ensures { Reads result (command_of session_names session_of words.now) }
+    ensures { ReadsCommand result (command_of session_names session_of words.now) }
 {
     let words = borrowed(alloc, words)?;
     let matches = read_options(alloc, SESSION.as_slice(), words.as_slice())?;
@@ -92,7 +93,7 @@ fn session(alloc: Global, words: &[Text]) -> Result<Command, WordsFault>
 
 /// The service that the words say.
 fn serve(alloc: Global, words: &[Text]) -> Result<Command, WordsFault>
-    ensures { Reads result (command_of serve_names serve_of words.now) }
+    ensures { ReadsCommand result (command_of serve_names serve_of words.now) }
 {
     let words = borrowed(alloc, words)?;
     let matches = read_options(alloc, SERVE.as_slice(), words.as_slice())?;
@@ -101,7 +102,7 @@ fn serve(alloc: Global, words: &[Text]) -> Result<Command, WordsFault>
 
 /// The drill that the words say.
 fn drill(alloc: Global, words: &[Text]) -> Result<Command, WordsFault>
-    ensures { Reads result (command_of drill_names drill_of words.now) }
+    ensures { ReadsCommand result (command_of drill_names drill_of words.now) }
 {
     let words = borrowed(alloc, words)?;
     let matches = read_options(alloc, DRILL.as_slice(), words.as_slice())?;
@@ -110,7 +111,7 @@ fn drill(alloc: Global, words: &[Text]) -> Result<Command, WordsFault>
 
 /// The question that the words say.
 fn visible(alloc: Global, words: &[Text]) -> Result<Command, WordsFault>
-    ensures { Reads result (command_of visible_names visible_of words.now) }
+    ensures { ReadsCommand result (command_of visible_names visible_of words.now) }
 {
     let words = borrowed(alloc, words)?;
     let matches = read_options(alloc, VISIBLE.as_slice(), words.as_slice())?;
@@ -124,7 +125,8 @@ fn visible(alloc: Global, words: &[Text]) -> Result<Command, WordsFault>
 /// `Usage` if the grammar has no such words, `NoMemory` if memory runs out.
 #[tactic(auto, unfolding(crate::specs::Grammar::read_command, crate::specs::Grammar::named))]
 pub fn read_command(alloc: Global, words: &[Text]) -> Result<Command, WordsFault>
-    ensures { Reads result (read_command words.now) }
+    ensures read { Reads result (read_command words.now) }
+    ensures range { IfOk result IsInRange }
 {
     let [name, options @ ..] = words else {
         return Err(WordsFault::Usage);

@@ -6,5 +6,7 @@ mod commands;
 mod options;
 mod values;
 
-pub use command::{Command, StepWords, WordsFault};
+pub use command::{
+    Command, DrillWords, QuestionWords, ServingWords, SessionWords, StepWords, WordsFault,
+};
 pub use commands::read_command;

@@ -30,6 +30,7 @@ fn number_of(text: &str) -> Option<u64>
 #[tactic(auto, unfolding(crate::specs::Values::number_in))]
 pub(crate) fn number_in(least: u64, most: u64, value: Option<&str>) -> Result<u64, WordsFault>
     ensures read { Reads result (number_in least most (option_map (λ text. text.now) value.entry)) }
+    ensures least { IfOk result (λ number. least ≤ number) }
     ensures most { IfOk result (λ number. number ≤ most) }
 {
     let Some(text) = value else {
@@ -48,18 +49,18 @@ pub(crate) fn number_in(least: u64, most: u64, value: Option<&str>) -> Result<u6
 /// The number between `least` and `most` that a value says, if it is given.
 #[tactic(auto, unfolding(crate::specs::Values::optional_number_in))]
 pub(crate) fn optional_number_in(
-    least: u64,
-    most: u64,
+    least: u32,
+    most: u32,
     value: Option<&str>,
-) -> Result<Option<u64>, WordsFault>
+) -> Result<Option<u32>, WordsFault>
     ensures read { Reads result (optional_number_in least most (option_map (λ text. text.now) value.entry)) }
-    ensures most { IfOk result (λ number. IfSome number (λ n. n ≤ most)) }
+    ensures least { IfOk result (λ number. IfSome number (λ n. least ≤ n)) }
 {
     if value.is_none() {
         return Ok(None);
     }
-    let number = number_in(least, most, value)?;
-    Ok(Some(number))
+    let number = number_in(least as u64, most as u64, value)?;
+    Ok(Some(number as u32))
 }
 
 /// The name of a file that a value is, which must be given.

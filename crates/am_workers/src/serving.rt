@@ -34,9 +34,6 @@ pub fn serve<R, K: Keeper + Send, N: Network, C: Clock>(
 ) -> Result<(Manager<K>, Totals), NoMemory>
 where
     R: Threads + Wait + Clone + Drop + Send + Sync,
-    N::Gate: Send,
-    <N::Gate as Acceptor>::Reader: Send,
-    <N::Gate as Acceptor>::Writer: Send,
     requires some { 1 ≤ vec_len gates }
     requires few { vec_len gates ≤ 64 }
     requires new { (k : ℕ) (gate : N.Gate) → slice_get gates.items k ≡ Some gate

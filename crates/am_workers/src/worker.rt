@@ -107,15 +107,12 @@ pub(crate) fn gather<D: Drop, A: Acceptor, C: Clock>(
 }
 
 // Each worker works, in a thread of its own.
-pub(crate) fn work_all<
-    R: Threads + Wait + Sync,
-    D: Desk + Drop + Send,
-    A: Acceptor + Send,
-    C: Clock,
->(rt: &R, alloc: Global, workers: &mut [Worker<D, A, C>], most: Option<u32>)
-where
-    A::Reader: Send,
-    A::Writer: Send,
+pub(crate) fn work_all<R: Threads + Wait + Sync, D: Desk + Drop + Send, A: Acceptor, C: Clock>(
+    rt: &R,
+    alloc: Global,
+    workers: &mut [Worker<D, A, C>],
+    most: Option<u32>,
+)
     requires back { All (λ (w : Worker D A C). IfSome (A.links w.gate) AreBack) workers.old }
     requires some { IfSome most (λ m. 1 ≤ m) }
     ensures count { length workers.new ≡ length workers.old }

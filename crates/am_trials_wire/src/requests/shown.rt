@@ -1,4 +1,5 @@
 //! A short rendering of a request.
+use am_trials_words::named_flags;
 use am_types::{
     Answer, Authority, Component, Extra, Filter, Flags, Intent, Kind, List, Mime, Named, Ordered,
     Outcome, PathRule, PendingFlags, Request, Text, Uri,
@@ -94,21 +95,14 @@ fn push_extras(all: &mut String, extras: &List<Named>) -> Result<(), AllocError>
     Ok(())
 }
 
-fn push_task_flags(all: &mut String, flags: Flags) -> Result<(), AllocError> {
-    push_if(all, " NEW_TASK", flags.new_task)?;
-    push_if(all, " MULTIPLE_TASK", flags.multiple_task)?;
-    push_if(all, " CLEAR_TASK", flags.clear_task)?;
-    push_if(all, " CLEAR_TOP", flags.clear_top)?;
-    push_if(all, " SINGLE_TOP", flags.single_top)
-}
-
 fn push_flags(all: &mut String, flags: Flags) -> Result<(), AllocError> {
-    push_task_flags(all, flags)?;
-    push_if(all, " REORDER_TO_FRONT", flags.reorder_to_front)?;
-    push_if(all, " REGISTERED_ONLY", flags.registered_only)?;
-    push_if(all, " FOREGROUND", flags.foreground)?;
-    push_if(all, " NO_ABORT", flags.no_abort)?;
-    push_if(all, " INCLUDE_STOPPED", flags.include_stopped)
+    for (name, is_set) in named_flags(flags) {
+        if is_set {
+            all.push_str(" ")?;
+            all.push_str(name)?;
+        }
+    }
+    Ok(())
 }
 
 fn push_pending_flags(all: &mut String, flags: PendingFlags) -> Result<(), AllocError> {
@@ -320,6 +314,18 @@ fn push_pending(all: &mut String, request: &Request) -> Result<(), AllocError> {
     }
 }
 
+/// Adds what a package may, and whether it may.
+fn push_right(
+    all: &mut String,
+    package: &Text,
+    right: &Text,
+    holds: bool,
+) -> Result<(), AllocError> {
+    push_text(all, " ", package)?;
+    push_text(all, " ", right)?;
+    push_truth(all, " ", holds)
+}
+
 /// Adds a request about a package or the history.
 fn push_package(all: &mut String, request: &Request) -> Result<(), AllocError> {
     match request {
@@ -332,20 +338,12 @@ fn push_package(all: &mut String, request: &Request) -> Result<(), AllocError> {
             package,
             permission,
             held,
-        } => {
-            push_text(all, " ", package)?;
-            push_text(all, " ", permission)?;
-            push_truth(all, " ", *held)
-        }
+        } => push_right(all, package, permission, *held),
         Request::Link {
             package,
             host,
             approved,
-        } => {
-            push_text(all, " ", package)?;
-            push_text(all, " ", host)?;
-            push_truth(all, " ", *approved)
-        }
+        } => push_right(all, package, host, *approved),
         Request::ForceStop { package } => push_text(all, " ", package),
         Request::History { from } => push_number(all, " ", *from),
         _ => Ok(()),

@@ -9,3 +9,9 @@ returns-in-Ok-Err c =
     let asked : Asks frame (Err c.in-Ok-Err.text) = rw c.in-Ok-Err.field-0-is at c.in-Ok-Err.ensures in
     c.judge_refused-judged.ensures c.args.history.now frame c.requires.first
     (subst (λ (text : List ℕ). Asks frame (Err text)) (sym c.as_slice.ensures) asked)
+
+pub judge_request-requires : goal.judge_request-requires
+judge_request-requires c = record {
+  stands = record { made = c.requires.record; first = c.requires.first };
+  makes = record { key = c.requires.key; body = c.requires.body; asks = rw c.in-Ok-Ok.field-0-is at c.in-Ok-Ok.ensures };
+}

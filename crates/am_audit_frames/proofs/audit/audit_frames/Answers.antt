@@ -1,4 +1,4 @@
-use Rattle.std.proofs.Common.{List, [], length, refl, sym, ap, ◌∙◌, subst, arith, Result, None}
+use Rattle.std.proofs.Common.{◌≡◌, List, [], length, refl, sym, ap, ◌∙◌, subst, arith, Result, None}
 use Rattle.std.proofs.lemmas.Bool.{eq-eqb, eqb-true}
 use Rattle.std.proofs.lemmas.List.{nil_from_length}
 use Rattle.am_types.specs.declared.history.Entry.{Entry}
@@ -15,13 +15,14 @@ use Rattle.am_audit_frames.proofs.Steps.{settles_at_limit}
 use Rattle.am_audit_frames.proofs.audit.audit_frames.Goals as goal
 
 -- what a step promises from the start of its own replay holds from the start of the walk
-from_start : (start : State) (history : List Entry) (t : Transcript) (walk : Walk) (next : Result Walk Verdict)
+goes_from : (start : State) (history : List Entry) (t : Transcript) (walk : Walk) (next : Result Walk Verdict) {found : Result Walk Verdict}
     → Walked (record { start = start; history = history }) t walk
     → ((u : Transcript) → Walked (ground_at history walk) u walk → GoesOn (ground_at history walk) u walk next)
-    → GoesOn (record { start = start; history = history }) t walk next
-from_start start history t walk next w goes =
-    subst (λ (s : State). GoesOn (record { start = s; history = history }) t walk next) w.start
-    (goes t (subst (λ (s : State). Walked (record { start = s; history = history }) t walk) (sym w.start) w))
+    → next ≡ found → GoesOn (record { start = start; history = history }) t walk found
+goes_from start history t walk next w goes is =
+    subst (GoesOn (record { start = start; history = history }) t walk) is
+    (subst (λ (s : State). GoesOn (record { start = s; history = history }) t walk next) w.start
+    (goes t (subst (λ (s : State). Walked (record { start = s; history = history }) t walk) (sym w.start) w)))
 
 pub loop-walk-init : goal.loop-walk-init
 loop-walk-init c =
@@ -48,34 +49,22 @@ loop-walk-init c =
 
 pub loop-walk-smaller : goal.loop-walk-smaller
 loop-walk-smaller c =
-    let start = opening c.args.device in
-    let t : Transcript = record { frames = c.args.frames.now; responses = c.args.responses.now } in
-    let goes =
-    from_start start c.args.history.now t c.loop-walk.walk c.in_ok-after.field-0 c.loop-walk.invariant.walked
-    c.in_ok-after.ensures in
     let after =
-    subst (GoesOn (record { start = start; history = c.args.history.now }) t c.loop-walk.walk) c.in-Ok.is goes in
+    goes_from (opening c.args.device) c.args.history.now (record { frames = c.args.frames.now; responses = c.args.responses.now })
+    c.loop-walk.walk c.in_ok-after.field-0 c.loop-walk.invariant.walked c.in_ok-after.ensures c.in-Ok.is in
     omega (arith, after.1, c.loop-walk-test.true)
 
 pub loop-walk-preserved : goal.loop-walk-preserved
 loop-walk-preserved c =
-    let start = opening c.args.device in
-    let t : Transcript = record { frames = c.args.frames.now; responses = c.args.responses.now } in
-    let goes =
-    from_start start c.args.history.now t c.loop-walk.walk c.in_ok-after.field-0 c.loop-walk.invariant.walked
-    c.in_ok-after.ensures in
     let after =
-    subst (GoesOn (record { start = start; history = c.args.history.now }) t c.loop-walk.walk) c.in-Ok.is goes in
+    goes_from (opening c.args.device) c.args.history.now (record { frames = c.args.frames.now; responses = c.args.responses.now })
+    c.loop-walk.walk c.in_ok-after.field-0 c.loop-walk.invariant.walked c.in_ok-after.ensures c.in-Ok.is in
     record { walked = after.0; few = omega (arith, after.1, c.loop-walk-test.true) }
 
 pub returns-in-Err : goal.returns-in-Err
 returns-in-Err c =
-    let start = opening c.args.device in
-    let t : Transcript = record { frames = c.args.frames.now; responses = c.args.responses.now } in
-    let goes =
-    from_start start c.args.history.now t c.loop-walk.walk c.in_ok-after.field-0 c.loop-walk.invariant.walked
-    c.in_ok-after.ensures in
-    subst (GoesOn (record { start = start; history = c.args.history.now }) t c.loop-walk.walk) c.in-Err.is goes
+    goes_from (opening c.args.device) c.args.history.now (record { frames = c.args.frames.now; responses = c.args.responses.now })
+    c.loop-walk.walk c.in_ok-after.field-0 c.loop-walk.invariant.walked c.in_ok-after.ensures c.in-Err.is
 
 pub returns : goal.returns
 returns c =

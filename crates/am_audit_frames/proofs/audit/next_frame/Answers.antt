@@ -84,13 +84,12 @@ returns-then-frame c = λ t w.
     let place = place_of ground t walk w in
     let f = frame_held c.in-Whole.frame in
     let accepted = c.in-Some.accepted in
-    let judged : IsAccepted (case_behind ground place f) accepted =
-    subst (Judges (case_behind ground place f)) c.in-Some.is c.in_ok-accepted.ensures in
     let tested = c.is_empty.ensures in
     subst (IsVerdict ground t) (sym c.ended-then-frame.ensures)
     (settles_at_close ground t place walk.input.now walk.count f (standing_of accepted.bench)
     (drop accepted.taken walk.left.now) c.is_empty.result (at_place ground t walk w) c.requires.room
-    c.in-Whole.ensures.framing c.if-frame.true judged.accepts
+    c.in-Whole.ensures.framing c.if-frame.true
+    (subst (Judges (case_behind ground place f)) c.in-Some.is c.in_ok-accepted.ensures).accepts
     (empty_from walk.left.now accepted.taken c.is_empty.result tested)
     (to_empty walk.left.now accepted.taken c.is_empty.result tested))
 

@@ -9,72 +9,51 @@ use Rattle.am_types.specs.declared.rule.Rule.TheVariants.{AdminOnly}
 use Rattle.am_model.specs.Broadcasts.{Broadcasts}
 use Rattle.am_model.specs.Gates.{is_privileged}
 use Rattle.am_history.specs.State.{State}
-use Rattle.am_history.specs.Explaining.{explain}
 use Rattle.am_history.specs.Steps.{act, page}
 use Rattle.am_history.proofs.Acts.{act_query, act_explain, act_tasks, act_services, act_history}
 use Rattle.am_machine.proofs.Stored.{one_state}
 use Rattle.am_machine.proofs.reads.steady.Goals as goal
 
-pub returns-in_ok-found-in-Query : goal.returns-in_ok-found-in-Query
-returns-in_ok-found-in-Query g c = λ (broadcasts : Broadcasts) (moment : ℕ).
-    let state : State = record (c.args.live.now) { broadcasts = broadcasts; moment = moment } in
-    ap (λ (request : Request). act state c.args.history.now c.args.caller request) c.in-Query.is
-    ∙ act_query state c.args.history.now c.args.caller _ _ _
-    ∙ ap (λ found. (replies.Components found, state)) (sym c.in_ok-found-in-Query.ensures)
+-- the state with other broadcasts and at another moment
+abbrev at_any : State → Broadcasts → ℕ → State
+at_any live broadcasts moment = record live { broadcasts = broadcasts; moment = moment }
+
+-- what is read for a request is its answer in each of these, if that is what the request comes to
+answers : (live : State) (before : List Entry) (caller : ℕ) (request asked : Request) (read : Result Reply NoMemory) (said : Reply)
+    → request ≡ asked → IfOk read (λ (reply : Reply). reply ≡ said)
+    → ((broadcasts : Broadcasts) (moment : ℕ) → act (at_any live broadcasts moment) before caller asked ≡ (said, at_any live broadcasts moment))
+    → IfOk read (λ (reply : Reply). (broadcasts : Broadcasts) (moment : ℕ) → act (at_any live broadcasts moment) before caller request ≡ (reply, at_any live broadcasts moment))
+answers live before caller request asked (Err error) said is same does = tt
+answers live before caller request asked (Ok reply) said is same does = λ (broadcasts : Broadcasts) (moment : ℕ).
+    ap (λ (r : Request). act (at_any live broadcasts moment) before caller r) is
+    ∙ does broadcasts moment
+    ∙ ap (λ (r : Reply). (r, at_any live broadcasts moment)) (sym same)
+
+pub returns-in-Query : goal.returns-in-Query
+returns-in-Query g c =
+    answers c.args.live.now c.args.history.now c.args.caller c.args.request.now _ c.query.result _ c.in-Query.is c.query.ensures
+    (λ (broadcasts : Broadcasts) (moment : ℕ). act_query (at_any c.args.live.now broadcasts moment) c.args.history.now c.args.caller _ _ _)
 
 pub returns-in-Explain : goal.returns-in-Explain
-returns-in-Explain g c = by c.explained.result c.explained.ensures
-  where
-    before : List Entry
-    before = c.args.history.now
+returns-in-Explain g c =
+    answers c.args.live.now c.args.history.now c.args.caller c.args.request.now _ c.explained.result _ c.in-Explain.is c.explained.ensures
+    (λ (broadcasts : Broadcasts) (moment : ℕ). act_explain (at_any c.args.live.now broadcasts moment) c.args.history.now c.args.caller _ _ _ _ _)
 
-    answered : Broadcasts → ℕ → State
-    answered broadcasts moment = record (c.args.live.now) { broadcasts = broadcasts; moment = moment }
+pub returns-in-ListTasks : goal.returns-in-ListTasks
+returns-in-ListTasks g c =
+    answers c.args.live.now c.args.history.now c.args.caller c.args.request.now _ c.tasks.result _ c.in-ListTasks.is c.tasks.ensures
+    (λ (broadcasts : Broadcasts) (moment : ℕ). act_tasks (at_any c.args.live.now broadcasts moment) c.args.history.now c.args.caller)
 
-    told : Reply
-    told = explain c.args.live.now.board
-        (record { caller = c.args.caller; kind = c.in-Explain.kind; intent = c.in-Explain.intent; required = c.in-Explain.permission })
-        c.in-Explain.name c.in-Explain.shown
-
-    by : (read : Result Reply NoMemory) → IfOk read (λ reply. reply ≡ told)
-        → IfOk read (λ reply. (broadcasts : Broadcasts) (moment : ℕ) → act (answered broadcasts moment) before c.args.caller c.args.request.now ≡ (reply, answered broadcasts moment))
-    by (Err error) is = tt
-    by (Ok reply) is = λ (broadcasts : Broadcasts) (moment : ℕ).
-        ap (λ (request : Request). act (answered broadcasts moment) before c.args.caller request) c.in-Explain.is
-        ∙ act_explain (answered broadcasts moment) before c.args.caller _ _ _ _ _
-        ∙ ap (λ (r : Reply). (r, answered broadcasts moment)) (sym is)
-
-pub returns-in_ok-tasks-in-ListTasks : goal.returns-in_ok-tasks-in-ListTasks
-returns-in_ok-tasks-in-ListTasks g c = λ (broadcasts : Broadcasts) (moment : ℕ).
-    let state : State = record (c.args.live.now) { broadcasts = broadcasts; moment = moment } in
-    ap (λ (request : Request). act state c.args.history.now c.args.caller request) c.in-ListTasks.is
-    ∙ act_tasks state c.args.history.now c.args.caller
-    ∙ ap (λ tasks. (replies.Tasks tasks, state)) (sym c.in_ok-tasks-in-ListTasks.ensures)
-
-pub returns-in_ok-services-in-Services : goal.returns-in_ok-services-in-Services
-returns-in_ok-services-in-Services g c = λ (broadcasts : Broadcasts) (moment : ℕ).
-    let state : State = record (c.args.live.now) { broadcasts = broadcasts; moment = moment } in
-    ap (λ (request : Request). act state c.args.history.now c.args.caller request) c.in-Services.is
-    ∙ act_services state c.args.history.now c.args.caller
-    ∙ ap (λ services. (replies.Services services, state)) (sym c.in_ok-services-in-Services.ensures)
+pub returns-in-Services : goal.returns-in-Services
+returns-in-Services g c =
+    answers c.args.live.now c.args.history.now c.args.caller c.args.request.now _ c.services.result _ c.in-Services.is c.services.ensures
+    (λ (broadcasts : Broadcasts) (moment : ℕ). act_services (at_any c.args.live.now broadcasts moment) c.args.history.now c.args.caller)
 
 pub returns-in-History : goal.returns-in-History
-returns-in-History g c = by c.entries.result c.entries.ensures
-  where
-    before : List Entry
-    before = c.args.history.now
-
-    answered : Broadcasts → ℕ → State
-    answered broadcasts moment = record (c.args.live.now) { broadcasts = broadcasts; moment = moment }
-
-    shown : Reply
-    shown = replies.Entries c.in-History.from (page before c.in-History.from)
-
-    by : (read : Result Reply NoMemory) → IfOk read (λ reply. reply ≡ (if is_privileged c.args.caller then shown else replies.Refused AdminOnly))
-        → IfOk read (λ reply. (broadcasts : Broadcasts) (moment : ℕ) → act (answered broadcasts moment) before c.args.caller c.args.request.now ≡ (reply, answered broadcasts moment))
-    by (Err error) is = tt
-    by (Ok reply) is = λ (broadcasts : Broadcasts) (moment : ℕ).
-        ap (λ (request : Request). act (answered broadcasts moment) before c.args.caller request) c.in-History.is
-        ∙ act_history (answered broadcasts moment) before c.args.caller c.in-History.from
-        ∙ one_state (is_privileged c.args.caller) shown (answered broadcasts moment)
-        ∙ ap (λ (r : Reply). (r, answered broadcasts moment)) (sym is)
+returns-in-History g c =
+    let shown : Reply = replies.Entries c.in-History.from (page c.args.history.now c.in-History.from) in
+    answers c.args.live.now c.args.history.now c.args.caller c.args.request.now _ c.entries.result
+    (if is_privileged c.args.caller then shown else replies.Refused AdminOnly) c.in-History.is c.entries.ensures
+    (λ (broadcasts : Broadcasts) (moment : ℕ).
+    act_history (at_any c.args.live.now broadcasts moment) c.args.history.now c.args.caller c.in-History.from
+    ∙ one_state (is_privileged c.args.caller) shown (at_any c.args.live.now broadcasts moment))

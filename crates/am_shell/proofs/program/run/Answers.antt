@@ -1,11 +1,9 @@
-use Rattle.std.proofs.Common.{Some, ap, ◌∙◌}
-use Rattle.am_shell.proofs.Ranges.{drill_of_words, serving_in_range}
+use Rattle.std.proofs.Common.{subst}
+use Rattle.am_words.specs.Ranges.{IsInRange}
 use Rattle.am_shell.proofs.program.run.Goals as goal
 
 pub run_serving-requires-clause-range : goal.run_serving-requires-clause-range
-run_serving-requires-clause-range g c κs within =
-    serving_in_range c.args.words.now _ _ _ _ _ (c.in-Ok-Serve.ensures ∙ ap Some c.in-Ok-Serve.field-0-is)
+run_serving-requires-clause-range g c κs within = subst IsInRange c.in-Ok-Serve.field-0-is c.in-Ok-Serve.ensures.range
 
 pub run_drill-requires : goal.run_drill-requires
-run_drill-requires g c =
-    record { range = drill_of_words c.args.words.now _ _ _ (c.in-Ok-Drill.ensures ∙ ap Some c.in-Ok-Drill.field-0-is) }
+run_drill-requires g c = record { range = subst IsInRange c.in-Ok-Drill.field-0-is c.in-Ok-Drill.ensures.range }

@@ -5,7 +5,7 @@ pub hand_back-requires : goal.hand_back-requires
 hand_back-requires g c =
     let begun = c.in_ok-manager.ensures in
     attached_back _ _ _ (g.T.Store.has_attached c.open_manager.new.store) c.in_ok-manager.manager c.into_manager.result c.new-desk.result c.serve_on-end.new.desk
-    begun.attached begun.unchanged begun.origin.at_place c.new-desk.ensures.made c.serve_on-end.ensures.same.desk.desk.origin c.into_manager.ensures
+    begun.attached begun.unchanged begun.origin.at_place c.new-desk.ensures.made c.serve_on-end.ensures.went.same.desk.desk.origin c.into_manager.ensures
 
 pub returns : goal.returns
 returns g c =

@@ -14,7 +14,7 @@ work_all-requires-clause-back g c κs within =
     (ap (map (λ w. w.gate)) c.as_mut_slice.ensures.value ∙ c.in_ok-workers.ensures.gates) c.requires.new
 
 pub dismiss-desks-requires-clause-may : goal.dismiss-desks-requires-clause-may
-dismiss-desks-requires-clause-may g c =
+dismiss-desks-requires-clause-may g c κs within =
     let olds = c.as_mut_slice.result.now in
     let back = back_written c.in_ok-workers.workers.len c.work_all.new.workers _ (sym (c.work_all.ensures.count ∙ c.as_mut_slice.ensures.len)) in
     let gates = ap (map (λ w. w.gate)) c.as_mut_slice.ensures.value ∙ c.in_ok-workers.ensures.gates in

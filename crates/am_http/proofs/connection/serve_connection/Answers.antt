@@ -1,11 +1,11 @@
-use Rattle.std.proofs.Common.{ℕ, ◌+◌, ◌*◌, List, [], Option, refl, ◌∙◌, subst, arith}
+use Rattle.std.proofs.Common.{ℕ, ◌+◌, ◌*◌, List, [], Option, subst, arith}
 use Rattle.am_http.specs.Frames.{Leaves}
 use Rattle.am_http.specs.Links.{Link, link_of, streams_of}
 use Rattle.am_http.specs.Sessions.{most_bytes}
 use Rattle.am_http.proofs.NextLemmas.{gives_none, gives_more}
 use Rattle.am_http.proofs.SessionLemmas.{going_none, leaves_self, going_more, session_close, session_stop, same_link_trans, same_link_refl}
 use Rattle.am_http.proofs.TurnLemmas.{nothing_before}
-use Rattle.am_http.proofs.connection.serve.Goals as goal
+use Rattle.am_http.proofs.connection.serve_connection.Goals as goal
 
 -- a connection begins with an empty window
 pub loop-answered-init : goal.loop-answered-init
@@ -18,7 +18,6 @@ loop-answered-init g c =
           (leaves_self left));
       gives = gives_none left;
       same = same_link_refl first;
-      capacity = refl;
     }
 
 pub returns-in-Closed-clause-session : goal.returns-in-Closed-clause-session
@@ -54,5 +53,4 @@ loop-answered-preserved g c =
       going = going_more _ _ _ mid.answered inv.same.desk.desk inv.going went.turn;
       gives = gives_more (73728 * mid.answered) 73728 (73728 * (mid.answered + 1)) _ _ _ (omega arith) inv.gives went.gives;
       same = same_link_trans _ _ _ inv.same went.same;
-      capacity = went.capacity ∙ inv.capacity;
     }

@@ -1,7 +1,7 @@
-use Rattle.std.proofs.Common.{◌≡◌, ◌*◌, vec_capacity}
+use Rattle.std.proofs.Common.{◌*◌}
 use Rattle.am_http.specs.Links.{Link, IsSameLink, link_of, streams_of}
 use Rattle.am_http.specs.Sessions.{Going, GivesAtMost}
-use Rattle.am_http.proofs.connection.serve.Given as goal
+use Rattle.am_http.proofs.connection.serve_connection.Given as goal
 
 -- the connection goes on: so far each frame was answered, and what is left is told
 abbrev pub invariant-loop-answered : goal.invariant-loop-answered
@@ -9,8 +9,7 @@ invariant-loop-answered g l =
     let first : Link = link_of (g.D.Desk.view l.initial.desk) (streams_of g.S.Source g.W.Sink g.C.Clock l.initial.source l.initial.sink l.initial.clock) in
     let link : Link = link_of (g.D.Desk.view l.desk) (streams_of g.S.Source g.W.Sink g.C.Clock l.source l.sink l.clock) in
     record {
-      going : Going first (record { link = link; window = l.window }) l.answered;
+      going : Going first (record { link = link; window = l.buffers.window }) l.answered;
       gives : GivesAtMost (73728 * l.answered) first.source.left link.source.left;
       same : IsSameLink first link;
-      capacity : vec_capacity l.room ≡ vec_capacity l.initial.room;
     }
