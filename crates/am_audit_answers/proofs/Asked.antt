@@ -10,10 +10,10 @@ use Rattle.am_wire_routes.specs.declared.routes.RouteFault.TheVariants as faults
 use Rattle.am_wire_routes.specs.Table.{endpoint_of}
 use Rattle.am_wire_fields.specs.declared.fault.WireFault.{WireFault}
 use Rattle.am_wire.specs.Requests.{request_of as request_at}
+use Rattle.am_wire.proofs.Made.{read_is_made}
 use Rattle.am_wire_written.specs.Written.{IsReadable}
 use Rattle.am_http.specs.Head.{Frame}
 use Rattle.am_http.specs.Requests.{asked_at, request_of, request_or}
-use Rattle.am_audit_lines.proofs.Endpoints.{read_is_at}
 use Rattle.am_audit_answers.specs.Matching.{IsItsCall}
 
 ok_is : {A B : Type 0} {x y : A} → ◌≡◌ {A = Result A B} (Ok x) (Ok y) → x ≡ y
@@ -24,7 +24,7 @@ readable_or : (endpoint : Endpoint) (body : List ℕ) (request : Request) (read 
     → request_or read ≡ Ok request → IsReadable request
 readable_or endpoint body request (Ok found) reads asks =
     let is : request_at endpoint body ≡ Ok request = reads ∙ ap (λ (r : Request). Ok r) (ok_is asks) in
-    (body, ap (λ (place : Endpoint). request_at place body) (read_is_at endpoint body request is) ∙ is)
+    (body, ap (λ (place : Endpoint). request_at place body) (read_is_made endpoint body request is).0 ∙ is)
 readable_or endpoint body request (Err fault) reads asks = absurd cc
 
 readable_at : (found : Result Endpoint RouteFault) (body : List ℕ) (request : Request) → asked_at found body ≡ Ok request → IsReadable request

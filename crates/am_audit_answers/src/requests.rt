@@ -8,9 +8,9 @@ ghost use Rattle.am_audit_answers.specs.Judging.{Asks};
 
 use am_http::frame::WholeFrame;
 use am_http::refusal_bytes;
-use am_types::{List, NoMemory, Request, Text};
+use am_types::{List, NoMemory, Request, Text, Unmade};
 use am_wire::read_request;
-use am_wire_fields::{Unread, WireFault};
+use am_wire_fields::WireFault;
 use am_wire_routes::{Endpoint, RouteFault, Routes};
 use std::alloc::Global;
 use std::str;
@@ -48,8 +48,8 @@ pub(crate) fn request_in(
     match routes.route(frame.method, frame.target) {
         Ok(endpoint) => match read_request(alloc, endpoint, frame.body) {
             Ok(request) => Ok(Ok(request)),
-            Err(Unread::Fault(fault)) => Ok(Err(bad_request(alloc, &fault)?)),
-            Err(Unread::NoMemory) => Err(NoMemory),
+            Err(Unmade::Fault(fault)) => Ok(Err(bad_request(alloc, &fault)?)),
+            Err(Unmade::NoMemory) => Err(NoMemory),
         },
         Err(RouteFault::NoMethod(_)) => Ok(Err(no_method(alloc)?)),
         Err(RouteFault::NoRoute) => Ok(Err(no_route(alloc)?)),

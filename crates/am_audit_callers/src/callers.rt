@@ -8,15 +8,9 @@ ghost use Rattle.am_audit_callers.specs.declared.callers.Owner.{Owner as Known};
 ghost use Rattle.am_audit_callers.specs.Callers.{callers_of, followed, key_among, key_in, owner_named, owner_of, with_added, with_removed, without};
 
 use crate::change::CallerChange;
-use am_types::{Device, NoMemory, Package, Reply, Text};
+use am_types::{Device, NoMemory, Package, ROOT, Reply, SYSTEM, Text};
 use std::alloc::Global;
 use std::marker::Model;
-
-/// The uid of the system.
-const SYSTEM: u32 = 1000;
-
-/// The uid of the root.
-const ROOT: u32 = 0;
 
 /// A package as far as its calls are concerned.
 #[derive(Drop)]

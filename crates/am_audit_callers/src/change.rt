@@ -3,8 +3,8 @@ ghost use Rattle.std.specs.Prelude.{◌≡◌, IfOk};
 ghost use Rattle.am_manifest.specs.Manifests.{manifest_of};
 ghost use Rattle.am_audit_callers.specs.Callers.{added_by, change_of};
 
-use am_manifest::{ReadFault, read_package};
-use am_types::{NoMemory, Request, Text};
+use am_manifest::read_package;
+use am_types::{NoMemory, Request, Text, Unmade};
 use std::alloc::Global;
 
 /// What an accepted request changes of the callers.
@@ -30,8 +30,8 @@ fn added_by(alloc: Global, text: &Text, key: &Text) -> Result<CallerChange, NoMe
                 key,
             })
         }
-        Err(ReadFault::Manifest(_)) => Ok(CallerChange::Nothing),
-        Err(ReadFault::NoMemory) => Err(NoMemory),
+        Err(Unmade::Fault(_)) => Ok(CallerChange::Nothing),
+        Err(Unmade::NoMemory) => Err(NoMemory),
     }
 }
 

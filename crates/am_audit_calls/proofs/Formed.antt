@@ -8,7 +8,7 @@ use Rattle.am_wire_routes.specs.declared.endpoint.Endpoint.{Endpoint}
 use Rattle.am_wire_routes.specs.declared.endpoint.Endpoint.TheVariants as at
 use Rattle.am_wire_routes.specs.Table.{endpoint_at, endpoint_of, method_of, path_of}
 use Rattle.am_wire_values.specs.Requests.{request_data}
-use Rattle.am_wire_written.specs.Written as written
+use Rattle.am_wire.specs.Requests as wire
 use Rattle.am_http.specs.Head.{Frame}
 use Rattle.am_http.specs.Requests.{asked_at, request_of, request_or}
 use Rattle.am_http.proofs.FormedLemmas.{a_read_request_is_formed}
@@ -47,8 +47,8 @@ own_route at.Status = refl
 -- a frame that asks for the request with its own text
 frame_for : Request → Frame
 frame_for r = record {
-  method = method_of (written.endpoint_at r);
-  target = path_of (written.endpoint_at r);
+  method = method_of (wire.endpoint_at r);
+  target = path_of (wire.endpoint_at r);
   key = [];
   body = compact_text (request_data r);
   close = false;
@@ -58,7 +58,7 @@ frame_for r = record {
 asks_for : (r : Request) → IsReadAgain r → request_of (frame_for r) ≡ Ok r
 unfolding frame_for
 asks_for r again =
-    ap (λ route. asked_at route (compact_text (request_data r))) (own_route (written.endpoint_at r)) ∙ ap request_or again.again
+    ap (λ route. asked_at route (compact_text (request_data r))) (own_route (wire.endpoint_at r)) ∙ ap request_or again.again
 
 pub read_again_is_formed : (r : Request) → IsReadAgain r → IsTrue (is_formed r)
 read_again_is_formed r again = a_read_request_is_formed (frame_for r) r (asks_for r again)

@@ -9,7 +9,7 @@ use Rattle.am_wire_routes.specs.Table.{endpoint_at as endpoint_with}
 use Rattle.am_wire_values.specs.Replies.{entry_data}
 use Rattle.am_wire_values.specs.Requests.{request_data}
 use Rattle.am_wire_values.specs.Routes.{route_of}
-use Rattle.am_wire_written.specs.Written.{endpoint_at}
+use Rattle.am_wire.specs.Requests.{endpoint_at}
 use Rattle.am_audit_lines.specs.Lines.{IsReadAgain, IsWritten, number_in}
 use Rattle.am_audit_lines.proofs.Entries.{request_said, route_asks, route_said, says, some_is}
 use Rattle.am_audit_calls.specs.Reading.{TakesLine}

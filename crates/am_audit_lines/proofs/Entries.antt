@@ -18,9 +18,8 @@ use Rattle.am_wire_values.proofs.Floats.{request_none}
 use Rattle.am_wire_values.specs.Replies.{entry_data}
 use Rattle.am_wire_values.specs.Requests.{request_data}
 use Rattle.am_wire_values.specs.Routes.{route_of}
-use Rattle.am_wire_written.specs.Written.{endpoint_at}
 use Rattle.am_types.specs.declared.failure.NoMemory.{NoMemory}
-use Rattle.am_wire.specs.Requests.{request_of}
+use Rattle.am_wire.specs.Requests.{endpoint_at, request_of}
 use Rattle.am_wire_routes.specs.declared.endpoint.Endpoint.{Endpoint}
 use Rattle.am_wire_written.specs.Written.{HasFewRows}
 use Rattle.am_audit_lines.specs.Lines.{IsReadAgain, IsTextOf, number_in}

@@ -5,11 +5,11 @@ use Rattle.serde_json.specs.Find.{get, as_number, as_u64}
 use Rattle.serde_json.specs.Written.{compact_text}
 use Rattle.am_types.specs.declared.history.Entry.{Entry}
 use Rattle.am_types.specs.declared.request.Request.{Request}
-use Rattle.am_wire.specs.Requests.{request_of}
+use Rattle.am_wire.specs.Requests.{endpoint_at, request_of}
 use Rattle.am_wire_fields.specs.Bodies.{value_of}
 use Rattle.am_wire_values.specs.Replies.{entry_data}
 use Rattle.am_wire_values.specs.Requests.{request_data}
-use Rattle.am_wire_written.specs.Written.{endpoint_at, HasFewRows}
+use Rattle.am_wire_written.specs.Written.{HasFewRows}
 
 -- the numbers of an entry lie in their ranges
 pub record HasRanges (entry : Entry) : Type 0 where

@@ -8,8 +8,8 @@ ghost use Rattle.am_audit_lines.specs.Lines.{IsTextOf, IsWhole, Tells};
 use crate::numbers::numbers_in;
 use crate::request::request_in;
 use crate::text::is_text_of;
-use am_types::{Entry, NoMemory};
-use am_wire_fields::{Unread, json_value};
+use am_types::{Entry, NoMemory, Unmade};
+use am_wire_fields::json_value;
 use serde_json::Value;
 use std::alloc::Global;
 
@@ -45,8 +45,8 @@ fn entry_said(alloc: Global, text: &[u8]) -> Result<Option<Entry>, NoMemory>
 {
     match json_value(alloc, text) {
         Ok(value) => entry_in(alloc, &value),
-        Err(Unread::Fault(_)) => Ok(None),
-        Err(Unread::NoMemory) => Err(NoMemory),
+        Err(Unmade::Fault(_)) => Ok(None),
+        Err(Unmade::NoMemory) => Err(NoMemory),
     }
 }
 

@@ -6,16 +6,15 @@ ghost use Rattle.serde_json.specs.Find.{as_str, get};
 ghost use Rattle.serde_json.specs.View.{view};
 ghost use Rattle.serde_json.specs.Written.{compact_text, has_float};
 ghost use Rattle.am_types.specs.declared.history.Entry.{Entry};
-ghost use Rattle.am_wire.specs.Requests.{request_of};
+ghost use Rattle.am_wire.specs.Requests.{endpoint_at, request_of};
 ghost use Rattle.am_wire_routes.specs.Table.{endpoint_at as endpoint_with, is_at};
 ghost use Rattle.am_wire_values.specs.Replies.{entry_data};
 ghost use Rattle.am_wire_values.specs.Requests.{request_data};
-ghost use Rattle.am_wire_written.specs.Written.{HasFewRows, IsReadable, endpoint_at};
+ghost use Rattle.am_wire_written.specs.Written.{HasFewRows, IsReadable};
 ghost use Rattle.am_audit_lines.specs.Lines.{IsReadAgain};
 
-use am_types::{NoMemory, Request};
+use am_types::{NoMemory, Request, Unmade};
 use am_wire::read_request;
-use am_wire_fields::Unread;
 use am_wire_routes::Endpoint;
 use am_wire_written::{endpoint_of, request_text};
 use serde_json::Value;
@@ -101,8 +100,8 @@ fn request_at(alloc: Global, endpoint: Endpoint, said: &Value) -> Result<Option<
     let body = said.to_string(alloc)?;
     match read_request(alloc, endpoint, body.as_bytes()) {
         Ok(request) => if_written(alloc, request, body.as_str()),
-        Err(Unread::Fault(_)) => Ok(None),
-        Err(Unread::NoMemory) => Err(NoMemory),
+        Err(Unmade::Fault(_)) => Ok(None),
+        Err(Unmade::NoMemory) => Err(NoMemory),
     }
 }
 

@@ -11,10 +11,11 @@ use Rattle.std.proofs.lemmas.List.FromFn.{get_or-map-range_with_len, length-map-
 use Rattle.am_types.specs.declared.device.Package.{Package}
 use Rattle.am_types.specs.declared.filter.Filter.{Filter}
 use Rattle.am_types.specs.declared.manifest.Decl.{Decl}
+use Rattle.am_model.specs.Plain.{filter_for}
 use Rattle.am_model.specs.Sound.{has_slash, AreDistinct, AreSoundPackages, AreSoundRights, IsSound, IsSoundDecl, IsSoundFilter, IsSoundPackage, is_access_key, is_package_name, is_visible, names_of, keys_of, uids_of}
 use Rattle.am_model.specs.Texts.{is_same}
 use Rattle.am_drill.specs.Draws.{after}
-use Rattle.am_drill.specs.Devices.{activity_of, device_of, filter_of, key_of, name_of, package_of, packages_of, receiver_of}
+use Rattle.am_drill.specs.Devices.{activity_of, device_of, key_of, name_of, package_of, packages_of, receiver_of}
 use Rattle.am_drill.proofs.Decimals.{apart_from, digits_are_visible, digits_have_no_slash, numbered_apart}
 
 -- a text with a first byte isn't empty
@@ -60,7 +61,7 @@ one_filter decl filter is sound = record {
 
 -- a filter of one action and few categories
 filter_is_sound : (action : List ℕ) (categories : List (List ℕ)) (priority : ℤ) → length categories ≤ 1
-    → IsSoundFilter (filter_of action categories priority)
+    → IsSoundFilter (filter_for action categories priority)
 filter_is_sound action categories priority few = record {
   actions = omega arith;
   categories = omega (arith, few);

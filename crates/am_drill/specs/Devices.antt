@@ -1,5 +1,5 @@
 -- The generated device.
-use Rattle.std.specs.Prelude.{ℕ, ◌+◌, ◌*◌, ℤ, pos, ◌-ℤ◌, true, false, codes, decimal, List, [], ◌∷◌, ◌++◌, map, None}
+use Rattle.std.specs.Prelude.{ℕ, ◌+◌, ◌*◌, pos, ◌-ℤ◌, false, codes, decimal, List, [], ◌∷◌, ◌++◌, map, None}
 use Rattle.std.specs.List.{range_with_len}
 use Rattle.am_types.specs.declared.device.Device.{Device}
 use Rattle.am_types.specs.declared.device.Package.{Package}
@@ -7,8 +7,8 @@ use Rattle.am_types.specs.declared.filter.Filter.{Filter}
 use Rattle.am_types.specs.declared.manifest.Decl.{Decl}
 use Rattle.am_types.specs.declared.manifest.Kind.{Kind}
 use Rattle.am_types.specs.declared.manifest.Kind.TheVariants.{Activity, Receiver}
-use Rattle.am_types.specs.declared.manifest.Mode.TheVariants.{Standard}
 use Rattle.am_model.specs.Filters.{default_category}
+use Rattle.am_model.specs.Plain.{filter_for, open_decl}
 use Rattle.am_drill.specs.Draws.{after, draw}
 
 -- an action that activities list
@@ -26,42 +26,21 @@ name_of i = codes "p." ++ decimal i
 abbrev pub key_of : ℕ → List ℕ
 key_of i = codes "k" ++ decimal i
 
--- a filter of one action
-abbrev pub filter_of : List ℕ → List (List ℕ) → ℤ → Filter
-filter_of action categories priority = record {
-  actions = action ∷ [];
-  categories = categories;
-  schemes = [];
-  authorities = [];
-  paths = [];
-  types = [];
-  priority = priority;
-}
-
 -- an exported component of a package, with one filter
 abbrev pub exported : Kind → List ℕ → List ℕ → Filter → Decl
-exported kind name class filter = record {
-  kind = kind;
-  class = class;
-  exported = true;
-  enabled = true;
-  permission = None;
-  mode = Standard;
-  affinity = name;
-  filters = filter ∷ [];
-}
+exported kind name class filter = record (open_decl kind class (filter ∷ [])) { affinity = name }
 
 -- the activity of a package, of two draws: its action and its priority, which is from -4 to 0
 unfoldable pub activity_of : ℕ → ℕ → Decl
 activity_of i state =
     exported Activity (name_of i) (name_of i ++ codes ".A")
-    (filter_of (activity_action (draw 0 8 state)) (default_category ∷ []) (pos 0 -ℤ pos (draw 1 5 state)))
+    (filter_for (activity_action (draw 0 8 state)) (default_category ∷ []) (pos 0 -ℤ pos (draw 1 5 state)))
 
 -- the receiver of a package, of two draws: its action and its priority, which is from 0 to 4
 unfoldable pub receiver_of : ℕ → ℕ → Decl
 receiver_of i state =
     exported Receiver (name_of i) (name_of i ++ codes ".R")
-    (filter_of (broadcast_action (draw 0 4 state)) [] (pos (draw 1 5 state)))
+    (filter_for (broadcast_action (draw 0 4 state)) [] (pos (draw 1 5 state)))
 
 -- package number i, of four draws
 abbrev pub package_of : ℕ → ℕ → Package

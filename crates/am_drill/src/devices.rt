@@ -1,8 +1,9 @@
 //! The generated device.
 ghost use Rattle.std.specs.Prelude.{◌≡◌, ◌≤◌, ◌<◌, ◌+◌, ◌*◌, ◌++◌, [], ◌∷◌, pos, ◌-ℤ◌, IfOk, OnOk, codes};
 ghost use Rattle.am_model.specs.Filters.{default_category};
+ghost use Rattle.am_model.specs.Plain.{filter_for};
 ghost use Rattle.am_drill.specs.Draws.{after};
-ghost use Rattle.am_drill.specs.Devices.{activity_of, device_of, exported, filter_of, name_of, package_of, packages_of, receiver_of};
+ghost use Rattle.am_drill.specs.Devices.{activity_of, device_of, exported, name_of, package_of, packages_of, receiver_of};
 
 use crate::draws::Draws;
 use crate::texts::{joined, numbered};
@@ -146,7 +147,7 @@ fn filter(
     categories: List<Text>,
     priority: i32,
 ) -> Result<Filter, AllocError>
-    ensures { IfOk result (λ filter. filter ≡ filter_of action categories priority) }
+    ensures { IfOk result (λ filter. filter ≡ filter_for action categories priority) }
 {
     let mut actions = Vec::new(alloc);
     actions.push(action)?;

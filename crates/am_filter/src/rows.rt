@@ -2,7 +2,7 @@
 ghost use Rattle.std.specs.Prelude.{◌≡◌, ◌++◌, IfOk, fold};
 ghost use Rattle.am_filter.specs.Rows.{listed, merged, no_rows, with_paths, with_row};
 
-use am_types::{Authority, Glob, List, Mime, PathRule, Text};
+use am_types::{Authority, Filter, Glob, List, Mime, PathRule, Text};
 use am_uri::with_optional;
 use std::alloc::{AllocError, Global};
 use std::collections::BTreeSet;
@@ -44,6 +44,31 @@ pub struct DataRows {
     pub paths: List<PathRule>,
     /// In the order of the rows, repeats included.
     pub types: List<Mime>,
+}
+
+impl DataRows {
+    /// The filter with these data. Takes no memory.
+    pub fn into_filter(self, actions: List<Text>, categories: List<Text>, priority: i32) -> Filter
+        ensures { result ≡ record {
+          actions = actions;
+          categories = categories;
+          schemes = self.schemes;
+          authorities = self.authorities;
+          paths = self.paths;
+          types = self.types;
+          priority = priority;
+        } }
+    {
+        Filter {
+            actions,
+            categories,
+            schemes: self.schemes,
+            authorities: self.authorities,
+            paths: self.paths,
+            types: self.types,
+            priority,
+        }
+    }
 }
 
 /// The items, with one more, if there is one.

@@ -31,8 +31,8 @@ given =
 pub rights_are_kept :
     rows_after start no_rows given
     ≡ record no_rows {
-      grants = record { uid = 10000; permission = codes "p.X"; held = true } ∷ [];
-      links = record { uid = 10001; host = codes "a.org"; approved = true } ∷ [];
+      grants = record { uid = 10000; text = codes "p.X"; held = true } ∷ [];
+      links = record { uid = 10001; text = codes "a.org"; held = true } ∷ [];
     }
 unfolding act grant link
 rights_are_kept = refl
@@ -50,7 +50,7 @@ a_fault_keeps_none = refl
 pub the_last_word_is_kept :
     rows_after start no_rows
     (entry system_uid 0 (asks.Grant (codes "com.one") (codes "p.X") true) ∷ entry system_uid 0 (asks.Grant (codes "com.one") (codes "p.X") false) ∷ [])
-    ≡ record no_rows { grants = record { uid = 10000; permission = codes "p.X"; held = false } ∷ [] }
+    ≡ record no_rows { grants = record { uid = 10000; text = codes "p.X"; held = false } ∷ [] }
 unfolding act grant
 the_last_word_is_kept = refl
 

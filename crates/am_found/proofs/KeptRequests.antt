@@ -97,7 +97,7 @@ module _ (device : Device) (kept : Rows) (state : State) (sound : IsSound device
       (named_is_live state.board.packages name owner is) room)))
     where
       row_for : Package → Row
-      row_for owner = kinds.Grant (record { uid = owner.uid; permission = permission; held = held })
+      row_for owner = kinds.Grant (record { uid = owner.uid; text = permission; held = held })
   keeping_is_found before (asks.Link name host approved) keeps formed =
       admin_is_found _ (for_package state name (λ (owner : Package). link_to state owner.uid host approved))
       (package_is_found name row_for (λ (owner : Package). link_to state owner.uid host approved)
@@ -107,7 +107,7 @@ module _ (device : Device) (kept : Rows) (state : State) (sound : IsSound device
       (named_is_live state.board.packages name owner is) room)))
     where
       row_for : Package → Row
-      row_for owner = kinds.Link (record { uid = owner.uid; host = host; approved = approved })
+      row_for owner = kinds.Link (record { uid = owner.uid; text = host; held = approved })
   keeping_is_found before _ keeps formed = absurd cc
 
   -- each request

@@ -12,8 +12,7 @@ use Rattle.am_types.specs.declared.device.Link.{Link}
 use Rattle.am_types.specs.declared.manifest.Manifest.{Manifest}
 use Rattle.am_types.specs.declared.request.Request.{Request}
 use Rattle.am_keeper.specs.declared.rows.PackageRow.{PackageRow}
-use Rattle.am_keeper.specs.declared.rows.GrantRow.{GrantRow}
-use Rattle.am_keeper.specs.declared.rows.LinkRow.{LinkRow}
+use Rattle.am_keeper.specs.declared.rows.RightRow.{RightRow}
 use Rattle.am_keeper.specs.declared.rows.Rows.{Rows}
 use Rattle.am_keeper.specs.Rows as rows
 use Rattle.am_keeper.specs.Rows.{IsInOrder}
@@ -82,7 +81,7 @@ module _ (device : Device) (kept : Rows) (state : State) (sound : IsSound device
     -- a permission is given or taken
     pub grant_is_found : (uid : ℕ) (permission : List ℕ) (held : Bool) → is_package_uid state.board.packages uid ≡ true
         → too_many_grants state.board.grants uid permission held ≡ false
-        → OpensAs device (rows.with_grant kept (record { uid = uid; permission = permission; held = held }))
+        → OpensAs device (rows.with_grant kept (record { uid = uid; text = permission; held = held }))
         (record state { board = record (state.board) { grants = with_grant state.board.grants uid permission held } })
     grant_is_found uid permission held live room =
         reading_opens device (rows.with_grant kept row) _ (steps.granted uid permission held live room) (record {
@@ -94,13 +93,13 @@ module _ (device : Device) (kept : Rows) (state : State) (sound : IsSound device
               ∙ ap (λ (k : Kept). record k { grants = with_grant k.grants uid permission held }) reading.same;
         })
       where
-        row : GrantRow
-        row = record { uid = uid; permission = permission; held = held }
+        row : RightRow
+        row = record { uid = uid; text = permission; held = held }
 
     -- a host is approved or not
     pub link_is_found : (uid : ℕ) (host : List ℕ) (approved : Bool) → is_same (lowered host) host ≡ true → is_package_uid state.board.packages uid ≡ true
         → too_many_links state.board.links uid host approved ≡ false
-        → OpensAs device (rows.with_link kept (record { uid = uid; host = host; approved = approved }))
+        → OpensAs device (rows.with_link kept (record { uid = uid; text = host; held = approved }))
         (record state { board = record (state.board) { links = with_link state.board.links uid host approved } })
     link_is_found uid host approved low live room =
         reading_opens device (rows.with_link kept row) _ (steps.linked uid host approved live room) (record {
@@ -112,8 +111,8 @@ module _ (device : Device) (kept : Rows) (state : State) (sound : IsSound device
               ∙ ap (λ (k : Kept). record k { links = with_link k.links uid host approved }) reading.same;
         })
       where
-        row : LinkRow
-        row = record { uid = uid; host = host; approved = approved }
+        row : RightRow
+        row = record { uid = uid; text = host; held = approved }
 
     -- a package goes
     pub removal_is_found : (uid : ℕ) (name : List ℕ) → is_package_uid state.board.packages uid ≡ true
@@ -200,14 +199,14 @@ module _ (device : Device) (kept : Rows) (state : State) (sound : IsSound device
                 let less : uid < state.next_uid = subst (λ (n : ℕ). uid < n) next (below (not_from_false (eqb uid no_uid) is)) in
                 ne_eqb state.next_uid uid (λ same. omega arith)
 
-        grants_same : AllByRecursion (λ (r : GrantRow). is_package_uid read.board.packages r.uid ≡ is_package_uid (place_package new read.board.packages) r.uid) kept.grants
+        grants_same : AllByRecursion (λ (r : RightRow). is_package_uid read.board.packages r.uid ≡ is_package_uid (place_package new read.board.packages) r.uid) kept.grants
         grants_same =
-            all_weaker (λ (r : GrantRow). not (r.uid == no_uid) ≡ true → r.uid < next_after device kept)
-            (λ (r : GrantRow). is_package_uid read.board.packages r.uid ≡ is_package_uid (place_package new read.board.packages) r.uid)
+            all_weaker (λ (r : RightRow). not (r.uid == no_uid) ≡ true → r.uid < next_after device kept)
+            (λ (r : RightRow). is_package_uid read.board.packages r.uid ≡ is_package_uid (place_package new read.board.packages) r.uid)
             (λ r below. other r.uid below) kept.grants (below_next device kept).grants
 
-        links_same : AllByRecursion (λ (r : LinkRow). is_package_uid read.board.packages r.uid ≡ is_package_uid (place_package new read.board.packages) r.uid) kept.links
+        links_same : AllByRecursion (λ (r : RightRow). is_package_uid read.board.packages r.uid ≡ is_package_uid (place_package new read.board.packages) r.uid) kept.links
         links_same =
-            all_weaker (λ (r : LinkRow). not (r.uid == no_uid) ≡ true → r.uid < next_after device kept)
-            (λ (r : LinkRow). is_package_uid read.board.packages r.uid ≡ is_package_uid (place_package new read.board.packages) r.uid)
+            all_weaker (λ (r : RightRow). not (r.uid == no_uid) ≡ true → r.uid < next_after device kept)
+            (λ (r : RightRow). is_package_uid read.board.packages r.uid ≡ is_package_uid (place_package new read.board.packages) r.uid)
             (λ r below. other r.uid below) kept.links (below_next device kept).links

@@ -10,10 +10,9 @@ use Rattle.std.specs.Cmp.Lexicographic.{slice_cmp}
 use Rattle.am_types.specs.declared.device.Device.{Device}
 use Rattle.am_types.specs.declared.device.Package.{Package}
 use Rattle.am_keeper.specs.declared.rows.PackageRow.{PackageRow}
-use Rattle.am_keeper.specs.declared.rows.GrantRow.{GrantRow}
-use Rattle.am_keeper.specs.declared.rows.LinkRow.{LinkRow}
+use Rattle.am_keeper.specs.declared.rows.RightRow.{RightRow}
 use Rattle.am_keeper.specs.declared.rows.Rows.{Rows}
-use Rattle.am_keeper.specs.Rows.{beside, put_in, by_uid, by_permission, by_host, with_package, with_grant, with_link}
+use Rattle.am_keeper.specs.Rows.{beside, put_in, by_uid, by_right, with_package, with_grant, with_link}
 use Rattle.am_history.specs.State.{uid_after, uids_of}
 use Rattle.am_history.specs.Packages.{no_uid}
 use Rattle.am_history.specs.Opening.{row_uids}
@@ -66,8 +65,8 @@ counts uid = not (uid == no_uid)
 pub record AreBelow (n : ℕ) (device : Device) (rows : Rows) : Type 0 where
   pub own : AllByRecursion (λ (p : Package). p.uid < n) device.packages
   pub packages : AllByRecursion (λ (row : PackageRow). row.uid < n) rows.packages
-  pub grants : AllByRecursion (λ (row : GrantRow). counts row.uid ≡ true → row.uid < n) rows.grants
-  pub links : AllByRecursion (λ (row : LinkRow). counts row.uid ≡ true → row.uid < n) rows.links
+  pub grants : AllByRecursion (λ (row : RightRow). counts row.uid ≡ true → row.uid < n) rows.grants
+  pub links : AllByRecursion (λ (row : RightRow). counts row.uid ≡ true → row.uid < n) rows.links
 
 -- the next uid of an opening
 abbrev pub next_after : Device → Rows → ℕ
@@ -82,8 +81,8 @@ pub below_next : (device : Device) (rows : Rows) → AreBelow (next_after device
 below_next device rows = record {
   own = of_map (λ (p : Package). p.uid) P device.packages (of_first P (uids_of device.packages) (row_uids rows) all);
   packages = of_map (λ (row : PackageRow). row.uid) P rows.packages (of_first P (map (λ (row : PackageRow). row.uid) rows.packages) _ last);
-  grants = of_map (λ (row : GrantRow). row.uid) Q rows.grants (of_first Q (map (λ (row : GrantRow). row.uid) rows.grants) (map (λ (row : LinkRow). row.uid) rows.links) counted);
-  links = of_map (λ (row : LinkRow). row.uid) Q rows.links (of_last Q (map (λ (row : GrantRow). row.uid) rows.grants) (map (λ (row : LinkRow). row.uid) rows.links) counted);
+  grants = of_map (λ (row : RightRow). row.uid) Q rows.grants (of_first Q (map (λ (row : RightRow). row.uid) rows.grants) (map (λ (row : RightRow). row.uid) rows.links) counted);
+  links = of_map (λ (row : RightRow). row.uid) Q rows.links (of_last Q (map (λ (row : RightRow). row.uid) rows.grants) (map (λ (row : RightRow). row.uid) rows.links) counted);
 }
   where
     P : ℕ → Type 0
@@ -99,9 +98,9 @@ below_next device rows = record {
     last = of_last (λ uid. uid < next_after device rows) (uids_of device.packages) (row_uids rows) all
 
     counted : AllByRecursion (λ uid. counts uid ≡ true → uid < next_after device rows)
-        (map (λ (row : GrantRow). row.uid) rows.grants ++ map (λ (row : LinkRow). row.uid) rows.links)
+        (map (λ (row : RightRow). row.uid) rows.grants ++ map (λ (row : RightRow). row.uid) rows.links)
     counted =
-        of_left (λ uid. uid < next_after device rows) counts (map (λ (row : GrantRow). row.uid) rows.grants ++ map (λ (row : LinkRow). row.uid) rows.links)
+        of_left (λ uid. uid < next_after device rows) counts (map (λ (row : RightRow). row.uid) rows.grants ++ map (λ (row : RightRow). row.uid) rows.links)
         (of_last (λ uid. uid < next_after device rows) (map (λ (row : PackageRow). row.uid) rows.packages) _ last)
 
 -- and it is at most what all are below
@@ -110,9 +109,9 @@ next_is_least device rows n high below =
     max_is_least 9999 n (uids_of device.packages ++ row_uids rows) (omega arith)
     (all_append P (uids_of device.packages) (row_uids rows) (to_map (λ (p : Package). p.uid) P device.packages below.own)
     (all_append P (map (λ (row : PackageRow). row.uid) rows.packages) _ (to_map (λ (row : PackageRow). row.uid) P rows.packages below.packages)
-    (to_left P counts (map (λ (row : GrantRow). row.uid) rows.grants ++ map (λ (row : LinkRow). row.uid) rows.links)
-    (all_append Q (map (λ (row : GrantRow). row.uid) rows.grants) (map (λ (row : LinkRow). row.uid) rows.links)
-    (to_map (λ (row : GrantRow). row.uid) Q rows.grants below.grants) (to_map (λ (row : LinkRow). row.uid) Q rows.links below.links)))))
+    (to_left P counts (map (λ (row : RightRow). row.uid) rows.grants ++ map (λ (row : RightRow). row.uid) rows.links)
+    (all_append Q (map (λ (row : RightRow). row.uid) rows.grants) (map (λ (row : RightRow). row.uid) rows.links)
+    (to_map (λ (row : RightRow). row.uid) Q rows.grants below.grants) (to_map (λ (row : RightRow). row.uid) Q rows.links below.links)))))
   where
     P : ℕ → Type 0
     P uid = uid < n
@@ -188,8 +187,8 @@ same_next device rows others there here =
 -- all are below a number if the device's uids are and those of each kind of row
 of_parts : (n : ℕ) (device : Device) (rows : Rows) → AllByRecursion (λ (p : Package). p.uid < n) device.packages
     → AllByRecursion (λ (row : PackageRow). row.uid < n) rows.packages
-    → AllByRecursion (λ (row : GrantRow). counts row.uid ≡ true → row.uid < n) rows.grants
-    → AllByRecursion (λ (row : LinkRow). counts row.uid ≡ true → row.uid < n) rows.links → AreBelow n device rows
+    → AllByRecursion (λ (row : RightRow). counts row.uid ≡ true → row.uid < n) rows.grants
+    → AllByRecursion (λ (row : RightRow). counts row.uid ≡ true → row.uid < n) rows.links → AreBelow n device rows
 of_parts n device rows own packages grants links = record { own = own; packages = packages; grants = grants; links = links }
 
 -- the row of a uid that is below the next one leaves it the next one
@@ -205,27 +204,27 @@ next_with_package device rows row below =
     (λ other tie less. subst (λ (u : ℕ). u < next_after device (with_package rows row)) (sym (exact_unsigned other.uid row.uid tie)) less) rows.packages after.packages)
     after.grants after.links)
 
-pub next_with_grant : (device : Device) (rows : Rows) (row : GrantRow) → row.uid < next_after device rows → next_after device (with_grant rows row) ≡ next_after device rows
+pub next_with_grant : (device : Device) (rows : Rows) (row : RightRow) → row.uid < next_after device rows → next_after device (with_grant rows row) ≡ next_after device rows
 next_with_grant device rows row below =
     let before = below_next device rows in
     let after = below_next device (with_grant rows row) in
     same_next device rows (with_grant rows row)
     (of_parts (next_after device rows) device (with_grant rows row) before.own before.packages
-    (counted_put by_permission (λ (r : GrantRow). r.uid) (next_after device rows) row rows.grants below before.grants) before.links)
+    (counted_put by_right (λ (r : RightRow). r.uid) (next_after device rows) row rows.grants below before.grants) before.links)
     (of_parts (next_after device (with_grant rows row)) device rows after.own after.packages
-    (counted_others by_permission (λ (r : GrantRow). r.uid) (next_after device (with_grant rows row)) row rows.grants
-    (λ r tie. right_tie row.uid r.uid row.permission r.permission tie) after.grants) after.links)
+    (counted_others by_right (λ (r : RightRow). r.uid) (next_after device (with_grant rows row)) row rows.grants
+    (λ r tie. right_tie row.uid r.uid row.text r.text tie) after.grants) after.links)
 
-pub next_with_link : (device : Device) (rows : Rows) (row : LinkRow) → row.uid < next_after device rows → next_after device (with_link rows row) ≡ next_after device rows
+pub next_with_link : (device : Device) (rows : Rows) (row : RightRow) → row.uid < next_after device rows → next_after device (with_link rows row) ≡ next_after device rows
 next_with_link device rows row below =
     let before = below_next device rows in
     let after = below_next device (with_link rows row) in
     same_next device rows (with_link rows row)
     (of_parts (next_after device rows) device (with_link rows row) before.own before.packages before.grants
-    (counted_put by_host (λ (r : LinkRow). r.uid) (next_after device rows) row rows.links below before.links))
+    (counted_put by_right (λ (r : RightRow). r.uid) (next_after device rows) row rows.links below before.links))
     (of_parts (next_after device (with_link rows row)) device rows after.own after.packages after.grants
-    (counted_others by_host (λ (r : LinkRow). r.uid) (next_after device (with_link rows row)) row rows.links
-    (λ r tie. right_tie row.uid r.uid row.host r.host tie) after.links))
+    (counted_others by_right (λ (r : RightRow). r.uid) (next_after device (with_link rows row)) row rows.links
+    (λ r tie. right_tie row.uid r.uid row.text r.text tie) after.links))
 
 -- and with the row of the next uid it is one more
 pub next_with_next : (device : Device) (rows : Rows) (row : PackageRow) → row.uid ≡ next_after device rows → next_after device (with_package rows row) ≡ next_after device rows + 1
@@ -238,8 +237,8 @@ next_with_next device rows row is =
       own = one_more_all (λ (p : Package). p.uid) device.packages before.own;
       packages = all_put by_uid (λ (other : PackageRow). other.uid < next_after device rows + 1) row rows.packages (omega arith)
           (one_more_all (λ (other : PackageRow). other.uid) rows.packages before.packages);
-      grants = counted_all (λ (other : GrantRow). other.uid) rows.grants before.grants;
-      links = counted_all (λ (other : LinkRow). other.uid) rows.links before.links;
+      grants = counted_all (λ (other : RightRow). other.uid) rows.grants before.grants;
+      links = counted_all (λ (other : RightRow). other.uid) rows.links before.links;
     }) in
     let above : row.uid < next_after device (with_package rows row) =
     of_put by_uid (λ (other : PackageRow). other.uid < next_after device (with_package rows row)) row rows.packages after.packages in

@@ -3,8 +3,8 @@ use Rattle.std.proofs.Common.{◌≡◌, Bool, true, false, ◌||◌, cond, List
 use Rattle.std.specs.Prelude.{filter}
 use Rattle.std.specs.List.{AllByRecursion, list_any}
 use Rattle.std.proofs.lemmas.Bool.{false≢true}
-use Rattle.am_model.specs.Lists.{inserted}
-use Rattle.am_model.proofs.Lists.{all_left}
+use Rattle.am_model.specs.Lists.{AscendsBy, inserted}
+use Rattle.am_model.proofs.Lists.{all_left, ascends_by_left}
 
 -- what follows from what holds of each holds of all
 pub all_weaker : {X : Type 0} (P Q : X → Type 0) → ((x : X) → P x → Q x) → (xs : List X) → AllByRecursion P xs → AllByRecursion Q xs
@@ -54,17 +54,11 @@ none_is test (x ∷ xs) all = ap (λ b. b || list_any test xs) all.0 ∙ none_is
 module _ {X : Type 0} (before : X → X → Bool) where
   -- each stands before those behind it
   abbrev pub Ascends : List X → Type 0
-  Ascends [] = Unit {0}
-  Ascends (x ∷ xs) = AllByRecursion (λ y. before x y ≡ true) xs × Ascends xs
+  Ascends xs = AscendsBy (λ x y. before x y ≡ true) xs
 
   -- fewer are in order
   pub ascends_left : (keeps : X → Bool) (xs : List X) → Ascends xs → Ascends (filter keeps xs)
-  ascends_left keeps [] up = tt
-  ascends_left keeps (x ∷ xs) up = by (keeps x) (ascends_left keeps xs up.1)
-    where
-      by : (b : Bool) → Ascends (filter keeps xs) → Ascends (cond b (x ∷ filter keeps xs) (filter keeps xs))
-      by true rest = (all_left (λ y. before x y ≡ true) keeps xs up.0, rest)
-      by false rest = rest
+  ascends_left keeps xs up = ascends_by_left (λ x y. before x y ≡ true) keeps xs up
 
   -- what stands before all comes first
   pub inserted_first : (x : X) (xs : List X) → AllByRecursion (λ y. before x y ≡ true) xs → inserted before x xs ≡ x ∷ xs

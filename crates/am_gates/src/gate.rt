@@ -4,13 +4,7 @@ ghost use Rattle.am_model.specs.Boards.{is_grant, is_granted};
 ghost use Rattle.am_model.specs.Gates.{holds, is_privileged, verdict};
 ghost use Rattle.am_gates.specs.Rulings.{verdict_of};
 
-use am_types::{Grant, List, Text};
-
-/// The uid of the root.
-const ROOT: u32 = 0;
-
-/// The uid of the system.
-const SYSTEM: u32 = 1000;
+use am_types::{Grant, List, ROOT, SYSTEM, Text};
 
 /// What is said of a caller.
 #[derive(Clone, Copy, Debug, PartialEq, Eq)]

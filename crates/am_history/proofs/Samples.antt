@@ -13,7 +13,8 @@ use Rattle.am_types.specs.declared.reply.Reply.{Reply}
 use Rattle.am_types.specs.declared.broadcast.Outcome.{Outcome}
 use Rattle.am_types.specs.declared.broadcast.Answer.{Answer}
 use Rattle.am_model.specs.Filters.{default_category}
-use Rattle.am_model.proofs.Samples.{asking, filter_for, open_decl, package_with}
+use Rattle.am_model.specs.Plain.{filter_for, open_decl}
+use Rattle.am_model.proofs.Samples.{asking, package_with}
 use Rattle.am_history.specs.State.{State, opening}
 use Rattle.am_history.specs.Steps.{step}
 

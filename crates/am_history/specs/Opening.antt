@@ -8,8 +8,7 @@ use Rattle.am_types.specs.declared.device.Link.{Link}
 use Rattle.am_types.specs.declared.manifest.Manifest.{Manifest}
 use Rattle.am_types.specs.declared.manifest.ManifestFault.{ManifestFault}
 use Rattle.am_keeper.specs.declared.rows.PackageRow.{PackageRow}
-use Rattle.am_keeper.specs.declared.rows.GrantRow.{GrantRow}
-use Rattle.am_keeper.specs.declared.rows.LinkRow.{LinkRow}
+use Rattle.am_keeper.specs.declared.rows.RightRow.{RightRow}
 use Rattle.am_keeper.specs.declared.rows.Rows.{Rows}
 use Rattle.am_model.specs.Lists.{inserted}
 use Rattle.am_model.specs.Texts.{is_same, lowered}
@@ -67,17 +66,17 @@ abbrev pub after_rows : State → List PackageRow → Result State (List ℕ)
 after_rows state rows = fold and_then_row (Ok state) rows
 
 -- the grants after a grant row; a row of a uid that isn't live is ignored
-abbrev pub after_grant : Board → GrantRow → Board
+abbrev pub after_grant : Board → RightRow → Board
 after_grant board row =
     if is_package_uid board.packages row.uid
-    then record board { grants = with_grant board.grants row.uid row.permission row.held }
+    then record board { grants = with_grant board.grants row.uid row.text row.held }
     else board
 
 -- the links after a link row; a row of a uid that isn't live, or whose host isn't in lower case, is ignored
-abbrev pub after_link : Board → LinkRow → Board
+abbrev pub after_link : Board → RightRow → Board
 after_link board row =
-    if is_package_uid board.packages row.uid && is_same (lowered row.host) row.host
-    then record board { links = with_link board.links row.uid row.host row.approved }
+    if is_package_uid board.packages row.uid && is_same (lowered row.text) row.text
+    then record board { links = with_link board.links row.uid row.text row.held }
     else board
 
 -- the board after all rows of grants and links
@@ -100,7 +99,7 @@ abbrev pub row_uids : Rows → List ℕ
 row_uids rows =
     map (λ (row : PackageRow). row.uid) rows.packages
     ++ filter (λ uid. not (uid == no_uid))
-    (map (λ (row : GrantRow). row.uid) rows.grants ++ map (λ (row : LinkRow). row.uid) rows.links)
+    (map (λ (row : RightRow). row.uid) rows.grants ++ map (λ (row : RightRow). row.uid) rows.links)
 
 -- the state with the rights that were kept, and the next uid behind all that were ever given
 abbrev pub completed : Device → Rows → State → State

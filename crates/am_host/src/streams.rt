@@ -6,30 +6,29 @@ use am_outside::{Failed, Sink, Source};
 use std::io;
 use std::io::{ErrorKind, Read, Write};
 
-// One read, which is made again where a signal interrupts it.
+// What a read or a write answers, which is made again where a signal interrupts it.
+macro_rules! uninterrupted {
+    ($call:expr) => {{
+        for _ in 0..u64::MAX {
+            match $call {
+                Err(error) if error.kind() == ErrorKind::Interrupted => {}
+                done => return done,
+            }
+        }
+        Err(io::Error::from(ErrorKind::Interrupted))
+    }};
+}
+
 fn read_some<R: Read>(reader: &mut R, into: &mut [u8]) -> io::Result<usize>
     ensures { ReadsAtMost result into.new }
 {
-    for _ in 0..u64::MAX {
-        match reader.read(into) {
-            Err(error) if error.kind() == ErrorKind::Interrupted => {}
-            read => return read,
-        }
-    }
-    Err(io::Error::from(ErrorKind::Interrupted))
+    uninterrupted!(reader.read(into))
 }
 
-// One write, which is made again where a signal interrupts it.
 fn write_some<W: Write>(writer: &mut W, from: &[u8]) -> io::Result<usize>
     ensures { WritesAtMost result from.now }
 {
-    for _ in 0..u64::MAX {
-        match writer.write(from) {
-            Err(error) if error.kind() == ErrorKind::Interrupted => {}
-            written => return written,
-        }
-    }
-    Err(io::Error::from(ErrorKind::Interrupted))
+    uninterrupted!(writer.write(from))
 }
 
 /// A stream with its count of faults: a reader, as standard input, as a source, or a writer, as standard output, as a

@@ -9,9 +9,9 @@ ghost use Rattle.am_http.specs.Links.{GoesOn};
 use crate::frame::WholeFrame;
 use am_desk::Desk;
 use am_outside::Clock;
-use am_types::{NoMemory, Request, Shown, Text};
+use am_types::{NoMemory, Request, Shown, Text, Unmade};
 use am_wire::read_request;
-use am_wire_fields::{Unread, WireFault};
+use am_wire_fields::WireFault;
 use am_wire_routes::{Endpoint, RouteFault, Routes};
 use std::alloc::Global;
 use std::str;
@@ -48,8 +48,8 @@ fn request_at(
 {
     match read_request(alloc, endpoint, body) {
         Ok(request) => Ok(Ok(request)),
-        Err(Unread::Fault(fault)) => Ok(Err(Refusal::BadRequest(fault))),
-        Err(Unread::NoMemory) => Err(NoMemory),
+        Err(Unmade::Fault(fault)) => Ok(Err(Refusal::BadRequest(fault))),
+        Err(Unmade::NoMemory) => Err(NoMemory),
     }
 }
 

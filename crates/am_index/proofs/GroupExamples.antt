@@ -7,7 +7,8 @@ use Rattle.am_types.specs.declared.manifest.Decl.{Decl}
 use Rattle.am_types.specs.declared.uri.Mime.{Mime}
 use Rattle.am_types.specs.declared.uri.Uri.{Uri}
 use Rattle.am_types.specs.Intents.{no_intent}
-use Rattle.am_model.proofs.Samples.{asking, filter_for, mime_at, open_decl, package_with, uri_at}
+use Rattle.am_model.specs.Plain.{filter_for, open_decl}
+use Rattle.am_model.proofs.Samples.{asking, mime_at, package_with, uri_at}
 use Rattle.am_index.specs.declared.key.Group.TheVariants.{Action, Scheme, Typed, Main}
 use Rattle.am_index.specs.Groups.{group_size}
 use Rattle.am_index.specs.Keys.{groups_of_filter}

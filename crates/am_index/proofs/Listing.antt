@@ -118,16 +118,17 @@ listed_where_in group decl = ap (λ (b : Bool). same_group group (Class decl.cla
     by Typed = refl
     by (Main x) = refl
 
--- what is noted for the groups of a component is noted where it is under the key
+-- what is noted for the groups of an enabled component is noted where it is under the key
 pub listed_noted : {S X E : Type 0} (m n : HashMap Key (Vec Spot Global) S) (owner : Package) (decl : Decl) (groups : List Group) (spot : Spot)
-    → groups ≡ groups_of decl
+    → decl.enabled ≡ true → groups ≡ groups_of decl
     → (r : Result X E) → OnOk r ((k : Key) → spots_at n k ≡ noted (asks_for decl.kind owner.name groups k) spot (spots_at m k))
-    → OnOk r ((k : Key) → spots_at n k ≡ noted (is_kind k.kind decl.kind && is_under k owner decl) spot (spots_at m k))
-listed_noted m n owner decl groups spot e (Err x) h = tt
-listed_noted m n owner decl groups spot e (Ok x) h = λ k.
+    → OnOk r ((k : Key) → spots_at n k ≡ noted (decl.enabled && (is_kind k.kind decl.kind && is_under k owner decl)) spot (spots_at m k))
+listed_noted m n owner decl groups spot on e (Err x) h = tt
+listed_noted m n owner decl groups spot on e (Ok x) h = λ k.
     h k
     ∙ ap (λ gs. noted (asks_for decl.kind owner.name gs k) spot (spots_at m k)) e
     ∙ ap (λ b. noted (is_kind k.kind decl.kind && (is_for k.owner owner.name && b)) spot (spots_at m k)) (listed_where_in k.group decl)
+    ∙ ap (λ b. noted (b && (is_kind k.kind decl.kind && is_under k owner decl)) spot (spots_at m k)) (sym on)
 
 -- a component in front of others, under a key
 front_noted : {A : Type 0} (asked enabled under : Bool) (x : A) (xs rest : List A)

@@ -84,8 +84,8 @@ pub(crate) fn note_groups(
     Ok(())
 }
 
-/// Adds the spot of a component to all lists that it belongs to.
-fn note_decl(
+/// Adds the spot of a component, if it is enabled, to all lists that it belongs to.
+fn note_enabled(
     alloc: Global,
     lists: &mut Lists,
     owner: &Package,
@@ -94,9 +94,13 @@ fn note_decl(
 ) -> Result<(), NoMemory>
     ensures noted { OnOk result
         ((key : Key) → spots_at lists.new key
-        ≡ noted (is_kind key.kind decl.now.kind && is_under key owner.now decl.now) spot (spots_at lists.old key)) }
+        ≡ noted (decl.now.enabled && (is_kind key.kind decl.now.kind && is_under key owner.now decl.now)) spot
+        (spots_at lists.old key)) }
     ensures others { KeepsOthers spot.uid lists.old lists.new }
 {
+    if !decl.enabled {
+        return Ok(());
+    }
     let groups = groups_of(alloc, decl)?;
     note_groups(
         alloc,
@@ -137,26 +141,6 @@ fn is_kind(kind: Kind, other: Kind) -> bool
     ensures { result ≡ is_kind kind other }
 {
     kind == other
-}
-
-/// Adds the spot of a component if it is enabled.
-fn note_enabled(
-    alloc: Global,
-    lists: &mut Lists,
-    owner: &Package,
-    decl: &Decl,
-    spot: Spot,
-) -> Result<(), NoMemory>
-    ensures noted { OnOk result
-        ((key : Key) → spots_at lists.new key
-        ≡ noted (decl.now.enabled && (is_kind key.kind decl.now.kind && is_under key owner.now decl.now)) spot
-        (spots_at lists.old key)) }
-    ensures others { KeepsOthers spot.uid lists.old lists.new }
-{
-    if decl.enabled {
-        note_decl(alloc, lists, owner, decl, spot)?;
-    }
-    Ok(())
 }
 
 /// Adds the spots of the enabled components of a package.

@@ -7,11 +7,12 @@ use Rattle.std.proofs.lemmas.Bool.{ltb-true, ltb-false}
 use Rattle.am_types.specs.declared.device.Grant.{Grant}
 use Rattle.am_types.specs.declared.device.Link.{Link}
 use Rattle.am_types.specs.declared.resolve.Registration.{Registration}
-use Rattle.am_model.specs.Boards.{with_grant, with_link}
+use Rattle.am_model.specs.Boards.{Board, with_grant, with_link}
 use Rattle.am_model.specs.Rights.{grant_of, link_of, of_grant, of_link}
 use Rattle.am_model.specs.Sound.{right_cmp, rights_approved, rights_granted}
-use Rattle.am_model.proofs.Lists.{all_inserted, all_left}
+use Rattle.am_model.proofs.Lists.{all_inserted, ascends_by_left}
 use Rattle.am_model.proofs.Rights.{fewer_in_order, with_in_order}
+use Rattle.am_installed.specs.Installed.{IsInOrder}
 use Rattle.am_installed.specs.Places.{AreByNumber, before_registered, place_registered}
 
 -- grants stay in order when some go
@@ -50,12 +51,16 @@ registered_in_order r (s ∷ rs) sorted = by (ltb r.number s.number) refl (regis
 
 -- and when some go
 pub fewer_registered : (p : Registration → Bool) (rs : List Registration) → AreByNumber rs → AreByNumber (filter p rs)
-fewer_registered p [] sorted = tt
-fewer_registered p (s ∷ rs) sorted = by (p s) (fewer_registered p rs sorted.1)
-  where
-    by : (b : Bool) → AreByNumber (filter p rs) → AreByNumber (cond b (s ∷ filter p rs) (filter p rs))
-    by true rest = (all_left (λ (t : Registration). s.number ≤ t.number) p rs sorted.0, rest)
-    by false rest = rest
+fewer_registered p rs sorted = ascends_by_left (λ (first r : Registration). first.number ≤ r.number) p rs sorted
+
+-- and so does all else that is installed
+pub in_order_left : (board : Board) (keeps : Registration → Bool) → IsInOrder board → IsInOrder (record board { registered = filter keeps board.registered })
+in_order_left board keeps order = record {
+  packages = order.packages;
+  grants = order.grants;
+  links = order.links;
+  registered = fewer_registered keeps board.registered order.registered;
+}
 
 -- what holds of both outcomes of a change holds after it
 pub whatever : {T E X : Type 0} (P : X → Type 0) (r : Result T E) (old new changed : X) → OnOk r (new ≡ changed) → OnErr r (new ≡ old) → P old → P changed → P new

@@ -1,8 +1,7 @@
 -- Registered receivers, which stand by their numbers.
-use Rattle.std.specs.Prelude.{◌≤◌, Bool, nat_lt, List, [], ◌∷◌}
-use Rattle.std.specs.List.{AllByRecursion}
+use Rattle.std.specs.Prelude.{◌≤◌, Bool, nat_lt, List}
 use Rattle.am_types.specs.declared.resolve.Registration.{Registration}
-use Rattle.am_model.specs.Lists.{inserted}
+use Rattle.am_model.specs.Lists.{AscendsBy, inserted}
 
 -- a registered receiver stands before another
 abbrev pub before_registered : Registration → Registration → Bool
@@ -14,5 +13,4 @@ place_registered r registered = inserted before_registered r registered
 
 -- registered receivers by rising number: none stands behind one of a greater number
 abbrev pub AreByNumber : List Registration → Type 0
-AreByNumber [] = Unit {0}
-AreByNumber (first ∷ others) = AllByRecursion (λ (r : Registration). first.number ≤ r.number) others × AreByNumber others
+AreByNumber registered = AscendsBy (λ (first r : Registration). first.number ≤ r.number) registered

@@ -6,10 +6,7 @@ ghost use Rattle.am_model.specs.Boards.{caller_of, package_at, package_named, ui
 ghost use Rattle.am_model.specs.Receivers.{decl_in, declared};
 ghost use Rattle.am_model.specs.Sound.{uids_of};
 
-use am_types::{Component, Decl, Kind, List, Package, Text};
-
-/// The uid of the system.
-const SYSTEM: u32 = 1000;
+use am_types::{Component, Decl, Kind, List, Package, SYSTEM, Text};
 
 /// The name of the system's package.
 const SYSTEM_NAME: &str = "android";

@@ -22,13 +22,8 @@ pub(crate) fn push_package(packages: &mut Vec<Package>, package: Package) -> Res
     ensures put { OnOk result (packages.new.items ≡ packages.old.items ++ «package» ∷ []) }
     ensures same { OnErr result (packages.new.items ≡ packages.old.items) }
 {
-    match packages.push(package) {
-        Ok(()) => Ok(()),
-        Err(failed) => {
-            drop(failed);
-            Err(NoMemory)
-        }
-    }
+    packages.push(package)?;
+    Ok(())
 }
 
 /// Takes the package of the uid out. Takes no memory.
@@ -78,13 +73,8 @@ pub(crate) fn put_registered(
     ensures same { OnErr result (registered.new.items ≡ registered.old.items) }
 {
     let place = place_of(registered, &registration);
-    match registered.insert(place, registration) {
-        Ok(()) => Ok(()),
-        Err(failed) => {
-            drop(failed);
-            Err(NoMemory)
-        }
-    }
+    registered.insert(place, registration)?;
+    Ok(())
 }
 
 /// Takes the registered receiver of the number out.

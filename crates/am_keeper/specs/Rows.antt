@@ -5,8 +5,7 @@ use Rattle.std.specs.declared.cmp.Ordering.TheVariants.{Less, Equal, Greater}
 use Rattle.std.specs.Ordering.{nat_cmp, ordering_then, is_lt}
 use Rattle.std.specs.Cmp.Lexicographic.{slice_cmp}
 use Rattle.am_keeper.specs.declared.rows.PackageRow.{PackageRow}
-use Rattle.am_keeper.specs.declared.rows.GrantRow.{GrantRow}
-use Rattle.am_keeper.specs.declared.rows.LinkRow.{LinkRow}
+use Rattle.am_keeper.specs.declared.rows.RightRow.{RightRow}
 use Rattle.am_keeper.specs.declared.rows.Rows.{Rows}
 use Rattle.am_keeper.specs.declared.rows.Row.{Row}
 use Rattle.am_keeper.specs.declared.rows.Row.TheVariants.{Package, Grant, Link}
@@ -15,13 +14,9 @@ use Rattle.am_keeper.specs.declared.rows.Row.TheVariants.{Package, Grant, Link}
 abbrev pub by_uid : PackageRow → PackageRow → Ordering
 by_uid x y = nat_cmp x.uid y.uid
 
--- grants stand by uid, then by the bytes of the permission
-abbrev pub by_permission : GrantRow → GrantRow → Ordering
-by_permission x y = ordering_then (nat_cmp x.uid y.uid) (slice_cmp nat_cmp x.permission y.permission)
-
--- links stand by uid, then by the bytes of the host
-abbrev pub by_host : LinkRow → LinkRow → Ordering
-by_host x y = ordering_then (nat_cmp x.uid y.uid) (slice_cmp nat_cmp x.host y.host)
+-- rights stand by uid, then by the bytes of the permission or the host
+abbrev pub by_right : RightRow → RightRow → Ordering
+by_right x y = ordering_then (nat_cmp x.uid y.uid) (slice_cmp nat_cmp x.text y.text)
 
 -- an item beside the first of a list, by how that first one compares with it
 abbrev pub beside : {X : Type 0} → Ordering → X → X → List X → List X → List X
@@ -47,8 +42,8 @@ rises order (x ∷ xs) = leads order x xs && rises order xs
 -- one package row for each uid, one grant row for each uid and permission, one link row for each uid and host, all in order
 pub record IsInOrder (rows : Rows) : Type 0 where
   pub packages : IsTrue (rises by_uid rows.packages)
-  pub grants : IsTrue (rises by_permission rows.grants)
-  pub links : IsTrue (rises by_host rows.links)
+  pub grants : IsTrue (rises by_right rows.grants)
+  pub links : IsTrue (rises by_right rows.links)
 
 -- no rows at all
 abbrev pub no_rows : Rows
@@ -59,12 +54,12 @@ abbrev pub with_package : Rows → PackageRow → Rows
 with_package rows row = record rows { packages = put_in by_uid row rows.packages }
 
 -- the rows with this grant row in the place of the one with its uid and permission, or added
-abbrev pub with_grant : Rows → GrantRow → Rows
-with_grant rows row = record rows { grants = put_in by_permission row rows.grants }
+abbrev pub with_grant : Rows → RightRow → Rows
+with_grant rows row = record rows { grants = put_in by_right row rows.grants }
 
 -- the rows with this link row in the place of the one with its uid and host, or added
-abbrev pub with_link : Rows → LinkRow → Rows
-with_link rows row = record rows { links = put_in by_host row rows.links }
+abbrev pub with_link : Rows → RightRow → Rows
+with_link rows row = record rows { links = put_in by_right row rows.links }
 
 -- the rows with this row put
 abbrev pub with_row : Rows → Row → Rows

@@ -3,7 +3,7 @@ ghost use Rattle.std.specs.Prelude.{◌≡◌, IfOk, OnOk, OnErr};
 ghost use Rattle.am_keeper.specs.Rows.{IsInOrder, no_rows, with_row};
 
 use crate::rank::put_in;
-use crate::{GrantRow, LinkRow, PackageRow, Row, Rows};
+use crate::{PackageRow, RightRow, Row, Rows};
 use am_types::List;
 use std::alloc::{AllocError, Global};
 use std::marker::Model;
@@ -13,8 +13,8 @@ use std::vec::VecCloneMethods;
 #[derive(Drop)]
 pub struct RowsBuilder {
     packages: Vec<PackageRow>,
-    grants: Vec<GrantRow>,
-    links: Vec<LinkRow>,
+    grants: Vec<RightRow>,
+    links: Vec<RightRow>,
 }
 
 impl Model for RowsBuilder {

@@ -15,5 +15,5 @@ pub use builder::RowsBuilder;
 pub use failure::KeepFail;
 pub use keeper::{Attached, Keeper, Store};
 pub use memory::MemoryKeeper;
-pub use rows::{GrantRow, LinkRow, PackageRow, Row, Rows};
+pub use rows::{PackageRow, RightRow, Row, Rows};
 pub use store::{MemoryStore, StoredRows};

@@ -1,12 +1,9 @@
 //! The order in which rows of a kind stand, and where one goes among the others.
 ghost use Rattle.std.specs.Prelude.{◌≡◌, ◌≤◌, ◌<◌, length, IsTrue, IfOk, IfErr, OnOk, OnErr};
-ghost use Rattle.std.specs.Ordering.{nat_cmp, ordering_then};
-ghost use Rattle.std.specs.Cmp.Lexicographic.{slice_cmp};
 ghost use Rattle.am_keeper.specs.Rows.{rises, put_in};
 ghost use Rattle.am_keeper.specs.Places.{IsPlaceOf, IsGapFor};
 
-use crate::{GrantRow, LinkRow, PackageRow};
-use am_types::Text;
+use crate::{PackageRow, RightRow};
 use std::alloc::AllocError;
 use std::cmp::Ordering;
 
@@ -38,41 +35,21 @@ impl Ranked for PackageRow {
     }
 }
 
-impl Ranked for GrantRow {
+impl Ranked for RightRow {
     ghost use Rattle.std.specs.Cmp.{on_total, then_total, nat_cmp_total};
     ghost use Rattle.std.specs.Cmp.Lexicographic.{nat_list_cmp_total};
-    ghost use Rattle.am_keeper.specs.Rows.{by_permission};
+    ghost use Rattle.am_keeper.specs.Rows.{by_right};
 
-    ghost order = { by_permission };
+    ghost order = { by_right };
 
-    ghost total = { then_total (on_total (λ row. row.uid) nat_cmp_total) (on_total (λ row. row.permission) nat_list_cmp_total) };
+    ghost total = { then_total (on_total (λ row. row.uid) nat_cmp_total) (on_total (λ row. row.text) nat_list_cmp_total) };
 
+    // The texts are compared only where the uids are the same.
     fn rank(&self, other: &Self) -> Ordering {
-        by_uid_then(self.uid, &self.permission, other.uid, &other.permission)
-    }
-}
-
-impl Ranked for LinkRow {
-    ghost use Rattle.std.specs.Cmp.{on_total, then_total, nat_cmp_total};
-    ghost use Rattle.std.specs.Cmp.Lexicographic.{nat_list_cmp_total};
-    ghost use Rattle.am_keeper.specs.Rows.{by_host};
-
-    ghost order = { by_host };
-
-    ghost total = { then_total (on_total (λ row. row.uid) nat_cmp_total) (on_total (λ row. row.host) nat_list_cmp_total) };
-
-    fn rank(&self, other: &Self) -> Ordering {
-        by_uid_then(self.uid, &self.host, other.uid, &other.host)
-    }
-}
-
-/// By uid, then by the bytes of the word, which are compared only where the uids are the same.
-fn by_uid_then(uid: u32, word: &Text, other_uid: u32, other_word: &Text) -> Ordering
-    ensures { result ≡ ordering_then (nat_cmp uid other_uid) (slice_cmp nat_cmp word.now other_word.now) }
-{
-    match uid.cmp(&other_uid) {
-        Ordering::Equal => word.cmp(other_word),
-        decided => decided,
+        match self.uid.cmp(&other.uid) {
+            Ordering::Equal => self.text.cmp(&other.text),
+            decided => decided,
+        }
     }
 }
 

@@ -1,7 +1,7 @@
 //! The rows that are kept.
 ghost use Rattle.std.specs.Prelude.{◌≡◌};
 
-use am_types::{List, Text};
+use am_types::{List, Text, copy_parts};
 use std::alloc::AllocError;
 
 /// An installed package, or one that is gone.
@@ -21,54 +21,25 @@ impl Clone for PackageRow {
     ghost is_clone = { λ x y. y ≡ x };
 
     fn clone(&self) -> Result<PackageRow, AllocError> {
-        Ok(PackageRow {
-            uid: self.uid,
-            name: self.name.clone()?,
-            key: self.key.clone()?,
-            text: self.text.clone()?,
-            gone: self.gone,
-        })
+        copy_parts!(self, PackageRow: value(name key text); uid gone)
     }
 }
 
-/// A permission that was granted, or taken away.
+/// A right of a uid, to a permission or to the web links of a host, that was given, or taken away.
 #[derive(Drop)]
-pub struct GrantRow {
+pub struct RightRow {
     pub uid: u32,
-    pub permission: Text,
+    /// The permission, or the host.
+    pub text: Text,
     /// Whether it is held.
     pub held: bool,
 }
 
-impl Clone for GrantRow {
+impl Clone for RightRow {
     ghost is_clone = { λ x y. y ≡ x };
 
-    fn clone(&self) -> Result<GrantRow, AllocError> {
-        Ok(GrantRow {
-            uid: self.uid,
-            permission: self.permission.clone()?,
-            held: self.held,
-        })
-    }
-}
-
-/// A host whose web links were approved for a package, or are no more.
-#[derive(Drop)]
-pub struct LinkRow {
-    pub uid: u32,
-    pub host: Text,
-    pub approved: bool,
-}
-
-impl Clone for LinkRow {
-    ghost is_clone = { λ x y. y ≡ x };
-
-    fn clone(&self) -> Result<LinkRow, AllocError> {
-        Ok(LinkRow {
-            uid: self.uid,
-            host: self.host.clone()?,
-            approved: self.approved,
-        })
+    fn clone(&self) -> Result<RightRow, AllocError> {
+        copy_parts!(self, RightRow: value(text); uid held)
     }
 }
 
@@ -76,8 +47,10 @@ impl Clone for LinkRow {
 #[derive(Drop)]
 pub enum Row {
     Package(PackageRow),
-    Grant(GrantRow),
-    Link(LinkRow),
+    /// Of a permission.
+    Grant(RightRow),
+    /// Of a host, for whose web links the package is approved.
+    Link(RightRow),
 }
 
 impl Clone for Row {
@@ -97,18 +70,14 @@ impl Clone for Row {
 #[derive(Drop)]
 pub struct Rows {
     pub packages: List<PackageRow>,
-    pub grants: List<GrantRow>,
-    pub links: List<LinkRow>,
+    pub grants: List<RightRow>,
+    pub links: List<RightRow>,
 }
 
 impl Clone for Rows {
     ghost is_clone = { λ x y. y ≡ x };
 
     fn clone(&self) -> Result<Rows, AllocError> {
-        Ok(Rows {
-            packages: self.packages.clone()?,
-            grants: self.grants.clone()?,
-            links: self.links.clone()?,
-        })
+        copy_parts!(self, Rows: list(packages grants links))
     }
 }

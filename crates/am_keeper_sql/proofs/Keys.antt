@@ -44,8 +44,8 @@ some_is (Some x) h = (x, refl)
 -- a kept row has a number, a number and a text as its key
 pub key_shape : (row : Kept) → (k : ℤ) × (u : ℤ) × (w : List ℕ) × (key_of row ≡ Int k ∷ Int u ∷ Text w ∷ [])
 key_shape (Package row) = (pos 0, pos row.uid, [], refl)
-key_shape (Grant row) = (pos 1, pos row.uid, row.permission, refl)
-key_shape (Link row) = (pos 2, pos row.uid, row.host, refl)
+key_shape (Grant row) = (pos 1, pos row.uid, row.text, refl)
+key_shape (Link row) = (pos 2, pos row.uid, row.text, refl)
 
 -- the key of a row that says a kept row
 pub key_said : (r : Row) → IsSome (row_said (values_of r)) → (k : ℤ) × (u : ℤ) × (w : List ℕ) × (key (values_of r) ≡ Int k ∷ Int u ∷ Text w ∷ [])

@@ -1,11 +1,10 @@
 -- Kept rows by their keys.
-use Rattle.std.proofs.Common.{◌≡◌, ℕ, inl, inr, List, [], ◌∷◌, map, Option, Some, None, pos, refl, sym, ap, ◌∙◌}
+use Rattle.std.proofs.Common.{◌≡◌, inl, inr, List, [], ◌∷◌, map, Option, Some, None, pos, refl, sym, ap, ◌∙◌}
 use Rattle.std.specs.Prelude.{option_map}
 use Rattle.std.specs.Str.{is_utf8}
 use Rattle.std.proofs.lemmas.Bool.{cases_Bool}
 use Rattle.std.specs.declared.cmp.Ordering.TheVariants.{Equal}
-use Rattle.std.specs.Ordering.{nat_cmp, ordering_then}
-use Rattle.std.specs.Cmp.Lexicographic.{slice_cmp}
+use Rattle.std.specs.Ordering.{nat_cmp}
 use Rattle.std.proofs.lemmas.Cmp.{tied_itself, nat_cmp_total}
 use Rattle.std.proofs.lemmas.Map.Lookups.{exact_unsigned, exact_bytes}
 use Rattle.sqlite.specs.declared.types.Value.{Value}
@@ -13,13 +12,12 @@ use Rattle.sqlite.specs.declared.types.Value.TheVariants.{Null, Int, Real, Text,
 use Rattle.sqlite.specs.Order.{Row, column}
 use Rattle.sqlite_value.proofs.KeyLemmas.{then_tied}
 use Rattle.am_keeper.specs.declared.rows.PackageRow.{PackageRow}
-use Rattle.am_keeper.specs.declared.rows.GrantRow.{GrantRow}
-use Rattle.am_keeper.specs.declared.rows.LinkRow.{LinkRow}
+use Rattle.am_keeper.specs.declared.rows.RightRow.{RightRow}
 use Rattle.am_keeper.specs.declared.rows.Row.{Row as Kept}
 use Rattle.am_keeper.specs.declared.rows.Row.TheVariants.{Package, Grant, Link}
 use Rattle.am_keeper.specs.declared.rows.Rows.{Rows}
-use Rattle.am_keeper.specs.Rows.{by_uid, by_permission, by_host, with_row}
-use Rattle.am_keeper.proofs.InOrder.{by_uid-total, by_permission-total, by_host-total}
+use Rattle.am_keeper.specs.Rows.{by_uid, by_right, with_row}
+use Rattle.am_keeper.proofs.InOrder.{by_uid-total, by_right-total}
 use Rattle.am_rows.specs.declared.Cell.{Cell}
 use Rattle.am_rows.specs.declared.Cell.TheVariants.{Whole, Words}
 use Rattle.am_rows.specs.Cells.{◌>>=◌, row_in}
@@ -30,8 +28,8 @@ use Rattle.am_keeper_sql.proofs.Commutes.{put_in-tied, put_in-apart}
 -- the kind, the uid and the word of a kept row
 abbrev pub key_of : Kept → Row
 key_of (Package row) = Int (pos 0) ∷ Int (pos row.uid) ∷ Text [] ∷ []
-key_of (Grant row) = Int (pos 1) ∷ Int (pos row.uid) ∷ Text row.permission ∷ []
-key_of (Link row) = Int (pos 2) ∷ Int (pos row.uid) ∷ Text row.host ∷ []
+key_of (Grant row) = Int (pos 1) ∷ Int (pos row.uid) ∷ Text row.text ∷ []
+key_of (Link row) = Int (pos 2) ∷ Int (pos row.uid) ∷ Text row.text ∷ []
 
 -- the same of values
 abbrev pub key : Row → Row
@@ -82,15 +80,13 @@ said-values values cells h = ap (λ o. o >>= row_in) h
 pub key-said : (values : Row) (row : Kept) → row_said values ≡ Some row → key values ≡ key_of row
 key-said values row h = ap key (values_for-said values row h) ∙ key-values_for row
 
--- two uids and words that tie are the same
-same_words : (uid uid' : ℕ) (word word' : List ℕ) → ordering_then (nat_cmp uid uid') (slice_cmp nat_cmp word word') ≡ Equal → (uid ≡ uid') × (word ≡ word')
-same_words uid uid' word word' tie = let parts = then_tied (nat_cmp uid uid') _ tie in (exact_unsigned uid uid' parts.0, exact_bytes word word' parts.1)
+-- two rights that tie are of one uid and text
+same_right : (x y : RightRow) → by_right x y ≡ Equal → (x.uid ≡ y.uid) × (x.text ≡ y.text)
+same_right x y tie = let parts = then_tied (nat_cmp x.uid y.uid) _ tie in (exact_unsigned x.uid y.uid parts.0, exact_bytes x.text y.text parts.1)
 
-same_permission : (x y : GrantRow) → by_permission x y ≡ Equal → key_of (Grant x) ≡ key_of (Grant y)
-same_permission x y tie = let same = same_words x.uid y.uid x.permission y.permission tie in rw (same.0, same.1)
-
-same_host : (x y : LinkRow) → by_host x y ≡ Equal → key_of (Link x) ≡ key_of (Link y)
-same_host x y tie = let same = same_words x.uid y.uid x.host y.host tie in rw (same.0, same.1)
+-- and those of one uid and text tie
+right_tie : (x y : RightRow) → x.uid ≡ y.uid → x.text ≡ y.text → by_right x y ≡ Equal
+right_tie x y uid text = let ties = tied_itself by_right-total y in rw (uid, text) ties
 
 same_package : (x y : PackageRow) → by_uid x y ≡ Equal → key_of (Package x) ≡ key_of (Package y)
 same_package x y tie = let uid : x.uid ≡ y.uid = exact_unsigned x.uid y.uid tie in rw uid
@@ -98,8 +94,8 @@ same_package x y tie = let uid : x.uid ≡ y.uid = exact_unsigned x.uid y.uid ti
 -- rows of two keys are put in either order
 pub with_row-apart : (rows : Rows) (a b : Kept) → (key_of a ≡ key_of b → ⊥) → with_row (with_row rows a) b ≡ with_row (with_row rows b) a
 with_row-apart rows (Package x) (Package y) apart = ap (λ all. record rows { packages = all }) (put_in-apart by_uid by_uid-total x y (λ tie. apart (same_package x y tie)) rows.packages)
-with_row-apart rows (Grant x) (Grant y) apart = ap (λ all. record rows { grants = all }) (put_in-apart by_permission by_permission-total x y (λ tie. apart (same_permission x y tie)) rows.grants)
-with_row-apart rows (Link x) (Link y) apart = ap (λ all. record rows { links = all }) (put_in-apart by_host by_host-total x y (λ tie. apart (same_host x y tie)) rows.links)
+with_row-apart rows (Grant x) (Grant y) apart = ap (λ all. record rows { grants = all }) (put_in-apart by_right by_right-total x y (λ tie. let same = same_right x y tie in apart (rw (same.0, same.1))) rows.grants)
+with_row-apart rows (Link x) (Link y) apart = ap (λ all. record rows { links = all }) (put_in-apart by_right by_right-total x y (λ tie. let same = same_right x y tie in apart (rw (same.0, same.1))) rows.links)
 with_row-apart rows (Package x) (Grant y) apart = refl
 with_row-apart rows (Package x) (Link y) apart = refl
 with_row-apart rows (Grant x) (Package y) apart = refl
@@ -114,17 +110,11 @@ with_row-tied rows (Package x) (Package y) same =
     let tie : by_uid x y ≡ Equal = rw (uid, tied_itself nat_cmp_total y.uid) in
     ap (λ all. record rows { packages = all }) (put_in-tied by_uid by_uid-total y x tie rows.packages)
 with_row-tied rows (Grant x) (Grant y) same =
-    let uid : x.uid ≡ y.uid = (let e = same in cc) in
-    let word : x.permission ≡ y.permission = (let e = same in cc) in
-    let ties = tied_itself by_permission-total y in
-    let tie : by_permission x y ≡ Equal = rw (uid, word) ties in
-    ap (λ all. record rows { grants = all }) (put_in-tied by_permission by_permission-total y x tie rows.grants)
+    let tie = right_tie x y (let e = same in cc) (let e = same in cc) in
+    ap (λ all. record rows { grants = all }) (put_in-tied by_right by_right-total y x tie rows.grants)
 with_row-tied rows (Link x) (Link y) same =
-    let uid : x.uid ≡ y.uid = (let e = same in cc) in
-    let word : x.host ≡ y.host = (let e = same in cc) in
-    let ties = tied_itself by_host-total y in
-    let tie : by_host x y ≡ Equal = rw (uid, word) ties in
-    ap (λ all. record rows { links = all }) (put_in-tied by_host by_host-total y x tie rows.links)
+    let tie = right_tie x y (let e = same in cc) (let e = same in cc) in
+    ap (λ all. record rows { links = all }) (put_in-tied by_right by_right-total y x tie rows.links)
 with_row-tied rows (Package x) (Grant y) same = absurd (let e = same in cc)
 with_row-tied rows (Package x) (Link y) same = absurd (let e = same in cc)
 with_row-tied rows (Grant x) (Package y) same = absurd (let e = same in cc)

@@ -1,6 +1,7 @@
--- What starts, sendings and uses of tokens leave, by cases: the state as it was, or what was admitted.
+-- What starts, sendings, uses of tokens and ends of deliveries leave, by cases: the state as it was, or what was admitted.
 use Rattle.std.proofs.Common.{◌≡◌, ℕ, Bool, true, false, not, ◌&&◌, cond, List, [], ◌∷◌, refl}
-use Rattle.std.specs.Prelude.{Option, Some, None, Result, Ok, Err, nat_le, nat_lt, length}
+use Rattle.std.specs.Prelude.{Option, Some, None, Result, Ok, Err, ◌==◌, nat_le, nat_lt, length}
+use Rattle.std.proofs.lemmas.Bool.{eqb-true}
 use Rattle.am_types.specs.declared.intent.Intent.{Intent}
 use Rattle.am_types.specs.declared.intent.Component.{Component}
 use Rattle.am_types.specs.declared.manifest.Decl.{Decl}
@@ -8,6 +9,9 @@ use Rattle.am_types.specs.declared.manifest.Kind.TheVariants as kinds
 use Rattle.am_types.specs.declared.resolve.Hit.{Hit}
 use Rattle.am_types.specs.declared.resolve.Target.{Target}
 use Rattle.am_types.specs.declared.resolve.Target.TheVariants.{Nothing, One, Choose}
+use Rattle.am_types.specs.declared.broadcast.Answer.{Answer}
+use Rattle.am_types.specs.declared.broadcast.FinishFault.{FinishFault}
+use Rattle.am_types.specs.declared.broadcast.FinishFault.TheVariants as ends
 use Rattle.am_types.specs.declared.broadcast.Ordered.{Ordered}
 use Rattle.am_types.specs.declared.broadcast.Receiving.{Receiving}
 use Rattle.am_types.specs.declared.broadcast.Sending.{Sending}
@@ -30,16 +34,16 @@ use Rattle.am_model.specs.Tasks.{Tasks}
 use Rattle.am_model.specs.Placement.{place}
 use Rattle.am_model.specs.Broadcasts.{Broadcasts}
 use Rattle.am_model.specs.Sending as sending
-use Rattle.am_model.specs.Sending.{live, with_sent}
+use Rattle.am_model.specs.Sending.{Held, held, live, with_sent, finished, finish_held, is_for_ordered}
 use Rattle.am_model.specs.Pendings as pendings
 use Rattle.am_model.specs.Pendings.{Pendings}
 use Rattle.am_history.specs.State.{State, with_packages}
-use Rattle.am_history.specs.Answers.{refused, unless_refused}
+use Rattle.am_history.specs.Answers.{refused, done, unless_refused}
 use Rattle.am_history.specs.Activities as activities
 use Rattle.am_history.specs.Activities.{start_call, after_place, source_rule, caller_rule, start_target, start}
 use Rattle.am_history.specs.Services as services
 use Rattle.am_history.specs.Services.{running, is_too_many, with_start, started, gate_rule, start_first, start_service}
-use Rattle.am_history.specs.BroadcastCalls.{sending_of, after_send, send_to, send}
+use Rattle.am_history.specs.BroadcastCalls.{sending_of, after_send, send_to, send, after_finish, finish}
 use Rattle.am_history.specs.PendingCalls.{lend, left_of, used_up, after_use, pending_send}
 use Rattle.am_laws.proofs.Answered.{either_leaves, unless_leaves}
 use Rattle.am_laws.proofs.NextTokens.{cancel_keeps, used_up_keeps}
@@ -166,3 +170,24 @@ use_cases P state caller token fill here keeps after = by (pendings.use_token st
         either_leaves P used.one_shot (used_up token used.creator lent) lent
         (keeps lent.1 (left_of lent.1.pendings (pendings.cancel lent.1.pendings token used.creator))
         (used_up_keeps lent.1.pendings (pendings.cancel lent.1.pendings token used.creator) (cancel_keeps lent.1.pendings token used.creator)) (after used is)) (after used is)
+
+-- what holds of every refusal, and of the holder's finished delivery, holds of what the end of a delivery is answered and leaves
+pub finish_cases : (Q : Reply × State → Type 0) (state : State) (caller number : ℕ) (answer : Answer) → ((rule : Rule) → Q (refused state rule))
+    → ((holder : Held) → held state.broadcasts number ≡ Some holder → holder.uid ≡ caller
+    → Q (done (record state { broadcasts = finished state.broadcasts number answer state.moment })))
+    → Q (finish state caller number answer)
+unfolding finish sending.finish
+finish_cases Q state caller number answer refuses after = by (held state.broadcasts number) refl
+  where
+    left : Broadcasts
+    left = finished state.broadcasts number answer state.moment
+
+    tests : (holder : Held) → held state.broadcasts number ≡ Some holder → (same unfit : Bool) → (holder.uid == caller) ≡ same
+        → Q (after_finish state (cond {A = Result Broadcasts FinishFault} (not same) (Err ends.NotYours) (cond unfit (Err ends.NotOrdered) (Ok left))))
+    tests holder is false unfit same = refuses rules.NotYours
+    tests holder is true true same = refuses rules.NotOrdered
+    tests holder is true false same = after holder is (eqb-true holder.uid caller same)
+
+    by : (found : Option Held) → held state.broadcasts number ≡ found → Q (after_finish state (finish_held state.broadcasts number caller answer state.moment found))
+    by None is = refuses rules.NoDelivery
+    by (Some holder) is = tests holder is (holder.uid == caller) (is_for_ordered answer && not holder.ordered) refl

@@ -5,8 +5,7 @@ use Rattle.std.specs.List.{fold, find}
 use Rattle.am_types.specs.declared.device.Device.{Device}
 use Rattle.am_types.specs.declared.device.Package.{Package}
 use Rattle.am_keeper.specs.declared.rows.PackageRow.{PackageRow}
-use Rattle.am_keeper.specs.declared.rows.GrantRow.{GrantRow}
-use Rattle.am_keeper.specs.declared.rows.LinkRow.{LinkRow}
+use Rattle.am_keeper.specs.declared.rows.RightRow.{RightRow}
 use Rattle.am_keeper.specs.declared.rows.Rows.{Rows}
 use Rattle.am_model.specs.Boards.{Board, is_package_uid, with_grant, with_link}
 use Rattle.am_model.specs.Texts.{is_same, lowered}
@@ -21,25 +20,25 @@ pub record IsSameElse (board after : Board) : Type 0 where
   pub packages : after.packages ≡ board.packages
   pub registered : after.registered ≡ board.registered
 
-pub grant_rows_else : (board : Board) (rows : List GrantRow) → IsSameElse board (fold after_grant board rows)
+pub grant_rows_else : (board : Board) (rows : List RightRow) → IsSameElse board (fold after_grant board rows)
 grant_rows_else board [] = record { packages = refl; registered = refl }
 grant_rows_else board (row ∷ rows) =
     let rest = grant_rows_else (after_grant board row) rows in
     let one = by (is_package_uid board.packages row.uid) in
     record { packages = rest.packages ∙ one.packages; registered = rest.registered ∙ one.registered }
   where
-    by : (b : Bool) → IsSameElse board (cond b (record board { grants = with_grant board.grants row.uid row.permission row.held }) board)
+    by : (b : Bool) → IsSameElse board (cond b (record board { grants = with_grant board.grants row.uid row.text row.held }) board)
     by true = record { packages = refl; registered = refl }
     by false = record { packages = refl; registered = refl }
 
-pub link_rows_else : (board : Board) (rows : List LinkRow) → IsSameElse board (fold after_link board rows)
+pub link_rows_else : (board : Board) (rows : List RightRow) → IsSameElse board (fold after_link board rows)
 link_rows_else board [] = record { packages = refl; registered = refl }
 link_rows_else board (row ∷ rows) =
     let rest = link_rows_else (after_link board row) rows in
-    let one = by (is_package_uid board.packages row.uid && is_same (lowered row.host) row.host) in
+    let one = by (is_package_uid board.packages row.uid && is_same (lowered row.text) row.text) in
     record { packages = rest.packages ∙ one.packages; registered = rest.registered ∙ one.registered }
   where
-    by : (b : Bool) → IsSameElse board (cond b (record board { links = with_link board.links row.uid row.host row.approved }) board)
+    by : (b : Bool) → IsSameElse board (cond b (record board { links = with_link board.links row.uid row.text row.held }) board)
     by true = record { packages = refl; registered = refl }
     by false = record { packages = refl; registered = refl }
 

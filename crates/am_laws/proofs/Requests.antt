@@ -2,7 +2,6 @@
 use Rattle.std.proofs.Common.{◌≡◌, ℕ, ◌+◌, ◌≤◌, Bool, true, false, not, ◌&&◌, ◌||◌, cond, List, [], ◌∷◌, ◌++◌, refl, ap, arith}
 use Rattle.std.specs.Prelude.{Option, Some, None, Result, Ok, Err, ◌==◌, nat_le, filter}
 use Rattle.std.specs.List.{find}
-use Rattle.std.proofs.lemmas.Bool.{eqb-true}
 use Rattle.am_types.specs.declared.intent.Intent.{Intent}
 use Rattle.am_types.specs.declared.intent.Component.{Component}
 use Rattle.am_types.specs.declared.device.Package.{Package}
@@ -15,8 +14,6 @@ use Rattle.am_types.specs.declared.manifest.ManifestFault.{ManifestFault}
 use Rattle.am_types.specs.declared.resolve.Registration.{Registration}
 use Rattle.am_types.specs.declared.broadcast.Answer.{Answer}
 use Rattle.am_types.specs.declared.broadcast.Ordered.{Ordered}
-use Rattle.am_types.specs.declared.broadcast.FinishFault.{FinishFault}
-use Rattle.am_types.specs.declared.broadcast.FinishFault.TheVariants as ends
 use Rattle.am_types.specs.declared.pending.PendingFault.{PendingFault}
 use Rattle.am_types.specs.declared.task.Landed.{Landed}
 use Rattle.am_types.specs.declared.task.TaskFault.{TaskFault}
@@ -35,9 +32,7 @@ use Rattle.am_model.specs.Receivers.{declared, is_protected, receivers}
 use Rattle.am_model.specs.Tasks as tasks
 use Rattle.am_model.specs.Tasks.{Instance, Tasks, owner, may_end, ended, tasks_keeping, without_instance, seen, back_from}
 use Rattle.am_model.specs.Placement.{place}
-use Rattle.am_model.specs.Broadcasts.{Broadcasts}
-use Rattle.am_model.specs.Sending as sending
-use Rattle.am_model.specs.Sending.{Held, held, with_sent, finished, finish_held, is_for_ordered}
+use Rattle.am_model.specs.Sending.{Held, held, with_sent, finished}
 use Rattle.am_model.specs.Pendings as pendings
 use Rattle.am_model.specs.Pendings.{Pendings, Asked}
 use Rattle.am_manifest.specs.Manifests.{manifest_of}
@@ -45,13 +40,13 @@ use Rattle.am_history.specs.State.{State, Service, with_packages}
 use Rattle.am_history.specs.Answers.{refused, done}
 use Rattle.am_history.specs.Activities.{start_call, after_end, finish_activity, went_back, back}
 use Rattle.am_history.specs.Services.{is_service, running, with_start, stopped_rule, gate_rule, stop_maybe, stop_service}
-use Rattle.am_history.specs.BroadcastCalls.{sending_of, with_registered, count_of, register, taken_back, unregister_found, unregister, after_finish, finish}
+use Rattle.am_history.specs.BroadcastCalls.{sending_of, with_registered, count_of, register, taken_back, unregister_found, unregister, finish}
 use Rattle.am_history.specs.PendingCalls.{after_get, pending_get, after_change, pending_cancel, pending_give, in_new_task, lend, pending_send}
 use Rattle.am_history.specs.Packages.{forget, installed, is_name_used, is_key_used, is_full, install_read, install, without, uninstall, force_stop, too_many_grants, grant_to, grant, too_many_links, link_to, link}
 use Rattle.am_history.specs.Steps.{act, after_due, step}
 use Rattle.am_laws.specs.Access.{Starts, Serves, Sends, lent_deed, deed_of, used_deed}
 use Rattle.am_laws.proofs.Answered.{either_leaves, unless_leaves, admin_leaves, package_leaves}
-use Rattle.am_laws.proofs.Cases.{start_cases, service_cases, send_cases, use_cases}
+use Rattle.am_laws.proofs.Cases.{start_cases, service_cases, send_cases, use_cases, finish_cases}
 use Rattle.am_laws.proofs.NextTokens.{GotTo, Keeps, get_gives_one, cancel_keeps, give_keeps}
 use Rattle.am_laws.proofs.Packages.{named_is_live}
 use Rattle.am_laws.proofs.Tests.{neither}
@@ -118,21 +113,8 @@ module _ (P : State → Type 0) (state : State) (caller : ℕ) where
 
   -- a delivery that is finished
   finish_leaves : (number : ℕ) (answer : Answer) → Steps P state caller (asks.Finish number answer) → P (finish state caller number answer).1
-  unfolding finish sending.finish
-  finish_leaves number answer steps = by (held state.broadcasts number) refl
-    where
-      left : Broadcasts
-      left = finished state.broadcasts number answer state.moment
-
-      tests : (holder : Held) → held state.broadcasts number ≡ Some holder → (same unfit : Bool) → (holder.uid == caller) ≡ same
-          → P (after_finish state (cond {A = Result Broadcasts FinishFault} (not same) (Err ends.NotYours) (cond unfit (Err ends.NotOrdered) (Ok left)))).1
-      tests holder is false unfit same = steps.here
-      tests holder is true true same = steps.here
-      tests holder is true false same = steps.finished number answer holder refl is (eqb-true holder.uid caller same)
-
-      by : (found : Option Held) → held state.broadcasts number ≡ found → P (after_finish state (finish_held state.broadcasts number caller answer state.moment found)).1
-      by None is = steps.here
-      by (Some holder) is = tests holder is (holder.uid == caller) (is_for_ordered answer && not holder.ordered) refl
+  finish_leaves number answer steps =
+      finish_cases (λ (next : Reply × State). P next.1) state caller number answer (λ rule. steps.here) (λ holder is own. steps.finished number answer holder refl is own)
 
   -- a token that is used
   pending_send_leaves : (token : ℕ) (fill : Option Intent) → Steps P state caller (asks.PendingSend token fill) → P (pending_send state caller token fill).1

@@ -8,11 +8,12 @@ use Rattle.std.proofs.lemmas.List.Elements.{All-nil, All-cons, All-head, All-tai
 use Rattle.std.proofs.lemmas.List.Sorted.{All-permutation, IsPermutation-reverse}
 use Rattle.am_types.specs.declared.intent.Component.{Component}
 use Rattle.am_types.specs.declared.task.StartCall.{StartCall}
+use Rattle.am_types.specs.declared.manifest.Mode.TheVariants.{Standard, SingleTop, SingleTask, SingleInstance, SingleInstancePerTask}
 use Rattle.am_model.specs.Texts.{is_same}
 use Rattle.am_model.specs.Filters.{is_empty}
 use Rattle.am_model.specs.Intents.{is_same_component, or_other}
 use Rattle.am_model.specs.Tasks.{Instance, Task, Tasks, is_number, keeping, tasks_keeping, top_of}
-use Rattle.am_model.specs.Placement.{Plan, NewTask, FreshOn, NewIntentTo, FrontOf, plan_where, is_of, topmost, root_of, is_maybe_of, below, besides, in_front, new_task, fresh, with_intent, carried_out, or_fresh, cleared_to, clearing_task, clearing_top, fronting, reordering, on_top, placed_in_maybe, placed_single, placed_per_task, placed_ordinary, or_new_task, renewed, renewed_in, to_root, rooted, task_with, task_rooted, task_of_affinity, source_task, wants_new_task, is_multiple, is_single_instance, is_single_per_task, is_standard, is_single_task, is_single_top}
+use Rattle.am_model.specs.Placement.{Plan, NewTask, FreshOn, NewIntentTo, FrontOf, plan_where, is_of, topmost, root_of, is_maybe_of, below, besides, in_front, new_task, fresh, with_intent, carried_out, or_fresh, cleared_to, clearing_task, clearing_top, fronting, reordering, on_top, placed_in_maybe, placed_single, placed_per_task, placed_ordinary, or_new_task, renewed, renewed_in, to_root, rooted, task_with, task_rooted, task_of_affinity, source_task, wants_new_task, is_multiple, is_mode}
 use Rattle.am_model.proofs.Parts.{found_passes}
 use Rattle.am_model.proofs.PlacementLaws.{plan_for}
 use Rattle.am_laws.specs.Access.{OfInstances}
@@ -162,7 +163,7 @@ module _ (Q : Instance → Type 0) (of : ℕ → Component) (named : (i : Instan
   cleared_planned : (task : Task) (found : Option Instance) → All Q task.instances → topmost start.target task ≡ found → IfPlan (clearing_top start task found)
   cleared_planned task None each is = tt
   cleared_planned task (Some i) each is =
-      where_planned (is_single_task start.mode || start.flags.clear_top) (cleared_to start task i) (λ test. by (is_standard start.mode && not start.flags.single_top))
+      where_planned (is_mode SingleTask start.mode || start.flags.clear_top) (cleared_to start task i) (λ test. by (is_mode Standard start.mode && not start.flags.single_top))
     where
       left : All Q (below i.number task.instances)
       left = All-take Q _ task.instances each
@@ -189,7 +190,7 @@ module _ (Q : Instance → Type 0) (of : ℕ → Component) (named : (i : Instan
   on_top_planned : (task : Task) (found : Option Instance) → All Q task.instances → top_of task ≡ found → IfPlan (on_top start task found)
   on_top_planned task None each is = tt
   on_top_planned task (Some top) each is =
-      where_planned (is_of start.target top && (is_single_top start.mode || start.flags.single_top)) (NewIntentTo task task.instances top.number)
+      where_planned (is_of start.target top && (is_mode SingleTop start.mode || start.flags.single_top)) (NewIntentTo task task.instances top.number)
       (λ test. (each, is_target top (last_is task.instances None top (λ j none. absurd cc) each is) (both (is_of start.target top) _ test).0))
 
   -- a start in a task, if there is one
@@ -217,7 +218,7 @@ module _ (Q : Instance → Type 0) (of : ℕ → Component) (named : (i : Instan
 
   -- the plan of a start
   pub planned : (all : Tasks) → OfInstances Q all.tasks → IsPlanOf (plan_for all start)
-  planned all each = by (is_single_instance start.mode) (is_single_per_task start.mode)
+  planned all each = by (is_mode SingleInstance start.mode) (is_mode SingleInstancePerTask start.mode)
     where
       source : Option Task
       source = source_task all.tasks start.source

@@ -11,7 +11,7 @@ use Rattle.am_model.specs.Filters.{is_empty}
 use Rattle.am_model.specs.Broadcasts as broadcasts
 use Rattle.am_model.specs.Broadcasts.{Broadcasts, InTurn, Normal, Delivery, Current, Past, Doing, Late, Gone, Answered, no_broadcasts, span, result_of, dispatched, with_results, settled, queue_of, with_queue, settle, settle_both, is_over, turned, turn, is_late, late_head, expired_queue, is_delivery_due, keeping, normals_keeping, expired}
 use Rattle.am_model.specs.Sending as sending
-use Rattle.am_model.specs.Sending.{deliveries_from, at_once, in_turn, with_sent, answered_head, is_current, finished, strike_rest, strike_from, strike, unwanted, with_answered, with_unwanted, without_struck}
+use Rattle.am_model.specs.Sending.{deliveries_from, at_once, in_turn, with_last, with_sent, answered_head, is_current, finished, strike_rest, strike_from, strike, unwanted, with_answered, with_unwanted, without_struck}
 use Rattle.am_model.proofs.QueueLaws.{after_deadline}
 use Rattle.am_laws.specs.Access.{OfTurn, OfNormal, OfEach}
 
@@ -169,18 +169,15 @@ module _ (B : ℕ → Intent → Spot → Type 0) where
       by : (none : Bool) → All (OfNormal B) (cond none all.normal (all.normal ++ one ∷ []))
       by true = of.normal
       by false = All-push (OfNormal B) all.normal one of.normal (deliveries_of sent.sender sent.intent all.next_delivery _ sent.to each)
-  sent_of all sent (Some ordered) each of = settle_of sent.foreground sent.now (with_queue sent.foreground (queue_of sent.foreground all ++ one ∷ []) numbered) (by sent.foreground)
+  sent_of all sent (Some ordered) each of = settle_of sent.foreground sent.now (with_last sent.foreground one all) (by sent.foreground)
     where
       one : InTurn
       one = in_turn all.next_broadcast sent ordered
 
-      numbered : Broadcasts
-      numbered = record all { next_broadcast = all.next_broadcast + 1 }
-
       begun : OfTurn B one
       begun = record { past = All-nil (λ (p : Past). B sent.sender sent.intent p.spot); rest = each }
 
-      by : (b : Bool) → OfEach B (with_queue b (queue_of b all ++ one ∷ []) numbered)
+      by : (b : Bool) → OfEach B (with_last b one all)
       by true = record { normal = of.normal; foreground = All-push (OfTurn B) all.foreground one of.foreground begun; background = of.background }
       by false = record { normal = of.normal; foreground = of.foreground; background = All-push (OfTurn B) all.background one of.background begun }
 

@@ -15,8 +15,6 @@ use Rattle.am_types.specs.declared.manifest.ManifestFault.{ManifestFault}
 use Rattle.am_types.specs.declared.resolve.Registration.{Registration}
 use Rattle.am_types.specs.declared.broadcast.Answer.{Answer}
 use Rattle.am_types.specs.declared.broadcast.Ordered.{Ordered}
-use Rattle.am_types.specs.declared.broadcast.FinishFault.{FinishFault}
-use Rattle.am_types.specs.declared.broadcast.FinishFault.TheVariants as ends
 use Rattle.am_types.specs.declared.pending.PendingFault.{PendingFault}
 use Rattle.am_types.specs.declared.task.TaskFault.{TaskFault}
 use Rattle.am_types.specs.declared.history.Entry.{Entry}
@@ -33,7 +31,7 @@ use Rattle.am_model.specs.Tasks as tasks
 use Rattle.am_model.specs.Tasks.{Tasks}
 use Rattle.am_model.specs.Broadcasts.{Broadcasts}
 use Rattle.am_model.specs.Sending as sending
-use Rattle.am_model.specs.Sending.{Held, held, with_sent, finished, finish_held, is_for_ordered}
+use Rattle.am_model.specs.Sending.{Held, held, with_sent, finished}
 use Rattle.am_model.specs.Pendings as pendings
 use Rattle.am_model.specs.Pendings.{Pendings}
 use Rattle.am_model.proofs.Parts.{found_passes}
@@ -42,7 +40,7 @@ use Rattle.am_history.specs.State.{State}
 use Rattle.am_history.specs.Answers.{refused, done, for_admin, for_found, for_package}
 use Rattle.am_history.specs.Activities.{after_end, start, finish_activity, back}
 use Rattle.am_history.specs.Services.{running, stopped_rule, gate_rule, stop_maybe, start_service, stop_service}
-use Rattle.am_history.specs.BroadcastCalls.{sending_of, count_of, register, taken_back, unregister_found, unregister, after_finish, send, finish}
+use Rattle.am_history.specs.BroadcastCalls.{sending_of, count_of, register, taken_back, unregister_found, unregister, send, finish}
 use Rattle.am_history.specs.PendingCalls.{after_get, pending_get, after_change, pending_cancel, pending_give, in_new_task, lend, pending_send}
 use Rattle.am_history.specs.Packages.{is_name_used, is_key_used, is_full, install_read, install, without, uninstall, force_stop, too_many_grants, grant_to, grant, too_many_links, link_to, link}
 use Rattle.am_history.specs.Explaining.{explain}
@@ -50,7 +48,7 @@ use Rattle.am_history.specs.Steps.{page, act}
 use Rattle.am_laws.specs.Access.{Sends, lent_deed, deed_of, used_deed}
 use Rattle.am_laws.proofs.Answered.{either_leaves, unless_leaves}
 use Rattle.am_laws.proofs.Requests.{stopped_of}
-use Rattle.am_laws.proofs.Cases.{start_cases, service_cases, send_cases, use_cases}
+use Rattle.am_laws.proofs.Cases.{start_cases, service_cases, send_cases, use_cases, finish_cases}
 use Rattle.am_laws_courses.specs.Course.{is_done}
 
 -- the request neither finishes a delivery nor strikes receivers
@@ -110,21 +108,8 @@ module _ (P : Bool → Broadcasts → Type 0) (state : State) (caller : ℕ) whe
   any_same request is acts false = acts.same
 
   finish_does : (number : ℕ) (answer : Answer) → Acts P state caller (asks.Finish number answer) → Does (finish state caller number answer)
-  unfolding finish sending.finish
-  finish_does number answer acts = by (held state.broadcasts number) refl
-    where
-      left : Broadcasts
-      left = finished state.broadcasts number answer state.moment
-
-      tests : (holder : Held) → held state.broadcasts number ≡ Some holder → (same unfit : Bool) → (holder.uid == caller) ≡ same
-          → Does (after_finish state (cond {A = Result Broadcasts FinishFault} (not same) (Err ends.NotYours) (cond unfit (Err ends.NotOrdered) (Ok left))))
-      tests holder is false unfit same = acts.same
-      tests holder is true true same = acts.same
-      tests holder is true false same = acts.finished number answer holder refl is (eqb-true holder.uid caller same)
-
-      by : (found : Option Held) → held state.broadcasts number ≡ found → Does (after_finish state (finish_held state.broadcasts number caller answer state.moment found))
-      by None is = acts.same
-      by (Some holder) is = tests holder is (holder.uid == caller) (is_for_ordered answer && not holder.ordered) refl
+  finish_does number answer acts =
+      finish_cases Does state caller number answer (λ rule. acts.same) (λ holder is own. acts.finished number answer holder refl is own)
 
   unregister_does : (number : ℕ) → Acts P state caller (asks.Unregister number) → Does (unregister state caller number)
   unfolding unregister

@@ -1,6 +1,6 @@
 -- What holds of each ordered broadcast and of each result holds when queues settle, and what follows a change of each holds
 -- when time passes, when a delivery is finished, when receivers are forgotten and when a broadcast is sent.
-use Rattle.std.proofs.Common.{◌≡◌, ℕ, ◌+◌, Bool, true, false, not, cond, List, [], ◌∷◌, ◌++◌, length, map, refl, sym, ap, subst}
+use Rattle.std.proofs.Common.{◌≡◌, ℕ, ◌+◌, Bool, true, false, not, cond, List, [], ◌∷◌, length, map, refl, sym, ap, subst}
 use Rattle.std.specs.Prelude.{All, Option, Some, None, ◌==◌}
 use Rattle.std.proofs.lemmas.List.Elements.{All-nil, All-cons, All-head, All-tail, All-push, All-append, All-map, All-filter, All-weaker}
 use Rattle.am_types.specs.declared.broadcast.Spot.{Spot}
@@ -9,7 +9,7 @@ use Rattle.am_types.specs.declared.broadcast.Ordered.{Ordered}
 use Rattle.am_types.specs.declared.broadcast.Sending.{Sending}
 use Rattle.am_model.specs.Broadcasts.{Broadcasts, InTurn, Current, Result, Late, Answered, span, outcome_of, result_of, dispatched, with_results, Settled, settled, queue_of, with_queue, settle, settle_both, is_over, turn, is_late, late_head, is_head_due, expired_queue, expired}
 use Rattle.am_model.specs.Sending as sending
-use Rattle.am_model.specs.Sending.{in_turn, with_sent, is_current, finished, strike, unwanted, with_answered, with_unwanted, without_struck}
+use Rattle.am_model.specs.Sending.{in_turn, with_last, with_sent, is_current, finished, strike, unwanted, with_answered, with_unwanted, without_struck}
 use Rattle.am_model.proofs.QueueLaws.{after_deadline}
 use Rattle.am_laws_courses.specs.Fold.{OfCourses}
 use Rattle.am_laws_courses.proofs.Order.{OnlyHead, AreInOrder, turning, late_turns, answer_turns}
@@ -88,15 +88,12 @@ module _ (C : InTurn → Type 0) (R : Result → Type 0) (settling : Settling C 
       → OfCourses C R all → OfCourses C R (with_sent all sent ordered)
   sent_courses all sent None begun of = record { foreground = of.foreground; background = of.background; results = of.results }
   sent_courses all sent (Some ordered) begun of =
-      settle_courses sent.foreground sent.now (with_queue sent.foreground (queue_of sent.foreground all ++ one ∷ []) numbered) (by sent.foreground)
+      settle_courses sent.foreground sent.now (with_last sent.foreground one all) (by sent.foreground)
     where
       one : InTurn
       one = in_turn all.next_broadcast sent ordered
 
-      numbered : Broadcasts
-      numbered = record all { next_broadcast = all.next_broadcast + 1 }
-
-      by : (b : Bool) → OfCourses C R (with_queue b (queue_of b all ++ one ∷ []) numbered)
+      by : (b : Bool) → OfCourses C R (with_last b one all)
       by true = record { foreground = All-push C all.foreground one of.foreground (begun ordered refl); background = of.background; results = of.results }
       by false = record { foreground = of.foreground; background = All-push C all.background one of.background (begun ordered refl); results = of.results }
 

@@ -10,7 +10,7 @@ use Rattle.am_types.specs.declared.broadcast.Sending.{Sending}
 use Rattle.am_model.specs.Filters.{is_empty}
 use Rattle.am_model.specs.Broadcasts.{Broadcasts, InTurn, Normal, Delivery, Current, Result, Doing, Late, Gone, Answered, span, queue_of, with_queue, turned, turn, is_late, late_head, expired_queue, is_delivery_due, keeping, normals_keeping, expired}
 use Rattle.am_model.specs.Sending as sending
-use Rattle.am_model.specs.Sending.{deliveries_from, at_once, in_turn, with_sent, answered_head, is_current, finished, strike_rest, strike_from, strike, unwanted, with_answered, with_unwanted, without_struck, held}
+use Rattle.am_model.specs.Sending.{deliveries_from, at_once, in_turn, with_last, with_sent, answered_head, is_current, finished, strike_rest, strike_from, strike, unwanted, with_answered, with_unwanted, without_struck, held}
 use Rattle.am_model.proofs.QueueLaws.{after_deadline}
 use Rattle.am_laws_courses.proofs.Holders.{IsFor, CurrentFor, TurnFor, NormalFor, ResultFor, HasHolders, Raises, raise_for, raise_queue, raise_normal, raise_results, raises_through, with_holder, raises_one, new_for, settle_held, both_held}
 
@@ -195,18 +195,15 @@ sent_held all sent None has = record {
     by : (none : Bool) → All (NormalFor to.holder more) (cond none all.normal (all.normal ++ at_once all.next_broadcast all.next_delivery sent ∷ []))
     by true = old
     by false = All-push (NormalFor to.holder more) all.normal (at_once all.next_broadcast all.next_delivery sent) old to.deliveries
-sent_held all sent (Some ordered) has = settle_held sent.foreground sent.now (with_queue sent.foreground (queue_of sent.foreground all ++ one ∷ []) numbered) (by sent.foreground)
+sent_held all sent (Some ordered) has = settle_held sent.foreground sent.now (with_last sent.foreground one all) (by sent.foreground)
   where
     one : InTurn
     one = in_turn all.next_broadcast sent ordered
 
-    numbered : Broadcasts
-    numbered = record all { next_broadcast = all.next_broadcast + 1 }
-
     begun : TurnFor has.holder all.next_delivery one
     begun = none_for has.holder all.next_delivery sent.to
 
-    by : (b : Bool) → HasHolders (with_queue b (queue_of b all ++ one ∷ []) numbered)
+    by : (b : Bool) → HasHolders (with_last b one all)
     by true = record {
       holder = has.holder;
       held = record {

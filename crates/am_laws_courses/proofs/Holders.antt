@@ -1,5 +1,5 @@
 -- Each number of a delivery or a result is for one uid, also when queues settle.
-use Rattle.std.proofs.Common.{◌≡◌, ℕ, ◌+◌, ◌<◌, ◌≤◌, Bool, true, false, cond, eqb, List, [], ◌∷◌, length, refl, ap, ◌∙◌, arith}
+use Rattle.std.proofs.Common.{◌≡◌, ℕ, ◌+◌, ◌<◌, ◌≤◌, Bool, true, false, cond, eqb, List, [], ◌∷◌, ◌++◌, length, refl, ap, ◌∙◌, arith}
 use Rattle.std.specs.Prelude.{All, Option, Some, None}
 use Rattle.std.proofs.lemmas.Bool.{eqb-true}
 use Rattle.std.proofs.lemmas.List.Elements.{All-nil, All-cons, All-tail, All-append, All-weaker}
@@ -185,34 +185,33 @@ none_held = record {
   };
 }
 
+-- one queue settled, and the other one has turns as before
+settled_held : (all : Broadcasts) (has : HasHolders all) (after : Settled) (settles : SettlesFor has.holder all.next_delivery after) (foreground background : List InTurn)
+    → All (TurnFor settles.holder after.next) foreground → All (TurnFor settles.holder after.next) background
+    → HasHolders (record all { foreground = foreground; background = background; results = all.results ++ after.results; next_delivery = after.next })
+settled_held all has after settles foreground background ahead behind = record {
+  holder = settles.holder;
+  held = record {
+    normal = raise_normal has.holder settles.holder all.next_delivery after.next settles.raises all.normal has.held.normal;
+    foreground = ahead;
+    background = behind;
+    results = All-append (ResultFor settles.holder after.next) all.results after.results
+        (raise_results has.holder settles.holder all.next_delivery after.next settles.raises all.results has.held.results) settles.results;
+  };
+}
+
 -- a queue of all broadcasts settles
 pub settle_held : (foreground : Bool) (now : ℕ) (all : Broadcasts) → HasHolders all → HasHolders (settle foreground now all)
 settle_held true now all has =
-    let after = settled_for has.holder all.next_delivery (now + span true) all.foreground has.held.foreground in
-    let next = (settled all.next_delivery (now + span true) all.foreground).next in
-    record {
-      holder = after.holder;
-      held = record {
-        normal = raise_normal has.holder after.holder all.next_delivery next after.raises all.normal has.held.normal;
-        foreground = after.queue;
-        background = raise_queue has.holder after.holder all.next_delivery next after.raises all.background has.held.background;
-        results = All-append (ResultFor after.holder next) all.results (settled all.next_delivery (now + span true) all.foreground).results
-            (raise_results has.holder after.holder all.next_delivery next after.raises all.results has.held.results) after.results;
-      };
-    }
+    let after = settled all.next_delivery (now + span true) all.foreground in
+    let settles = settled_for has.holder all.next_delivery (now + span true) all.foreground has.held.foreground in
+    settled_held all has after settles after.queue all.background settles.queue
+    (raise_queue has.holder settles.holder all.next_delivery after.next settles.raises all.background has.held.background)
 settle_held false now all has =
-    let after = settled_for has.holder all.next_delivery (now + span false) all.background has.held.background in
-    let next = (settled all.next_delivery (now + span false) all.background).next in
-    record {
-      holder = after.holder;
-      held = record {
-        normal = raise_normal has.holder after.holder all.next_delivery next after.raises all.normal has.held.normal;
-        foreground = raise_queue has.holder after.holder all.next_delivery next after.raises all.foreground has.held.foreground;
-        background = after.queue;
-        results = All-append (ResultFor after.holder next) all.results (settled all.next_delivery (now + span false) all.background).results
-            (raise_results has.holder after.holder all.next_delivery next after.raises all.results has.held.results) after.results;
-      };
-    }
+    let after = settled all.next_delivery (now + span false) all.background in
+    let settles = settled_for has.holder all.next_delivery (now + span false) all.background has.held.background in
+    settled_held all has after settles all.foreground after.queue
+    (raise_queue has.holder settles.holder all.next_delivery after.next settles.raises all.foreground has.held.foreground) settles.queue
 
 pub both_held : (now : ℕ) (all : Broadcasts) → HasHolders all → HasHolders (settle_both now all)
 both_held now all has = settle_held false now (settle true now all) (settle_held true now all has)

@@ -1,12 +1,12 @@
 -- The next number of a broadcast never falls, and no broadcast has it yet.
-use Rattle.std.proofs.Common.{◌≡◌, ℕ, ◌+◌, ◌<◌, ◌≤◌, Bool, true, false, cond, List, [], ◌∷◌, ◌++◌, refl, sym, ap, ◌∙◌, arith}
+use Rattle.std.proofs.Common.{◌≡◌, ℕ, ◌+◌, ◌<◌, ◌≤◌, Bool, true, false, cond, List, [], refl, sym, ap, ◌∙◌, arith}
 use Rattle.std.specs.Prelude.{All, Option, Some, None}
 use Rattle.std.proofs.lemmas.List.{append-nil}
 use Rattle.std.proofs.lemmas.List.Elements.{All-weaker}
 use Rattle.am_types.specs.declared.broadcast.Ordered.{Ordered}
 use Rattle.am_types.specs.declared.broadcast.Sending.{Sending}
 use Rattle.am_model.specs.Broadcasts.{Broadcasts, InTurn, queue_of, with_queue, settle, late_head, is_head_due, expired_queue, expired}
-use Rattle.am_model.specs.Sending.{in_turn, with_sent}
+use Rattle.am_model.specs.Sending.{in_turn, with_last, with_sent}
 use Rattle.am_laws_courses.specs.Course.{turn_of, delivery_in, delivery_of}
 use Rattle.am_laws_courses.proofs.Apart.{Differs}
 use Rattle.am_laws_courses.proofs.Order.{numbers, AreInOrder}
@@ -29,10 +29,7 @@ pub sent_next : (all : Broadcasts) (sent : Sending) (ordered : Option Ordered) �
 sent_next all sent None = refl
 sent_next all sent (Some ordered) = by sent.foreground
   where
-    numbered : Broadcasts
-    numbered = record all { next_broadcast = all.next_broadcast + 1 }
-
-    by : (b : Bool) → (settle b sent.now (with_queue b (queue_of b all ++ in_turn all.next_broadcast sent ordered ∷ []) numbered)).next_broadcast ≡ all.next_broadcast + 1
+    by : (b : Bool) → (settle b sent.now (with_last b (in_turn all.next_broadcast sent ordered) all)).next_broadcast ≡ all.next_broadcast + 1
     by true = refl
     by false = refl
 

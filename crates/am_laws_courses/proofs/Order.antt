@@ -10,7 +10,7 @@ use Rattle.am_types.specs.declared.broadcast.Sending.{Sending}
 use Rattle.am_model.proofs.Parts.{IsPart, leave, IsPart-whole}
 use Rattle.am_model.specs.Broadcasts.{Broadcasts, InTurn, Current, Result, Doing, Late, Gone, Answered, no_broadcasts, span, outcome_of, result_of, dispatched, with_results, Settled, settled, queue_of, with_queue, settle, settle_both, is_over, turned, turn, is_late, late_head, expired_queue, expired}
 use Rattle.am_model.specs.Sending as sending
-use Rattle.am_model.specs.Sending.{in_turn, with_sent, is_current, answered_head, finished, strike_rest, strike_from, strike, unwanted, with_answered, with_unwanted, without_struck}
+use Rattle.am_model.specs.Sending.{in_turn, with_last, with_sent, is_current, answered_head, finished, strike_rest, strike_from, strike, unwanted, with_answered, with_unwanted, without_struck}
 use Rattle.am_model.proofs.QueueLaws.{after_deadline}
 use Rattle.am_laws_courses.proofs.Apart.{part_made, Apart, apart_part, apart_turned, apart_ended, apart_more, apart_raised}
 
@@ -286,15 +286,12 @@ sent_order all sent None order = record {
   foreground = order.foreground;
   background = order.background;
 }
-sent_order all sent (Some ordered) order = settle_order sent.foreground sent.now (with_queue sent.foreground (queue_of sent.foreground all ++ one ∷ []) numbered) (by sent.foreground)
+sent_order all sent (Some ordered) order = settle_order sent.foreground sent.now (with_last sent.foreground one all) (by sent.foreground)
   where
     one : InTurn
     one = in_turn all.next_broadcast sent ordered
 
-    numbered : Broadcasts
-    numbered = record all { next_broadcast = all.next_broadcast + 1 }
-
-    by : (b : Bool) → AreInOrder (with_queue b (queue_of b all ++ one ∷ []) numbered)
+    by : (b : Bool) → AreInOrder (with_last b one all)
     by true = record {
       apart = subst (λ (l : List ℕ). Apart l (numbers all.background) (results_of all.results) (all.next_broadcast + 1)) (sym (map-append (λ (b : InTurn). b.number) all.foreground (one ∷ [])))
           (apart_more (numbers all.foreground) (numbers all.background) (results_of all.results) all.next_broadcast order.apart);

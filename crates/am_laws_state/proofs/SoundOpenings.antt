@@ -14,8 +14,7 @@ use Rattle.am_types.specs.declared.device.Link.{Link}
 use Rattle.am_types.specs.declared.resolve.Registration.{Registration}
 use Rattle.am_types.specs.declared.manifest.Manifest.{Manifest}
 use Rattle.am_keeper.specs.declared.rows.PackageRow.{PackageRow}
-use Rattle.am_keeper.specs.declared.rows.GrantRow.{GrantRow}
-use Rattle.am_keeper.specs.declared.rows.LinkRow.{LinkRow}
+use Rattle.am_keeper.specs.declared.rows.RightRow.{RightRow}
 use Rattle.am_keeper.specs.declared.rows.Rows.{Rows}
 use Rattle.am_model.specs.Texts.{is_same, lowered}
 use Rattle.am_model.specs.Sound.{IsSound, IsSoundPackage, is_package_name, owner_keys, rights_granted, rights_approved, right_cmp}
@@ -45,40 +44,40 @@ record IsHeldBoard (board : Board) : Type 0 where
   pub approved : All (IsHeld board.packages) (rights_approved board.links)
 
 -- a permission is given or taken
-after_grant_held : (board : Board) (row : GrantRow) → IsHeldBoard board → IsHeldBoard (after_grant board row)
+after_grant_held : (board : Board) (row : RightRow) → IsHeldBoard board → IsHeldBoard (after_grant board row)
 after_grant_held board row held = by (is_package_uid board.packages row.uid) refl
   where
     by : (b : Bool) → is_package_uid board.packages row.uid ≡ b
-        → IsHeldBoard (cond b (record board { grants = with_grant board.grants row.uid row.permission row.held }) board)
+        → IsHeldBoard (cond b (record board { grants = with_grant board.grants row.uid row.text row.held }) board)
     by true live = record {
-      grants = grants_in_order board.grants row.uid row.permission row.held held.grants;
+      grants = grants_in_order board.grants row.uid row.text row.held held.grants;
       links = held.links;
-      granted = grants_held board.packages board.grants row.uid row.permission row.held live held.granted;
+      granted = grants_held board.packages board.grants row.uid row.text row.held live held.granted;
       approved = held.approved;
     }
     by false live = held
 
 -- a host is approved or not
-after_link_held : (board : Board) (row : LinkRow) → IsHeldBoard board → IsHeldBoard (after_link board row)
-after_link_held board row held = by (is_package_uid board.packages row.uid) (is_same (lowered row.host) row.host) refl
+after_link_held : (board : Board) (row : RightRow) → IsHeldBoard board → IsHeldBoard (after_link board row)
+after_link_held board row held = by (is_package_uid board.packages row.uid) (is_same (lowered row.text) row.text) refl
   where
     by : (b c : Bool) → is_package_uid board.packages row.uid ≡ b
-        → IsHeldBoard (cond (b && c) (record board { links = with_link board.links row.uid row.host row.approved }) board)
+        → IsHeldBoard (cond (b && c) (record board { links = with_link board.links row.uid row.text row.held }) board)
     by true true live = record {
       grants = held.grants;
-      links = links_in_order board.links row.uid row.host row.approved held.links;
+      links = links_in_order board.links row.uid row.text row.held held.links;
       granted = held.granted;
-      approved = links_held board.packages board.links row.uid row.host row.approved live held.approved;
+      approved = links_held board.packages board.links row.uid row.text row.held live held.approved;
     }
     by true false live = held
     by false c live = held
 
 -- rows of grants, one after the other
-grant_rows_held : (board : Board) (rows : List GrantRow) → IsHeldBoard board → IsHeldBoard (fold after_grant board rows)
+grant_rows_held : (board : Board) (rows : List RightRow) → IsHeldBoard board → IsHeldBoard (fold after_grant board rows)
 grant_rows_held board [] held = held
 grant_rows_held board (row ∷ rows) held = grant_rows_held (after_grant board row) rows (after_grant_held board row held)
 
-link_rows_held : (board : Board) (rows : List LinkRow) → IsHeldBoard board → IsHeldBoard (fold after_link board rows)
+link_rows_held : (board : Board) (rows : List RightRow) → IsHeldBoard board → IsHeldBoard (fold after_link board rows)
 link_rows_held board [] held = held
 link_rows_held board (row ∷ rows) held = link_rows_held (after_link board row) rows (after_link_held board row held)
 

@@ -48,8 +48,8 @@ use Rattle.am_live.specs.declared.change.Change.{Change}
 use Rattle.am_live.specs.declared.change.Change.TheVariants as changes
 use Rattle.am_live.specs.declared.change.Plan.TheVariants as plans
 use Rattle.am_live.specs.declared.change.RightChange.{RightChange}
-use Rattle.am_live.specs.declared.change.RightKind.{RightKind}
-use Rattle.am_live.specs.declared.change.RightKind.TheVariants.{Permission, Host}
+use Rattle.am_types.specs.declared.device.RightKind.{RightKind}
+use Rattle.am_types.specs.declared.device.RightKind.TheVariants.{Permission, Host}
 
 -- what follows for the system and the root, and what for others
 pub admin_goes : (state : State) (caller : ℕ) (next : Reply × State) → is_privileged caller ≡ true → for_admin state caller next ≡ next

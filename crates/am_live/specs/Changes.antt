@@ -25,8 +25,8 @@ use Rattle.am_live.specs.declared.change.Change.{Change}
 use Rattle.am_live.specs.declared.change.Change.TheVariants as changes
 use Rattle.am_live.specs.declared.change.Plan.{Plan}
 use Rattle.am_live.specs.declared.change.Plan.TheVariants as plans
-use Rattle.am_live.specs.declared.change.RightKind.{RightKind}
-use Rattle.am_live.specs.declared.change.RightKind.TheVariants.{Permission, Host}
+use Rattle.am_types.specs.declared.device.RightKind.{RightKind}
+use Rattle.am_types.specs.declared.device.RightKind.TheVariants.{Permission, Host}
 
 -- the state with one more package, behind the others
 abbrev pub with_package : State → Package → State
@@ -58,8 +58,8 @@ right_request Host name text held = asks.Link name text held
 
 -- the row of a right that a uid is given, or that is taken
 abbrev pub right_row : RightKind → ℕ → List ℕ → Bool → Row
-right_row Permission uid text held = rows.Grant (record { uid = uid; permission = text; held = held })
-right_row Host uid text held = rows.Link (record { uid = uid; host = text; approved = held })
+right_row Permission uid text held = rows.Grant (record { uid = uid; text = text; held = held })
+right_row Host uid text held = rows.Link (record { uid = uid; text = text; held = held })
 
 -- the limit of how many rights of the kind a package may have
 abbrev pub right_limit : RightKind → Limit

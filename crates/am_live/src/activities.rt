@@ -10,9 +10,9 @@ ghost use Rattle.am_history.specs.Numbers.{HasNumbers};
 ghost use Rattle.am_history.specs.State.{State};
 ghost use Rattle.am_history.specs.Steps.{at_moment};
 
-use crate::Live;
 use crate::gate::gate;
 use crate::reads::components_of;
+use crate::{Caller, Live};
 use am_gates::is_privileged;
 use am_resolve::Board;
 use am_tasks::Tasks;
@@ -23,6 +23,14 @@ use am_types::{
 use std::alloc::Global;
 use std::sync::ledger::Ledger;
 
+/// A start as a caller asks for it, from an instance if that is given.
+#[derive(Drop)]
+struct Asked<'a> {
+    caller: u32,
+    intent: &'a Intent,
+    source: Option<u64>,
+}
+
 impl Live {
     /// Starts an activity: the component that the intent names, or the one that it finds; if it finds
     /// several of the greatest priority, none of them, and the reply names them. `source` is the instance
@@ -32,28 +40,23 @@ impl Live {
     /// before.
     pub fn start<L: Ledger>(
         &mut self,
-        caller: u32,
+        by: Caller,
         intent: &Intent,
         source: Option<u64>,
-        moment: u64,
         steps: &mut Steps<L>,
     ) -> Result<Reply, NoMemory>
-        requires moment { moment ≤ 4611686018427387904 }
         requires numbers { HasNumbers self.old }
         ensures done { IfOk result (λ reply.
-            start (at_moment self.old moment) caller intent.now source ≡ (reply, self.new)) }
+            start (at_moment self.old by.moment) by.uid intent.now source ≡ (reply, self.new)) }
         ensures same { OnErr result (self.new ≡ self.old) }
     {
-        let reply = start(
-            self.alloc,
-            &mut self.board,
-            &mut self.tasks,
-            caller,
+        let asked = Asked {
+            caller: by.uid,
             intent,
             source,
-            steps,
-        )?;
-        self.settle(moment, steps);
+        };
+        let reply = start(self.alloc, &mut self.board, &mut self.tasks, &asked, steps)?;
+        self.settle(by.moment, steps);
         Ok(reply)
     }
 
@@ -62,29 +65,26 @@ impl Live {
     /// reading of a deadline. Takes no memory.
     pub fn finish_activity<L: Ledger>(
         &mut self,
-        caller: u32,
+        by: Caller,
         instance: u64,
-        moment: u64,
         steps: &mut Steps<L>,
     ) -> Reply
-        requires { moment ≤ 4611686018427387904 }
-        ensures { finish_activity (at_moment self.old moment) caller instance ≡ (result, self.new) }
+        ensures { finish_activity (at_moment self.old by.moment) by.uid instance ≡ (result, self.new) }
     {
-        let reply = finish_activity(&mut self.tasks, caller, instance);
-        self.settle(moment, steps);
+        let reply = finish_activity(&mut self.tasks, by.uid, instance);
+        self.settle(by.moment, steps);
         reply
     }
 
     /// Goes back, as only the system and the root may: the instance that the user sees is ended, if there
     /// is one. The call is at a moment, in milliseconds, which is the last one then, and the deadlines that
     /// are due are handled. A step is a reading of a deadline. Takes no memory.
-    pub fn back<L: Ledger>(&mut self, caller: u32, moment: u64, steps: &mut Steps<L>) -> Reply
-        requires { moment ≤ 4611686018427387904 }
-        ensures { for_admin (at_moment self.old moment) caller (back (at_moment self.old moment))
+    pub fn back<L: Ledger>(&mut self, by: Caller, steps: &mut Steps<L>) -> Reply
+        ensures { for_admin (at_moment self.old by.moment) by.uid (back (at_moment self.old by.moment))
             ≡ (result, self.new) }
     {
-        let reply = back(&mut self.tasks, caller);
-        self.settle(moment, steps);
+        let reply = back(&mut self.tasks, by.uid);
+        self.settle(by.moment, steps);
         reply
     }
 }
@@ -95,32 +95,21 @@ fn start<L: Ledger>(
     alloc: Global,
     board: &mut Board,
     tasks: &mut Tasks,
-    caller: u32,
-    intent: &Intent,
-    source: Option<u64>,
+    asked: &Asked<'_>,
     steps: &mut Steps<L>,
 ) -> Result<Reply, NoMemory>
     requires { HasTaskNumbers tasks.old }
     ensures done { IfOk result (λ reply. (s : State) →
-        start (record s { board = board.old; tasks = tasks.old }) caller intent.now source
+        start (record s { board = board.old; tasks = tasks.old }) asked.now.caller asked.now.intent.now asked.now.source
         ≡ (reply, record s { board = board.new; tasks = tasks.new })) }
     ensures count { length board.new.packages ≡ length board.old.packages }
-    ensures same_board { OnErr result (board.new ≡ board.old) }
-    ensures same_tasks { OnErr result (tasks.new ≡ tasks.old) }
+    ensures same { OnErr result ((board.new ≡ board.old) × (tasks.new ≡ tasks.old)) }
 {
-    match &intent.component {
-        Some(component) => start_component(
-            board,
-            tasks,
-            caller,
-            intent,
-            source,
-            component,
-            Rule::NoComponent,
-        ),
+    match &asked.intent.component {
+        Some(component) => start_component(board, tasks, asked, component, Rule::NoComponent),
         None => {
-            let target = board.target(alloc, intent, steps)?;
-            start_target(alloc, board, tasks, caller, intent, source, target)
+            let target = board.target(alloc, asked.intent, steps)?;
+            start_target(alloc, board, tasks, asked, target)
         }
     }
 }
@@ -130,31 +119,22 @@ fn start_target(
     alloc: Global,
     board: &mut Board,
     tasks: &mut Tasks,
-    caller: u32,
-    intent: &Intent,
-    source: Option<u64>,
+    asked: &Asked<'_>,
     target: Target,
 ) -> Result<Reply, NoMemory>
     requires { HasTaskNumbers tasks.old }
     ensures done { IfOk result (λ reply. (s : State) →
-        start_target (record s { board = board.old; tasks = tasks.old }) caller intent.now source target
-        ≡ (reply, record s { board = board.new; tasks = tasks.new })) }
+        start_target (record s { board = board.old; tasks = tasks.old }) asked.now.caller asked.now.intent.now
+        asked.now.source target ≡ (reply, record s { board = board.new; tasks = tasks.new })) }
     ensures count { length board.new.packages ≡ length board.old.packages }
-    ensures same_board { OnErr result (board.new ≡ board.old) }
-    ensures same_tasks { OnErr result (tasks.new ≡ tasks.old) }
+    ensures same { OnErr result ((board.new ≡ board.old) × (tasks.new ≡ tasks.old)) }
 {
     match target {
         Target::Nothing => Ok(Reply::Refused(Rule::NoActivity)),
-        Target::One(hit) => start_component(
-            board,
-            tasks,
-            caller,
-            intent,
-            source,
-            &hit.component,
-            Rule::NoActivity,
-        ),
-        Target::Choose(found) => match caller_rule(tasks, caller, intent, source) {
+        Target::One(hit) => {
+            start_component(board, tasks, asked, &hit.component, Rule::NoActivity)
+        }
+        Target::Choose(found) => match caller_rule(tasks, asked) {
             Some(rule) => {
                 drop(found);
                 Ok(Reply::Refused(rule))
@@ -171,29 +151,26 @@ fn start_target(
 fn start_component(
     board: &mut Board,
     tasks: &mut Tasks,
-    caller: u32,
-    intent: &Intent,
-    source: Option<u64>,
+    asked: &Asked<'_>,
     component: &Component,
     missing: Rule,
 ) -> Result<Reply, NoMemory>
     requires { HasTaskNumbers tasks.old }
     ensures done { IfOk result (λ reply. (s : State) →
-        start_maybe (record s { board = board.old; tasks = tasks.old }) caller intent.now source component.now missing
-        (declared board.old.packages Kind.Activity component.now)
+        start_maybe (record s { board = board.old; tasks = tasks.old }) asked.now.caller asked.now.intent.now
+        asked.now.source component.now missing (declared board.old.packages Kind.Activity component.now)
         ≡ (reply, record s { board = board.new; tasks = tasks.new })) }
     ensures count { length board.new.packages ≡ length board.old.packages }
-    ensures same_board { OnErr result (board.new ≡ board.old) }
-    ensures same_tasks { OnErr result (tasks.new ≡ tasks.old) }
+    ensures same { OnErr result ((board.new ≡ board.old) × (tasks.new ≡ tasks.old)) }
 {
     let Some((uid, decl)) = board.declared(Kind::Activity, component) else {
         return Ok(Reply::Refused(missing));
     };
     drop(missing);
-    match refusal(board, tasks, caller, source, uid, decl)? {
+    match refusal(board, tasks, asked, uid, decl)? {
         Some(rule) => Ok(Reply::Refused(rule)),
         None => {
-            let call = start_call(caller, intent, source, component, uid, decl)?;
+            let call = start_call(asked, component, uid, decl)?;
             place(board, tasks, call)
         }
     }
@@ -203,17 +180,16 @@ fn start_component(
 fn refusal(
     board: &Board,
     tasks: &Tasks,
-    caller: u32,
-    source: Option<u64>,
+    asked: &Asked<'_>,
     uid: u32,
     decl: &Decl,
 ) -> Result<Option<Rule>, NoMemory>
-    ensures { IfOk result (λ rule. rule ≡ or_rule (source_rule tasks.now source)
-        (rule_of (verdict board.now.grants caller uid decl.now.exported decl.now.permission))) }
+    ensures { IfOk result (λ rule. rule ≡ or_rule (source_rule tasks.now asked.now.source)
+        (rule_of (verdict board.now.grants asked.now.caller uid decl.now.exported decl.now.permission))) }
 {
-    match source_rule(tasks, source) {
+    match source_rule(tasks, asked.source) {
         Some(rule) => Ok(Some(rule)),
-        None => gate(board, caller, uid, decl),
+        None => gate(board, asked.caller, uid, decl),
     }
 }
 
@@ -228,13 +204,13 @@ fn source_rule(tasks: &Tasks, source: Option<u64>) -> Option<Rule>
 }
 
 /// The rule by which a start is refused whatever its target.
-fn caller_rule(tasks: &Tasks, caller: u32, intent: &Intent, source: Option<u64>) -> Option<Rule>
-    ensures { result ≡ caller_rule tasks.now caller intent.now source }
+fn caller_rule(tasks: &Tasks, asked: &Asked<'_>) -> Option<Rule>
+    ensures { result ≡ caller_rule tasks.now asked.now.caller asked.now.intent.now asked.now.source }
 {
-    match source {
-        None if intent.flags.new_task => None,
+    match asked.source {
+        None if asked.intent.flags.new_task => None,
         None => Some(Rule::NeedsNewTask),
-        Some(number) => owned_rule(caller, tasks.owner(number)),
+        Some(number) => owned_rule(asked.caller, tasks.owner(number)),
     }
 }
 
@@ -251,28 +227,26 @@ fn owned_rule(caller: u32, owner: Option<u32>) -> Option<Rule>
 
 /// The start of a declared activity that is to be placed.
 fn start_call(
-    caller: u32,
-    intent: &Intent,
-    source: Option<u64>,
+    asked: &Asked<'_>,
     component: &Component,
     uid: u32,
     decl: &Decl,
 ) -> Result<StartCall, NoMemory>
     ensures { IfOk result (λ call. call
-        ≡ start_call caller intent.now source component.now (uid, decl.now)) }
+        ≡ start_call asked.now.caller asked.now.intent.now asked.now.source component.now (uid, decl.now)) }
 {
     let target = component.clone()?;
     let affinity = decl.affinity.clone()?;
-    let kept = intent.clone()?;
+    let intent = asked.intent.clone()?;
     Ok(StartCall {
         target,
         owner: uid,
-        caller,
+        caller: asked.caller,
         mode: decl.mode,
         affinity,
-        flags: intent.flags,
-        source,
-        intent: kept,
+        flags: asked.intent.flags,
+        source: asked.source,
+        intent,
     })
 }
 
@@ -283,8 +257,7 @@ fn place(board: &mut Board, tasks: &mut Tasks, call: StartCall) -> Result<Reply,
         after_place (record s { board = board.old; tasks = tasks.old }) call.owner (place tasks.old call)
         ≡ (reply, record s { board = board.new; tasks = tasks.new })) }
     ensures count { length board.new.packages ≡ length board.old.packages }
-    ensures same_board { OnErr result (board.new ≡ board.old) }
-    ensures same_tasks { OnErr result (tasks.new ≡ tasks.old) }
+    ensures same { OnErr result ((board.new ≡ board.old) × (tasks.new ≡ tasks.old)) }
 {
     let uid = call.owner;
     match tasks.place(call) {

@@ -1,18 +1,20 @@
-//! Which caller a key stands for.
-ghost use Rattle.std.specs.Prelude.{◌≡◌, ◌||◌, Some, if◌then◌else◌};
+//! Callers, and which one a key stands for.
+ghost use Rattle.std.specs.Prelude.{◌≡◌, ◌≤◌, ◌||◌, Some, if◌then◌else◌};
 ghost use Rattle.std.specs.List.{list_any};
 ghost use Rattle.am_types.specs.declared.device.Package.{Package};
 ghost use Rattle.am_model.specs.Texts.{is_same};
 ghost use Rattle.am_history.specs.Packages.{is_root_key};
 ghost use Rattle.am_history.specs.State.{system_uid, uid_of_package, root_or};
 
-use am_types::{List, Package, Text};
+use am_types::{List, Package, ROOT, SYSTEM, Text};
 
-/// The uid of the system.
-const SYSTEM: u32 = 1000;
-
-/// The uid of the root.
-const ROOT: u32 = 0;
+/// Who makes a call, and the moment of the call in milliseconds.
+#[derive(Clone, Copy)]
+pub struct Caller {
+    pub uid: u32,
+    pub moment: u64,
+    pub ghost early: { moment ≤ 4611686018427387904 },
+}
 
 /// The uid that has the key, if there is one, where these are the keys of the system and of the
 /// root, and the packages that are installed. Takes no memory.

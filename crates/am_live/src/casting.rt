@@ -8,8 +8,8 @@ ghost use Rattle.am_history.specs.BroadcastCalls.{after_send, count_of, finish, 
 ghost use Rattle.am_history.specs.Numbers.{HasNumbers};
 ghost use Rattle.am_history.specs.Steps.{at_moment};
 
-use crate::Live;
 use crate::sending::{is_withheld, send_at, send_rule, sending_of};
+use crate::{Caller, Live};
 use am_types::{
     Answer, Filter, FinishFault, Intent, Limit, List, NoMemory, Ordered, Receiving, Registration,
     Reply, Rule, Sending, Steps, Text,
@@ -28,27 +28,25 @@ impl Live {
     /// 1,024 are admitted. After `NoMemory` the state is as before.
     pub fn send<L: Ledger>(
         &mut self,
-        caller: u32,
+        by: Caller,
         intent: &Intent,
         permission: Option<&Text>,
         ordered: Option<&Ordered>,
-        moment: u64,
         steps: &mut Steps<L>,
     ) -> Result<Reply, NoMemory>
-        requires moment { moment ≤ 4611686018427387904 }
         requires numbers { HasNumbers self.old }
-        ensures done { IfOk result (λ reply. send (at_moment self.old moment) caller intent.now
+        ensures done { IfOk result (λ reply. send (at_moment self.old by.moment) by.uid intent.now
             (option_copied permission.entry) (option_copied ordered.entry) ≡ (reply, self.new)) }
         ensures same { OnErr result (self.new ≡ self.old) }
     {
-        if is_withheld(self.board.protected(), &intent.action, caller) {
-            self.settle(moment, steps);
+        if is_withheld(self.board.protected(), &intent.action, by.uid) {
+            self.settle(by.moment, steps);
             return Ok(Reply::Refused(Rule::ProtectedAction));
         }
         let offered = self
             .board
-            .receivers(self.alloc, intent, caller, permission, steps)?;
-        let sending = sending_of(self.alloc, caller, moment, intent, ordered, &offered)?;
+            .receivers(self.alloc, intent, by.uid, permission, steps)?;
+        let sending = sending_of(self.alloc, by, intent, ordered, &offered)?;
         self.send_to(sending, offered, steps)
     }
 
@@ -92,51 +90,42 @@ impl Live {
     /// the caller has 64. After `NoMemory` the state is as before.
     pub fn register<L: Ledger>(
         &mut self,
-        caller: u32,
+        by: Caller,
         filter: &Filter,
         permission: Option<&Text>,
-        moment: u64,
         steps: &mut Steps<L>,
     ) -> Result<Reply, NoMemory>
-        requires moment { moment ≤ 4611686018427387904 }
         requires numbers { HasNumbers self.old }
-        ensures done { IfOk result (λ reply. register (at_moment self.old moment) caller filter.now
+        ensures done { IfOk result (λ reply. register (at_moment self.old by.moment) by.uid filter.now
             (option_copied permission.entry) ≡ (reply, self.new)) }
         ensures same { OnErr result (self.new ≡ self.old) }
     {
-        if count_of(self.board.registered(), caller) >= MOST_REGISTERED {
-            self.settle(moment, steps);
+        if count_of(self.board.registered(), by.uid) >= MOST_REGISTERED {
+            self.settle(by.moment, steps);
             return Ok(Reply::Refused(Rule::OverLimit(Limit::Registered)));
         }
         let number = self.next_registration;
-        let receiver = receiver_with(number, caller, filter, permission)?;
+        let receiver = receiver_with(number, by.uid, filter, permission)?;
         self.board.register(receiver)?;
         self.next_registration = number + 1;
-        self.settle(moment, steps);
+        self.settle(by.moment, steps);
         Ok(Reply::Registered(number))
     }
 
     /// Takes a registered receiver of the caller back at a moment, once the deadlines are handled that are
     /// due then; no broadcast is for it any more. Refusals: `NoReceiver` if none of that number is
     /// registered; `NotYours` if it is another uid's. Takes no memory.
-    pub fn unregister<L: Ledger>(
-        &mut self,
-        caller: u32,
-        number: u64,
-        moment: u64,
-        steps: &mut Steps<L>,
-    ) -> Reply
-        requires { moment ≤ 4611686018427387904 }
-        ensures { unregister (at_moment self.old moment) caller number ≡ (result, self.new) }
+    pub fn unregister<L: Ledger>(&mut self, by: Caller, number: u64, steps: &mut Steps<L>) -> Reply
+        ensures { unregister (at_moment self.old by.moment) by.uid number ≡ (result, self.new) }
     {
         let holder = holder_of(self.board.registered(), number);
-        self.settle(moment, steps);
+        self.settle(by.moment, steps);
         match holder {
             None => Reply::Refused(Rule::NoReceiver),
-            Some(uid) if uid != caller => Reply::Refused(Rule::NotYours),
+            Some(uid) if uid != by.uid => Reply::Refused(Rule::NotYours),
             Some(_) => {
                 self.board.unregister(number);
-                self.queues.forget_registered(number, moment);
+                self.queues.forget_registered(number, by.moment);
                 Reply::Plain
             }
         }
@@ -149,21 +138,19 @@ impl Live {
     /// state is as before.
     pub fn finish<L: Ledger>(
         &mut self,
-        caller: u32,
+        by: Caller,
         delivery: u64,
         answer: &Answer,
-        moment: u64,
         steps: &mut Steps<L>,
     ) -> Result<Reply, NoMemory>
-        requires { moment ≤ 4611686018427387904 }
-        ensures done { IfOk result (λ reply. finish (at_moment self.old moment) caller delivery answer.now
+        ensures done { IfOk result (λ reply. finish (at_moment self.old by.moment) by.uid delivery answer.now
             ≡ (reply, self.new)) }
         ensures same { OnErr result (self.new ≡ self.old) }
         ensures calm { answer.now.set ≡ None → IsOk result }
     {
         let answer = answer_of(answer)?;
-        self.settle(moment, steps);
-        match self.queues.finish(delivery, caller, answer, moment) {
+        self.settle(by.moment, steps);
+        match self.queues.finish(delivery, by.uid, answer, by.moment) {
             Ok(()) => Ok(Reply::Plain),
             Err(fault) => Ok(Reply::Refused(finish_rule(fault))),
         }

@@ -1,16 +1,7 @@
 //! What calls on packages change, and what is planned for them.
 
 use am_keeper::Row;
-use am_types::{Package, Rule, Text};
-
-/// What a right of a package is to.
-#[derive(Clone, Copy)]
-pub enum RightKind {
-    /// To what a permission guards.
-    Permission,
-    /// To the web links of a host.
-    Host,
-}
+use am_types::{Package, RightKind, Rule, Text};
 
 /// A right to the permission or the host, which the uid is given, or which is taken from it.
 #[derive(Drop)]

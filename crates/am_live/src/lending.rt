@@ -8,7 +8,7 @@ ghost use Rattle.am_history.specs.PendingCalls.{after_use, in_new_task, lend, pe
 ghost use Rattle.am_history.specs.State.{State};
 ghost use Rattle.am_history.specs.Steps.{at_moment};
 
-use crate::Live;
+use crate::{Caller, Live};
 use am_pending::Pending;
 use am_resolve::Board;
 use am_types::{
@@ -23,23 +23,21 @@ impl Live {
     /// (`PendingIntent.getActivity`, `getService`, `getBroadcast`.)
     pub fn pending_get<L: Ledger>(
         &mut self,
-        caller: u32,
+        by: Caller,
         kind: Kind,
         code: i64,
         intent: &Intent,
         flags: PendingFlags,
-        moment: u64,
         steps: &mut Steps<L>,
     ) -> Result<Reply, NoMemory>
-        requires moment { moment ≤ 4611686018427387904 }
         requires numbers { HasNumbers self.old }
-        ensures done { IfOk result
-            (λ reply. pending_get (at_moment self.old moment) caller kind code intent.now flags ≡ (reply, self.new)) }
+        ensures done { IfOk result (λ reply.
+            pending_get (at_moment self.old by.moment) by.uid kind code intent.now flags ≡ (reply, self.new)) }
         ensures same { OnErr result (self.new ≡ self.old) }
     {
         let intent = intent.clone()?;
-        let reply = get(&mut self.pending, caller, kind, code, intent, flags, steps)?;
-        self.settle(moment, steps);
+        let reply = get(&mut self.pending, by.uid, kind, code, intent, flags, steps)?;
+        self.settle(by.moment, steps);
         Ok(reply)
     }
 
@@ -47,16 +45,14 @@ impl Live {
     /// and by `NotCreator`. Takes no memory. (`PendingIntent.cancel`.)
     pub fn pending_cancel<L: Ledger>(
         &mut self,
-        caller: u32,
+        by: Caller,
         token: u64,
-        moment: u64,
         steps: &mut Steps<L>,
     ) -> Reply
-        requires { moment ≤ 4611686018427387904 }
-        ensures { pending_cancel (at_moment self.old moment) caller token ≡ (result, self.new) }
+        ensures { pending_cancel (at_moment self.old by.moment) by.uid token ≡ (result, self.new) }
     {
-        let reply = cancel(&mut self.pending, caller, token, steps);
-        self.settle(moment, steps);
+        let reply = cancel(&mut self.pending, by.uid, token, steps);
+        self.settle(by.moment, steps);
         reply
     }
 
@@ -65,19 +61,17 @@ impl Live {
     /// if it has 64 holders. After `NoMemory` the state is as before.
     pub fn pending_give<L: Ledger>(
         &mut self,
-        caller: u32,
+        by: Caller,
         token: u64,
         name: &Text,
-        moment: u64,
         steps: &mut Steps<L>,
     ) -> Result<Reply, NoMemory>
-        requires { moment ≤ 4611686018427387904 }
         ensures done { IfOk result
-            (λ reply. pending_give (at_moment self.old moment) caller token name.now ≡ (reply, self.new)) }
+            (λ reply. pending_give (at_moment self.old by.moment) by.uid token name.now ≡ (reply, self.new)) }
         ensures same { OnErr result (self.new ≡ self.old) }
     {
-        let reply = give(&self.board, &mut self.pending, caller, token, name, steps)?;
-        self.settle(moment, steps);
+        let reply = give(&self.board, &mut self.pending, by.uid, token, name, steps)?;
+        self.settle(by.moment, steps);
         Ok(reply)
     }
 
@@ -88,23 +82,21 @@ impl Live {
     /// creator. After `NoMemory` the state is as before. (`PendingIntent.send`.)
     pub fn pending_send<L: Ledger>(
         &mut self,
-        caller: u32,
+        by: Caller,
         token: u64,
         fill: Option<&Intent>,
-        moment: u64,
         steps: &mut Steps<L>,
     ) -> Result<Reply, NoMemory>
-        requires moment { moment ≤ 4611686018427387904 }
         requires numbers { HasNumbers self.old }
-        ensures done { IfOk result
-            (λ reply. pending_send (at_moment self.old moment) caller token (option_copied fill.entry) ≡ (reply, self.new)) }
+        ensures done { IfOk result (λ reply. pending_send (at_moment self.old by.moment) by.uid token
+            (option_copied fill.entry) ≡ (reply, self.new)) }
         ensures same { OnErr result (self.new ≡ self.old) }
     {
-        match self.pending.use_token(token, caller, fill, steps) {
-            Ok(used) => self.after_use(token, used, moment, steps),
+        match self.pending.use_token(token, by.uid, fill, steps) {
+            Ok(used) => self.after_use(token, used, by, steps),
             Err(fault) => {
                 let reply = refused(fault)?;
-                self.settle(moment, steps);
+                self.settle(by.moment, steps);
                 Ok(reply)
             }
         }
@@ -116,19 +108,22 @@ impl Live {
         &mut self,
         token: u64,
         used: Used,
-        moment: u64,
+        by: Caller,
         steps: &mut Steps<L>,
     ) -> Result<Reply, NoMemory>
-        requires moment { moment ≤ 4611686018427387904 }
         requires numbers { HasNumbers self.old }
         ensures done { IfOk result
-            (λ reply. after_use (at_moment self.old moment) token (Ok used) ≡ (reply, self.new)) }
+            (λ reply. after_use (at_moment self.old by.moment) token (Ok used) ≡ (reply, self.new)) }
         ensures same { OnErr result (self.new ≡ self.old) }
     {
-        let (creator, one_shot) = (used.creator, used.one_shot);
-        let reply = self.lend(creator, used.intent, used.kind, moment, steps)?;
+        let one_shot = used.one_shot;
+        let creator = Caller {
+            uid: used.creator,
+            moment: by.moment,
+        };
+        let reply = self.lend(creator, used.intent, used.kind, steps)?;
         if one_shot {
-            self.use_up(token, creator, steps);
+            self.use_up(token, creator.uid, steps);
         }
         Ok(reply)
     }
@@ -136,31 +131,30 @@ impl Live {
     /// Does as the creator what its intent asks for, after the moment is settled.
     fn lend<L: Ledger>(
         &mut self,
-        creator: u32,
+        by: Caller,
         intent: Intent,
         kind: Kind,
-        moment: u64,
         steps: &mut Steps<L>,
     ) -> Result<Reply, NoMemory>
-        requires moment { moment ≤ 4611686018427387904 }
         requires numbers { HasNumbers self.old }
-        ensures done { IfOk result (λ reply. lend (at_moment self.old moment) creator intent kind ≡ (reply, self.new)) }
+        ensures done { IfOk result (λ reply.
+            lend (at_moment self.old by.moment) by.uid intent kind ≡ (reply, self.new)) }
         ensures same { OnErr result (self.new ≡ self.old) }
     {
         match kind {
             Kind::Activity => {
                 let intent = in_new_task(intent);
-                let reply = self.start(creator, &intent, None, moment, steps);
+                let reply = self.start(by, &intent, None, steps);
                 drop(intent);
                 reply
             }
             Kind::Service => {
-                let reply = self.start_service(creator, &intent, moment, steps);
+                let reply = self.start_service(by, &intent, steps);
                 drop(intent);
                 reply
             }
             Kind::Receiver => {
-                let reply = self.send(creator, &intent, None, None, moment, steps);
+                let reply = self.send(by, &intent, None, None, steps);
                 drop(intent);
                 reply
             }

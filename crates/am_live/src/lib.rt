@@ -14,5 +14,6 @@ mod reads;
 mod sending;
 mod services;
 
-pub use change::{Change, Plan, RightChange, RightKind};
+pub use callers::Caller;
+pub use change::{Change, Plan, RightChange};
 pub use live::Live;

@@ -6,7 +6,7 @@ ghost use Rattle.am_history.specs.Steps.{at_moment, due, moment_after};
 
 use crate::callers;
 use am_pending::Pending;
-use am_queue::Queues;
+use am_queue::{LAST_MOMENT, Queues};
 use am_resolve::Board;
 use am_services::Services;
 use am_tasks::Tasks;
@@ -14,9 +14,6 @@ use am_types::{Device, NoMemory, Steps, Text, drop_parts};
 use std::alloc::Global;
 use std::marker::Model;
 use std::sync::ledger::Ledger;
-
-/// The last moment, in milliseconds: a later one counts as this.
-const LAST_MOMENT: u64 = 4_611_686_018_427_387_904;
 
 /// The live state of a device. Contracts see it as the state of the definitions.
 pub struct Live {

@@ -6,10 +6,10 @@ ghost use Rattle.am_history.specs.State.{State, with_packages};
 ghost use Rattle.am_history.specs.Steps.{at_moment};
 ghost use Rattle.am_live.specs.Changes.{changed, prepared, with_held, with_package, Fits, IsInstallable, IsPrepared};
 
-use crate::{Change, Live, RightChange, RightKind};
+use crate::{Caller, Change, Live, RightChange};
 use am_gates::is_privileged;
 use am_resolve::Board;
-use am_types::{NoMemory, Package, Reply, Rule, Steps, Text};
+use am_types::{NoMemory, Package, Reply, RightKind, Rule, Steps, Text};
 use std::sync::ledger::Ledger;
 
 impl Live {
@@ -93,18 +93,11 @@ impl Live {
     /// Stops the package of the name, as only the system and the root may: nothing of it goes on. Refused by
     /// `AdminOnly`, then by `NoPackage`. The call is at a moment, in milliseconds, which is the last one then,
     /// and the deadlines that are due are handled. A step is a reading of a deadline. Takes no memory.
-    pub fn force_stop<L: Ledger>(
-        &mut self,
-        caller: u32,
-        name: &Text,
-        moment: u64,
-        steps: &mut Steps<L>,
-    ) -> Reply
-        requires { moment ≤ 4611686018427387904 }
-        ensures { force_stop (at_moment self.old moment) caller name.now ≡ (result, self.new) }
+    pub fn force_stop<L: Ledger>(&mut self, by: Caller, name: &Text, steps: &mut Steps<L>) -> Reply
+        ensures { force_stop (at_moment self.old by.moment) by.uid name.now ≡ (result, self.new) }
     {
-        self.settle(moment, steps);
-        if !is_privileged(caller) {
+        self.settle(by.moment, steps);
+        if !is_privileged(by.uid) {
             return Reply::Refused(Rule::AdminOnly);
         }
         let Some(owner) = self.board.package_named(name) else {

@@ -9,12 +9,14 @@ ghost use Rattle.am_history.specs.Steps.{keeps_row};
 ghost use Rattle.am_laws_state.specs.Sound.{IsSoundState};
 ghost use Rattle.am_live.specs.Changes.{IsPlanOf, count_held, is_held, right_limit, right_request, right_row};
 
-use crate::{Change, Live, Plan, RightChange, RightKind, callers};
+use crate::{Change, Live, Plan, RightChange, callers};
 use am_gates::{is_granted, is_privileged};
 use am_installed::Right;
-use am_keeper::{GrantRow, LinkRow, PackageRow, Row};
-use am_manifest::{ReadFault, read_package};
-use am_types::{Limit, Link, List, Manifest, NoMemory, Package, Request, Rule, Text};
+use am_keeper::{PackageRow, RightRow, Row};
+use am_manifest::read_package;
+use am_types::{
+    Limit, Link, List, Manifest, NoMemory, Package, Request, RightKind, Rule, Text, Unmade,
+};
 use std::alloc::Global;
 
 /// How many packages a device may have.
@@ -62,8 +64,8 @@ impl Live {
     {
         match read_package(self.alloc, text) {
             Ok(manifest) => self.plan_read(caller, text, key, manifest),
-            Err(ReadFault::NoMemory) => Err(NoMemory),
-            Err(ReadFault::Manifest(fault)) => Ok(Plan::Refused(Rule::BadManifest(fault))),
+            Err(Unmade::NoMemory) => Err(NoMemory),
+            Err(Unmade::Fault(fault)) => Ok(Plan::Refused(Rule::BadManifest(fault))),
         }
     }
 
@@ -260,17 +262,10 @@ fn right_row(kind: RightKind, uid: u32, text: &Text, held: bool) -> Result<Row, 
     ensures { IfOk result (λ row. row ≡ right_row kind uid text.now held) }
 {
     let text = text.clone()?;
+    let row = RightRow { uid, text, held };
     match kind {
-        RightKind::Permission => Ok(Row::Grant(GrantRow {
-            uid,
-            permission: text,
-            held,
-        })),
-        RightKind::Host => Ok(Row::Link(LinkRow {
-            uid,
-            host: text,
-            approved: held,
-        })),
+        RightKind::Permission => Ok(Row::Grant(row)),
+        RightKind::Host => Ok(Row::Link(row)),
     }
 }
 

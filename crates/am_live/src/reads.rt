@@ -11,7 +11,7 @@ ghost use Rattle.am_history.specs.Services.{services_of};
 ghost use Rattle.am_history.specs.Steps.{at_moment};
 ghost use Rattle.am_explain.specs.Asking.{question_of};
 
-use crate::Live;
+use crate::{Caller, Live};
 use am_explain::{Question, accounts};
 use am_gates::is_privileged;
 use am_installed::{caller_named, uid_named};
@@ -116,21 +116,19 @@ impl Live {
     /// one then. After `NoMemory` the state is as before.
     pub fn inbox_at<L: Ledger>(
         &mut self,
-        caller: u32,
-        moment: u64,
+        by: Caller,
         steps: &mut Steps<L>,
     ) -> Result<Reply, NoMemory>
-        requires { moment ≤ 4611686018427387904 }
-        ensures state { OnOk result (self.new ≡ at_moment self.old moment) }
-        ensures items { IfOk result (λ reply. reply ≡ Items (inbox self.new.broadcasts caller)) }
+        ensures state { OnOk result (self.new ≡ at_moment self.old by.moment) }
+        ensures items { IfOk result (λ reply. reply ≡ Items (inbox self.new.broadcasts by.uid)) }
         ensures same { OnErr result (self.new ≡ self.old) }
     {
         let mut queues = self.queues.copy()?;
-        queues.expire(moment, steps);
-        match queues.inbox(caller) {
+        queues.expire(by.moment, steps);
+        match queues.inbox(by.uid) {
             Ok(items) => {
                 drop(mem::replace(&mut self.queues, queues));
-                self.moment = moment;
+                self.moment = by.moment;
                 Ok(Reply::Items(items))
             }
             Err(error) => {

@@ -9,6 +9,7 @@ ghost use Rattle.am_model.specs.Texts.{lists};
 ghost use Rattle.am_history.specs.State.{State};
 ghost use Rattle.am_history.specs.BroadcastCalls.{send_rule, sending_of};
 
+use crate::Caller;
 use am_gates::is_privileged;
 use am_queue::Queues;
 use am_types::{
@@ -71,23 +72,22 @@ fn ordered_of(ordered: Option<&Ordered>) -> Result<Option<Ordered>, NoMemory>
 /// The broadcast of a caller to those of the receivers who are admitted, at a moment.
 pub(crate) fn sending_of(
     alloc: Global,
-    caller: u32,
-    moment: u64,
+    by: Caller,
     intent: &Intent,
     ordered: Option<&Ordered>,
     offered: &List<Receiving>,
 ) -> Result<Sending, NoMemory>
-    ensures moment { IfOk result (λ sending. sending.now ≡ moment) }
-    ensures sending { IfOk result (λ sending. (state : State) → state.moment ≡ moment
-        → sending ≡ sending_of state caller intent.now (option_copied ordered.entry) offered.now) }
+    ensures moment { IfOk result (λ sending. sending.now ≡ by.moment) }
+    ensures sending { IfOk result (λ sending. (state : State) → state.moment ≡ by.moment
+        → sending ≡ sending_of state by.uid intent.now (option_copied ordered.entry) offered.now) }
 {
     let to = admitted(alloc, offered.as_slice())?;
     let ordered = ordered_of(ordered)?;
     let flags = intent.flags;
     let intent = intent.clone()?;
     Ok(Sending {
-        sender: caller,
-        now: moment,
+        sender: by.uid,
+        now: by.moment,
         foreground: flags.foreground,
         no_abort: flags.no_abort,
         intent,

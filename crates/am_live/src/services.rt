@@ -6,8 +6,8 @@ ghost use Rattle.am_history.specs.Services.{start_maybe, start_service, stop_ser
 ghost use Rattle.am_history.specs.State.{Service, State};
 ghost use Rattle.am_history.specs.Steps.{at_moment};
 
-use crate::Live;
 use crate::gate::gate;
+use crate::{Caller, Live};
 use am_resolve::Board;
 use am_services::Services;
 use am_types::{Component, Intent, Kind, Limit, NoMemory, Reply, Rule, Steps};
@@ -22,26 +22,24 @@ impl Live {
     /// After `NoMemory` the state is as before.
     pub fn start_service<L: Ledger>(
         &mut self,
-        caller: u32,
+        by: Caller,
         intent: &Intent,
-        moment: u64,
         steps: &mut Steps<L>,
     ) -> Result<Reply, NoMemory>
-        requires moment { moment ≤ 4611686018427387904 }
         requires numbers { HasNumbers self.old }
         ensures done { IfOk result (λ reply.
-            start_service (at_moment self.old moment) caller intent.now ≡ (reply, self.new)) }
+            start_service (at_moment self.old by.moment) by.uid intent.now ≡ (reply, self.new)) }
         ensures same { OnErr result (self.new ≡ self.old) }
     {
         let reply = start_service(
             self.alloc,
             &mut self.board,
             &mut self.services,
-            caller,
+            by.uid,
             intent,
             steps,
         )?;
-        self.settle(moment, steps);
+        self.settle(by.moment, steps);
         Ok(reply)
     }
 
@@ -50,18 +48,16 @@ impl Live {
     /// state is as before.
     pub fn stop_service<L: Ledger>(
         &mut self,
-        caller: u32,
+        by: Caller,
         component: &Component,
-        moment: u64,
         steps: &mut Steps<L>,
     ) -> Result<Reply, NoMemory>
-        requires { moment ≤ 4611686018427387904 }
         ensures done { IfOk result (λ reply.
-            stop_service (at_moment self.old moment) caller component.now ≡ (reply, self.new)) }
+            stop_service (at_moment self.old by.moment) by.uid component.now ≡ (reply, self.new)) }
         ensures same { OnErr result (self.new ≡ self.old) }
     {
-        let reply = stop_service(&self.board, &mut self.services, caller, component)?;
-        self.settle(moment, steps);
+        let reply = stop_service(&self.board, &mut self.services, by.uid, component)?;
+        self.settle(by.moment, steps);
         Ok(reply)
     }
 }
@@ -81,8 +77,7 @@ fn start_service<L: Ledger>(
         start_service (record s { board = board.old; services = services.old }) caller intent.now
         ≡ (reply, record s { board = board.new; services = services.new })) }
     ensures count { length board.new.packages ≡ length board.old.packages }
-    ensures same_board { OnErr result (board.new ≡ board.old) }
-    ensures same_services { OnErr result (services.new ≡ services.old) }
+    ensures same { OnErr result ((board.new ≡ board.old) × (services.new ≡ services.old)) }
 {
     match (&intent.component, &intent.package) {
         (Some(component), _) => start_component(
@@ -126,8 +121,7 @@ fn start_component(
         (declared board.old.packages Kind.Service component.now)
         ≡ (reply, record s { board = board.new; services = services.new })) }
     ensures count { length board.new.packages ≡ length board.old.packages }
-    ensures same_board { OnErr result (board.new ≡ board.old) }
-    ensures same_services { OnErr result (services.new ≡ services.old) }
+    ensures same { OnErr result ((board.new ≡ board.old) × (services.new ≡ services.old)) }
 {
     let Some((uid, decl)) = board.declared(Kind::Service, component) else {
         return Ok(Reply::Refused(missing));

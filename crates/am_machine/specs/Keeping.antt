@@ -4,6 +4,7 @@ use Rattle.std.specs.Option.{option_map}
 use Rattle.am_types.specs.declared.history.Entry.{Entry}
 use Rattle.am_types.specs.declared.request.Request.{Request}
 use Rattle.am_types.specs.declared.reply.Reply.{Reply}
+use Rattle.am_outside.specs.Counts.{HasRisen}
 use Rattle.am_keeper.specs.declared.keeper.Keeper.{Ghosts}
 use Rattle.am_keeper.specs.declared.rows.Row.{Row}
 use Rattle.am_keeper.specs.declared.rows.Rows.{Rows}
@@ -12,6 +13,7 @@ use Rattle.am_keeper.specs.Keeping.{TellsAsBefore}
 use Rattle.am_history.specs.State.{State}
 use Rattle.am_history.specs.Steps.{is_refusal}
 use Rattle.am_history.specs.Kept.{row_of}
+use Rattle.am_machine.specs.Managed.{Managed}
 
 -- the keeper goes on: it tells its rows if it did, at the same place; it was honest if it is, and for good if it was;
 -- and its faults don't become fewer
@@ -21,6 +23,11 @@ pub record GoesOn {K : Type 0} (g : Ghosts K) (old new : K) : Type 0 where
   pub was_honest : g.is_honest new → g.is_honest old
   pub for_good : g.stays_honest new ↔ g.stays_honest old
   pub never_falls : g.faults old ≤ g.faults new
+
+module _ {K : Type 0} where
+  -- a keeper that is honest tells the rows that it told
+  abbrev pub TellsSame : Ghosts K → K → K → Type 0
+  TellsSame g old new = g.is_honest new → g.rows new ≡ g.rows old
 
 -- the rows with the row put, if there is one
 abbrev pub with_any : Option Row → Rows → Rows
@@ -40,3 +47,8 @@ with_kept entry kept = record entry { kept = kept }
 -- one more call was stored, and its row wasn't kept
 abbrev pub AddsUnkept : List Entry → List Entry → Type 0
 AddsUnkept before after = (entry : Entry) × (entry.kept ≡ false) × (after ≡ before ++ entry ∷ [])
+
+module _ {K : Type 0} where
+  -- and the keeper counted a fault for it
+  abbrev pub IsFault : Ghosts K → Managed K → Managed K → Type 0
+  IsFault g old new = HasRisen (g.faults old.keeper) (g.faults new.keeper) × AddsUnkept old.history new.history

@@ -7,7 +7,7 @@ ghost use Rattle.am_history.specs.Numbers.{HasNumbers};
 ghost use Rattle.am_history.specs.Steps.{act, after_due, is_calm, keeps_row};
 
 use crate::reads::read_at;
-use am_live::Live;
+use am_live::{Caller, Live};
 use am_types::{Entry, NoMemory, Reply, Request, Rule, Steps};
 use std::alloc::Global;
 use std::sync::ledger::Ledger;
@@ -28,16 +28,17 @@ pub(crate) fn act<L: Ledger>(
     ensures same { OnErr result (live.new ≡ live.old) }
     ensures calm { IsTrue (is_calm call.entry.now.request) → IsOk result }
 {
-    let caller = call.uid;
     let moment = live.moment_after(call.now);
+    let by = Caller {
+        uid: call.uid,
+        moment,
+    };
     match &call.request {
-        Request::Start { intent, source } => live.start(caller, intent, *source, moment, steps),
-        Request::FinishActivity { instance } => {
-            Ok(live.finish_activity(caller, *instance, moment, steps))
-        }
-        Request::Back => Ok(live.back(caller, moment, steps)),
-        Request::StartService { intent } => live.start_service(caller, intent, moment, steps),
-        Request::StopService { component } => live.stop_service(caller, component, moment, steps),
+        Request::Start { intent, source } => live.start(by, intent, *source, steps),
+        Request::FinishActivity { instance } => Ok(live.finish_activity(by, *instance, steps)),
+        Request::Back => Ok(live.back(by, steps)),
+        Request::StartService { intent } => live.start_service(by, intent, steps),
+        Request::StopService { component } => live.stop_service(by, component, steps),
         Request::Send {
             intent,
             permission,
@@ -45,34 +46,28 @@ pub(crate) fn act<L: Ledger>(
         } => {
             let permission = permission.as_ref();
             let ordered = ordered.as_ref();
-            live.send(caller, intent, permission, ordered, moment, steps)
+            live.send(by, intent, permission, ordered, steps)
         }
         Request::Register { filter, permission } => {
-            live.register(caller, filter, permission.as_ref(), moment, steps)
+            live.register(by, filter, permission.as_ref(), steps)
         }
-        Request::Unregister { number } => Ok(live.unregister(caller, *number, moment, steps)),
-        Request::Finish { delivery, answer } => {
-            live.finish(caller, *delivery, answer, moment, steps)
-        }
+        Request::Unregister { number } => Ok(live.unregister(by, *number, steps)),
+        Request::Finish { delivery, answer } => live.finish(by, *delivery, answer, steps),
         Request::PendingGet {
             kind,
             code,
             intent,
             flags,
-        } => live.pending_get(caller, *kind, *code, intent, *flags, moment, steps),
-        Request::PendingSend { token, fill } => {
-            live.pending_send(caller, *token, fill.as_ref(), moment, steps)
-        }
-        Request::PendingCancel { token } => Ok(live.pending_cancel(caller, *token, moment, steps)),
-        Request::PendingGive { token, package } => {
-            live.pending_give(caller, *token, package, moment, steps)
-        }
-        Request::ForceStop { package } => Ok(live.force_stop(caller, package, moment, steps)),
+        } => live.pending_get(by, *kind, *code, intent, *flags, steps),
+        Request::PendingSend { token, fill } => live.pending_send(by, *token, fill.as_ref(), steps),
+        Request::PendingCancel { token } => Ok(live.pending_cancel(by, *token, steps)),
+        Request::PendingGive { token, package } => live.pending_give(by, *token, package, steps),
+        Request::ForceStop { package } => Ok(live.force_stop(by, package, steps)),
         Request::Tick => {
             live.settle(moment, steps);
-            Ok(tick(caller))
+            Ok(tick(call.uid))
         }
-        _ => read_at(alloc, live, history, caller, moment, &call.request, steps),
+        _ => read_at(alloc, live, history, by, &call.request, steps),
     }
 }
 

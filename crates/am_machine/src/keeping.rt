@@ -11,7 +11,7 @@ ghost use Rattle.std.specs.Option.{option_map};
 ghost use Rattle.am_history.specs.Steps.{asks_keeper, after_due, at_moment, keeps_row, step};
 ghost use Rattle.am_laws_state.specs.Sound.{IsSoundState};
 ghost use Rattle.am_live.specs.Changes.{Fits, changed};
-ghost use Rattle.am_machine.specs.Keeping.{GoesOn, told_after, with_kept};
+ghost use Rattle.am_machine.specs.Keeping.{GoesOn, TellsSame, told_after, with_kept};
 
 use am_keeper::{KeepFail, Keeper, Row};
 use am_live::{Change, Live, Plan};
@@ -44,7 +44,7 @@ pub(crate) fn keep<K: Keeper, L: Ledger>(
     ensures keeper { GoesOn K.Keeper keeper.old keeper.new }
     ensures put { IfOk result (λ answered. K.is_honest keeper.new →
         K.rows keeper.new ≡ told_after live.old call.entry.now.request answered.reply (K.rows keeper.old)) }
-    ensures refused { OnErr result (K.is_honest keeper.new → K.rows keeper.new ≡ K.rows keeper.old) }
+    ensures refused { OnErr result (TellsSame K.Keeper keeper.old keeper.new) }
     ensures fault { IfOk result (λ answered. answered.kept ≡ false →
         HasRisen (K.faults keeper.old) (K.faults keeper.new)) }
 {
@@ -80,7 +80,7 @@ fn make<K: Keeper, L: Ledger>(
     ensures keeper { GoesOn K.Keeper keeper.old keeper.new }
     ensures put { IfOk result (λ answered. K.is_honest keeper.new → K.rows keeper.new
         ≡ (if answered.kept then option_map (λ told. with_row told row) (K.rows keeper.old) else K.rows keeper.old)) }
-    ensures refused { OnErr result (K.is_honest keeper.new → K.rows keeper.new ≡ K.rows keeper.old) }
+    ensures refused { OnErr result (TellsSame K.Keeper keeper.old keeper.new) }
     ensures fault { IfOk result (λ answered. answered.kept ≡ false →
         HasRisen (K.faults keeper.old) (K.faults keeper.new)) }
 {

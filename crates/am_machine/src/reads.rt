@@ -1,5 +1,5 @@
 //! What is read of the live state and of the history, also as time passes.
-ghost use Rattle.std.specs.Prelude.{◌≡◌, ◌≤◌, ℕ, false, if◌then◌else◌, IfOk, OnErr, IsOk, IsTrue};
+ghost use Rattle.std.specs.Prelude.{◌≡◌, ℕ, false, if◌then◌else◌, IfOk, OnErr, IsOk, IsTrue};
 ghost use Rattle.am_types.specs.declared.reply.Reply.TheVariants.{Entries, Refused};
 ghost use Rattle.am_types.specs.declared.request.Request.TheVariants as asks;
 ghost use Rattle.am_types.specs.declared.rule.Rule.TheVariants.{AdminOnly};
@@ -10,7 +10,7 @@ ghost use Rattle.am_history.specs.Steps.{act, at_moment, is_calm, is_changing, i
 
 use crate::history::page;
 use am_explain::Question;
-use am_live::Live;
+use am_live::{Caller, Live};
 use am_types::{Entry, Intent, Kind, NoMemory, Reply, Request, Rule, Steps, Text};
 use std::alloc::Global;
 use std::sync::ledger::Ledger;
@@ -40,27 +40,25 @@ pub(crate) fn read_at<L: Ledger>(
     alloc: Global,
     live: &mut Live,
     history: &[Entry],
-    caller: u32,
-    moment: u64,
+    by: Caller,
     request: &Request,
     steps: &mut Steps<L>,
 ) -> Result<Reply, NoMemory>
-    requires reads { is_changing request.now ≡ false }
-    requires moment { moment ≤ 4611686018427387904 }
+    requires { is_changing request.now ≡ false }
     ensures done { IfOk result (λ reply.
-        act (at_moment live.old moment) history.now caller request.now ≡ (reply, live.new)) }
+        act (at_moment live.old by.moment) history.now by.uid request.now ≡ (reply, live.new)) }
     ensures same { OnErr result (live.new ≡ live.old) }
     ensures calm { IsTrue (is_calm request.now) → IsOk result }
 {
     match request {
-        Request::Inbox => live.inbox_at(caller, moment, steps),
+        Request::Inbox => live.inbox_at(by, steps),
         Request::Status => {
-            live.settle(moment, steps);
-            Ok(status(live, history, caller))
+            live.settle(by.moment, steps);
+            Ok(status(live, history, by.uid))
         }
         _ => {
-            let reply = steady(alloc, live, history, caller, request, steps)?;
-            live.settle(moment, steps);
+            let reply = steady(alloc, live, history, by.uid, request, steps)?;
+            live.settle(by.moment, steps);
             Ok(reply)
         }
     }

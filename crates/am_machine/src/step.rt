@@ -9,7 +9,7 @@ ghost use Rattle.am_history.specs.State.{uid_of, has_uid};
 ghost use Rattle.am_history.specs.Numbers.{HasNumbers};
 ghost use Rattle.am_history.specs.Steps.{Call, after_due, asks_keeper, is_calm, is_formed, keeps_row, step};
 ghost use Rattle.am_laws_state.specs.Sound.{IsSoundState};
-ghost use Rattle.am_machine.specs.Keeping.{AddsUnkept, GoesOn, told_after, with_kept};
+ghost use Rattle.am_machine.specs.Keeping.{IsFault, GoesOn, TellsSame, told_after, with_kept};
 
 use crate::acts::act;
 use crate::class::{is_changing, keeps_row};
@@ -58,11 +58,8 @@ impl<K: Keeper> Manager<K> {
         ensures put { IfOk result (λ shown. K.is_honest self.new.keeper → K.rows self.new.keeper
             ≡ told_after (replay (opening_of self.old.origin) self.old.history) request shown.reply
             (K.rows self.old.keeper)) }
-        ensures refused_rows { OnErr result (K.is_honest self.new.keeper →
-            K.rows self.new.keeper ≡ K.rows self.old.keeper) }
-        ensures fault { IfOk result (λ shown. shown.reply ≡ Refused KeeperFault →
-            HasRisen (K.faults self.old.keeper) (K.faults self.new.keeper)
-            × AddsUnkept self.old.history self.new.history) }
+        ensures refused_rows { OnErr result (TellsSame K.Keeper self.old.keeper self.new.keeper) }
+        ensures fault { IfOk result (λ shown. shown.reply ≡ Refused KeeperFault → IsFault K.Keeper self.old self.new) }
         ensures spare { IfOk result (λ shown. self.old.spare ≤ self.new.spare + (if shown.stored then 1 else 0)) }
         ensures room { OnErr result (self.old.spare ≤ self.new.spare) }
         ensures calm { IsTrue (is_calm request) → 1 ≤ self.old.spare → IsOk result }
@@ -104,11 +101,8 @@ impl<K: Keeper> Manager<K> {
         ensures put { IfOk result (λ shown. K.is_honest self.new.keeper → K.rows self.new.keeper
             ≡ told_after (replay (opening_of self.old.origin) self.old.history) entry.request shown.reply
             (K.rows self.old.keeper)) }
-        ensures refused_rows { OnErr result (K.is_honest self.new.keeper →
-            K.rows self.new.keeper ≡ K.rows self.old.keeper) }
-        ensures fault { IfOk result (λ shown. shown.reply ≡ Refused KeeperFault →
-            HasRisen (K.faults self.old.keeper) (K.faults self.new.keeper)
-            × AddsUnkept self.old.history self.new.history) }
+        ensures refused_rows { OnErr result (TellsSame K.Keeper self.old.keeper self.new.keeper) }
+        ensures fault { IfOk result (λ shown. shown.reply ≡ Refused KeeperFault → IsFault K.Keeper self.old self.new) }
         ensures spare { IfOk result (λ shown. self.old.spare ≤ self.new.spare + (if shown.stored then 1 else 0)) }
         ensures room { OnErr result (self.old.spare ≤ self.new.spare) }
         ensures calm { IsTrue (is_calm entry.request) → 1 ≤ self.old.spare → IsOk result }
@@ -167,11 +161,8 @@ impl<K: Keeper> Manager<K> {
         ensures put { IfOk result (λ shown. K.is_honest self.new.keeper → K.rows self.new.keeper
             ≡ told_after (replay (opening_of self.old.origin) self.old.history) entry.request shown.reply
             (K.rows self.old.keeper)) }
-        ensures refused_rows { OnErr result (K.is_honest self.new.keeper →
-            K.rows self.new.keeper ≡ K.rows self.old.keeper) }
-        ensures fault { IfOk result (λ shown. shown.reply ≡ Refused KeeperFault →
-            HasRisen (K.faults self.old.keeper) (K.faults self.new.keeper)
-            × AddsUnkept self.old.history self.new.history) }
+        ensures refused_rows { OnErr result (TellsSame K.Keeper self.old.keeper self.new.keeper) }
+        ensures fault { IfOk result (λ shown. shown.reply ≡ Refused KeeperFault → IsFault K.Keeper self.old self.new) }
         ensures spare { IfOk result (λ shown. self.old.spare ≤ self.new.spare + (if shown.stored then 1 else 0)) }
         ensures room { OnErr result (self.old.spare ≤ self.new.spare) }
         ensures calm { IsTrue (is_calm entry.request) → 1 ≤ self.old.spare → IsOk result }
@@ -228,7 +219,7 @@ fn answer<K: Keeper, L: Ledger>(
     ensures quiet { keeps_row call.entry.now.request ≡ false → keeper.new ≡ keeper.old }
     ensures put { IfOk result (λ answered. K.is_honest keeper.new →
         K.rows keeper.new ≡ told_after live.old call.entry.now.request answered.reply (K.rows keeper.old)) }
-    ensures refused { OnErr result (K.is_honest keeper.new → K.rows keeper.new ≡ K.rows keeper.old) }
+    ensures refused { OnErr result (TellsSame K.Keeper keeper.old keeper.new) }
     ensures fault { IfOk result (λ answered. answered.kept ≡ false →
         HasRisen (K.faults keeper.old) (K.faults keeper.new)) }
     ensures calm { IsTrue (is_calm call.entry.now.request) → IsOk result }

@@ -8,11 +8,11 @@ use Rattle.toml.specs.View.{view}
 use Rattle.toml.specs.declared.value.Value.{Value}
 use Rattle.am_types.specs.declared.device.Package.{Package}
 use Rattle.am_types.specs.declared.manifest.ManifestFault.{ManifestFault}
-use Rattle.am_manifest_filters.specs.declared.fault.ReadFault.{ReadFault}
-use Rattle.am_manifest_filters.specs.declared.fault.ReadFault.TheVariants as faults
+use Rattle.am_types.specs.declared.failure.Unmade.{Unmade}
+use Rattle.am_types.specs.declared.failure.Unmade.TheVariants as unmade
 use Rattle.am_manifest.specs.declared.rights.Right.{Right}
-use Rattle.am_manifest.specs.declared.rights.RightKind.{RightKind}
-use Rattle.am_manifest_filters.specs.Reading.{Fails}
+use Rattle.am_types.specs.declared.device.RightKind.{RightKind}
+use Rattle.am_types.specs.Reading.{Fails}
 use Rattle.am_manifest.specs.Rights.{place_among, more_texts, right_entry, right_put, rights_from, with_right, with_uids}
 
 -- the items that are left begin with this one
@@ -42,11 +42,11 @@ put_back kind items right old none new lt is more =
     let after : map keys_of (set (set items right.holder none) right.holder new) ≡ set (map keys_of items) right.holder new.keys = ap (map keys_of) (set-set items right.holder none new) ∙ map-set keys_of items right.holder new in
     rw (here, more, after) refl
 
-pub put_fails : (e : ReadFault) (kind : RightKind) (items : List (BTreeSet (List ℕ))) (right : Right) (old : BTreeSet (List ℕ)) → right.holder < length items → old ≡ get_or items right.holder old
+pub put_fails : (e : Unmade ManifestFault) (kind : RightKind) (items : List (BTreeSet (List ℕ))) (right : Right) (old : BTreeSet (List ℕ)) → right.holder < length items → old ≡ get_or items right.holder old
     → Fails e (more_texts kind old.keys right.text) → Fails e (right_put kind (map (λ texts. texts.keys) items) right)
 unfolding right_put
-put_fails faults.NoMemory kind items right old lt is more = tt
-put_fails (faults.Manifest f) kind items right old lt is more =
+put_fails unmade.NoMemory kind items right old lt is more = tt
+put_fails (unmade.Fault f) kind items right old lt is more =
     let here : get_or (map keys_of items) right.holder [] ≡ old.keys = get_or-map keys_of items right.holder old [] lt ∙ ap keys_of (sym is) in
     rw (here, more) refl
 
@@ -59,19 +59,19 @@ module _ (place : List ℕ → Option ℕ) (kind : RightKind) (held : List (List
       let one : rights_from place kind held i (map view (drop i values)) ≡ rights_from place kind more (i + 1) (map view (drop (i + 1) values)) = rw (e, read, put) refl in
       sym one ∙ so_far
 
-  pub entry_fails : (e : ReadFault) (v : Value) → i < length values → v ≡ get_or values i v → Fails e (right_entry place kind i (view v)) → rights_from place kind held i (map view (drop i values)) ≡ whole → Fails e whole
+  pub entry_fails : (e : Unmade ManifestFault) (v : Value) → i < length values → v ≡ get_or values i v → Fails e (right_entry place kind i (view v)) → rights_from place kind held i (map view (drop i values)) ≡ whole → Fails e whole
   unfolding rights_from
-  entry_fails faults.NoMemory v lt is read so_far = tt
-  entry_fails (faults.Manifest f) v lt is read so_far =
+  entry_fails unmade.NoMemory v lt is read so_far = tt
+  entry_fails (unmade.Fault f) v lt is read so_far =
       let e = left i v values lt is in
       let one : rights_from place kind held i (map view (drop i values)) ≡ Err f = rw (e, read) refl in
       sym so_far ∙ one
 
-  pub limit_fails : (e : ReadFault) (v : Value) (right : Right) → i < length values → v ≡ get_or values i v → right_entry place kind i (view v) ≡ Ok right → Fails e (with_right kind held right)
+  pub limit_fails : (e : Unmade ManifestFault) (v : Value) (right : Right) → i < length values → v ≡ get_or values i v → right_entry place kind i (view v) ≡ Ok right → Fails e (with_right kind held right)
       → rights_from place kind held i (map view (drop i values)) ≡ whole → Fails e whole
   unfolding rights_from
-  limit_fails faults.NoMemory v right lt is read put so_far = tt
-  limit_fails (faults.Manifest f) v right lt is read put so_far =
+  limit_fails unmade.NoMemory v right lt is read put so_far = tt
+  limit_fails (unmade.Fault f) v right lt is read put so_far =
       let e = left i v values lt is in
       let one : rights_from place kind held i (map view (drop i values)) ≡ Err f = rw (e, read, put) refl in
       sym so_far ∙ one

@@ -14,21 +14,22 @@ use Rattle.toml.specs.Data.{Data, get, as_table}
 use Rattle.toml.specs.Parse.{parse_document}
 use Rattle.am_types.specs.declared.device.Device.{Device}
 use Rattle.am_types.specs.declared.device.Package.{Package}
+use Rattle.am_types.specs.declared.failure.Unmade.{Unmade}
 use Rattle.am_types.specs.declared.manifest.Decl.{Decl}
 use Rattle.am_types.specs.declared.manifest.Manifest.{Manifest}
+use Rattle.am_types.specs.declared.manifest.ManifestFault.{ManifestFault}
 use Rattle.am_types.specs.declared.manifest.ManifestFault.TheVariants.{Duplicate, WrongKind, OverLimit}
 use Rattle.am_model.specs.Sound.{AreDistinct, AreSoundPackages, AreSoundRights, IsSound, IsSoundDecl, IsSoundPackage, classes_of, is_access_key, is_package_name, keys_of, names_of, owner_keys, rights_approved, rights_granted, uids_of}
-use Rattle.am_manifest_filters.specs.declared.fault.ReadFault.{ReadFault}
 use Rattle.am_uri.specs.declared.text.Form.TheVariants.{AccessKey, PackageName}
-use Rattle.am_manifest_filters.specs.Reading.{Gives}
+use Rattle.am_types.specs.Reading.{Gives}
 use Rattle.am_uri.specs.Texts.{is_among, with_text}
 use Rattle.am_manifest_filters.specs.Texts.{key_place, within_key}
 use Rattle.am_manifest_filters.specs.Tables.{at_most, each, entry_table, optional_text, optional_values, required_text}
 use Rattle.am_manifest.specs.declared.device.Owners.{Owners}
 use Rattle.am_manifest.specs.declared.rights.Right.{Right}
 use Rattle.am_manifest.specs.declared.rights.Rights.{Rights}
-use Rattle.am_manifest.specs.declared.rights.RightKind.{RightKind}
-use Rattle.am_manifest.specs.declared.rights.RightKind.TheVariants.{Granted, Approved}
+use Rattle.am_types.specs.declared.device.RightKind.{RightKind}
+use Rattle.am_types.specs.declared.device.RightKind.TheVariants.{Permission, Host}
 use Rattle.am_manifest.specs.Manifests.{IsAppManifest, IsSoundManifest, classes, decls_in, first_repeated, manifest_alone, manifest_in, manifest_made, manifest_of, root_of, unless_repeated}
 use Rattle.am_manifest.specs.Rights.{array_key, limit_name, more_texts, place_among, right_entry, right_put, rights_from, rights_in, rights_of, texts_of, with_right, with_uids}
 use Rattle.am_manifest.specs.Devices.{actions_in, apart, device_in, device_made, first_taken, known_keys, manifest_at, manifest_found, owners_in, package_entry, package_of, packages_apart, packages_in, roots_apart, shares_key, unless_taken}
@@ -72,7 +73,7 @@ manifest_sound text m h =
     alone_sound root.value m root.then
 
 -- an answer that is what reading a manifest gives is sound
-pub manifest_given : (answer : Result Manifest ReadFault) (value : Data) → Gives answer (manifest_alone value) → IfOk answer (λ manifest. IsAppManifest manifest)
+pub manifest_given : (answer : Result Manifest (Unmade ManifestFault)) (value : Data) → Gives answer (manifest_alone value) → IfOk answer (λ manifest. IsAppManifest manifest)
 manifest_given (Ok manifest) value h = alone_sound value manifest h
 manifest_given (Err fault) value h = tt
 
@@ -249,10 +250,10 @@ record AreSound (packages : List Package) (rights : Rights) : Type 0 where
 sound_in : (packages : List Package) (value : Data) (rights : Rights) → rights_in packages value ≡ Ok rights → CountUp 10000 packages → AreSound packages rights
 unfolding rights_in
 sound_in packages value rights h c =
-    let granted = steps (rights_of Granted packages value) _ rights h in
-    let approved = steps (rights_of Approved packages value) _ rights granted.then in
-    let grants = sound_rights 10000 packages granted.value c (few_of Granted packages value granted.value granted.is) in
-    let links = sound_rights 10000 packages approved.value c (few_of Approved packages value approved.value approved.is) in
+    let granted = steps (rights_of Permission packages value) _ rights h in
+    let approved = steps (rights_of Host packages value) _ rights granted.then in
+    let grants = sound_rights 10000 packages granted.value c (few_of Permission packages value granted.value granted.is) in
+    let links = sound_rights 10000 packages approved.value c (few_of Host packages value approved.value approved.is) in
     subst (AreSound packages) (same _ rights approved.then) (record {
       grants = subst (AreSoundRights packages) (sym (granted_rights (with_uids packages granted.value))) grants;
       links = subst (AreSoundRights packages) (sym (approved_rights (with_uids packages approved.value))) links;
@@ -295,6 +296,6 @@ sound_device value device h =
     })
 
 -- an answer that is what reading a table gives is sound
-pub sound_given : (answer : Result Device ReadFault) (value : Data) → Gives answer (device_in value) → IfOk answer (λ device. IsSound device)
+pub sound_given : (answer : Result Device (Unmade ManifestFault)) (value : Data) → Gives answer (device_in value) → IfOk answer (λ device. IsSound device)
 sound_given (Ok device) value h = sound_device value device h
 sound_given (Err fault) value h = tt

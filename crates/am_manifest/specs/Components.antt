@@ -15,7 +15,7 @@ use Rattle.am_manifest.specs.declared.components.Heading.{Heading}
 use Rattle.am_manifest.specs.declared.components.Launch.{Launch}
 use Rattle.am_manifest_filters.specs.declared.filters.Filters.{Filters}
 use Rattle.am_uri.specs.declared.text.Form.TheVariants.{Any, Filled, Class}
-use Rattle.am_manifest_filters.specs.Reading.{◌>>=◌}
+use Rattle.am_types.specs.Reading.{◌>>=◌}
 use Rattle.am_model.specs.Sound.{starts_with_dot}
 use Rattle.am_manifest_filters.specs.Texts.{key_place}
 use Rattle.am_manifest_filters.specs.Tables.{required_text, optional_text, optional_truth, optional_values, each, entry_table}

@@ -12,7 +12,7 @@ use Rattle.am_manifest.specs.declared.device.Owners.{Owners}
 use Rattle.am_manifest.specs.declared.device.Actions.{Actions}
 use Rattle.am_manifest.specs.declared.rights.Rights.{Rights}
 use Rattle.am_uri.specs.declared.text.Form.TheVariants.{AccessKey, Filled, PackageName}
-use Rattle.am_manifest_filters.specs.Reading.{◌>>=◌}
+use Rattle.am_types.specs.Reading.{◌>>=◌}
 use Rattle.am_uri.specs.Texts.{is_among, with_text, with_optional}
 use Rattle.am_manifest_filters.specs.Texts.{key_place, within_key}
 use Rattle.am_manifest_filters.specs.Tables.{required_text, optional_text, optional_values, texts_at, at_most, each, entry_table}

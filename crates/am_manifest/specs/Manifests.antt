@@ -11,7 +11,7 @@ use Rattle.am_types.specs.declared.manifest.ManifestFault.TheVariants.{NotToml, 
 use Rattle.am_model.specs.Sound.{AreDistinct, IsSoundDecl, classes_of, is_package_name}
 use Rattle.am_model.specs.Texts.{is_same}
 use Rattle.am_uri.specs.declared.text.Form.TheVariants.{PackageName}
-use Rattle.am_manifest_filters.specs.Reading.{◌>>=◌}
+use Rattle.am_types.specs.Reading.{◌>>=◌}
 use Rattle.am_uri.specs.Texts.{is_among}
 use Rattle.am_manifest_filters.specs.Tables.{required_text, at_most}
 use Rattle.am_manifest.specs.Components.{components_at}

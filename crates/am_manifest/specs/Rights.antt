@@ -8,33 +8,33 @@ use Rattle.am_types.specs.declared.manifest.ManifestFault.{ManifestFault}
 use Rattle.am_types.specs.declared.manifest.ManifestFault.TheVariants.{Missing, WrongKind, OverLimit}
 use Rattle.am_manifest.specs.declared.rights.Right.{Right}
 use Rattle.am_manifest.specs.declared.rights.Rights.{Rights}
-use Rattle.am_manifest.specs.declared.rights.RightKind.{RightKind}
-use Rattle.am_manifest.specs.declared.rights.RightKind.TheVariants.{Granted, Approved}
+use Rattle.am_types.specs.declared.device.RightKind.{RightKind}
+use Rattle.am_types.specs.declared.device.RightKind.TheVariants.{Permission, Host}
 use Rattle.am_uri.specs.declared.text.Form.TheVariants.{Filled}
-use Rattle.am_manifest_filters.specs.Reading.{◌>>=◌}
+use Rattle.am_types.specs.Reading.{◌>>=◌}
 use Rattle.am_uri.specs.Texts.{is_among, with_text}
 use Rattle.am_manifest_filters.specs.Texts.{key_place}
 use Rattle.am_manifest_filters.specs.Tables.{required_text, optional_values, entry_table}
 
 -- the key of the array of these rights
 abbrev pub array_key : RightKind → List ℕ
-array_key Granted = codes "grant"
-array_key Approved = codes "link"
+array_key Permission = codes "grant"
+array_key Host = codes "link"
 
 -- the key of what an entry gives a right to
 abbrev pub text_key : RightKind → List ℕ
-text_key Granted = codes "permission"
-text_key Approved = codes "host"
+text_key Permission = codes "permission"
+text_key Host = codes "host"
 
 -- the name of the limit on these rights
 abbrev pub limit_name : RightKind → List ℕ
-limit_name Granted = codes "grants"
-limit_name Approved = codes "links"
+limit_name Permission = codes "grants"
+limit_name Host = codes "links"
 
 -- a host stands in lower ASCII case
 abbrev pub spelled : RightKind → List ℕ → List ℕ
-spelled Granted text = text
-spelled Approved text = map to_ascii_lowercase text
+spelled Permission text = text
+spelled Host text = map to_ascii_lowercase text
 
 -- the place of the first package of this name, where the first package has this place
 abbrev pub place_among : List Package → ℕ → List ℕ → Option ℕ
@@ -120,6 +120,6 @@ rights_given kind packages value = do
 -- what is granted to the packages, and the hosts for which they are approved
 unfoldable pub rights_in : List Package → Data → Result Rights ManifestFault
 rights_in packages value = do
-  granted ← rights_of Granted packages value
-  approved ← rights_of Approved packages value
+  granted ← rights_of Permission packages value
+  approved ← rights_of Host packages value
   Ok (record { grants = map (λ r. record { uid = r.0; permission = r.1 }) (with_uids packages granted); links = map (λ r. record { uid = r.0; host = r.1 }) (with_uids packages approved) })

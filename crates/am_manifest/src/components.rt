@@ -2,15 +2,15 @@
 ghost use Rattle.std.specs.Prelude.{◌≡◌, IfOk, map, option_and_then, unwrap_or};
 ghost use Rattle.toml.specs.Data.{as_str};
 ghost use Rattle.toml.specs.View.{view};
-ghost use Rattle.am_manifest_filters.specs.Reading.{Gives, GivesBy};
+ghost use Rattle.am_types.specs.Reading.{Gives, GivesBy};
 ghost use Rattle.am_manifest_filters.specs.Tables.{each};
 ghost use Rattle.am_manifest.specs.Components.{has_dot, full_class, heading_of, is_activity, mode_named, mode_at, activity_launch, launch_of, exported_of, declared, component_of, component_entry, components_at};
 
 use am_manifest_filters::{
     Filters, Position, ReadFault, entry_table, filters_at, optional_text, optional_truth,
-    optional_values, read_each, required_text, wrong_kind,
+    optional_values, read_each, required_text,
 };
-use am_types::{Decl, Kind, ManifestFault, Mode, Text};
+use am_types::{Decl, Kind, ManifestFault, Mode, Text, Unmade};
 use am_uri::{Form, starts_with_dot};
 use std::alloc::{AllocError, Global};
 use toml::Value;
@@ -108,13 +108,9 @@ fn mode_at(alloc: Global, at: &str, table: &Value) -> Result<Mode, ReadFault>
     let Some(value) = table.get("launchMode") else {
         return Ok(Mode::Standard);
     };
-    let position = Position {
-        at,
-        key: "launchMode",
-        index: None,
-    };
+    let position = Position::key(at, "launchMode");
     match mode_of(value) {
-        None => Err(wrong_kind(alloc, &position)),
+        None => Err(position.wrong_kind(alloc)),
         Some(mode) => Ok(mode),
     }
 }
@@ -181,7 +177,7 @@ fn exported_of(class: &Text, written: bool, stated: Option<bool>) -> Result<bool
         Some(exported) => Ok(exported),
         None if written => {
             let class = class.clone()?;
-            Err(ReadFault::Manifest(ManifestFault::ExportedUnstated(class)))
+            Err(Unmade::Fault(ManifestFault::ExportedUnstated(class)))
         }
         None => Ok(false),
     }

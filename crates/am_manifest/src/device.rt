@@ -1,7 +1,7 @@
 //! The device that a file describes.
 ghost use Rattle.std.specs.Prelude.{◌≡◌, ◌≤◌, IfOk, codes, length, map, [], ◌∷◌};
 ghost use Rattle.toml.specs.View.{view};
-ghost use Rattle.am_manifest_filters.specs.Reading.{Gives, GivesBy};
+ghost use Rattle.am_types.specs.Reading.{Gives, GivesBy};
 ghost use Rattle.am_manifest_filters.specs.Tables.{each};
 ghost use Rattle.am_uri.specs.Texts.{with_text};
 ghost use Rattle.am_model.specs.Sound.{IsSound};
@@ -10,10 +10,10 @@ ghost use Rattle.am_manifest.specs.Devices.{actions_in, apart, device_in, device
 use crate::manifest::{duplicate, manifest_in, root_of};
 use crate::rights::{Rights, rights_in};
 use am_manifest_filters::{
-    Position, ReadFault, at_most, entry_table, missing, optional_text, optional_values, read_each,
-    required_text, texts_at, within_key, wrong_kind,
+    Position, ReadFault, at_most, entry_table, optional_text, optional_values, read_each,
+    required_text, texts_at, within_key,
 };
-use am_types::{Device, List, Manifest, ManifestFault, Package, Text};
+use am_types::{Device, List, Manifest, ManifestFault, Package, Text, Unmade};
 use am_uri::Form;
 use std::alloc::{AllocError, Global};
 use std::collections::BTreeSet;
@@ -39,16 +39,12 @@ pub struct Actions {
 fn manifest_at(alloc: Global, at: &str, table: &Value) -> Result<Manifest, ReadFault>
     ensures { Gives result (manifest_at at.now (view table.now)) }
 {
-    let position = Position {
-        at,
-        key: "manifest",
-        index: None,
-    };
+    let position = Position::key(at, "manifest");
     let Some(value) = table.get("manifest") else {
-        return Err(missing(alloc, &position));
+        return Err(Unmade::Fault(ManifestFault::Missing(position.place(alloc)?)));
     };
     if !value.is_table() {
-        return Err(wrong_kind(alloc, &position));
+        return Err(position.wrong_kind(alloc));
     }
     let within = within_key(alloc, at, "manifest")?;
     manifest_in(alloc, within.as_str(), value)
@@ -180,7 +176,7 @@ fn are_apart(alloc: Global, owners: &Owners, packages: &[Package]) -> Result<(),
     let names = known_names(alloc)?;
     let keys = known_keys(alloc, owners)?;
     if let Some(name) = first_taken(alloc, names, keys, packages)? {
-        return Err(ReadFault::Manifest(ManifestFault::Duplicate(name)));
+        return Err(Unmade::Fault(ManifestFault::Duplicate(name)));
     }
     Ok(())
 }
@@ -281,7 +277,7 @@ pub fn text_of(bytes: &[u8]) -> Result<&str, ReadFault>
 {
     match std::str::from_utf8(bytes) {
         Ok(text) => Ok(text),
-        Err(_) => Err(ReadFault::Manifest(ManifestFault::NotToml)),
+        Err(_) => Err(Unmade::Fault(ManifestFault::NotToml)),
     }
 }
 
@@ -293,7 +289,7 @@ pub fn text_of(bytes: &[u8]) -> Result<&str, ReadFault>
 ///
 /// # Errors
 ///
-/// `ReadFault::Manifest` has the first fault that is met, with its place; `ReadFault::NoMemory` may come at any
+/// `Unmade::Fault` has the first fault that is met, with its place; `Unmade::NoMemory` may come at any
 /// place.
 #[tactic(auto, unfolding(crate::specs::Devices::device_of))]
 pub fn read_device(alloc: Global, bytes: &[u8]) -> Result<Device, ReadFault>

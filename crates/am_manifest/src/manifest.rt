@@ -3,13 +3,13 @@ ghost use Rattle.std.specs.Prelude.{◌≡◌, ℕ, List as Items, IfOk, Some, i
 ghost use Rattle.toml.specs.Parse.{parse_document};
 ghost use Rattle.toml.specs.View.{view};
 ghost use Rattle.am_types.specs.declared.manifest.ManifestFault.TheVariants.{Duplicate};
-ghost use Rattle.am_manifest_filters.specs.Reading.{Gives, GivesBy, IsFault};
+ghost use Rattle.am_types.specs.Reading.{Gives, GivesBy, IsFault};
 ghost use Rattle.am_manifest.specs.Components.{components_at};
 ghost use Rattle.am_manifest.specs.Manifests.{IsAppManifest, classes, decls_in, first_repeated, manifest_alone, manifest_in, manifest_made, manifest_of, more_decls, root_of};
 
 use crate::components::components_at;
 use am_manifest_filters::{ReadFault, at_most, required_text};
-use am_types::{Decl, Kind, List, Manifest, ManifestFault, Text};
+use am_types::{Decl, Kind, List, Manifest, ManifestFault, Text, Unmade};
 use am_uri::Form;
 use std::alloc::{AllocError, Global};
 use std::collections::BTreeSet;
@@ -46,8 +46,8 @@ pub(crate) fn duplicate(alloc: Global, name: &str) -> ReadFault
     ensures { IsFault result (Duplicate name.now) }
 {
     match Text::of(alloc, name) {
-        Ok(name) => ReadFault::Manifest(ManifestFault::Duplicate(name)),
-        Err(_) => ReadFault::NoMemory,
+        Ok(name) => Unmade::Fault(ManifestFault::Duplicate(name)),
+        Err(_) => Unmade::NoMemory,
     }
 }
 
@@ -59,7 +59,7 @@ fn are_distinct(alloc: Global, decls: &[Decl]) -> Result<(), ReadFault>
 {
     at_most(alloc, 256, "components", decls.len())?;
     if let Some(class) = first_repeated(alloc, decls)? {
-        return Err(ReadFault::Manifest(ManifestFault::Duplicate(class)));
+        return Err(Unmade::Fault(ManifestFault::Duplicate(class)));
     }
     Ok(())
 }
@@ -156,8 +156,8 @@ pub fn root_of(alloc: Global, text: &str) -> Result<Value, ReadFault>
 {
     match toml::table_from_str(alloc, text) {
         Ok(table) => Ok(Value::Table(table)),
-        Err(error) if error.is_memory() => Err(ReadFault::NoMemory),
-        Err(_) => Err(ReadFault::Manifest(ManifestFault::NotToml)),
+        Err(error) if error.is_memory() => Err(Unmade::NoMemory),
+        Err(_) => Err(Unmade::Fault(ManifestFault::NotToml)),
     }
 }
 
@@ -168,7 +168,7 @@ pub fn root_of(alloc: Global, text: &str) -> Result<Value, ReadFault>
 ///
 /// # Errors
 ///
-/// `ReadFault::Manifest` has the first fault that is met, with its place; `ReadFault::NoMemory` may come at any
+/// `Unmade::Fault` has the first fault that is met, with its place; `Unmade::NoMemory` may come at any
 /// place.
 #[tactic(auto, unfolding(crate::specs::Manifests::manifest_of))]
 pub fn read_package(alloc: Global, text: &Text) -> Result<Manifest, ReadFault>

@@ -2,29 +2,19 @@
 ghost use Rattle.std.specs.Prelude.{◌≡◌, ◌++◌, ◌<◌, ℕ, List as Items, IfOk, map, option_and_then, replicate, [], vec_len};
 ghost use Rattle.toml.specs.Data.{as_str};
 ghost use Rattle.toml.specs.View.{view};
-ghost use Rattle.am_manifest_filters.specs.Reading.{Gives, GivesBy};
+ghost use Rattle.am_types.specs.Reading.{Gives, GivesBy};
 ghost use Rattle.am_manifest.specs.Rights.{array_key, holder_at, limit_name, more_texts, place_among, right_entry, right_of, right_put, rights_from, rights_given, rights_in, rights_of, spelled, text_key, with_right, with_uids};
 ghost use Rattle.am_manifest.specs.RightsHeld.{place_in, texts_in};
 
 use am_manifest_filters::{
-    Position, ReadFault, entry_table, missing, optional_values, over_limit, required_text,
-    wrong_kind,
+    Position, ReadFault, entry_table, optional_values, over_limit, required_text,
 };
-use am_types::{Grant, Link, List, Package, Text};
+use am_types::{Grant, Link, List, ManifestFault, Package, RightKind, Text, Unmade};
 use am_uri::Form;
 use std::alloc::{AllocError, Global};
 use std::collections::{BTreeMap, BTreeSet};
 use std::mem;
 use toml::Value;
-
-/// What a package may have a right to.
-#[derive(Clone, Copy)]
-pub enum RightKind {
-    /// A permission.
-    Granted,
-    /// The web links of a host.
-    Approved,
-}
 
 /// A right of a package.
 #[derive(Drop)]
@@ -45,8 +35,8 @@ fn array_key(kind: RightKind) -> &'static str
     ensures { result.now ≡ array_key kind }
 {
     match kind {
-        RightKind::Granted => "grant",
-        RightKind::Approved => "link",
+        RightKind::Permission => "grant",
+        RightKind::Host => "link",
     }
 }
 
@@ -54,8 +44,8 @@ fn text_key(kind: RightKind) -> &'static str
     ensures { result.now ≡ text_key kind }
 {
     match kind {
-        RightKind::Granted => "permission",
-        RightKind::Approved => "host",
+        RightKind::Permission => "permission",
+        RightKind::Host => "host",
     }
 }
 
@@ -63,18 +53,9 @@ fn limit_name(kind: RightKind) -> &'static str
     ensures { result.now ≡ limit_name kind }
 {
     match kind {
-        RightKind::Granted => "grants",
-        RightKind::Approved => "links",
+        RightKind::Permission => "grants",
+        RightKind::Host => "links",
     }
-}
-
-/// The text in lower ASCII case.
-fn lowered(alloc: Global, text: &str) -> Result<Text, AllocError>
-    ensures { IfOk result (λ lowered. lowered ≡ spelled RightKind.Approved text.now) }
-{
-    let mut lowered = String::from_str(alloc, text)?;
-    lowered.make_ascii_lowercase();
-    Ok(Text::new(lowered))
 }
 
 /// The text as it counts: a host in lower ASCII case.
@@ -82,8 +63,8 @@ fn spelled(alloc: Global, kind: RightKind, text: Text) -> Result<Text, AllocErro
     ensures { IfOk result (λ spelling. spelling ≡ spelled kind text) }
 {
     match kind {
-        RightKind::Granted => Ok(text),
-        RightKind::Approved => lowered(alloc, text.as_str()),
+        RightKind::Permission => Ok(text),
+        RightKind::Host => Text::lowered(alloc, text.as_str()),
     }
 }
 
@@ -107,16 +88,12 @@ fn holder_at(
 ) -> Result<usize, ReadFault>
     ensures { Gives result (holder_at (place_in places.now) at.now (view table.now)) }
 {
-    let position = Position {
-        at,
-        key: "package",
-        index: None,
-    };
+    let position = Position::key(at, "package");
     let Some(value) = table.get("package") else {
-        return Err(missing(alloc, &position));
+        return Err(Unmade::Fault(ManifestFault::Missing(position.place(alloc)?)));
     };
     match place_named(places, value) {
-        None => Err(wrong_kind(alloc, &position)),
+        None => Err(position.wrong_kind(alloc)),
         Some(holder) => Ok(holder),
     }
 }
@@ -284,8 +261,8 @@ fn rights_given(
 pub fn rights_in(alloc: Global, packages: &[Package], table: &Value) -> Result<Rights, ReadFault>
     ensures { Gives result (rights_in packages.now (view table.now)) }
 {
-    let granted = rights_given(alloc, RightKind::Granted, packages, table)?;
-    let approved = rights_given(alloc, RightKind::Approved, packages, table)?;
+    let granted = rights_given(alloc, RightKind::Permission, packages, table)?;
+    let approved = rights_given(alloc, RightKind::Host, packages, table)?;
     Ok(Rights {
         grants: List::new(as_grants(alloc, granted)?),
         links: List::new(as_links(alloc, approved)?),

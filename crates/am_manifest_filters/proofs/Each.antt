@@ -5,9 +5,9 @@ use Rattle.toml.specs.Data.{Data}
 use Rattle.toml.specs.View.{view, items_view}
 use Rattle.toml.specs.declared.value.Value.{Value}
 use Rattle.am_types.specs.declared.manifest.ManifestFault.{ManifestFault}
-use Rattle.am_manifest_filters.specs.declared.fault.ReadFault.{ReadFault}
-use Rattle.am_manifest_filters.specs.declared.fault.ReadFault.TheVariants as faults
-use Rattle.am_manifest_filters.specs.Reading.{◌>>=◌, Fails}
+use Rattle.am_types.specs.declared.failure.Unmade.{Unmade}
+use Rattle.am_types.specs.declared.failure.Unmade.TheVariants as unmade
+use Rattle.am_types.specs.Reading.{◌>>=◌, Fails}
 use Rattle.am_manifest_filters.specs.Tables.{values_of, each}
 
 -- the items that values stand for, as a list
@@ -41,11 +41,11 @@ module _ {A : Type 0} (read : ℕ → Data → Result A ManifestFault) (front : 
       let one : front_then front (each read i (map view (drop i values))) ≡ front_then (front ++ x ∷ []) (each read (i + 1) (map view (drop (i + 1) values))) = rw (e, h) (regroup front x (each read (i + 1) (map view (drop (i + 1) values)))) in
       sym one ∙ so_far
 
-  pub ends : (e : ReadFault) (v : Value) → i < length values → v ≡ get_or values i v → Fails e (read i (view v))
+  pub ends : (e : Unmade ManifestFault) (v : Value) → i < length values → v ≡ get_or values i v → Fails e (read i (view v))
       → front_then front (each read i (map view (drop i values))) ≡ whole → Fails e whole
   unfolding each
-  ends faults.NoMemory v lt is h so_far = tt
-  ends (faults.Manifest f) v lt is h so_far =
+  ends unmade.NoMemory v lt is h so_far = tt
+  ends (unmade.Fault f) v lt is h so_far =
       let e = left i v values lt is in
       let one : front_then front (each read i (map view (drop i values))) ≡ Err f = rw (e, h) refl in
       sym so_far ∙ one

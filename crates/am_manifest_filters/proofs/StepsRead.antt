@@ -7,7 +7,7 @@ use Rattle.toml.specs.Data.{Data, get, as_str}
 use Rattle.am_types.specs.declared.manifest.ManifestFault.{ManifestFault}
 use Rattle.am_types.specs.declared.manifest.ManifestFault.TheVariants.{WrongKind, OverLimit}
 use Rattle.am_uri.specs.declared.text.Form.{Form}
-use Rattle.am_manifest_filters.specs.Reading.{◌>>=◌}
+use Rattle.am_types.specs.Reading.{◌>>=◌}
 use Rattle.am_uri.specs.Texts.{fits}
 use Rattle.am_manifest_filters.specs.Texts.{key_place, text_in}
 use Rattle.am_manifest_filters.specs.Tables.{at_most, each, required_in, required_text, optional_text_in, optional_text}

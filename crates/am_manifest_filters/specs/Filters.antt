@@ -6,7 +6,7 @@ use Rattle.am_types.specs.declared.manifest.ManifestFault.{ManifestFault}
 use Rattle.am_types.specs.declared.manifest.ManifestFault.TheVariants.{WrongKind, BadPriority}
 use Rattle.am_uri.specs.declared.text.Form.TheVariants.{Filled}
 use Rattle.am_manifest_filters.specs.declared.filters.Filters.{Filters}
-use Rattle.am_manifest_filters.specs.Reading.{◌>>=◌}
+use Rattle.am_types.specs.Reading.{◌>>=◌}
 use Rattle.am_uri.specs.Texts.{sorted_texts}
 use Rattle.am_manifest_filters.specs.Texts.{key_place}
 use Rattle.am_manifest_filters.specs.Tables.{texts_at, optional_values, at_most, each, entry_table}

@@ -1,6 +1,4 @@
-pub mod Reading
 pub mod Texts
 pub mod Tables
 pub mod Rows
 pub mod Filters
-pub mod Printing

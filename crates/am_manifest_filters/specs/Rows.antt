@@ -12,7 +12,7 @@ use Rattle.am_filter.specs.declared.rows.Paths.{Paths}
 use Rattle.am_filter.specs.declared.rows.DataRow.{DataRow}
 use Rattle.am_filter.specs.declared.rows.DataRows.{DataRows}
 use Rattle.am_uri.specs.declared.text.Form.TheVariants.{Filled}
-use Rattle.am_manifest_filters.specs.Reading.{◌>>=◌}
+use Rattle.am_types.specs.Reading.{◌>>=◌}
 use Rattle.am_model.specs.Uris.{is_scheme}
 use Rattle.am_model.specs.MimeTypes.{mime_of}
 use Rattle.am_manifest_filters.specs.Texts.{key_place}

@@ -5,7 +5,7 @@ use Rattle.toml.specs.Data.{Data, Items, no_items, item, Members, no_members, me
 use Rattle.am_types.specs.declared.manifest.ManifestFault.{ManifestFault}
 use Rattle.am_types.specs.declared.manifest.ManifestFault.TheVariants.{Missing, WrongKind, OverLimit, LeftOut}
 use Rattle.am_uri.specs.declared.text.Form.{Form}
-use Rattle.am_manifest_filters.specs.Reading.{◌>>=◌}
+use Rattle.am_types.specs.Reading.{◌>>=◌}
 use Rattle.am_manifest_filters.specs.Texts.{text_in, key_place, entry_place, within_entry}
 
 -- the items as a list

@@ -1,15 +1,15 @@
 //! The filters of a component.
 ghost use Rattle.std.specs.Prelude.{◌≡◌, IfOk, filter, map};
 ghost use Rattle.toml.specs.View.{view};
-ghost use Rattle.am_manifest_filters.specs.Reading.{Gives, GivesBy};
+ghost use Rattle.am_types.specs.Reading.{Gives, GivesBy};
 ghost use Rattle.am_manifest_filters.specs.Tables.{each};
 ghost use Rattle.am_manifest_filters.specs.Filters.{priority_at, sorted_at, filter_of, filter_entry, has_action, filters_at};
 
 use crate::ReadFault;
-use crate::place::{Position, wrong_kind};
+use crate::place::Position;
 use crate::rows::rows_at;
 use crate::tables::{at_most, entry_table, optional_values, read_each, texts_at};
-use am_types::{Filter, List, ManifestFault, Text};
+use am_types::{Filter, List, ManifestFault, Text, Unmade};
 use am_uri::{Form, sorted};
 use std::alloc::{AllocError, Global};
 use toml::Value;
@@ -32,18 +32,14 @@ fn priority_at(alloc: Global, at: &str, table: &Value) -> Result<i32, ReadFault>
         return Ok(0);
     };
     let Some(number) = value.as_integer() else {
-        let position = Position {
-            at,
-            key: "priority",
-            index: None,
-        };
-        return Err(wrong_kind(alloc, &position));
+        let position = Position::key(at, "priority");
+        return Err(position.wrong_kind(alloc));
     };
     if number < -2_147_483_648 {
-        return Err(ReadFault::Manifest(ManifestFault::BadPriority));
+        return Err(Unmade::Fault(ManifestFault::BadPriority));
     }
     if number > 2_147_483_647 {
-        return Err(ReadFault::Manifest(ManifestFault::BadPriority));
+        return Err(Unmade::Fault(ManifestFault::BadPriority));
     }
     Ok(number as i32)
 }
@@ -66,15 +62,7 @@ fn filter_of(alloc: Global, at: &str, table: &Value) -> Result<Filter, ReadFault
     let categories = sorted_at(alloc, at, "category", table)?;
     let priority = priority_at(alloc, at, table)?;
     let rows = rows_at(alloc, at, table)?;
-    Ok(Filter {
-        actions,
-        categories,
-        schemes: rows.schemes,
-        authorities: rows.authorities,
-        paths: rows.paths,
-        types: rows.types,
-        priority,
-    })
+    Ok(rows.into_filter(actions, categories, priority))
 }
 
 /// An entry of the filters of a component.

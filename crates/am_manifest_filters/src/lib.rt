@@ -5,13 +5,12 @@
 mod fault;
 mod filters;
 mod place;
-mod print;
 mod rows;
 mod tables;
 
 pub use fault::ReadFault;
 pub use filters::{Filters, filters_at};
-pub use place::{Position, missing, over_limit, within_key, wrong_kind};
+pub use place::{Position, over_limit, within_key};
 pub use rows::{mime_at, scheme_at};
 pub use tables::{
     at_most, entry_table, only_keys, optional_text, optional_truth, optional_values, read_each,

@@ -1,11 +1,11 @@
 //! Where something stands in a document, and the faults that say so.
-ghost use Rattle.std.specs.Prelude.{◌≡◌, IfOk, codes};
-ghost use Rattle.am_types.specs.declared.manifest.ManifestFault.TheVariants.{Missing, WrongKind, BadUri, BadMime, OverLimit, LeftOut};
-ghost use Rattle.am_manifest_filters.specs.Reading.{IsFault};
+ghost use Rattle.std.specs.Prelude.{◌≡◌, IfOk, None, Some, codes};
+ghost use Rattle.am_types.specs.declared.manifest.ManifestFault.TheVariants.{WrongKind, OverLimit};
+ghost use Rattle.am_types.specs.Reading.{IsFault};
 ghost use Rattle.am_manifest_filters.specs.Texts.{key_place, entry_place, place_of, within_entry, within_key};
 
 use crate::ReadFault;
-use am_types::{ManifestFault, Text};
+use am_types::{ManifestFault, Text, Unmade};
 use std::alloc::{AllocError, Global};
 
 /// A key of a table, or an entry of the array at that key: what a fault's place names.
@@ -19,13 +19,52 @@ pub struct Position<'a> {
     pub index: Option<usize>,
 }
 
-/// The place as it is printed, as `activity[0].name`.
-fn place(alloc: Global, position: &Position) -> Result<Text, AllocError>
-    ensures { IfOk result (λ place. place ≡ place_of position.now) }
-{
-    match position.index {
-        None => key_place(alloc, position.at, position.key),
-        Some(i) => entry_place(alloc, position.at, position.key, i),
+impl<'a> Position<'a> {
+    /// The key itself.
+    pub fn key(at: &'a str, key: &'a str) -> Position<'a>
+        ensures { result ≡ record { at = at.entry; key = key.entry; index = None } }
+    {
+        Position {
+            at,
+            key,
+            index: None,
+        }
+    }
+
+    /// An entry of the array at a key.
+    pub fn entry(at: &'a str, key: &'a str, i: usize) -> Position<'a>
+        ensures { result ≡ record { at = at.entry; key = key.entry; index = Some i } }
+    {
+        Position {
+            at,
+            key,
+            index: Some(i),
+        }
+    }
+
+    /// The place as it is printed, as `activity[0].name`.
+    ///
+    /// # Errors
+    ///
+    /// Only want of memory.
+    pub fn place(&self, alloc: Global) -> Result<Text, AllocError>
+        ensures { IfOk result (λ place. place ≡ place_of self.now) }
+    {
+        match self.index {
+            None => key_place(alloc, self.at, self.key),
+            Some(i) => entry_place(alloc, self.at, self.key, i),
+        }
+    }
+
+    /// That the value there is of another kind or out of its range, or that memory ran out while its place was
+    /// written.
+    pub fn wrong_kind(&self, alloc: Global) -> ReadFault
+        ensures { IsFault result (WrongKind (place_of self.now)) }
+    {
+        match self.place(alloc) {
+            Ok(place) => Unmade::Fault(ManifestFault::WrongKind(place)),
+            Err(_) => Unmade::NoMemory,
+        }
     }
 }
 
@@ -59,62 +98,12 @@ pub fn within_key(alloc: Global, at: &str, key: &str) -> Result<Text, AllocError
     Ok(Text::new(format!(in alloc; "{at}{key}.")?))
 }
 
-/// That a key must be there and isn't, or that memory ran out while its place was written.
-pub fn missing(alloc: Global, position: &Position) -> ReadFault
-    ensures { IsFault result (Missing (place_of position.now)) }
-{
-    match place(alloc, position) {
-        Ok(place) => ReadFault::Manifest(ManifestFault::Missing(place)),
-        Err(_) => ReadFault::NoMemory,
-    }
-}
-
-/// That a value is of another kind or out of its range, or that memory ran out while its place was written.
-pub fn wrong_kind(alloc: Global, position: &Position) -> ReadFault
-    ensures { IsFault result (WrongKind (place_of position.now)) }
-{
-    match place(alloc, position) {
-        Ok(place) => ReadFault::Manifest(ManifestFault::WrongKind(place)),
-        Err(_) => ReadFault::NoMemory,
-    }
-}
-
-/// That a text is no scheme.
-pub fn bad_uri(alloc: Global, position: &Position) -> ReadFault
-    ensures { IsFault result (BadUri (place_of position.now)) }
-{
-    match place(alloc, position) {
-        Ok(place) => ReadFault::Manifest(ManifestFault::BadUri(place)),
-        Err(_) => ReadFault::NoMemory,
-    }
-}
-
-/// That a text is no MIME type.
-pub fn bad_mime(alloc: Global, position: &Position) -> ReadFault
-    ensures { IsFault result (BadMime (place_of position.now)) }
-{
-    match place(alloc, position) {
-        Ok(place) => ReadFault::Manifest(ManifestFault::BadMime(place)),
-        Err(_) => ReadFault::NoMemory,
-    }
-}
-
-/// That a key is none that is read.
-pub fn left_out(alloc: Global, position: &Position) -> ReadFault
-    ensures { IsFault result (LeftOut (place_of position.now)) }
-{
-    match place(alloc, position) {
-        Ok(place) => ReadFault::Manifest(ManifestFault::LeftOut(place)),
-        Err(_) => ReadFault::NoMemory,
-    }
-}
-
 /// That there is more of something than its limit, which has this name, or that memory ran out.
 pub fn over_limit(alloc: Global, name: &str) -> ReadFault
     ensures { IsFault result (OverLimit name.now) }
 {
     match String::from_str(alloc, name) {
-        Ok(name) => ReadFault::Manifest(ManifestFault::OverLimit(Text::new(name))),
-        Err(_) => ReadFault::NoMemory,
+        Ok(name) => Unmade::Fault(ManifestFault::OverLimit(Text::new(name))),
+        Err(_) => Unmade::NoMemory,
     }
 }

@@ -1,16 +1,16 @@
 //! The data rows of a filter.
 ghost use Rattle.std.specs.Prelude.{◌≡◌, codes, map};
 ghost use Rattle.toml.specs.View.{view};
-ghost use Rattle.am_manifest_filters.specs.Reading.{Gives, GivesBy};
+ghost use Rattle.am_types.specs.Reading.{Gives, GivesBy};
 ghost use Rattle.am_manifest_filters.specs.Texts.{key_place};
 ghost use Rattle.am_manifest_filters.specs.Tables.{each, only_keys};
 ghost use Rattle.am_manifest_filters.specs.Rows.{authority_at, is_row_key, mime_at, mime_in, paths_at, pattern_at, pattern_in, port_at, row_entry, row_of, rows_at, scheme_at, scheme_in};
 
 use crate::ReadFault;
-use crate::place::{Position, bad_mime, bad_uri, over_limit, wrong_kind};
+use crate::place::{Position, over_limit};
 use crate::tables::{at_most, entry_table, only_keys, optional_text, optional_values, read_each};
 use am_filter::{DataRow, DataRows, Paths, merge_rows};
-use am_types::{Authority, Glob, Mime, MimeFault, Text};
+use am_types::{Authority, Glob, ManifestFault, Mime, MimeFault, Text, Unmade};
 use am_uri::{Form, is_scheme, parse_mime};
 use std::alloc::Global;
 use toml::Value;
@@ -24,12 +24,8 @@ fn scheme_in(alloc: Global, at: &str, text: Option<Text>) -> Result<Option<Text>
         return Ok(None);
     };
     if !is_scheme(text.as_str()) {
-        let position = Position {
-            at,
-            key: "scheme",
-            index: None,
-        };
-        return Err(bad_uri(alloc, &position));
+        let position = Position::key(at, "scheme");
+        return Err(Unmade::Fault(ManifestFault::BadUri(position.place(alloc)?)));
     }
     Ok(Some(text))
 }
@@ -57,14 +53,10 @@ fn mime_in(alloc: Global, at: &str, text: Option<Text>) -> Result<Option<Mime>, 
     };
     match parse_mime(alloc, &text) {
         Ok(mime) => Ok(Some(mime)),
-        Err(MimeFault::NoMemory) => Err(ReadFault::NoMemory),
+        Err(MimeFault::NoMemory) => Err(Unmade::NoMemory),
         Err(MimeFault::NoSlash | MimeFault::EmptyPart | MimeFault::BadCharacter) => {
-            let position = Position {
-                at,
-                key: "mimeType",
-                index: None,
-            };
-            Err(bad_mime(alloc, &position))
+            let position = Position::key(at, "mimeType");
+            Err(Unmade::Fault(ManifestFault::BadMime(position.place(alloc)?)))
         }
     }
 }
@@ -90,19 +82,15 @@ fn port_at(alloc: Global, at: &str, table: &Value) -> Result<Option<u32>, ReadFa
     let Some(value) = table.get("port") else {
         return Ok(None);
     };
-    let position = Position {
-        at,
-        key: "port",
-        index: None,
-    };
+    let position = Position::key(at, "port");
     let Some(number) = value.as_integer() else {
-        return Err(wrong_kind(alloc, &position));
+        return Err(position.wrong_kind(alloc));
     };
     if number < 0 {
-        return Err(wrong_kind(alloc, &position));
+        return Err(position.wrong_kind(alloc));
     }
     if number > 99_999 {
-        return Err(wrong_kind(alloc, &position));
+        return Err(position.wrong_kind(alloc));
     }
     Ok(Some(number as u32))
 }

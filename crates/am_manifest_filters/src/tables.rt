@@ -3,13 +3,13 @@ ghost use Rattle.std.specs.Prelude.{◌≡◌, ◌<◌, ℕ, Bool, IfOk, List, R
 ghost use Rattle.am_types.specs.declared.manifest.ManifestFault.{ManifestFault};
 ghost use Rattle.toml.specs.Data.{Data, as_str};
 ghost use Rattle.toml.specs.View.{table_view, view};
-ghost use Rattle.am_manifest_filters.specs.Reading.{Gives, GivesBy};
+ghost use Rattle.am_types.specs.Reading.{Gives, GivesBy};
 ghost use Rattle.am_manifest_filters.specs.Texts.{place_of, text_in};
 ghost use Rattle.am_manifest_filters.specs.Tables.{required_text, optional_text, optional_truth, optional_values, at_most, each, entry_table, entry_text, only_keys, texts_at, unlisted};
 
 use crate::ReadFault;
-use crate::place::{Position, left_out, missing, over_limit, within, wrong_kind};
-use am_types::Text;
+use crate::place::{Position, over_limit, within};
+use am_types::{ManifestFault, Text, Unmade};
 use am_uri::Form;
 use std::alloc::{AllocError, Global};
 use toml::{Table, Value};
@@ -29,13 +29,9 @@ pub fn required_text(
 ) -> Result<Text, ReadFault>
     ensures { Gives result (required_text form at.now key.now (view table.now)) }
 {
-    let position = Position {
-        at,
-        key,
-        index: None,
-    };
+    let position = Position::key(at, key);
     match table.get(key) {
-        None => Err(missing(alloc, &position)),
+        None => Err(Unmade::Fault(ManifestFault::Missing(position.place(alloc)?))),
         Some(value) => text_in(alloc, form, &position, value),
     }
 }
@@ -58,11 +54,7 @@ pub fn optional_text(
     let Some(value) = table.get(key) else {
         return Ok(None);
     };
-    let position = Position {
-        at,
-        key,
-        index: None,
-    };
+    let position = Position::key(at, key);
     let text = text_in(alloc, form, &position, value)?;
     Ok(Some(text))
 }
@@ -73,7 +65,7 @@ fn text_in(alloc: Global, form: Form, position: &Position, value: &Value) -> Res
     ensures { Gives result (text_in form (place_of position.now) (as_str (view value.now))) }
 {
     match value.as_str() {
-        None => Err(wrong_kind(alloc, position)),
+        None => Err(position.wrong_kind(alloc)),
         Some(text) => fitting(alloc, form, position, text),
     }
 }
@@ -84,7 +76,7 @@ fn fitting(alloc: Global, form: Form, position: &Position, text: &str) -> Result
     ensures { Gives result (text_in form (place_of position.now) (Some text.now)) }
 {
     if !form.fits(text) {
-        return Err(wrong_kind(alloc, position));
+        return Err(position.wrong_kind(alloc));
     }
     if text.len() > 1024 {
         return Err(over_limit(alloc, "text"));
@@ -109,13 +101,9 @@ pub fn optional_truth(
     let Some(value) = table.get(key) else {
         return Ok(None);
     };
-    let position = Position {
-        at,
-        key,
-        index: None,
-    };
+    let position = Position::key(at, key);
     match value.as_bool() {
-        None => Err(wrong_kind(alloc, &position)),
+        None => Err(position.wrong_kind(alloc)),
         Some(truth) => Ok(Some(truth)),
     }
 }
@@ -137,13 +125,9 @@ pub fn optional_values<'a>(
     let Some(value) = table.get(key) else {
         return Ok(&[]);
     };
-    let position = Position {
-        at,
-        key,
-        index: None,
-    };
+    let position = Position::key(at, key);
     match value.as_array() {
-        None => Err(wrong_kind(alloc, &position)),
+        None => Err(position.wrong_kind(alloc)),
         Some(array) => Ok(array.as_slice()),
     }
 }
@@ -206,12 +190,8 @@ pub fn only_keys<F: Fn(&str) -> bool>(
     let Some(key) = unlisted(alloc, table, is_known)? else {
         return Ok(());
     };
-    let position = Position {
-        at,
-        key: key.as_str(),
-        index: None,
-    };
-    Err(left_out(alloc, &position))
+    let position = Position::key(at, key.as_str());
+    Err(Unmade::Fault(ManifestFault::LeftOut(position.place(alloc)?)))
 }
 
 /// What `read` makes of each value, which it is given with the number of values before it.
@@ -253,12 +233,8 @@ pub fn entry_table(
     ensures { Gives result (entry_table at.now key.now i (view value.now)) }
 {
     if !value.is_table() {
-        let position = Position {
-            at,
-            key,
-            index: Some(i),
-        };
-        return Err(wrong_kind(alloc, &position));
+        let position = Position::entry(at, key, i);
+        return Err(position.wrong_kind(alloc));
     }
     Ok(within(alloc, at, key, i)?)
 }
@@ -275,11 +251,7 @@ fn entry_text(
 ) -> Result<Text, ReadFault>
     ensures { Gives result (entry_text form at.now key.now i (view value.now)) }
 {
-    let position = Position {
-        at,
-        key,
-        index: Some(i),
-    };
+    let position = Position::entry(at, key, i);
     text_in(alloc, form, &position, value)
 }
 

@@ -10,7 +10,8 @@ use Rattle.am_types.specs.declared.broadcast.Aim.TheVariants.{Declared, Register
 use Rattle.am_types.specs.declared.rule.Rule.TheVariants as rules
 use Rattle.am_model.specs.Filters.{default_category}
 use Rattle.am_model.specs.Boards.{Board, with_grant, with_link, with_stopped}
-use Rattle.am_model.proofs.Samples.{asking, to_component, component_of, uri_at, filter_for, open_decl, package_with, board_with, one, two, web_pages}
+use Rattle.am_model.specs.Plain.{filter_for, open_decl}
+use Rattle.am_model.proofs.Samples.{asking, to_component, component_of, uri_at, package_with, board_with, one, two, web_pages}
 use Rattle.am_model.specs.Accounts.{Question, accounts}
 use Rattle.am_types.specs.declared.account.Account.{Account}
 use Rattle.am_types.specs.declared.account.Narrowing.TheVariants.{Approved, Browser, General}

@@ -8,7 +8,8 @@ use Rattle.am_types.specs.declared.resolve.Hit.{Hit}
 use Rattle.am_types.specs.Intents.{no_intent}
 use Rattle.am_model.specs.Filters.{default_category}
 use Rattle.am_model.specs.Candidates.{hits}
-use Rattle.am_model.proofs.Samples.{asking, to_component, component_of, filter_for, open_decl, package_with}
+use Rattle.am_model.specs.Plain.{filter_for, open_decl}
+use Rattle.am_model.proofs.Samples.{asking, to_component, component_of, package_with}
 
 -- an activity of com.one with filters
 abbrev activity : List ℕ → List Filter → Decl

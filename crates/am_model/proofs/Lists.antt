@@ -2,7 +2,7 @@
 use Rattle.std.proofs.Common.{◌≡◌, ℕ, ◌+◌, suc, add-one, ◌≤◌, Bool, true, false, ◌||◌, cond, List, [], ◌∷◌, length, map, refl, ap, ◌∙◌, arith}
 use Rattle.std.specs.Prelude.{filter, insert}
 use Rattle.std.specs.List.{AllByRecursion, list_any}
-use Rattle.am_model.specs.Lists.{inserted, place_of}
+use Rattle.am_model.specs.Lists.{AscendsBy, inserted, place_of}
 
 -- of three truths the first two may be exchanged
 or_swap : (a b c : Bool) → a || (b || c) ≡ b || (a || c)
@@ -137,3 +137,12 @@ left_twice keeps (x ∷ xs) = by (keeps x) refl (left_twice keeps xs)
         → filter keeps (cond b (x ∷ filter keeps xs) (filter keeps xs)) ≡ cond b (x ∷ filter keeps xs) (filter keeps xs)
     by true is rest = ap (λ b. cond b (x ∷ filter keeps (filter keeps xs)) (filter keeps (filter keeps xs))) is ∙ ap (λ l. x ∷ l) rest
     by false is rest = rest
+
+-- fewer items ascend as all do
+pub ascends_by_left : {X : Type 0} (before : X → X → Type 0) (keeps : X → Bool) (xs : List X) → AscendsBy before xs → AscendsBy before (filter keeps xs)
+ascends_by_left before keeps [] up = tt
+ascends_by_left before keeps (x ∷ xs) up = by (keeps x) (ascends_by_left before keeps xs up.1)
+  where
+    by : (b : Bool) → AscendsBy before (filter keeps xs) → AscendsBy before (cond b (x ∷ filter keeps xs) (filter keeps xs))
+    by true rest = (all_left (before x) keeps xs up.0, rest)
+    by false rest = rest

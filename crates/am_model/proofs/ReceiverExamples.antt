@@ -12,7 +12,8 @@ use Rattle.am_types.specs.declared.rule.Rule.TheVariants.{RegisteredOnly, Manife
 use Rattle.am_types.specs.Intents.{no_flags}
 use Rattle.am_model.specs.Boards.{Board, with_grant, with_stopped}
 use Rattle.am_model.specs.Receivers.{receivers, admitted}
-use Rattle.am_model.proofs.Samples.{asking, to_component, component_of, filter_for, open_decl, package_with, board_with}
+use Rattle.am_model.specs.Plain.{filter_for, open_decl}
+use Rattle.am_model.proofs.Samples.{asking, to_component, component_of, package_with, board_with}
 
 -- a filter of an action with a priority
 abbrev takes : List ℕ → ℤ → Filter

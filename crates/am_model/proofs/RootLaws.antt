@@ -6,14 +6,14 @@ use Rattle.std.proofs.lemmas.Bool.{and_parts}
 use Rattle.std.specs.Cmp.Lexicographic.{bytes_decides}
 use Rattle.am_types.specs.declared.intent.Intent.{Intent}
 use Rattle.am_types.specs.declared.intent.Component.{Component}
-use Rattle.am_types.specs.declared.manifest.Mode.TheVariants.{SingleInstancePerTask}
+use Rattle.am_types.specs.declared.manifest.Mode.TheVariants.{Standard, SingleTop, SingleTask, SingleInstance, SingleInstancePerTask}
 use Rattle.am_types.specs.declared.task.StartCall.{StartCall}
 use Rattle.am_types.specs.declared.task.Landed.{Landed}
 use Rattle.am_types.specs.declared.task.TaskFault.TheVariants.{NotYours}
 use Rattle.am_model.specs.Texts.{is_same}
 use Rattle.am_model.specs.Intents.{is_same_component, or_other}
 use Rattle.am_model.specs.Tasks.{Instance, Task, Tasks, keeping, tasks_keeping, task_of, top_of, owner, may_end, without_instance, ended, finish, seen, back_from, back, forget_uid}
-use Rattle.am_model.specs.Placement.{Plan, NewTask, FreshOn, NewIntentTo, FrontOf, plan_where, is_of, topmost, root_of, below, besides, with_intent, carried_out, plan_of, place, or_fresh, cleared_to, clearing_task, clearing_top, fronting, reordering, on_top, placed_in, placed_in_maybe, placed_single, placed_per_task, placed_ordinary, or_new_task, renewed, renewed_in, to_root, rooted, task_with, task_rooted, task_of_affinity, source_task, wants_new_task, is_multiple, is_single_instance, is_single_per_task, is_standard, is_single_task, is_single_top}
+use Rattle.am_model.specs.Placement.{Plan, NewTask, FreshOn, NewIntentTo, FrontOf, plan_where, is_of, topmost, root_of, below, besides, with_intent, carried_out, plan_of, place, or_fresh, cleared_to, clearing_task, clearing_top, fronting, reordering, on_top, placed_in, placed_in_maybe, placed_single, placed_per_task, placed_ordinary, or_new_task, renewed, renewed_in, to_root, rooted, task_with, task_rooted, task_of_affinity, source_task, wants_new_task, is_multiple, is_mode}
 use Rattle.am_model.proofs.Parts.{IsPart, end, keep, leave, IsPart-whole, IsPart-filter, IsPart-take, IsPart-part, none_of_part, none_of_more, found_passes}
 use Rattle.am_model.proofs.Lists.{all_left}
 use Rattle.am_model.proofs.PlacementLaws.{plan_for, place_carries_out}
@@ -174,7 +174,7 @@ module _ (component : Component) (start : StartCall) (other : is_same_component 
 
   -- clearing down to an instance of another component
   root_cleared : (task : Task) (instance : Instance) → is_of component instance ≡ false → IsRootOnly component task.instances → IsRootPlan component (cleared_to start task instance)
-  root_cleared task instance differs roots = by (is_standard start.mode && not start.flags.single_top)
+  root_cleared task instance differs roots = by (is_mode Standard start.mode && not start.flags.single_top)
     where
       left : IsRootOnly component (below instance.number task.instances)
       left = roots_of_part component (below instance.number task.instances) task.instances (IsPart-take (prefix_len (λ (i : Instance). not (i.number == instance.number)) task.instances) task.instances) roots
@@ -187,7 +187,7 @@ module _ (component : Component) (start : StartCall) (other : is_same_component 
   root_clearing : (task : Task) (found : Option Instance) → topmost start.target task ≡ found → IsRootOnly component task.instances → IsRootPlanIfAny component (clearing_top start task found)
   root_clearing task None is roots = tt
   root_clearing task (Some instance) is roots =
-      root_where component (is_single_task start.mode || start.flags.clear_top) (cleared_to start task instance) (root_cleared task instance (topmost_is_other task instance is) roots)
+      root_where component (is_mode SingleTask start.mode || start.flags.clear_top) (cleared_to start task instance) (root_cleared task instance (topmost_is_other task instance is) roots)
 
   -- moving an instance of another component to the top
   root_reordering : (wanted : Bool) (task : Task) (found : Option Instance) → topmost start.target task ≡ found → IsRootOnly component task.instances → IsRootPlanIfAny component (reordering start wanted task found)
@@ -201,7 +201,7 @@ module _ (component : Component) (start : StartCall) (other : is_same_component 
   -- a new intent to the top
   root_on_top : (task : Task) (found : Option Instance) → IsRootOnly component task.instances → IsRootPlanIfAny component (on_top start task found)
   root_on_top task None roots = tt
-  root_on_top task (Some top) roots = root_where component (is_of start.target top && (is_single_top start.mode || start.flags.single_top)) _ roots
+  root_on_top task (Some top) roots = root_where component (is_of start.target top && (is_mode SingleTop start.mode || start.flags.single_top)) _ roots
 
   -- a start in a task
   root_placed_in : (wanted : Bool) (task : Task) → IsRootOnly component task.instances → IsRootPlan component (placed_in start wanted task)
@@ -232,7 +232,7 @@ module _ (component : Component) (start : StartCall) (other : is_same_component 
 
   -- a start of another component is placed so that the component stays at its roots
   root_plan : (tasks : List Task) (source : Option Task) → AreRoots component tasks → IsRootTask component source → IsRootPlan component (plan_of start tasks source)
-  root_plan tasks source roots here = by (is_single_instance start.mode) (is_single_per_task start.mode)
+  root_plan tasks source roots here = by (is_mode SingleInstance start.mode) (is_mode SingleInstancePerTask start.mode)
     where
       by : (single per_task : Bool) → IsRootPlan component (cond single (placed_single start tasks) (cond per_task (placed_per_task start tasks) (placed_ordinary start tasks (wants_new_task start source) source)))
       by true per_task = root_single component start tasks roots

@@ -1,17 +1,16 @@
--- Values of which examples are made: plain intents, filters, components and packages.
-use Rattle.std.specs.Prelude.{ℕ, ℤ, pos, true, false, codes, List, [], ◌∷◌, Option, Some, None, Result, Ok, Err}
+-- Values of which examples are made: plain intents, boards and packages.
+use Rattle.std.specs.Prelude.{ℕ, pos, false, codes, List, [], ◌∷◌, Option, Some, None, Result, Ok, Err}
 use Rattle.am_types.specs.declared.intent.Intent.{Intent}
 use Rattle.am_types.specs.declared.intent.Component.{Component}
 use Rattle.am_types.specs.declared.uri.Uri.{Uri}
 use Rattle.am_types.specs.declared.uri.Mime.{Mime}
 use Rattle.am_types.specs.declared.filter.Filter.{Filter}
-use Rattle.am_types.specs.declared.manifest.Kind.{Kind}
-use Rattle.am_types.specs.declared.manifest.Mode.TheVariants.{Standard}
 use Rattle.am_types.specs.declared.manifest.Decl.{Decl}
 use Rattle.am_types.specs.declared.device.Package.{Package}
 use Rattle.am_types.specs.Intents.{no_intent}
 use Rattle.am_model.specs.Boards.{Board}
 use Rattle.am_model.specs.Filters.{default_category}
+use Rattle.am_model.specs.Plain.{filter_for}
 
 -- what is left by something that isn't refused, and what else there is
 abbrev pub left_by : {A B E : Type 0} → Result (A × B) E → B → B
@@ -50,31 +49,6 @@ uri_at text scheme host = record { text = text; scheme = scheme; host = host; po
 -- a type by its two parts
 abbrev pub mime_at : List ℕ → List ℕ → Mime
 mime_at main sub = record { main = main; sub = sub }
-
--- a filter of one action, with categories and a priority
-abbrev pub filter_for : List ℕ → List (List ℕ) → ℤ → Filter
-filter_for action categories priority = record {
-  actions = action ∷ [];
-  categories = categories;
-  schemes = [];
-  authorities = [];
-  paths = [];
-  types = [];
-  priority = priority;
-}
-
--- an exported component without a permission
-abbrev pub open_decl : Kind → List ℕ → List Filter → Decl
-open_decl kind class filters = record {
-  kind = kind;
-  class = class;
-  exported = true;
-  enabled = true;
-  permission = None;
-  mode = Standard;
-  affinity = [];
-  filters = filters;
-}
 
 -- a package that isn't stopped
 abbrev pub package_with : ℕ → List ℕ → List Decl → Package

@@ -9,7 +9,8 @@ use Rattle.am_model.specs.Filters.{default_category}
 use Rattle.am_model.specs.Boards.{Board, with_link}
 use Rattle.am_model.specs.Candidates.{hits}
 use Rattle.am_model.specs.Targets.{target}
-use Rattle.am_model.proofs.Samples.{asking, to_component, component_of, uri_at, mime_at, filter_for, open_decl, package_with, board_with, one, two, web_pages}
+use Rattle.am_model.specs.Plain.{filter_for, open_decl}
+use Rattle.am_model.proofs.Samples.{asking, to_component, component_of, uri_at, mime_at, package_with, board_with, one, two, web_pages}
 
 -- com.one and com.two with an activity each, of the filters given
 abbrev both : List Filter → List Filter → Board

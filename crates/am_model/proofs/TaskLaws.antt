@@ -2,6 +2,7 @@
 use Rattle.std.proofs.Common.{◌≡◌, ℕ, Bool, true, false, not, ◌&&◌, ◌||◌, cond, List, [], ◌∷◌, ◌++◌, map, refl, sym, subst}
 use Rattle.std.specs.Prelude.{Option, Some, None, Ok}
 use Rattle.std.specs.List.{list_any, filter, find, last_or}
+use Rattle.am_types.specs.declared.manifest.Mode.TheVariants.{Standard, SingleTop, SingleTask, SingleInstance, SingleInstancePerTask}
 use Rattle.am_model.specs.Filters.{is_empty}
 use Rattle.am_types.specs.declared.intent.Intent.{Intent}
 use Rattle.am_types.specs.declared.task.StartCall.{StartCall}
@@ -9,7 +10,7 @@ use Rattle.am_types.specs.declared.task.Landed.{Landed}
 use Rattle.am_model.specs.Texts.{is_same}
 use Rattle.am_model.specs.Tasks.{Instance, Task, Tasks, is_number, keeping, tasks_keeping, top_of, seen, back_from, back}
 use Rattle.am_model.specs.Intents.{or_other}
-use Rattle.am_model.specs.Placement.{Plan, NewTask, FreshOn, NewIntentTo, FrontOf, plan_where, is_of, topmost, root_of, below, besides, with_intent, carried_out, plan_of, place, or_fresh, cleared_to, clearing_task, clearing_top, fronting, reordering, on_top, placed_in_maybe, placed_single, placed_per_task, placed_ordinary, or_new_task, renewed, renewed_in, to_root, rooted, task_with, task_rooted, task_of_affinity, source_task, wants_new_task, is_multiple, is_single_instance, is_single_per_task, is_standard, is_single_task, is_single_top}
+use Rattle.am_model.specs.Placement.{Plan, NewTask, FreshOn, NewIntentTo, FrontOf, plan_where, is_of, topmost, root_of, below, besides, with_intent, carried_out, plan_of, place, or_fresh, cleared_to, clearing_task, clearing_top, fronting, reordering, on_top, placed_in_maybe, placed_single, placed_per_task, placed_ordinary, or_new_task, renewed, renewed_in, to_root, rooted, task_with, task_rooted, task_of_affinity, source_task, wants_new_task, is_multiple, is_mode}
 use Rattle.am_model.proofs.PlacementLaws.{plan_for, place_carries_out}
 
 -- each task has an instance
@@ -163,7 +164,7 @@ module _ (start : StartCall) where
   -- clearing, where an instance is found
   cleared_inhabited : (task : Task) (found : Option Instance) → IsInhabitedIfAny (clearing_top start task found)
   cleared_inhabited task None = tt
-  cleared_inhabited task (Some instance) = where_inhabited (is_single_task start.mode || start.flags.clear_top) (cleared_to start task instance) (by (is_standard start.mode && not start.flags.single_top))
+  cleared_inhabited task (Some instance) = where_inhabited (is_mode SingleTask start.mode || start.flags.clear_top) (cleared_to start task instance) (by (is_mode Standard start.mode && not start.flags.single_top))
     where
       left : List Instance
       left = below instance.number task.instances
@@ -181,7 +182,7 @@ module _ (start : StartCall) where
   -- a new intent to the top
   on_top_inhabited : (task : Task) (found : Option Instance) → is_empty task.instances ≡ false → IsInhabitedIfAny (on_top start task found)
   on_top_inhabited task None there = tt
-  on_top_inhabited task (Some top) there = where_inhabited (is_of start.target top && (is_single_top start.mode || start.flags.single_top)) _ there
+  on_top_inhabited task (Some top) there = where_inhabited (is_of start.target top && (is_mode SingleTop start.mode || start.flags.single_top)) _ there
 
   -- a start in a task, if there is one
   within_inhabited : (wanted : Bool) (found : Option Task) → IsInhabited found → IsInhabitedPlan (placed_in_maybe start wanted found)
@@ -208,7 +209,7 @@ module _ (start : StartCall) where
 
   -- the plan of a start
   plan_inhabited : (tasks : List Task) (source : Option Task) → AreInhabited tasks → IsInhabited source → IsInhabitedPlan (plan_of start tasks source)
-  plan_inhabited tasks source inhabited here = by (is_single_instance start.mode) (is_single_per_task start.mode)
+  plan_inhabited tasks source inhabited here = by (is_mode SingleInstance start.mode) (is_mode SingleInstancePerTask start.mode)
     where
       by : (single per_task : Bool) → IsInhabitedPlan (cond single (placed_single start tasks) (cond per_task (placed_per_task start tasks) (placed_ordinary start tasks (wants_new_task start source) source)))
       by true per_task = single_inhabited tasks inhabited

@@ -10,7 +10,8 @@ use Rattle.am_types.specs.declared.visible.Signature.{Signature}
 use Rattle.am_types.specs.declared.visible.Queries.{Queries}
 use Rattle.am_model.specs.Boards.{Board, with_grant}
 use Rattle.am_model.specs.Visibility.{meets, sees, visible}
-use Rattle.am_model.proofs.Samples.{asking, component_of, mime_at, filter_for, open_decl, package_with, board_with}
+use Rattle.am_model.specs.Plain.{filter_for, open_decl}
+use Rattle.am_model.proofs.Samples.{asking, component_of, mime_at, package_with, board_with}
 
 -- what a package's queries ask for: an action, with a scheme, a host and a type if there are any
 abbrev asks : List ℕ → Option (List ℕ) → Option (List ℕ) → Option Mime → Signature

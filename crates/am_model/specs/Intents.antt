@@ -1,7 +1,7 @@
 -- When two intents are the same for a filter, and what one fills in of another.
 use Rattle.std.specs.Prelude.{ℕ, Bool, true, false, ◌&&◌, ◌||◌, nat_lt, List, [], ◌∷◌, length, if◌then◌else◌, Option, Some, None, Result, Ok, Err}
 use Rattle.std.specs.List.{list_any, list_all, fold}
-use Rattle.std.specs.Option.{option_or}
+use Rattle.std.specs.Option.{option_eq, option_or}
 use Rattle.am_types.specs.declared.intent.Intent.{Intent}
 use Rattle.am_types.specs.declared.intent.Component.{Component}
 use Rattle.am_types.specs.declared.intent.Flags.{Flags}
@@ -11,13 +11,6 @@ use Rattle.am_types.specs.declared.uri.Mime.{Mime}
 use Rattle.am_types.specs.declared.filter.FillFault.{FillFault}
 use Rattle.am_types.specs.declared.filter.FillFault.TheVariants.{ExtrasFull}
 use Rattle.am_model.specs.Texts.{is_same, lists, is_before}
-
--- neither is there, or both are and the test holds
-abbrev pub agree : {X : Type 0} → (X → X → Bool) → Option X → Option X → Bool
-agree same None None = true
-agree same None (Some y) = false
-agree same (Some x) None = false
-agree same (Some x) (Some y) = same x y
 
 -- two types are the same
 abbrev pub is_same_mime : Mime → Mime → Bool
@@ -39,12 +32,12 @@ are_same_set texts others = list_all (λ text. lists others text) texts && list_
 -- two intents are the same for a filter: all but flags and extras
 abbrev pub filter_equals : Intent → Intent → Bool
 filter_equals intent other =
-    (((((agree is_same intent.action other.action
-    && agree is_same_uri intent.uri other.uri)
-    && agree is_same_mime intent.mime other.mime)
-    && agree is_same intent.identifier other.identifier)
-    && agree is_same intent.«package» other.«package»)
-    && agree is_same_component intent.component other.component)
+    (((((option_eq is_same intent.action other.action
+    && option_eq is_same_uri intent.uri other.uri)
+    && option_eq is_same_mime intent.mime other.mime)
+    && option_eq is_same intent.identifier other.identifier)
+    && option_eq is_same intent.«package» other.«package»)
+    && option_eq is_same_component intent.component other.component)
     && are_same_set intent.categories other.categories
 
 -- the first where it is there, else the second

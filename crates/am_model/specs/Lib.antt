@@ -19,3 +19,4 @@ pub mod Tasks
 pub mod Placement
 pub mod Visibility
 pub mod Sound
+pub mod Plain

@@ -1,5 +1,6 @@
 -- Lists into which something is put in its place.
 use Rattle.std.specs.Prelude.{ℕ, ◌+◌, ℤ, int_lt, Bool, List, [], ◌∷◌, if◌then◌else◌}
+use Rattle.std.specs.List.{AllByRecursion}
 
 module _ {X : Type 0} (before : X → X → Bool) where
   -- the others with one more, in front of the first that it belongs before
@@ -23,3 +24,8 @@ module _ {X : Type 0} (priority : X → ℤ) where
   abbrev pub falling_by : List X → List X
   falling_by [] = []
   falling_by (first ∷ others) = place_by first (falling_by others)
+
+-- each item stands so to every one behind it
+abbrev pub AscendsBy : {X : Type 0} → (X → X → Type 0) → List X → Type 0
+AscendsBy before [] = Unit {0}
+AscendsBy before (first ∷ others) = AllByRecursion (before first) others × AscendsBy before others

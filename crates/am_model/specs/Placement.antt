@@ -67,30 +67,14 @@ abbrev pub task_of_affinity : List ℕ → List Task → Option Task
 task_of_affinity affinity tasks =
     find (λ (task : Task). (not task.single && not (is_empty affinity)) && is_same task.affinity affinity) tasks
 
--- the mode is singleInstance
-abbrev pub is_single_instance : Mode → Bool
-is_single_instance SingleInstance = true
-is_single_instance _ = false
-
--- the mode is singleTask
-abbrev pub is_single_task : Mode → Bool
-is_single_task SingleTask = true
-is_single_task _ = false
-
--- the mode is singleTop
-abbrev pub is_single_top : Mode → Bool
-is_single_top SingleTop = true
-is_single_top _ = false
-
--- the mode is standard
-abbrev pub is_standard : Mode → Bool
-is_standard Standard = true
-is_standard _ = false
-
--- the mode is singleInstancePerTask
-abbrev pub is_single_per_task : Mode → Bool
-is_single_per_task SingleInstancePerTask = true
-is_single_per_task _ = false
+-- the two modes are the same
+abbrev pub is_mode : Mode → Mode → Bool
+is_mode Standard Standard = true
+is_mode SingleTop SingleTop = true
+is_mode SingleTask SingleTask = true
+is_mode SingleInstance SingleInstance = true
+is_mode SingleInstancePerTask SingleInstancePerTask = true
+is_mode _ _ = false
 
 -- the task of the source, if there is a source
 abbrev pub source_task : List Task → Option ℕ → Option Task
@@ -104,7 +88,7 @@ is_single (Some task) = task.single
 
 -- a new task is wanted: the start asks for one, the mode does, or the source stands in a task for a single instance
 abbrev pub wants_new_task : StartCall → Option Task → Bool
-wants_new_task start source = (start.flags.new_task || is_single_task start.mode) || is_single source
+wants_new_task start source = (start.flags.new_task || is_mode SingleTask start.mode) || is_single source
 
 -- the new intent goes to that instance, if there is one, of a task that is kept as it is
 abbrev pub renewed_in : Task → Option Instance → Option Plan
@@ -144,7 +128,7 @@ placed_per_task start tasks =
 -- several tasks: a new task is wanted with MULTIPLE_TASK, in the modes standard and singleTop
 abbrev pub is_multiple : StartCall → Bool → Bool
 is_multiple start wanted =
-    (wanted && start.flags.multiple_task) && (is_standard start.mode || is_single_top start.mode)
+    (wanted && start.flags.multiple_task) && (is_mode Standard start.mode || is_mode SingleTop start.mode)
 
 -- CLEAR_TASK beside NEW_TASK: the task that was found is emptied
 abbrev pub clearing_task : StartCall → Bool → Task → Option Plan
@@ -154,7 +138,7 @@ clearing_task start wanted task =
 -- all above the instance is destroyed; a standard activity without SINGLE_TOP is made anew, another gets the new intent
 abbrev pub cleared_to : StartCall → Task → Instance → Plan
 cleared_to start task instance =
-    if is_standard start.mode && not start.flags.single_top
+    if is_mode Standard start.mode && not start.flags.single_top
     then FreshOn task (below instance.number task.instances)
     else NewIntentTo task (below instance.number task.instances ++ instance ∷ []) instance.number
 
@@ -162,7 +146,7 @@ cleared_to start task instance =
 abbrev pub clearing_top : StartCall → Task → Option Instance → Option Plan
 clearing_top start task None = None
 clearing_top start task (Some instance) =
-    plan_where (is_single_task start.mode || start.flags.clear_top) (cleared_to start task instance)
+    plan_where (is_mode SingleTask start.mode || start.flags.clear_top) (cleared_to start task instance)
 
 -- a new task is wanted, and the root of the one that was found is the component: that one is brought to the front
 abbrev pub fronting : StartCall → Bool → Task → Option Plan
@@ -179,7 +163,7 @@ reordering start wanted task (Some instance) =
 abbrev pub on_top : StartCall → Task → Option Instance → Option Plan
 on_top start task None = None
 on_top start task (Some top) =
-    plan_where (is_of start.target top && (is_single_top start.mode || start.flags.single_top))
+    plan_where (is_of start.target top && (is_mode SingleTop start.mode || start.flags.single_top))
     (NewIntentTo task task.instances top.number)
 
 -- the plan, or a fresh instance on top of the task
@@ -213,8 +197,8 @@ placed_ordinary start tasks wanted source =
 -- what the start does
 abbrev pub plan_of : StartCall → List Task → Option Task → Plan
 plan_of start tasks source =
-    if is_single_instance start.mode then placed_single start tasks
-    else if is_single_per_task start.mode then placed_per_task start tasks
+    if is_mode SingleInstance start.mode then placed_single start tasks
+    else if is_mode SingleInstancePerTask start.mode then placed_per_task start tasks
     else placed_ordinary start tasks (wants_new_task start source) source
 
 -- the fresh instance of a start

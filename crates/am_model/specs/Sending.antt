@@ -63,13 +63,17 @@ in_turn number sending ordered = record {
   current = None;
 }
 
+-- the broadcasts with one more at the end of one of the two queues
+abbrev pub with_last : Bool → InTurn → Broadcasts → Broadcasts
+with_last foreground sent all =
+    with_queue foreground (queue_of foreground all ++ sent ∷ [])
+    (record all { next_broadcast = all.next_broadcast + 1 })
+
 -- an ordered broadcast: at the end of its queue, which settles
 abbrev pub with_ordered : Broadcasts → Sending → Ordered → Broadcasts
 with_ordered all sending ordered =
-    let sent = in_turn all.next_broadcast sending ordered in
-    let numbered = record all { next_broadcast = all.next_broadcast + 1 } in
     settle sending.foreground sending.now
-    (with_queue sending.foreground (queue_of sending.foreground all ++ sent ∷ []) numbered)
+    (with_last sending.foreground (in_turn all.next_broadcast sending ordered) all)
 
 -- the broadcasts with one more
 abbrev pub with_sent : Broadcasts → Sending → Option Ordered → Broadcasts

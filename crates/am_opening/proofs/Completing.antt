@@ -6,8 +6,7 @@ use Rattle.std.proofs.lemmas.List.Sums.{fold-append}
 use Rattle.am_types.specs.declared.device.Device.{Device}
 use Rattle.am_types.specs.declared.device.Grant.{Grant}
 use Rattle.am_types.specs.declared.device.Link.{Link}
-use Rattle.am_keeper.specs.declared.rows.GrantRow.{GrantRow}
-use Rattle.am_keeper.specs.declared.rows.LinkRow.{LinkRow}
+use Rattle.am_keeper.specs.declared.rows.RightRow.{RightRow}
 use Rattle.am_keeper.specs.declared.rows.Rows.{Rows}
 use Rattle.am_model.specs.Texts.{is_same, lowered}
 use Rattle.am_model.specs.Boards.{Board, is_package_uid, with_grant, with_link}
@@ -30,18 +29,18 @@ set_rows set step own each x [] = refl
 set_rows set step own each x (row ∷ rows) = ap (λ (b : Board). fold step b rows) (each x row) ∙ set_rows set step own each (own x row) rows
 
 -- grant rows set the grants alone
-grant_rows : (board : Board) (rows : List GrantRow) → fold after_grant board rows ≡ record board { grants = grants_after board.packages board.grants rows }
+grant_rows : (board : Board) (rows : List RightRow) → fold after_grant board rows ≡ record board { grants = grants_after board.packages board.grants rows }
 grant_rows board rows =
     set_rows (λ (gs : List Grant). record board { grants = gs }) after_grant (after_grant_row board.packages)
-    (λ gs row. set_if (λ (made : List Grant). record board { grants = made }) (is_package_uid board.packages row.uid) (with_grant gs row.uid row.permission row.held) gs)
+    (λ gs row. set_if (λ (made : List Grant). record board { grants = made }) (is_package_uid board.packages row.uid) (with_grant gs row.uid row.text row.held) gs)
     board.grants rows
 
 -- and link rows the links
-link_rows : (board : Board) (rows : List LinkRow) → fold after_link board rows ≡ record board { links = links_after board.packages board.links rows }
+link_rows : (board : Board) (rows : List RightRow) → fold after_link board rows ≡ record board { links = links_after board.packages board.links rows }
 link_rows board rows =
     set_rows (λ (ls : List Link). record board { links = ls }) after_link (after_link_row board.packages)
-    (λ ls row. set_if (λ (made : List Link). record board { links = made }) (is_package_uid board.packages row.uid && is_same (lowered row.host) row.host)
-    (with_link ls row.uid row.host row.approved) ls) board.links rows
+    (λ ls row. set_if (λ (made : List Link). record board { links = made }) (is_package_uid board.packages row.uid && is_same (lowered row.text) row.text)
+    (with_link ls row.uid row.text row.held) ls) board.links rows
 
 -- rows of rights change grants and links alone
 pub rights_are : (board : Board) (rows : Rows) → with_rights board rows

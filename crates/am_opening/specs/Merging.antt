@@ -1,8 +1,9 @@
 -- Rights that are merged with rows, where both stand in order.
 use Rattle.std.specs.Prelude.{Bool, false, ◌&&◌, List, [], ◌∷◌, ◌++◌, if◌then◌else◌}
 use Rattle.am_types.specs.declared.device.Package.{Package}
-use Rattle.am_keeper.specs.declared.rows.GrantRow.{GrantRow}
-use Rattle.am_keeper.specs.declared.rows.LinkRow.{LinkRow}
+use Rattle.am_keeper.specs.declared.rows.RightRow.{RightRow}
+use Rattle.am_types.specs.declared.device.RightKind.{RightKind}
+use Rattle.am_types.specs.declared.device.RightKind.TheVariants.{Permission, Host}
 use Rattle.am_model.specs.Boards.{is_package_uid}
 use Rattle.am_model.specs.Lists.{inserted}
 use Rattle.am_model.specs.Rights.{Right, before_right, is_right as is_right_of, with_right as with_right_of}
@@ -67,17 +68,11 @@ module _ {R : Type 0} (right : R → Right) (held live : R → Bool) where
   abbrev pub after_right : List Right → R → List Right
   after_right rights row = if live row then with_right rights (right row) (held row) else rights
 
--- what a grant row is of, and a link row
-abbrev pub of_grant_row : GrantRow → Right
-of_grant_row row = (row.uid, row.permission)
+-- the right that a row is of
+abbrev pub of_row : RightRow → Right
+of_row row = (row.uid, row.text)
 
-abbrev pub of_link_row : LinkRow → Right
-of_link_row row = (row.uid, row.host)
-
--- a grant row counts: its package is there
-abbrev pub is_live_grant : List Package → GrantRow → Bool
-is_live_grant packages row = is_package_uid packages row.uid
-
--- a link row counts: its package is there, and its host is in lower case
-abbrev pub is_live_link : List Package → LinkRow → Bool
-is_live_link packages row = is_package_uid packages row.uid && is_same (lowered row.host) row.host
+-- a row counts: its package is there, and a host is in lower case
+abbrev pub is_live : RightKind → List Package → RightRow → Bool
+is_live Permission packages row = is_package_uid packages row.uid
+is_live Host packages row = is_package_uid packages row.uid && is_same (lowered row.text) row.text

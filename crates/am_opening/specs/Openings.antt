@@ -4,8 +4,7 @@ use Rattle.std.specs.List.{fold, find}
 use Rattle.am_types.specs.declared.device.Package.{Package}
 use Rattle.am_types.specs.declared.device.Grant.{Grant}
 use Rattle.am_types.specs.declared.device.Link.{Link}
-use Rattle.am_keeper.specs.declared.rows.GrantRow.{GrantRow}
-use Rattle.am_keeper.specs.declared.rows.LinkRow.{LinkRow}
+use Rattle.am_keeper.specs.declared.rows.RightRow.{RightRow}
 use Rattle.am_keeper.specs.declared.rows.Rows.{Rows}
 use Rattle.am_model.specs.Texts.{is_same, lowered}
 use Rattle.am_model.specs.Boards.{is_package_uid, with_grant, with_link}
@@ -31,23 +30,23 @@ Opens (Ok opened) state = state ≡ Ok (state_of opened)
 Opens (Err fault) state = Refuses fault state
 
 -- the grants after a row; a row of a uid that isn't there is ignored
-abbrev pub after_grant_row : List Package → List Grant → GrantRow → List Grant
+abbrev pub after_grant_row : List Package → List Grant → RightRow → List Grant
 after_grant_row packages grants row =
-    if is_package_uid packages row.uid then with_grant grants row.uid row.permission row.held else grants
+    if is_package_uid packages row.uid then with_grant grants row.uid row.text row.held else grants
 
 -- the grants after all rows
-abbrev pub grants_after : List Package → List Grant → List GrantRow → List Grant
+abbrev pub grants_after : List Package → List Grant → List RightRow → List Grant
 grants_after packages grants rows = fold (after_grant_row packages) grants rows
 
 -- the links after a row; a row of a uid that isn't there, or whose host isn't in lower case, is ignored
-abbrev pub after_link_row : List Package → List Link → LinkRow → List Link
+abbrev pub after_link_row : List Package → List Link → RightRow → List Link
 after_link_row packages links row =
-    if is_package_uid packages row.uid && is_same (lowered row.host) row.host
-    then with_link links row.uid row.host row.approved
+    if is_package_uid packages row.uid && is_same (lowered row.text) row.text
+    then with_link links row.uid row.text row.held
     else links
 
 -- the links after all rows
-abbrev pub links_after : List Package → List Link → List LinkRow → List Link
+abbrev pub links_after : List Package → List Link → List RightRow → List Link
 links_after packages links rows = fold (after_link_row packages) links rows
 
 -- the uids among these that may be given: all but the greatest

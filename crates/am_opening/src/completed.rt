@@ -1,8 +1,8 @@
 //! The rights that were kept, and the next uid.
-ghost use Rattle.std.specs.Prelude.{◌≡◌, ◌+◌, ◌<◌, ◌==◌, All, IfOk, IsTrue, count_by, option_copied};
+ghost use Rattle.std.specs.Prelude.{◌≡◌, ◌+◌, ◌<◌, ◌==◌, All, IfOk, count_by, option_copied};
 ghost use Rattle.std.specs.List.{find};
 ghost use Rattle.am_keeper.specs.declared.rows.PackageRow.{PackageRow};
-ghost use Rattle.am_keeper.specs.Rows.{IsInOrder, by_host, by_permission, rises};
+ghost use Rattle.am_keeper.specs.Rows.{IsInOrder};
 ghost use Rattle.am_model.specs.Boards.{board_of};
 ghost use Rattle.am_installed.specs.Installed.{AreGrantsInOrder, AreLinksInOrder};
 ghost use Rattle.am_history.specs.Opening.{has_too_many, unless_too_many};
@@ -14,50 +14,48 @@ use crate::opened::{OpenFault, Opened};
 use crate::packages::refused;
 use crate::uids;
 use am_installed::{Right, take};
-use am_keeper::{GrantRow, LinkRow, Rows};
-use am_types::{Device, List, NoMemory, Package};
+use am_keeper::Rows;
+use am_types::{Device, Grant, Link, List, NoMemory, Package};
 use std::alloc::Global;
 
-/// What is opened with the grants that were kept.
-fn with_grants(alloc: Global, opened: Opened, rows: &[GrantRow]) -> Result<Opened, NoMemory>
-    requires sorted { AreGrantsInOrder opened.device.grants }
-    requires order { IsTrue (rises by_permission rows.now) }
+/// The grants and the links after the rows that were kept.
+fn rights_after(
+    alloc: Global,
+    packages: &[Package],
+    grants: Vec<Grant>,
+    links: Vec<Link>,
+    rows: &Rows,
+) -> Result<(Vec<Grant>, Vec<Link>), NoMemory>
+    requires grants { AreGrantsInOrder grants.items }
+    requires links { AreLinksInOrder links.items }
+    requires order { IsInOrder rows.now }
+    ensures grants { IfOk result (λ after. after.0.items ≡ grants_after packages.now grants.items rows.now.grants) }
+    ensures links { IfOk result (λ after. after.1.items ≡ links_after packages.now links.items rows.now.links) }
+{
+    let grants = grants_after(alloc, packages, grants, rows.grants.as_slice())?;
+    let links = links_after(alloc, packages, links, rows.links.as_slice())?;
+    Ok((grants, links))
+}
+
+/// What is opened with the rights that were kept.
+fn with_rights(alloc: Global, opened: Opened, rows: &Rows) -> Result<Opened, NoMemory>
+    requires grants { AreGrantsInOrder opened.device.grants }
+    requires links { AreLinksInOrder opened.device.links }
+    requires order { IsInOrder rows.now }
     ensures { IfOk result (λ more. more ≡ record opened {
       device = record (opened.device) {
-        grants = grants_after opened.device.packages opened.device.grants rows.now;
+        grants = grants_after opened.device.packages opened.device.grants rows.now.grants;
+        links = links_after opened.device.packages opened.device.links rows.now.links;
       };
     }) }
 {
     let mut opened = opened;
     let grants = take(&mut opened.device.grants, alloc);
-    let packages = opened.device.packages.as_slice();
-    match grants_after(alloc, packages, grants, rows) {
-        Ok(grants) => {
-            opened.device.grants = List::new(grants);
-            Ok(opened)
-        }
-        Err(error) => {
-            drop(opened);
-            Err(error)
-        }
-    }
-}
-
-/// What is opened with the links that were kept.
-fn with_links(alloc: Global, opened: Opened, rows: &[LinkRow]) -> Result<Opened, NoMemory>
-    requires sorted { AreLinksInOrder opened.device.links }
-    requires order { IsTrue (rises by_host rows.now) }
-    ensures { IfOk result (λ more. more ≡ record opened {
-      device = record (opened.device) {
-        links = links_after opened.device.packages opened.device.links rows.now;
-      };
-    }) }
-{
-    let mut opened = opened;
     let links = take(&mut opened.device.links, alloc);
     let packages = opened.device.packages.as_slice();
-    match links_after(alloc, packages, links, rows) {
-        Ok(links) => {
+    match rights_after(alloc, packages, grants, links, rows) {
+        Ok((grants, links)) => {
+            opened.device.grants = List::new(grants);
             opened.device.links = List::new(links);
             Ok(opened)
         }
@@ -78,10 +76,9 @@ fn completed(alloc: Global, opened: Opened, greatest: u32, rows: &Rows) -> Resul
     requires given { All (λ (row : PackageRow). row.uid < no_uid) rows.now.packages }
     ensures { IfOk result (λ more. state_of more ≡ completed_from greatest rows.now (state_of opened)) }
 {
-    let granted = with_grants(alloc, opened, rows.grants.as_slice())?;
-    let mut approved = with_links(alloc, granted, rows.links.as_slice())?;
-    approved.next_uid = uids::of_rows(greatest, rows) + 1;
-    Ok(approved)
+    let mut opened = with_rights(alloc, opened, rows)?;
+    opened.next_uid = uids::of_rows(greatest, rows) + 1;
+    Ok(opened)
 }
 
 /// How many rights are of the uid.

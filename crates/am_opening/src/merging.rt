@@ -2,31 +2,33 @@
 ghost use Rattle.std.specs.Prelude.{◌≡◌, IfOk, IsTrue, OnOk, ◌++◌};
 ghost use Rattle.std.specs.List.{fold};
 ghost use Rattle.std.specs.List.Sorted.{IsStrictlySortedBy};
-ghost use Rattle.am_keeper.specs.Rows.{by_host, by_permission, rises};
+ghost use Rattle.am_keeper.specs.declared.rows.RightRow.{RightRow};
+ghost use Rattle.am_keeper.specs.Rows.{by_right, rises};
 ghost use Rattle.am_model.specs.Sound.{right_cmp, rights_approved, rights_granted};
-ghost use Rattle.am_opening.specs.Merging.{after_right, merge_if};
+ghost use Rattle.am_opening.specs.Merging.{after_right, is_live, merge_if, of_row};
 ghost use Rattle.am_opening.specs.Openings.{grants_after, links_after};
 
 use crate::rights::merge_one;
-use crate::rows::RightRow;
-use am_keeper::{GrantRow, LinkRow};
+use crate::rows::is_live;
+use am_keeper::RightRow;
 use am_manifest::{as_grants, as_links};
-use am_types::{Grant, Link, NoMemory, Package, Text};
+use am_types::{Grant, Link, NoMemory, Package, RightKind, Text};
 use std::alloc::{AllocError, Global};
 use std::collections::VecDeque;
 
-/// Merges one more row, if it counts.
-fn merge_row<R: RightRow>(
+/// Merges one more row of a right of this kind, if it counts.
+fn merge_row(
+    kind: RightKind,
     packages: &[Package],
     done: &mut Vec<(u32, Text)>,
     left: &mut VecDeque<(u32, Text)>,
-    row: &R,
+    row: &RightRow,
 ) -> Result<(), NoMemory>
-    ensures { OnOk result ((done.new.items, left.new.items) ≡ merge_if (R.live packages.now row.now)
-        (R.right_of row.now) (R.held row.now) (done.old.items, left.old.items)) }
+    ensures { OnOk result ((done.new.items, left.new.items) ≡ merge_if (is_live kind packages.now row.now)
+        (of_row row.now) row.now.held (done.old.items, left.old.items)) }
 {
-    if row.is_live(packages) {
-        merge_one(done, left, row.uid(), row.text(), row.is_held())?;
+    if is_live(kind, packages, row) {
+        merge_one(done, left, row.uid, &row.text, row.held)?;
     }
     Ok(())
 }
@@ -41,22 +43,23 @@ fn joined(done: Vec<(u32, Text)>, left: VecDeque<(u32, Text)>) -> Result<Vec<(u3
     Ok(all)
 }
 
-/// The rights after rows.
-fn merged<R: RightRow>(
+/// The rights of one kind after rows.
+fn merged(
     alloc: Global,
+    kind: RightKind,
     packages: &[Package],
     rights: Vec<(u32, Text)>,
-    rows: &[R],
+    rows: &[RightRow],
 ) -> Result<Vec<(u32, Text)>, NoMemory>
     requires sorted { IsStrictlySortedBy right_cmp rights.items }
-    requires order { IsTrue (rises (λ x y. right_cmp (R.right_of x) (R.right_of y)) rows.now) }
-    ensures { IfOk result
-        (λ after. after.items ≡ fold (after_right R.right_of R.held (R.live packages.now)) rights.items rows.now) }
+    requires order { IsTrue (rises by_right rows.now) }
+    ensures { IfOk result (λ after. after.items
+        ≡ fold (after_right of_row (λ (row : RightRow). row.held) (is_live kind packages.now)) rights.items rows.now) }
 {
     let mut done = Vec::new(alloc);
     let mut left = VecDeque::from_vec(rights);
     for row in rows {
-        merge_row(packages, &mut done, &mut left, row)?;
+        merge_row(kind, packages, &mut done, &mut left, row)?;
     }
     joined(done, left)
 }
@@ -84,14 +87,14 @@ pub(crate) fn grants_after(
     alloc: Global,
     packages: &[Package],
     grants: Vec<Grant>,
-    rows: &[GrantRow],
+    rows: &[RightRow],
 ) -> Result<Vec<Grant>, NoMemory>
     requires sorted { IsStrictlySortedBy right_cmp (rights_granted grants.items) }
-    requires order { IsTrue (rises by_permission rows.now) }
+    requires order { IsTrue (rises by_right rows.now) }
     ensures { IfOk result (λ after. after.items ≡ grants_after packages.now grants.items rows.now) }
 {
     let rights = rights_granted(alloc, grants)?;
-    let after = merged(alloc, packages, rights, rows)?;
+    let after = merged(alloc, RightKind::Permission, packages, rights, rows)?;
     Ok(as_grants(alloc, after)?)
 }
 
@@ -100,13 +103,13 @@ pub(crate) fn links_after(
     alloc: Global,
     packages: &[Package],
     links: Vec<Link>,
-    rows: &[LinkRow],
+    rows: &[RightRow],
 ) -> Result<Vec<Link>, NoMemory>
     requires sorted { IsStrictlySortedBy right_cmp (rights_approved links.items) }
-    requires order { IsTrue (rises by_host rows.now) }
+    requires order { IsTrue (rises by_right rows.now) }
     ensures { IfOk result (λ after. after.items ≡ links_after packages.now links.items rows.now) }
 {
     let rights = rights_approved(alloc, links)?;
-    let after = merged(alloc, packages, rights, rows)?;
+    let after = merged(alloc, RightKind::Host, packages, rights, rows)?;
     Ok(as_links(alloc, after)?)
 }

@@ -15,8 +15,8 @@ use crate::opened::{OpenFault, Opened};
 use crate::rights::drop_rights;
 use am_installed::take;
 use am_keeper::PackageRow;
-use am_manifest::{ReadFault, read_package};
-use am_types::{List, Manifest, NoMemory, Package, Text};
+use am_manifest::read_package;
+use am_types::{List, Manifest, NoMemory, Package, Text, Unmade};
 use am_uri::Form;
 use std::alloc::{AllocError, Global};
 
@@ -40,13 +40,8 @@ fn put_package(packages: &mut Vec<Package>, package: Package) -> Result<(), NoMe
     ensures { OnOk result (packages.new.items ≡ place_package «package» packages.old.items) }
 {
     let place = place_of(packages, &package);
-    match packages.insert(place, package) {
-        Ok(()) => Ok(()),
-        Err(failed) => {
-            drop(failed);
-            Err(NoMemory)
-        }
-    }
+    packages.insert(place, package)?;
+    Ok(())
 }
 
 /// Takes the package of the uid out.
@@ -194,11 +189,11 @@ fn with_text(alloc: Global, opened: Opened, row: &PackageRow) -> Result<Opened, 
 {
     match read_package(alloc, &row.text) {
         Ok(manifest) => with_manifest(alloc, opened, row, manifest),
-        Err(ReadFault::Manifest(fault)) => {
+        Err(Unmade::Fault(fault)) => {
             drop(fault);
             Err(refused(&row.name))
         }
-        Err(ReadFault::NoMemory) => Err(OpenFault::NoMemory),
+        Err(Unmade::NoMemory) => Err(OpenFault::NoMemory),
     }
 }
 

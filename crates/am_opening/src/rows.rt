@@ -1,91 +1,21 @@
-//! Rows of rights: which right a row is of, and whether that right is held.
+//! Which rows of rights count.
 ghost use Rattle.std.specs.Prelude.{◌≡◌, ◌==◌};
 ghost use Rattle.std.specs.Char.{to_ascii_lowercase};
 ghost use Rattle.std.specs.List.{list_all};
 ghost use Rattle.am_model.specs.Texts.{is_same, lowered};
+ghost use Rattle.am_opening.specs.Merging.{is_live};
 
 use crate::packages::is_package_uid;
-use am_keeper::{GrantRow, LinkRow};
-use am_types::{Package, Text};
+use am_keeper::RightRow;
+use am_types::{Package, RightKind};
 
-/// A row of a right.
-pub(crate) trait RightRow {
-    ghost use Rattle.std.specs.Prelude.{◌≡◌, Bool, List};
-    ghost use Rattle.am_types.specs.declared.device.Package.{Package};
-    ghost use Rattle.am_model.specs.Rights.{Right};
-
-    ghost right_of: { Self → Right };
-
-    ghost held: { Self → Bool };
-
-    ghost live: { List Package → Self → Bool };
-
-    fn uid(&self) -> u32
-        ensures { result ≡ (right_of self.now).0 };
-
-    fn text(&self) -> &Text
-        ensures { result.now ≡ (right_of self.now).1 };
-
-    /// Whether its right is held.
-    fn is_held(&self) -> bool
-        ensures { result ≡ held self.now };
-
-    /// Whether it counts among these packages.
-    fn is_live(&self, packages: &[Package]) -> bool
-        ensures { result ≡ live packages.now self.now };
-}
-
-impl RightRow for GrantRow {
-    ghost use Rattle.am_keeper.specs.declared.rows.GrantRow.{GrantRow};
-    ghost use Rattle.am_opening.specs.Merging.{is_live_grant, of_grant_row};
-
-    ghost right_of = { of_grant_row };
-
-    ghost held = { λ (row : GrantRow). row.held };
-
-    ghost live = { is_live_grant };
-
-    fn uid(&self) -> u32 {
-        self.uid
-    }
-
-    fn text(&self) -> &Text {
-        &self.permission
-    }
-
-    fn is_held(&self) -> bool {
-        self.held
-    }
-
-    fn is_live(&self, packages: &[Package]) -> bool {
-        is_package_uid(packages, self.uid)
-    }
-}
-
-impl RightRow for LinkRow {
-    ghost use Rattle.am_keeper.specs.declared.rows.LinkRow.{LinkRow};
-    ghost use Rattle.am_opening.specs.Merging.{is_live_link, of_link_row};
-
-    ghost right_of = { of_link_row };
-
-    ghost held = { λ (row : LinkRow). row.approved };
-
-    ghost live = { is_live_link };
-
-    fn uid(&self) -> u32 {
-        self.uid
-    }
-
-    fn text(&self) -> &Text {
-        &self.host
-    }
-
-    fn is_held(&self) -> bool {
-        self.approved
-    }
-
-    fn is_live(&self, packages: &[Package]) -> bool {
-        is_package_uid(packages, self.uid) && is_lowered(self.host.as_str())
+/// The row of a right of this kind counts among these packages.
+pub(crate) fn is_live(kind: RightKind, packages: &[Package], row: &RightRow) -> bool
+    ensures { result ≡ is_live kind packages.now row.now }
+{
+    match kind {
+        RightKind::Permission => is_package_uid(packages, row.uid),
+        RightKind::Host => is_package_uid(packages, row.uid) && is_lowered(row.text.as_str()),
     }
 }
 

@@ -2,6 +2,7 @@
 ghost use Rattle.std.specs.Prelude.{◌≡◌, ◌<◌, ◌∷◌, [], All, map, max};
 ghost use Rattle.std.specs.List.{fold};
 ghost use Rattle.am_keeper.specs.declared.rows.PackageRow.{PackageRow};
+ghost use Rattle.am_keeper.specs.declared.rows.RightRow.{RightRow};
 ghost use Rattle.am_model.specs.Sound.{IsSoundPackage};
 ghost use Rattle.am_history.specs.Opening.{row_uids};
 ghost use Rattle.am_history.specs.Packages.{no_uid};
@@ -9,8 +10,7 @@ ghost use Rattle.am_history.specs.State.{uids_of};
 ghost use Rattle.am_opening.specs.Openings.{given_uids};
 
 use crate::packages::NO_UID;
-use crate::rows::RightRow;
-use am_keeper::{PackageRow, Rows};
+use am_keeper::{PackageRow, RightRow, Rows};
 use am_types::Package;
 
 /// The greatest of 9999 and the uids of packages.
@@ -50,14 +50,14 @@ fn greater(uid: u32, other: u32) -> u32
 }
 
 /// The greatest of a uid and those of rows of rights, among which the greatest of all counts for nothing.
-fn of_rights<R: RightRow>(least: u32, rows: &[R]) -> u32
+fn of_rights(least: u32, rows: &[RightRow]) -> u32
     requires { least < no_uid }
-    ensures greatest { result ≡ fold max least (given_uids (map (λ row. (R.right_of row).0) rows.now)) }
+    ensures greatest { result ≡ fold max least (given_uids (map (λ (row : RightRow). row.uid) rows.now)) }
     ensures below { result < no_uid }
 {
     let mut greatest = least;
     for row in rows {
-        greatest = greater(greatest, row.uid());
+        greatest = greater(greatest, row.uid);
     }
     greatest
 }

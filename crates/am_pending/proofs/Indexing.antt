@@ -157,6 +157,17 @@ removed records f g n token gone h is = record {
         let c = ap {B = ℕ} (λ b. cond b 1 0) (nat_eq_equiv.symm uid gone.creator) in
         omega (arith, a, b, c)
 
+-- what is left without a token's record is indexed where its key is set no more and its creator has one less
+pub unlisted : {key : Key} (records left : List Pending) (f f' : Key → Option ℕ) (g g' : ℕ → ℕ) (n token : ℕ) (gone : Pending) → IsIndexed records f g n
+    → record_in token records ≡ Some gone → left ≡ without_token records token → key ≡ key_of gone
+    → ((other : Key) → f' other ≡ cond (is_same_key other key) None (f other)) → ((uid : ℕ) → g' uid ≡ g uid - cond (uid == key.creator) 1 0)
+    → IsIndexed left f' g' n
+unlisted records left f f' g g' n token gone indexed is without same tokens counts =
+    subst (λ (all : List Pending). IsIndexed all f' g' n) (sym without)
+    (same_indexed _ _ f' _ g' n (removed records f g n token gone indexed is)
+    (λ other. tokens other ∙ ap (λ (k : Key). cond (is_same_key other k) None (f other)) same)
+    (λ uid. counts uid ∙ ap (λ (k : Key). g uid - cond (uid == k.creator) 1 0) same))
+
 -- without the records of a creator
 pub others_left : (records : List Pending) (f : Key → Option ℕ) (g : ℕ → ℕ) (n uid : ℕ) → IsIndexed records f g n →
     IsIndexed (filter (λ (kept : Pending). not (kept.creator == uid)) records) (λ other. cond (other.creator == uid) None (f other)) (λ other. cond (other == uid) 0 (g other)) n

@@ -5,8 +5,9 @@ use mathlib.Core.Bool.{and_comm}
 use Rattle.std.proofs.Common.{sym, ap, ◌∙◌, true≢false}
 use Rattle.std.proofs.lemmas.Bool.{and_from, or_right}
 use Rattle.std.specs.List.{list_all}
+use Rattle.std.specs.Option.{option_eq}
 use Rattle.std.specs.Cmp.{IsEquivalence, equiv, and_equiv, decided, on_equiv, back_equiv, int_eq_equiv, nat_eq_equiv, unsigned_Decides, signed_Decides}
-use Rattle.std.specs.Cmp.Lexicographic.{nat_list_eq_equiv}
+use Rattle.std.specs.Cmp.Lexicographic.{nat_list_eq_equiv, options_equiv}
 use Rattle.std.specs.Hash as fed
 use Rattle.am_types.specs.declared.intent.Intent.{Intent}
 use Rattle.am_types.specs.declared.intent.Component.{Component}
@@ -16,33 +17,11 @@ use Rattle.am_types.specs.declared.manifest.Kind.{Kind}
 use Rattle.am_types.specs.declared.manifest.Kind.TheVariants.{Activity, Service, Receiver}
 use Rattle.am_model.specs.Texts.{is_same, lists}
 use Rattle.am_model.specs.Candidates.{is_kind}
-use Rattle.am_model.specs.Intents.{agree, is_same_mime, is_same_uri, is_same_component, are_same_set, filter_equals}
+use Rattle.am_model.specs.Intents.{is_same_mime, is_same_uri, is_same_component, are_same_set, filter_equals}
 use Rattle.am_model.specs.Pendings.{is_same_truth}
 use Rattle.am_pending.specs.declared.key.Key.{Key}
 use Rattle.am_pending.specs.Keys.{is_same_key}
 use Rattle.am_pending.specs.Digests.{SameMembers, digest_on, one-listed, same_digest, same_members, same_text}
-
--- where the values that are there are compared by an equivalence, so are values that may be there
-module _ {X : Type 0} {E : X → X → Bool} (e : IsEquivalence E) where
-  agree-refl : (x : Option X) → agree E x x ≡ true
-  agree-refl None = refl
-  agree-refl (Some x) = e.refl x
-
-  agree-symm : (x y : Option X) → agree E x y ≡ agree E y x
-  agree-symm None None = refl
-  agree-symm None (Some y) = refl
-  agree-symm (Some x) None = refl
-  agree-symm (Some x) (Some y) = e.symm x y
-
-  agree-congr : (x y z : Option X) → agree E x y ≡ true → agree E x z ≡ agree E y z
-  agree-congr None None z h = refl
-  agree-congr None (Some y) z h = absurd (true≢false (sym h))
-  agree-congr (Some x) None z h = absurd (true≢false (sym h))
-  agree-congr (Some x) (Some y) None h = refl
-  agree-congr (Some x) (Some y) (Some z) h = e.congr x y z h
-
-  pub agree_equiv : IsEquivalence (agree E)
-  agree_equiv = record { refl = agree-refl; symm = agree-symm; congr = agree-congr }
 
 kind-own : (x : Kind) → is_kind x x ≡ true
 kind-own Activity = refl
@@ -104,12 +83,12 @@ uri_equiv = on_equiv (λ (u : Uri). u.text) nat_list_eq_equiv
 pub filter_equiv : IsEquivalence filter_equals
 filter_equiv =
     and_equiv (and_equiv (and_equiv (and_equiv (and_equiv (and_equiv
-    (on_equiv (λ (i : Intent). i.action) (agree_equiv nat_list_eq_equiv))
-    (on_equiv (λ (i : Intent). i.uri) (agree_equiv uri_equiv)))
-    (on_equiv (λ (i : Intent). i.mime) (agree_equiv mime_equiv)))
-    (on_equiv (λ (i : Intent). i.identifier) (agree_equiv nat_list_eq_equiv)))
-    (on_equiv (λ (i : Intent). i.«package») (agree_equiv nat_list_eq_equiv)))
-    (on_equiv (λ (i : Intent). i.component) (agree_equiv component_equiv)))
+    (on_equiv (λ (i : Intent). i.action) (options_equiv nat_list_eq_equiv))
+    (on_equiv (λ (i : Intent). i.uri) (options_equiv uri_equiv)))
+    (on_equiv (λ (i : Intent). i.mime) (options_equiv mime_equiv)))
+    (on_equiv (λ (i : Intent). i.identifier) (options_equiv nat_list_eq_equiv)))
+    (on_equiv (λ (i : Intent). i.«package») (options_equiv nat_list_eq_equiv)))
+    (on_equiv (λ (i : Intent). i.component) (options_equiv component_equiv)))
     (on_equiv (λ (i : Intent). i.categories) set_equiv)
 
 -- sameness of keys is an equivalence
@@ -129,11 +108,11 @@ pub key_equiv : IsEquivalence (λ (x y : Key). is_same_key y x)
 key_equiv = back_equiv same_equiv
 
 -- where the same values are fed alike, so are the same values that may be there
-agree_fed : {X : Type 0} (E : X → X → Bool) (F : X → fed.HashWrites) → ((x y : X) → E x y ≡ true → F x ≡ F y) → (a b : Option X) → agree E a b ≡ true → fed.option F a ≡ fed.option F b
-agree_fed E F alike None None h = refl
-agree_fed E F alike None (Some y) h = absurd (true≢false (sym h))
-agree_fed E F alike (Some x) None h = absurd (true≢false (sym h))
-agree_fed E F alike (Some x) (Some y) h = ap (λ w. fed.isize (pos 1) ++ w) (alike x y h)
+option_fed : {X : Type 0} (E : X → X → Bool) (F : X → fed.HashWrites) → ((x y : X) → E x y ≡ true → F x ≡ F y) → (a b : Option X) → option_eq E a b ≡ true → fed.option F a ≡ fed.option F b
+option_fed E F alike None None h = refl
+option_fed E F alike None (Some y) h = absurd (true≢false (sym h))
+option_fed E F alike (Some x) None h = absurd (true≢false (sym h))
+option_fed E F alike (Some x) (Some y) h = ap (λ w. fed.isize (pos 1) ++ w) (alike x y h)
 
 abbrev uri_fed : Uri → fed.HashWrites
 uri_fed uri = fed.str uri.text
@@ -177,8 +156,8 @@ fed_by key =
 text_alike : fed.Alike is_same fed.str
 text_alike = record { fed = λ x y h. ap fed.str (same_text x y h) }
 
-agree_alike : {X : Type 0} {E : X → X → Bool} {F : X → fed.HashWrites} → fed.Alike E F → fed.Alike (agree E) (fed.option F)
-agree_alike {E = E} {F = F} alike = record { fed = agree_fed E F alike.fed }
+option_alike : {X : Type 0} {E : X → X → Bool} {F : X → fed.HashWrites} → fed.Alike E F → fed.Alike (option_eq E) (fed.option F)
+option_alike {E = E} {F = F} alike = record { fed = option_fed E F alike.fed }
 
 set_alike : fed.Alike are_same_set set_fed
 set_alike = record { fed = λ x y h. ap fed.u64 (same_digest x y (same_members x y h)) }
@@ -186,12 +165,12 @@ set_alike = record { fed = λ x y h. ap fed.u64 (same_digest x y (same_members x
 intent_alike : fed.Alike filter_equals fed_by_intent
 intent_alike =
     fed.and-Alike (fed.and-Alike (fed.and-Alike (fed.and-Alike (fed.and-Alike (fed.and-Alike
-    (fed.on_Alike (λ (i : Intent). i.action) (agree_alike text_alike))
-    (fed.on_Alike (λ (i : Intent). i.uri) (agree_alike (fed.on_Alike (λ (u : Uri). u.text) text_alike))))
-    (fed.on_Alike (λ (i : Intent). i.mime) (agree_alike (fed.and-Alike (fed.on_Alike (λ (m : Mime). m.main) text_alike) (fed.on_Alike (λ (m : Mime). m.sub) text_alike)))))
-    (fed.on_Alike (λ (i : Intent). i.identifier) (agree_alike text_alike)))
-    (fed.on_Alike (λ (i : Intent). i.«package») (agree_alike text_alike)))
-    (fed.on_Alike (λ (i : Intent). i.component) (agree_alike (fed.and-Alike (fed.on_Alike (λ (c : Component). c.«package») text_alike) (fed.on_Alike (λ (c : Component). c.class) text_alike)))))
+    (fed.on_Alike (λ (i : Intent). i.action) (option_alike text_alike))
+    (fed.on_Alike (λ (i : Intent). i.uri) (option_alike (fed.on_Alike (λ (u : Uri). u.text) text_alike))))
+    (fed.on_Alike (λ (i : Intent). i.mime) (option_alike (fed.and-Alike (fed.on_Alike (λ (m : Mime). m.main) text_alike) (fed.on_Alike (λ (m : Mime). m.sub) text_alike)))))
+    (fed.on_Alike (λ (i : Intent). i.identifier) (option_alike text_alike)))
+    (fed.on_Alike (λ (i : Intent). i.«package») (option_alike text_alike)))
+    (fed.on_Alike (λ (i : Intent). i.component) (option_alike (fed.and-Alike (fed.on_Alike (λ (c : Component). c.«package») text_alike) (fed.on_Alike (λ (c : Component). c.class) text_alike)))))
     (fed.on_Alike (λ (i : Intent). i.categories) set_alike)
 
 key_alike : fed.Alike is_same_key fed_by

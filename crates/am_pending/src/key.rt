@@ -11,7 +11,7 @@ ghost use Rattle.am_pending.specs.KeyLaws.{fed_by_intent};
 ghost use Rattle.am_pending.specs.Keys.{key_with};
 
 use am_filter::filter_equals;
-use am_types::{Intent, Kind, List, Named, PendingFlags, Text, Uri};
+use am_types::{Intent, Kind, List, Named, PendingFlags, Text, Uri, copy_parts};
 use std::alloc::AllocError;
 use std::hash::{DefaultHasher, Hash, Hasher};
 
@@ -129,15 +129,7 @@ impl Clone for Key {
     ghost is_clone = { λ x y. y ≡ x };
 
     fn clone(&self) -> Result<Key, AllocError> {
-        Ok(Key {
-            creator: self.creator,
-            kind: self.kind,
-            code: self.code,
-            one_shot: self.one_shot,
-            immutable: self.immutable,
-            mutable: self.mutable,
-            intent: self.intent.clone()?,
-        })
+        copy_parts!(self, Key: value(intent); creator kind code one_shot immutable mutable)
     }
 }
 

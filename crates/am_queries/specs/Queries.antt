@@ -7,7 +7,7 @@ use Rattle.am_types.specs.declared.manifest.ManifestFault.TheVariants.{WrongKind
 use Rattle.am_types.specs.declared.visible.Signature.{Signature}
 use Rattle.am_types.specs.declared.visible.Queries.{Queries}
 use Rattle.am_uri.specs.declared.text.Form.TheVariants.{PackageName}
-use Rattle.am_manifest_filters.specs.Reading.{◌>>=◌}
+use Rattle.am_types.specs.Reading.{◌>>=◌}
 use Rattle.am_manifest_filters.specs.Texts.{key_place, within_key}
 use Rattle.am_manifest_filters.specs.Tables.{optional_values, at_most, each, entry_table, texts_at}
 use Rattle.am_manifest.specs.Manifests.{root_of}

@@ -6,7 +6,7 @@ use Rattle.toml.specs.Data.{Data as TomlData}
 use Rattle.am_types.specs.declared.manifest.ManifestFault.{ManifestFault}
 use Rattle.am_types.specs.declared.visible.Signature.{Signature}
 use Rattle.am_uri.specs.declared.text.Form.TheVariants.{Filled}
-use Rattle.am_manifest_filters.specs.Reading.{◌>>=◌}
+use Rattle.am_types.specs.Reading.{◌>>=◌}
 use Rattle.am_manifest_filters.specs.Rows.{scheme_at, mime_at}
 use Rattle.am_manifest_filters.specs.Tables.{required_text, optional_text, only_keys, texts_at}
 use Rattle.am_queries.specs.declared.signature.Names.{Names}

@@ -2,7 +2,7 @@
 ghost use Rattle.std.specs.Prelude.{◌≡◌, IfOk, codes, length, map, option_and_then, option_map};
 ghost use Rattle.toml.specs.Data.{get};
 ghost use Rattle.toml.specs.View.{view};
-ghost use Rattle.am_manifest_filters.specs.Reading.{Gives, GivesBy};
+ghost use Rattle.am_types.specs.Reading.{Gives, GivesBy};
 ghost use Rattle.am_manifest_filters.specs.Tables.{each};
 ghost use Rattle.am_model.specs.Sound.{IsSound};
 ghost use Rattle.am_queries.specs.Queries.{all_queries, described, package_queries, queries_of, text_queries};
@@ -82,9 +82,9 @@ fn text_queries(alloc: Global, bytes: &[u8]) -> Result<Vec<Queries>, ReadFault>
 ///
 /// # Errors
 ///
-/// `ReadFault::Manifest` has the first fault that is met, with its place: first those of the device, then those of the
+/// `Unmade::Fault` has the first fault that is met, with its place: first those of the device, then those of the
 /// tables `queries`, package by package. In a table of `intent` a key of another name is `LeftOut`, before its other
-/// faults. `ReadFault::NoMemory` may come at any place.
+/// faults. `Unmade::NoMemory` may come at any place.
 #[tactic(auto, unfolding(crate::specs::Queries::described))]
 pub fn read_described(alloc: Global, bytes: &[u8]) -> Result<Described, ReadFault>
     ensures reads { Gives result (described bytes.now) }

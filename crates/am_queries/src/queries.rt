@@ -2,14 +2,13 @@
 ghost use Rattle.std.specs.Prelude.{◌≡◌, map, option_and_then, option_map};
 ghost use Rattle.toml.specs.Data.{get};
 ghost use Rattle.toml.specs.View.{view};
-ghost use Rattle.am_manifest_filters.specs.Reading.{Gives, GivesBy};
+ghost use Rattle.am_types.specs.Reading.{Gives, GivesBy};
 ghost use Rattle.am_manifest_filters.specs.Tables.{each};
 ghost use Rattle.am_queries.specs.Queries.{no_queries, queries_in, queries_table, signature_entry, signatures_at};
 
 use crate::signature::signature_of;
 use am_manifest_filters::{
     Position, ReadFault, at_most, entry_table, optional_values, read_each, texts_at, within_key,
-    wrong_kind,
 };
 use am_types::{List, Queries, Signature};
 use am_uri::Form;
@@ -78,12 +77,8 @@ pub fn queries_in(alloc: Global, at: &str, queries: Option<&Value>) -> Result<Qu
         return Ok(no_queries(alloc));
     };
     if !value.is_table() {
-        let position = Position {
-            at,
-            key: "queries",
-            index: None,
-        };
-        return Err(wrong_kind(alloc, &position));
+        let position = Position::key(at, "queries");
+        return Err(position.wrong_kind(alloc));
     }
     let within = within_key(alloc, at, "queries")?;
     queries_table(alloc, within.as_str(), value)

@@ -1,7 +1,7 @@
 //! An intent that queries ask for.
 ghost use Rattle.std.specs.Prelude.{◌≡◌};
 ghost use Rattle.toml.specs.View.{view};
-ghost use Rattle.am_manifest_filters.specs.Reading.{Gives};
+ghost use Rattle.am_types.specs.Reading.{Gives};
 ghost use Rattle.am_manifest_filters.specs.Tables.{only_keys};
 ghost use Rattle.am_queries.specs.Signatures.{data_of, is_signature_key, names_of, signature_of};
 

@@ -11,10 +11,10 @@ use Rattle.am_types.specs.declared.broadcast.Sending.{Sending}
 use Rattle.am_types.specs.declared.broadcast.Ordered.{Ordered}
 use Rattle.am_model.specs.Broadcasts as broadcasts
 use Rattle.am_model.specs.Broadcasts.{Broadcasts, Normal, InTurn, queue_of, with_queue}
-use Rattle.am_model.specs.Sending.{at_once, in_turn, is_current, live}
+use Rattle.am_model.specs.Sending.{at_once, in_turn, is_current, live, with_last}
 use Rattle.am_queue_ordered.proofs.Counting.{count_by-append}
 use Rattle.am_queue_ordered.specs.Counts.{count_of, one_for, queued_of}
-use Rattle.am_queue.specs.Sound.{owed, owed_in, has_current, ShareNumbers, IsSound, AreSound, all_of, with_last}
+use Rattle.am_queue.specs.Sound.{owed, owed_in, has_current, ShareNumbers, IsSound, AreSound, all_of}
 use Rattle.am_queue.proofs.Keeping.{swapped}
 use Rattle.am_queue.proofs.Rising.{rising_further}
 

@@ -1,9 +1,9 @@
 -- What holds of all broadcasts at every moment: numbers that are still free, and heads whose deliveries differ.
-use Rattle.std.specs.Prelude.{◌≡◌, ℕ, ◌+◌, ◌*◌, ◌≤◌, Bool, true, List, [], ◌∷◌, ◌++◌, length, Option, Some, None}
+use Rattle.std.specs.Prelude.{◌≡◌, ℕ, ◌+◌, ◌*◌, ◌≤◌, Bool, true, List, [], ◌∷◌, length, Option, Some, None}
 use Rattle.std.specs.List.{list_any, sum_by}
 use Rattle.am_types.specs.declared.broadcast.Spot.{Spot}
 use Rattle.am_model.specs.Broadcasts as broadcasts
-use Rattle.am_model.specs.Broadcasts.{Broadcasts, Normal, InTurn, Current, queue_of, with_queue}
+use Rattle.am_model.specs.Broadcasts.{Broadcasts, Normal, InTurn, Current}
 use Rattle.am_model.specs.Sending.{live, is_current}
 use Rattle.am_queue_ordered.specs.Counts.{count_of}
 use Rattle.am_queue.specs.Results.{AreRising}
@@ -61,9 +61,3 @@ pub record AreSound (end : ℕ) (room : ℕ) (counts : List (ℕ × ℕ)) (all :
   pub counted : AreCounted counts all
   pub end_before : end ≤ all.next_delivery
   pub results_fit : length all.foreground + length all.background ≤ room
-
--- the broadcasts with one more at the end of one of the two queues
-abbrev pub with_last : Bool → InTurn → Broadcasts → Broadcasts
-with_last foreground sent all =
-    with_queue foreground (queue_of foreground all ++ sent ∷ [])
-    (record all { next_broadcast = all.next_broadcast + 1 })

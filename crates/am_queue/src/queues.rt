@@ -4,12 +4,11 @@ ghost use Rattle.std.specs.Option.{option_map};
 ghost use Rattle.am_model.specs.Broadcasts as broadcasts;
 ghost use Rattle.am_model.specs.Broadcasts.{no_broadcasts, queue_of, with_queue, settle, settle_both, is_head_due, expired_queue, normals_keeping, due, expired, span};
 ghost use Rattle.am_model.specs.Filters.{is_empty};
-ghost use Rattle.am_model.specs.Sending.{live, in_turn, with_normal, with_ordered, with_sent, send, held, answered_head, finish, forget, forget_uid, forget_registered, inbox, result_items, strike, unwanted};
+ghost use Rattle.am_model.specs.Sending.{live, in_turn, with_normal, with_last, with_ordered, with_sent, send, held, answered_head, finish, forget, forget_uid, forget_registered, inbox, result_items, strike, unwanted};
 ghost use Rattle.am_queue_ordered.specs.Doings.{doing_of};
 ghost use Rattle.am_queue_ordered.specs.Struck.{strikes};
 ghost use Rattle.am_queue_ordered.specs.Heads.{head_turned};
 ghost use Rattle.am_queue.specs.Taken.{fault_of, held_as, is_taken, refusal_of};
-ghost use Rattle.am_queue.specs.Sound.{with_last};
 ghost use Rattle.am_queue_normal.specs.Kept.{deliveries_in, is_early, is_other};
 
 use crate::inbox::{SHOWN, first_by_number, push_item};

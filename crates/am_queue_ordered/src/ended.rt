@@ -2,7 +2,7 @@
 ghost use Rattle.std.specs.Prelude.{◌≡◌, IfOk};
 ghost use Rattle.am_queue_ordered.specs.Turns.{final_item};
 
-use am_types::{Item, ItemKind, Outcome};
+use am_types::{Item, ItemKind, Outcome, copy_parts};
 use std::alloc::AllocError;
 use std::marker::Model;
 
@@ -27,12 +27,7 @@ impl Clone for Final {
     ghost is_clone = { λ x y. y ≡ x };
 
     fn clone(&self) -> Result<Final, AllocError> {
-        Ok(Final {
-            delivery: self.delivery,
-            broadcast: self.broadcast,
-            sender: self.sender,
-            outcome: self.outcome.clone()?,
-        })
+        copy_parts!(self, Final: value(outcome); delivery broadcast sender)
     }
 }
 

@@ -4,7 +4,7 @@ ghost use Rattle.std.specs.Option.{option_copied};
 ghost use Rattle.am_model.specs.Broadcasts.{is_abort, is_late};
 ghost use Rattle.am_queue_ordered.specs.Turns.{set_by};
 
-use am_types::{Answer, Outcome, Spot, Steps};
+use am_types::{Answer, Outcome, Spot, Steps, copy_parts};
 use std::alloc::AllocError;
 use std::marker::Model;
 use std::sync::ledger::Ledger;
@@ -108,10 +108,7 @@ impl Clone for Past {
     ghost is_clone = { λ x y. y ≡ x };
 
     fn clone(&self) -> Result<Past, AllocError> {
-        Ok(Past {
-            spot: self.spot.clone()?,
-            doing: self.doing.clone()?,
-        })
+        copy_parts!(self, Past: value(spot doing))
     }
 }
 

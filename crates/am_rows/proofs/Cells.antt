@@ -3,12 +3,13 @@ use Rattle.std.proofs.Common.{◌≡◌, ℕ, zero, suc, ◌+◌, ◌<◌, ◌==
 use Rattle.std.proofs.lemmas.Bool.{cases_Bool, eqb-true}
 use Rattle.std.proofs.lemmas.Bool.Decides.{nat_tests}
 use Rattle.am_keeper.specs.declared.rows.PackageRow.{PackageRow}
+use Rattle.am_keeper.specs.declared.rows.RightRow.{RightRow}
 use Rattle.am_keeper.specs.declared.rows.Row.{Row}
 use Rattle.am_keeper.specs.declared.rows.Row.TheVariants.{Package, Grant, Link}
 use Rattle.am_rows.specs.declared.RowFault.{RowFault}
 use Rattle.am_rows.specs.declared.Cell.{Cell}
 use Rattle.am_rows.specs.declared.Cell.TheVariants.{Whole, Words}
-use Rattle.am_rows.specs.Cells.{◌>>=◌, truth_number, word_cells, cells_of, whole_in, words_in, whole_at, words_at, uid_from, truth_from, Numbers, Texts, is_empty, has_word_alone, package_from, grant_from, link_from, row_from, numbers_in, texts_in, row_in, IsReading}
+use Rattle.am_rows.specs.Cells.{◌>>=◌, truth_number, word_cells, cells_of, whole_in, words_in, whole_at, words_at, uid_from, truth_from, Numbers, Texts, is_empty, has_word_alone, package_from, right_from, row_from, numbers_in, texts_in, row_in, IsReading}
 
 -- a chain that gave something gave it through each step
 through : {A B : Type 0} (o : Option A) (f : A → Option B) (b : B) → (o >>= f) ≡ Some b → (a : A) × (o ≡ Some a) × (f a ≡ Some b)
@@ -70,28 +71,24 @@ word_alone t alone =
     let other = both (is_empty t.access) (is_empty t.manifest) name.1 in
     (empty_is t.name name.0, empty_is t.access other.0, empty_is t.manifest other.1)
 
--- a row of a kind whose one text is its word
-word_row-some : (kind : ℤ) (uid : ℕ) (truth : Bool) (t : Texts) (made row : Row) → cells_of made ≡ word_cells kind uid t.word truth → (if has_word_alone t then Some made else None) ≡ Some row → cells_of row ≡ laid kind uid truth t
-word_row-some kind uid truth t made row cells h =
-    let w = passed (has_word_alone t) (Some made) row h in
-    let is : made ≡ row = (let e = w.1 in cc) in
+-- a row of a kind whose rows are rights
+right_from-some : (number : ℤ) (kind : RightRow → Row) → ((right : RightRow) → cells_of (kind right) ≡ word_cells number right.uid right.text right.held)
+    → (uid : ℕ) (truth : Bool) (t : Texts) (row : Row) → right_from kind uid truth t ≡ Some row → cells_of row ≡ laid number uid truth t
+right_from-some number kind cells uid truth t row h =
+    let right : RightRow = record { uid = uid; text = t.word; held = truth } in
+    let w = passed (has_word_alone t) (Some (kind right)) row h in
+    let is : kind right ≡ row = (let e = w.1 in cc) in
     let empty = word_alone t w.0 in
-    rw (← is, cells, empty.0, empty.1, empty.2)
-
-grant_from-some : (uid : ℕ) (truth : Bool) (t : Texts) (row : Row) → grant_from uid truth t ≡ Some row → cells_of row ≡ laid (pos 1) uid truth t
-grant_from-some uid truth t row h = word_row-some (pos 1) uid truth t (Grant (record { uid = uid; permission = t.word; held = truth })) row refl h
-
-link_from-some : (uid : ℕ) (truth : Bool) (t : Texts) (row : Row) → link_from uid truth t ≡ Some row → cells_of row ≡ laid (pos 2) uid truth t
-link_from-some uid truth t row h = word_row-some (pos 2) uid truth t (Link (record { uid = uid; host = t.word; approved = truth })) row refl h
+    rw (← is, cells right, empty.0, empty.1, empty.2)
 
 row_from-some : (k : ℤ) (uid : ℕ) (truth : Bool) (t : Texts) (row : Row) → row_from k uid truth t ≡ Some row → cells_of row ≡ laid k uid truth t
 row_from-some (negsuc n) uid truth t row h = absurd (let e = h in cc)
 row_from-some (pos n) uid truth t row h = elim (cases_Bool (n == 0)) [
   | inl at0 ↦ package_from-some uid truth t row (rw at0 at h) ∙ ap (λ m. laid (pos m) uid truth t) (sym (eqb-true n 0 at0))
   | inr not0 ↦ elim (cases_Bool (n == 1)) [
-    | inl at1 ↦ grant_from-some uid truth t row (rw (not0, at1) at h) ∙ ap (λ m. laid (pos m) uid truth t) (sym (eqb-true n 1 at1))
-    | inr not1 ↦ let w = passed (n == 2) (link_from uid truth t) row (rw (not0, not1) at h) in
-        link_from-some uid truth t row w.1 ∙ ap (λ m. laid (pos m) uid truth t) (sym (eqb-true n 2 w.0))
+    | inl at1 ↦ right_from-some (pos 1) Grant (λ right. refl) uid truth t row (rw (not0, at1) at h) ∙ ap (λ m. laid (pos m) uid truth t) (sym (eqb-true n 1 at1))
+    | inr not1 ↦ let w = passed (n == 2) (right_from Link uid truth t) row (rw (not0, not1) at h) in
+        right_from-some (pos 2) Link (λ right. refl) uid truth t row w.1 ∙ ap (λ m. laid (pos m) uid truth t) (sym (eqb-true n 2 w.0))
   ]
 ]
 
@@ -151,7 +148,7 @@ uid-back n h = let low : nat_lt n 4294967296 ≡ true = grind (arith, nat_tests)
 pub row_in-cells_of : (row : Row) → uid_in row < 4294967296 → row_in (cells_of row) ≡ Some row
 row_in-cells_of (Package row) h = rw (uid-back row.uid h, truth-back row.gone)
 row_in-cells_of (Grant row) h = rw (uid-back row.uid h, truth-back row.held)
-row_in-cells_of (Link row) h = rw (uid-back row.uid h, truth-back row.approved)
+row_in-cells_of (Link row) h = rw (uid-back row.uid h, truth-back row.held)
 
 -- a row that was read from cells has these cells
 pub cells_of-read : (cells : List Cell) (r : Result Row RowFault) → IsReading (row_in cells) r → IfOk r (λ row. cells_of row ≡ cells)

@@ -1,5 +1,6 @@
 -- The cells of a row in a table of the columns kind, uid, word, name, access, manifest and truth.
 use Rattle.std.specs.Prelude.{◌≡◌, ℕ, ◌==◌, ◌&&◌, ℤ, pos, negsuc, Bool, true, false, nat_lt, if◌then◌else◌, List, [], ◌∷◌, length, Option, Some, None, Result, Ok, Err, option_and_then, slice_get, is_some, IsTrue}
+use Rattle.am_keeper.specs.declared.rows.RightRow.{RightRow}
 use Rattle.am_keeper.specs.declared.rows.Row.{Row}
 use Rattle.am_keeper.specs.declared.rows.Row.TheVariants.{Package, Grant, Link}
 use Rattle.am_rows.specs.declared.Cell.{Cell}
@@ -23,8 +24,8 @@ word_cells kind uid word truth = Whole kind ∷ Whole (pos uid) ∷ Words word �
 -- the cells of a row
 abbrev pub cells_of : Row → List Cell
 cells_of (Package row) = Whole (pos 0) ∷ Whole (pos row.uid) ∷ Words [] ∷ Words row.name ∷ Words row.key ∷ Words row.text ∷ Whole (truth_number row.gone) ∷ []
-cells_of (Grant row) = word_cells (pos 1) row.uid row.permission row.held
-cells_of (Link row) = word_cells (pos 2) row.uid row.host row.approved
+cells_of (Grant row) = word_cells (pos 1) row.uid row.text row.held
+cells_of (Link row) = word_cells (pos 2) row.uid row.text row.held
 
 -- the number in a cell
 abbrev pub whole_in : Cell → Option ℤ
@@ -75,19 +76,16 @@ is_empty (x ∷ xs) = false
 abbrev pub package_from : ℕ → Bool → Texts → Option Row
 package_from uid gone t = if is_empty t.word then Some (Package (record { uid = uid; name = t.name; key = t.access; text = t.manifest; gone = gone })) else None
 
--- a grant and a link have a word alone
+-- a right has a word alone
 abbrev pub has_word_alone : Texts → Bool
 has_word_alone t = is_empty t.name && (is_empty t.access && is_empty t.manifest)
 
-abbrev pub grant_from : ℕ → Bool → Texts → Option Row
-grant_from uid held t = if has_word_alone t then Some (Grant (record { uid = uid; permission = t.word; held = held })) else None
-
-abbrev pub link_from : ℕ → Bool → Texts → Option Row
-link_from uid approved t = if has_word_alone t then Some (Link (record { uid = uid; host = t.word; approved = approved })) else None
+abbrev pub right_from : (RightRow → Row) → ℕ → Bool → Texts → Option Row
+right_from kind uid held t = if has_word_alone t then Some (kind (record { uid = uid; text = t.word; held = held })) else None
 
 -- kind 0 is a package, 1 a grant, 2 a link, and there is no other
 abbrev pub row_from : ℤ → ℕ → Bool → Texts → Option Row
-row_from (pos n) uid truth t = if n == 0 then package_from uid truth t else (if n == 1 then grant_from uid truth t else (if n == 2 then link_from uid truth t else None))
+row_from (pos n) uid truth t = if n == 0 then package_from uid truth t else (if n == 1 then right_from Grant uid truth t else (if n == 2 then right_from Link uid truth t else None))
 row_from (negsuc n) uid truth t = None
 
 abbrev pub numbers_in : List Cell → Option Numbers

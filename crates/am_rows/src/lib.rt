@@ -3,12 +3,12 @@
 
 ghost use Rattle.std.specs.Prelude.{◌≡◌, ◌↔◌, ◌<◌, List as Items, [], Some, None, Err, IfOk, option_map};
 ghost use Rattle.std.specs.Option.{option_copied};
-ghost use Rattle.am_rows.specs.Cells.{cells_of, whole_at, words_at, truth_from, truth_number, is_empty, package_from, grant_from, link_from, has_word_alone, row_from, numbers_in, texts_in, row_in, word_cells, IsReading};
+ghost use Rattle.am_rows.specs.Cells.{cells_of, whole_at, words_at, truth_from, truth_number, is_empty, package_from, has_word_alone, row_from, numbers_in, texts_in, row_in, word_cells, IsReading};
 ghost use Rattle.am_rows.specs.declared.Cell.{Cell as Item};
 ghost use Rattle.am_rows.specs.Parts.{numbers_of, texts_of};
 
 pub use am_keeper::Row;
-use am_keeper::{GrantRow, LinkRow, PackageRow};
+use am_keeper::{PackageRow, RightRow};
 use am_types::{List, NoMemory, Text};
 use std::alloc::{AllocError, AllocFailed, Global};
 use std::error::Error;
@@ -150,30 +150,19 @@ fn has_word_alone(texts: &Texts<'_>) -> bool
         && texts.manifest.as_str().is_empty()
 }
 
-fn grant_row(uid: u32, held: bool, texts: &Texts<'_>) -> Result<Row, RowFault>
-    ensures { IsReading (grant_from uid held (texts_of texts.now)) result }
+/// The right of a row that has a word alone.
+fn right_row(numbers: &Numbers, texts: &Texts<'_>) -> Result<RightRow, AllocError>
+    ensures { IfOk result (λ row. row ≡ record {
+      uid = numbers.now.uid;
+      text = (texts_of texts.now).word;
+      held = numbers.now.truth;
+    }) }
 {
-    if !has_word_alone(texts) {
-        return Err(RowFault::Shape);
-    }
-    Ok(Row::Grant(GrantRow {
-        uid,
-        permission: copy(texts.word)?,
-        held,
-    }))
-}
-
-fn link_row(uid: u32, approved: bool, texts: &Texts<'_>) -> Result<Row, RowFault>
-    ensures { IsReading (link_from uid approved (texts_of texts.now)) result }
-{
-    if !has_word_alone(texts) {
-        return Err(RowFault::Shape);
-    }
-    Ok(Row::Link(LinkRow {
-        uid,
-        host: copy(texts.word)?,
-        approved,
-    }))
+    Ok(RightRow {
+        uid: numbers.uid,
+        text: copy(texts.word)?,
+        held: numbers.truth,
+    })
 }
 
 fn row_from(numbers: &Numbers, texts: &Texts<'_>) -> Result<Row, RowFault>
@@ -181,8 +170,8 @@ fn row_from(numbers: &Numbers, texts: &Texts<'_>) -> Result<Row, RowFault>
 {
     match numbers.kind {
         0 => package_row(numbers.uid, numbers.truth, texts),
-        1 => grant_row(numbers.uid, numbers.truth, texts),
-        2 => link_row(numbers.uid, numbers.truth, texts),
+        1 if has_word_alone(texts) => Ok(Row::Grant(right_row(numbers, texts)?)),
+        2 if has_word_alone(texts) => Ok(Row::Link(right_row(numbers, texts)?)),
         _ => Err(RowFault::Shape),
     }
 }
@@ -268,8 +257,8 @@ pub fn row_cells(alloc: Global, row: &Row) -> Result<List<Cell>, NoMemory>
 {
     let cells = match row {
         Row::Package(row) => package_cells(alloc, row)?,
-        Row::Grant(row) => word_cells(alloc, 1, row.uid, &row.permission, row.held)?,
-        Row::Link(row) => word_cells(alloc, 2, row.uid, &row.host, row.approved)?,
+        Row::Grant(row) => word_cells(alloc, 1, row.uid, &row.text, row.held)?,
+        Row::Link(row) => word_cells(alloc, 2, row.uid, &row.text, row.held)?,
     };
     Ok(List::new(cells))
 }

@@ -5,8 +5,8 @@ ghost use Rattle.am_manifest.specs.Devices.{device_of};
 ghost use Rattle.am_setback.specs.Devices.{IsRefusal, Parses, refusal_line};
 
 use crate::setback::Setback;
-use am_manifest::{ReadFault, print_fault, read_device};
-use am_types::{Device, ManifestFault, NoMemory, Text};
+use am_manifest::{print_fault, read_device};
+use am_types::{Device, ManifestFault, NoMemory, Text, Unmade};
 use std::alloc::Global;
 
 /// The device that the text describes, or a setback of the program of that name. A device that is read is sound.
@@ -16,8 +16,8 @@ pub fn parse_device(alloc: Global, program: &str, bytes: &[u8]) -> Result<Device
 {
     match read_device(alloc, bytes) {
         Ok(device) => Ok(device),
-        Err(ReadFault::NoMemory) => Err(Setback::NoMemory),
-        Err(ReadFault::Manifest(fault)) => Err(refusal(alloc, program, &fault)),
+        Err(Unmade::NoMemory) => Err(Setback::NoMemory),
+        Err(Unmade::Fault(fault)) => Err(refusal(alloc, program, &fault)),
     }
 }
 

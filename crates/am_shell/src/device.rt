@@ -7,11 +7,10 @@ ghost use Rattle.am_setback.specs.Devices.{Parses};
 ghost use Rattle.am_setback.specs.Files.{shelf_of};
 ghost use Rattle.am_shell.specs.Devices.{Opens};
 
-use am_manifest::ReadFault;
 use am_outside::Files;
 use am_queries::{Described, read_described};
 use am_setback::{Setback, parse_device, refusal};
-use am_types::{Device, Text};
+use am_types::{Device, Text, Unmade};
 use std::alloc::Global;
 
 /// Reads the device file of that name. A device that was read is sound.
@@ -43,7 +42,7 @@ fn parse_described(alloc: Global, bytes: &[u8]) -> Result<Described, Setback>
 {
     match read_described(alloc, bytes) {
         Ok(known) => Ok(known),
-        Err(ReadFault::NoMemory) => Err(Setback::NoMemory),
-        Err(ReadFault::Manifest(fault)) => Err(refusal(alloc, "am", &fault)),
+        Err(Unmade::NoMemory) => Err(Setback::NoMemory),
+        Err(Unmade::Fault(fault)) => Err(refusal(alloc, "am", &fault)),
     }
 }

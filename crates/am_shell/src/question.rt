@@ -13,9 +13,9 @@ use am_installed::caller_named;
 use am_outside::{Files, Sink, Source};
 use am_queries::Described;
 use am_setback::{Setback, tell};
-use am_types::{NoMemory, Text};
+use am_types::{NoMemory, Text, Unmade};
 use am_visible::answer;
-use am_wire_fields::{Unread, WireFault};
+use am_wire_fields::WireFault;
 use am_words::QuestionWords;
 use std::alloc::Global;
 
@@ -80,8 +80,8 @@ fn answer_to(alloc: Global, known: Described, caller: u32, bytes: &[u8]) -> Resu
 {
     match answer(alloc, known, caller, bytes) {
         Ok(text) => Ok(text),
-        Err(Unread::NoMemory) => Err(Undone::Setback(Setback::NoMemory)),
-        Err(Unread::Fault(fault)) => Err(Undone::QueryRefused(query_line(alloc, &fault)?)),
+        Err(Unmade::NoMemory) => Err(Undone::Setback(Setback::NoMemory)),
+        Err(Unmade::Fault(fault)) => Err(Undone::QueryRefused(query_line(alloc, &fault)?)),
     }
 }
 

@@ -18,7 +18,7 @@ use am_outside::{Clock, Failed, Files, Sink};
 use am_setback::{Setback, tell};
 use am_types::Device;
 use am_words::ServingWords;
-use am_workers::{Totals, serve};
+use am_workers::{Worked, serve};
 use itoa::Buffer;
 use std::alloc::Global;
 use std::sync::Wait;
@@ -30,7 +30,7 @@ pub struct Done {
     /// How many entries the history has.
     pub history: u64,
     /// What the workers did.
-    pub totals: Totals,
+    pub totals: Worked,
 }
 
 /// Runs the serving that is asked for: its workers serve the device over the network, beginning with the rows that the

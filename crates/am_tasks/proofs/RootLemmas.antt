@@ -9,7 +9,7 @@ use Rattle.am_types.specs.declared.task.Landed.{Landed}
 use Rattle.am_types.specs.declared.task.StartCall.{StartCall}
 use Rattle.am_model.specs.Intents.{is_same_component}
 use Rattle.am_model.specs.Tasks.{Instance, Task, Tasks, tasks_keeping}
-use Rattle.am_model.specs.Placement.{is_of, is_single_per_task, place}
+use Rattle.am_model.specs.Placement.{is_of, is_mode, place}
 use Rattle.am_model.proofs.RootLaws as law
 use Rattle.am_model.proofs.RootLaws.{place_keeps_roots, place_at_root, keeping_keeps_roots}
 use Rattle.am_tasks.specs.Roots.{AreRoots, KeepsRoots, IsRootStart}
@@ -42,7 +42,7 @@ pub end_keeps : (component : Component) (keeps : Instance → Bool) (all : Tasks
 end_keeps component keeps all roots = from_law component (tasks_keeping keeps all.tasks) (keeping_keeps_roots component keeps all.tasks (lawful component all.tasks roots))
 
 -- the mode that the test tells
-per_task : (mode : Mode) → is_single_per_task mode ≡ true → mode ≡ SingleInstancePerTask
+per_task : (mode : Mode) → is_mode SingleInstancePerTask mode ≡ true → mode ≡ SingleInstancePerTask
 per_task Standard is = absurd cc
 per_task SingleTop is = absurd cc
 per_task SingleTask is = absurd cc

@@ -1,6 +1,6 @@
 //! What a start does, decided before anything changes.
 ghost use Rattle.std.specs.Prelude.{◌≡◌, ◌<◌, if◌then◌else◌, length, slice_get, IfSome, Some, option_map};
-ghost use Rattle.am_model.specs.Placement.{clearing_top, cleared_to, is_multiple, is_single_task, is_single_top, is_standard, on_top, placed_in, placed_ordinary, placed_per_task, placed_single, plan_of, reordering, task_of_affinity, topmost, wants_new_task};
+ghost use Rattle.am_model.specs.Placement.{clearing_top, cleared_to, is_mode, is_multiple, on_top, placed_in, placed_ordinary, placed_per_task, placed_single, plan_of, reordering, task_of_affinity, topmost, wants_new_task};
 ghost use Rattle.am_model.specs.Tasks.{Instance as Held, Task as Kept, top_of};
 ghost use Rattle.am_tasks.specs.Finds.{at};
 ghost use Rattle.am_tasks.specs.Plans.{change_in, IsIn, Plans};
@@ -123,7 +123,7 @@ fn wants_new_task(start: &StartCall, tasks: &[Task], source: Option<usize>) -> b
     requires { IfSome source (λ place. place < length tasks.now) }
     ensures { result ≡ wants_new_task start.now (at tasks.now source) }
 {
-    if start.flags.new_task || is_single_task(start.mode) {
+    if start.flags.new_task || is_mode(Mode::SingleTask, start.mode) {
         return true;
     }
     match source {
@@ -139,7 +139,9 @@ fn wants_new_task(start: &StartCall, tasks: &[Task], source: Option<usize>) -> b
 fn is_multiple(start: &StartCall, wanted: bool) -> bool
     ensures { result ≡ is_multiple start.now wanted }
 {
-    wanted && start.flags.multiple_task && (is_standard(start.mode) || is_single_top(start.mode))
+    wanted
+        && start.flags.multiple_task
+        && (is_mode(Mode::Standard, start.mode) || is_mode(Mode::SingleTop, start.mode))
 }
 
 /// In a task that is there: the first case that applies.
@@ -172,7 +174,7 @@ fn clearing_top(start: &StartCall, task: &Task) -> Option<Change>
         ≡ clearing_top start.now task.now (topmost start.now.target task.now) }
     ensures within { IfSome result (IsIn task.now) }
 {
-    if !(is_single_task(start.mode) || start.flags.clear_top) {
+    if !(is_mode(Mode::SingleTask, start.mode) || start.flags.clear_top) {
         return None;
     }
     let place = topmost_in(task, &start.target)?;
@@ -185,7 +187,7 @@ fn cleared_to(start: &StartCall, place: usize) -> Change
         change_in task result ≡ cleared_to start.now task instance }
     ensures within { (task : Kept) → place < length task.instances → IsIn task result }
 {
-    if is_standard(start.mode) && !start.flags.single_top {
+    if is_mode(Mode::Standard, start.mode) && !start.flags.single_top {
         Change::FreshAt(place)
     } else {
         Change::NewIntent(Keeping::Below, place)
@@ -212,27 +214,18 @@ fn on_top(start: &StartCall, task: &Task) -> Option<Change>
     ensures within { IfSome result (IsIn task.now) }
 {
     let top = task.instances.last()?;
-    if is_of(&start.target, top) && (is_single_top(start.mode) || start.flags.single_top) {
+    if is_of(&start.target, top)
+        && (is_mode(Mode::SingleTop, start.mode) || start.flags.single_top)
+    {
         Some(Change::NewIntent(Keeping::All, task.instances.len() - 1))
     } else {
         None
     }
 }
 
-fn is_single_task(mode: Mode) -> bool
-    ensures { result ≡ is_single_task mode }
+/// The two modes are the same.
+fn is_mode(mode: Mode, other: Mode) -> bool
+    ensures { result ≡ is_mode mode other }
 {
-    matches!(mode, Mode::SingleTask)
-}
-
-fn is_single_top(mode: Mode) -> bool
-    ensures { result ≡ is_single_top mode }
-{
-    matches!(mode, Mode::SingleTop)
-}
-
-fn is_standard(mode: Mode) -> bool
-    ensures { result ≡ is_standard mode }
-{
-    matches!(mode, Mode::Standard)
+    mode == other
 }

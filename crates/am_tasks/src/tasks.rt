@@ -157,13 +157,10 @@ impl Tasks {
         match start.source {
             None if start.flags.new_task => Ok(None),
             None => Err(PlaceFault::NeedsNewTask),
-            Some(number) => match task_of(&self.tasks, number) {
+            Some(number) => match self.owner(number) {
                 None => Err(PlaceFault::NoSource),
-                Some(place) => match owner_in(&self.tasks[place], number) {
-                    None => Err(PlaceFault::NoSource),
-                    Some(owner) if may_end(start.caller, owner) => Ok(Some(place)),
-                    Some(_) => Err(PlaceFault::NotYours),
-                },
+                Some(owner) if may_end(start.caller, owner) => Ok(task_of(&self.tasks, number)),
+                Some(_) => Err(PlaceFault::NotYours),
             },
         }
     }

@@ -4,7 +4,7 @@ ghost use Rattle.am_model.specs.Gates.{is_privileged};
 ghost use Rattle.am_model.specs.Tasks.{may_end, may_see, task_view, tasks_keeping, view_of};
 
 use crate::task::{Instance, Task};
-use am_types::{InstanceView, List, NoMemory, TaskView};
+use am_types::{InstanceView, List, NoMemory, ROOT, SYSTEM, TaskView};
 use std::alloc::{AllocError, Global};
 
 /// The tasks with the instances that the uid sees, from front to back; a task without one is left
@@ -73,5 +73,5 @@ pub(crate) fn may_end(uid: u32, owner: u32) -> bool
 fn is_privileged(uid: u32) -> bool
     ensures { result ≡ is_privileged uid }
 {
-    uid == 0 || uid == 1000
+    uid == ROOT || uid == SYSTEM
 }

@@ -3,7 +3,6 @@ ghost use Rattle.std.specs.Prelude.{◌<◌, IfOk};
 
 mod activities;
 mod broadcasts;
-mod devices;
 mod explaining;
 mod finding;
 mod packages;
@@ -11,8 +10,7 @@ mod pending_intents;
 mod reads;
 mod services;
 
-pub use self::devices::device_file;
-use self::devices::device_of;
+use crate::devices::device_of;
 use crate::exchanges::answers;
 use am_trials_runs::{Outside, QUIET, Runtime};
 use am_trials_spelling::session_of;

@@ -1,11 +1,12 @@
 //! Queries through the whole program, a session each, and their answers.
 ghost use Rattle.std.specs.Prelude.{◌<◌};
 
-mod devices;
 mod rows;
+mod whole;
 
-use self::devices::{WHOLE, device_file};
 use self::rows::{ANSWERED, BY_DATA, BY_KIND, UNREAD};
+use self::whole::whole;
+use crate::devices::device_file;
 use am_trials_runs::{Outside, QUIET, Runtime, session_over};
 use am_trials_spelling::{EMPTY, spelled_out};
 use am_trials_words::{parts, try_each};
@@ -54,14 +55,15 @@ pub fn answers(
 
 fn try_answered(rt: &(impl Runtime + Abort), alloc: Global, row: &str) -> Result<(), Fail> {
     let (name, fields, rest) = parts(row);
-    let device = device_file(name).ok_or("a device")?;
+    let device = device_file(alloc, name)?;
     let (status, asked) = rest.split_once(" | ").ok_or("a status")?;
     let (body, answer) = asked.split_once(" -> ").ok_or("an answer")?;
     let fields = spelled_out(alloc, fields)?;
     let fields = str::from_utf8(fields.as_slice()).ok().ok_or("a text")?;
     let input = request(alloc, fields, body)?;
     let wanted = response(alloc, status, PLACE, answer)?;
-    answers(rt, alloc, device, input.as_str(), wanted.as_str(), &QUIET)
+    let (input, wanted) = (input.as_str(), wanted.as_str());
+    answers(rt, alloc, device.as_str(), input, wanted, &QUIET)
 }
 
 /// The body of a row makes no request, and is answered by the refusal of the row.
@@ -72,32 +74,26 @@ fn try_unread(rt: &(impl Runtime + Abort), alloc: Global, row: &str) -> Result<(
     answers(rt, alloc, EMPTY, input.as_str(), wanted.as_str(), &QUIET)
 }
 
-/// A query with that body on the device with every key finds these components.
-fn try_query(
-    rt: &(impl Runtime + Abort),
-    alloc: Global,
-    body: &str,
-    found: &str,
-) -> Result<(), Fail> {
+/// A query with the body of a row on the device with every key finds the components of the row.
+fn try_query(rt: &(impl Runtime + Abort), alloc: Global, row: &str) -> Result<(), Fail> {
+    let (body, found) = row.split_once(" -> ").ok_or("components")?;
     let answer = format!(in alloc; "{{\"components\":{found}}}")?;
     let input = request(alloc, KEY, body)?;
     let wanted = response(alloc, "200 OK", PLACE, answer.as_str())?;
-    answers(rt, alloc, WHOLE, input.as_str(), wanted.as_str(), &QUIET)
+    let device = whole(alloc)?;
+    let (input, wanted) = (input.as_str(), wanted.as_str());
+    answers(rt, alloc, device.as_str(), input, wanted, &QUIET)
 }
 
-fn try_kind(rt: &(impl Runtime + Abort), alloc: Global, row: &str) -> Result<(), Fail> {
-    let (body, found) = row.split_once(" -> ").ok_or("an answer")?;
-    try_query(rt, alloc, body, found)
-}
-
+/// A query for activities with the intent of a row finds the class of the row.
 fn try_data(rt: &(impl Runtime + Abort), alloc: Global, row: &str) -> Result<(), Fail> {
     let (intent, class) = row.split_once(" -> ").ok_or("a class")?;
-    let body = format!(in alloc; "{{\"kind\":\"activity\",\"intent\":{intent}}}")?;
-    let found = match class {
-        "none" => String::from_str(alloc, "[]")?,
-        _ => format!(in alloc; "[\"com.one/com.one{class}\"]")?,
-    };
-    try_query(rt, alloc, body.as_str(), found.as_str())
+    let mut query = format!(in alloc; "{{\"kind\":\"activity\",\"intent\":{intent}}} -> ")?;
+    match class {
+        "none" => query.push_str("[]")?,
+        _ => write!(query, "[\"com.one/com.one{class}\"]")?,
+    }
+    try_query(rt, alloc, query.as_str())
 }
 
 #[test]
@@ -112,6 +108,6 @@ fn refuses_bodies(rt: HostRuntime) -> Result<(), Fail> {
 
 #[test]
 fn finds_each_kind_and_by_data(rt: HostRuntime) -> Result<(), Fail> {
-    try_each(BY_KIND, 6, |row| try_kind(&rt, rt.alloc(), row))?;
+    try_each(BY_KIND, 6, |row| try_query(&rt, rt.alloc(), row))?;
     try_each(BY_DATA, 31, |row| try_data(&rt, rt.alloc(), row))
 }

@@ -4,7 +4,7 @@ mod rows;
 
 use self::devices::large_device;
 use self::rows::{ROWS, first_call};
-use crate::calls::device_file;
+use crate::devices::device_file;
 use am_trials_runs::{Left, Outside, QUIET, Runtime, session_over};
 use am_trials_spelling::push_frame;
 use am_trials_words::try_each;
@@ -46,12 +46,11 @@ fn frames(alloc: Global, first: &str, call: &str, count: u32) -> Result<String, 
 
 /// What the session writes over the device of that name.
 fn written(rt: &impl Runtime, alloc: Global, name: &str, input: &str) -> Result<String, Fail> {
-    let large = large_device(alloc, name)?;
-    let device = match &large {
-        Some(text) => text.as_str(),
-        None => device_file(name).ok_or("a device")?,
+    let device = match large_device(alloc, name)? {
+        Some(text) => text,
+        None => device_file(alloc, name)?,
     };
-    let left = session_over(rt, alloc, device, input.as_bytes(), &QUIET)?;
+    let left = session_over(rt, alloc, device.as_str(), input.as_bytes(), &QUIET)?;
     Ok(String::from_str(alloc, left.text()?)?)
 }
 
@@ -75,9 +74,9 @@ fn try_row(rt: &(impl Runtime + Abort), alloc: Global, row: &str) -> Result<(), 
 fn unfinished(rt: &impl Runtime, alloc: Global, count: u32) -> Result<Left, Fail> {
     let call = r#"POST /v1/send | ks | {"intent":{"action":"x.O"}}"#;
     let input = frames(alloc, "-", call, count.saturating_sub(1))?;
-    let device = device_file("one").ok_or("a device")?;
+    let device = device_file(alloc, "one")?;
     let outside = Outside { step: 937, ..QUIET };
-    Ok(session_over(rt, alloc, device, input.as_bytes(), &outside)?)
+    Ok(session_over(rt, alloc, device.as_str(), input.as_bytes(), &outside)?)
 }
 
 /// How many of them were sent, and how the last one was answered.

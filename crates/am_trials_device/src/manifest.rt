@@ -2,10 +2,16 @@
 
 mod documents;
 
-use self::documents::{DATA, DEVICES, MANIFESTS, RIGHTS, SUMMARIES};
-use am_manifest::{ReadFault, print_fault, read_device, read_package};
-use am_trials_words::try_documents;
-use am_types::{Authority, Decl, Device, Filter, Kind, List, Mime, Mode, NoMemory, PathRule, Text};
+use self::documents::{
+    ACTIVITIES, AFTER_KEY, AFTER_PACKAGE, DATA, DEVICES, FILTERS, KEY, MAINS, MANIFESTS, PACKAGE,
+    RIGHTS, SUMMARIES,
+};
+use am_manifest::{print_fault, read_device, read_package};
+use am_trials_words::devices::two_mains;
+use am_trials_words::{spelled_between, try_answers, try_documents};
+use am_types::{
+    Authority, Decl, Device, Filter, Kind, List, Mime, Mode, NoMemory, PathRule, Text, Unmade,
+};
 use std::alloc::{AllocError, Global};
 use std::test::Fail;
 
@@ -32,13 +38,38 @@ fn package_outcome(alloc: Global, manifest: &str) -> Result<Text, NoMemory> {
             drop(manifest);
             Ok(Text::of(alloc, "read")?)
         }
-        Err(ReadFault::Manifest(fault)) => {
+        Err(Unmade::Fault(fault)) => {
             let printed = print_fault(alloc, &fault);
             drop(fault);
             printed
         }
-        Err(ReadFault::NoMemory) => Err(NoMemory),
+        Err(Unmade::NoMemory) => Err(NoMemory),
     }
+}
+
+/// What becomes of the device file of these lines, the last of which comes alone.
+fn device_outcome_after(alloc: Global, front: &str, last: &str) -> Result<String, Fail> {
+    let document = spelled_between(alloc, front, last, "\r\n")?;
+    Ok(device_outcome(alloc, document.as_bytes())?)
+}
+
+/// What becomes of the manifest.
+fn manifest_outcome(alloc: Global, manifest: &str) -> Result<String, Fail> {
+    let outcome = package_outcome(alloc, manifest)?;
+    Ok(String::from_str(alloc, outcome.as_str())?)
+}
+
+/// What becomes of a manifest with an activity that has this besides its name.
+fn activity_outcome(alloc: Global, told: &str) -> Result<String, Fail> {
+    let front = "package = \"a\"\nactivity = [{ name = \"A\", ";
+    let manifest = spelled_between(alloc, front, told, " }]\n")?;
+    manifest_outcome(alloc, manifest.as_str())
+}
+
+/// What becomes of a manifest with an exported activity whose filter has this.
+fn filter_outcome(alloc: Global, listed: &str) -> Result<String, Fail> {
+    let told = format!(in alloc; "exported = true, intent-filter = [{{ {listed} }}]")?;
+    activity_outcome(alloc, told.as_str())
 }
 
 fn read(alloc: Global, document: &str) -> Result<Device, Fail> {
@@ -205,7 +236,19 @@ fn devices_are_read_or_have_a_first_fault(rt: HostRuntime) -> Result<(), Fail> {
     let alloc = rt.alloc();
     try_documents(alloc, DEVICES, "\r\n", |document| {
         Ok(device_outcome(alloc, document.as_bytes())?)
-    })
+    })?;
+    try_answers(
+        AFTER_KEY,
+        " => ",
+        45,
+        |line| device_outcome_after(alloc, KEY, line),
+    )?;
+    try_answers(
+        AFTER_PACKAGE,
+        " => ",
+        8,
+        |line| device_outcome_after(alloc, PACKAGE, line),
+    )
 }
 
 #[test]
@@ -223,16 +266,24 @@ fn marks_and_other_bytes(rt: HostRuntime) -> Result<(), Fail> {
 #[test]
 fn manifests_are_read_or_have_a_first_fault(rt: HostRuntime) -> Result<(), Fail> {
     let alloc = rt.alloc();
-    try_documents(alloc, MANIFESTS, "\n", |document| {
-        let outcome = package_outcome(alloc, document)?;
-        Ok(String::from_str(alloc, outcome.as_str())?)
-    })
+    try_documents(
+        alloc,
+        MANIFESTS,
+        "\n",
+        |document| manifest_outcome(alloc, document),
+    )?;
+    try_answers(ACTIVITIES, " => ", 29, |told| activity_outcome(alloc, told))?;
+    try_answers(FILTERS, " => ", 47, |listed| filter_outcome(alloc, listed))
 }
 
 /// Packages are as declared, rights are sorted, each once, and rows of data are merged.
 #[test]
 fn documents_are_as_declared(rt: HostRuntime) -> Result<(), Fail> {
     let alloc = rt.alloc();
+    let mut mains = two_mains(alloc)?;
+    mains.push_str("category = [\"x.C\"]\n")?;
+    let shown = packages_shown(alloc, mains.as_str())?;
+    assert_eq!(rt; shown.as_str(), MAINS);
     try_documents(
         alloc,
         SUMMARIES,

@@ -13,7 +13,7 @@ use self::device::{device, intent_of, many};
 use self::plain::plain_hits;
 use self::rows::{DEVICE, QUERIES};
 use am_index::FilterIndex;
-use am_trials_words::{intent, kind_of, says};
+use am_trials_words::{intent, kind_of, lent, says};
 use am_types::{Hit, Intent, Kind, List, NoMemory, Package, Steps};
 use std::alloc::Global;
 use std::marker::Brand;
@@ -37,6 +37,21 @@ fn can_be_listed(packages: &List<Package>) -> bool
     true
 }
 
+/// Packages, and an index that stands for them.
+#[derive(Drop)]
+struct Indexed {
+    index: FilterIndex,
+    packages: List<Package>,
+    ghost stands: { StandsFor index packages },
+}
+
+/// The packages with the index that is built of them at once.
+fn built(rt: &impl Abort, alloc: Global, packages: List<Package>) -> Result<Indexed, NoMemory> {
+    assert!(rt; can_be_listed(&packages));
+    let index = FilterIndex::build(alloc, &packages)?;
+    Ok(Indexed { index, packages })
+}
+
 /// The index to which the packages were added one by one.
 fn grown(alloc: Global, packages: &List<Package>) -> Result<FilterIndex, NoMemory>
     requires { CanBeListed packages.now }
@@ -50,71 +65,50 @@ fn grown(alloc: Global, packages: &List<Package>) -> Result<FilterIndex, NoMemor
 }
 
 /// The packages but the one of that uid.
-fn without(alloc: Global, packages: &List<Package>, uid: u32) -> Result<List<Package>, NoMemory>
-    ensures { IfOk result (λ others. others ≡ without_package packages.now uid) }
+fn without(packages: List<Package>, uid: u32) -> List<Package>
+    ensures { result ≡ without_package packages uid }
 {
-    let mut others = Vec::new(alloc);
-    for package in packages.as_slice() {
-        if package.uid != uid {
-            others.push(package.clone()?)?;
-        }
-    }
-    Ok(List::new(others))
+    let mut others = packages.into_items();
+    others.retain(|package| package.uid != uid);
+    List::new(others)
 }
 
 /// Takes a package out of the index, and gives the others.
-fn dropped(
-    alloc: Global,
-    index: &mut FilterIndex,
-    packages: &List<Package>,
-    uid: u32,
-) -> Result<List<Package>, NoMemory>
-    requires { StandsFor index.old packages.now }
-    ensures { IfOk result (λ others. StandsFor index.new others) }
+fn dropped(index: &mut FilterIndex, packages: List<Package>, uid: u32) -> List<Package>
+    requires { StandsFor index.old packages }
+    ensures { StandsFor index.new result }
 {
     index.drop_uid(uid);
-    without(alloc, packages, uid)
+    without(packages, uid)
 }
 
 /// What the intent finds, by a new counter.
 fn counted<L: Ledger>(
     alloc: Global,
-    index: &FilterIndex,
-    packages: &List<Package>,
+    indexed: &Indexed,
     kind: Kind,
     intent: &Intent,
     need_default: bool,
     blank: Blank,
 ) -> Result<List<Hit>, NoMemory>
-    requires stands { StandsFor index.now packages.now }
     requires name { blank.name ≡ L.name }
     requires parts { blank.parts ≡ L.parts }
     requires some { 0 < blank.parts }
 {
     let mut steps = Steps::<L>::new(blank);
+    let Indexed { index, packages } = indexed;
     index.candidates(alloc, packages, kind, intent, need_default, &mut steps)
 }
 
 /// What the intent finds.
 fn hits(
     alloc: Global,
-    index: &FilterIndex,
-    packages: &List<Package>,
+    indexed: &Indexed,
     kind: Kind,
     intent: &Intent,
     need_default: bool,
-) -> Result<List<Hit>, NoMemory>
-    requires { StandsFor index.now packages.now }
-{
-    counted::<Brand>(
-        alloc,
-        index,
-        packages,
-        kind,
-        intent,
-        need_default,
-        Blank::new(1),
-    )
+) -> Result<List<Hit>, NoMemory> {
+    counted::<Brand>(alloc, indexed, kind, intent, need_default, Blank::new(1))
 }
 
 /// The hits' names, if the plain scan finds the same as these.
@@ -144,31 +138,21 @@ fn names_of_same(
 /// What a query with this intent finds, if the plain scan finds the same.
 fn found_by(
     alloc: Global,
-    index: &FilterIndex,
-    packages: &List<Package>,
+    indexed: &Indexed,
     query: &str,
     intent: &Intent,
-) -> Result<String, NoMemory>
-    requires { StandsFor index.now packages.now }
-{
+) -> Result<String, NoMemory> {
     let kind = kind_of(query);
-    let hits = hits(alloc, index, packages, kind, intent, says(query, "default"))?;
-    let names = names_of_same(alloc, packages, query, intent, hits.as_slice());
+    let hits = hits(alloc, indexed, kind, intent, says(query, "default"))?;
+    let names = names_of_same(alloc, &indexed.packages, query, intent, hits.as_slice());
     drop(hits);
     names
 }
 
 /// What a query finds, if the plain scan finds the same.
-fn found(
-    alloc: Global,
-    index: &FilterIndex,
-    packages: &List<Package>,
-    query: &str,
-) -> Result<String, NoMemory>
-    requires { StandsFor index.now packages.now }
-{
+fn found(alloc: Global, indexed: &Indexed, query: &str) -> Result<String, NoMemory> {
     let intent = intent(alloc, query)?;
-    let found = found_by(alloc, index, packages, query, &intent);
+    let found = found_by(alloc, indexed, query, &intent);
     drop(intent);
     found
 }
@@ -189,16 +173,9 @@ fn is_same(hit: &Hit, other: &Hit) -> bool {
 }
 
 /// How many activities the intent of that number finds.
-fn count(
-    alloc: Global,
-    index: &FilterIndex,
-    packages: &List<Package>,
-    number: u32,
-) -> Result<usize, NoMemory>
-    requires { StandsFor index.now packages.now }
-{
+fn count(alloc: Global, indexed: &Indexed, number: u32) -> Result<usize, NoMemory> {
     let intent = intent_of(alloc, number)?;
-    let hits = hits(alloc, index, packages, Kind::Activity, &intent, false);
+    let hits = hits(alloc, indexed, Kind::Activity, &intent, false);
     drop(intent);
     let hits = hits?;
     let count = hits.as_slice().len();
@@ -221,18 +198,11 @@ fn names(alloc: Global, hits: &[Hit]) -> Result<String, NoMemory> {
 }
 
 /// Tries the queries on an index that stands for the packages of the device.
-fn try_queries(
-    rt: &impl Abort,
-    alloc: Global,
-    index: &FilterIndex,
-    packages: &List<Package>,
-) -> Result<(), Fail>
-    requires { StandsFor index.now packages.now }
-{
+fn try_queries(rt: &impl Abort, alloc: Global, indexed: &Indexed) -> Result<(), Fail> {
     let mut rows: u32 = 0;
     for line in QUERIES.lines() {
         let (query, wanted) = line.split_once(" | ").unwrap_or((line, "no row"));
-        let found = found(alloc, index, packages, query)?;
+        let found = found(alloc, indexed, query)?;
         assert_eq!(rt; found.as_str(), wanted, "{line}");
         rows = rows.wrapping_add(1);
     }
@@ -240,125 +210,61 @@ fn try_queries(
     Ok(())
 }
 
-/// Tries the queries on the index that is built of the packages at once.
-fn try_built(rt: &impl Abort, alloc: Global, packages: &List<Package>) -> Result<(), Fail>
-    requires { CanBeListed packages.now }
-{
-    let index = FilterIndex::build(alloc, packages)?;
-    let tried = try_queries(rt, alloc, &index, packages);
-    drop(index);
-    tried
-}
-
 /// Tries the queries on the index to which the packages are added one by one.
-fn try_grown(rt: &impl Abort, alloc: Global, packages: &List<Package>) -> Result<(), Fail>
-    requires { CanBeListed packages.now }
-{
-    let index = grown(alloc, packages)?;
-    let tried = try_queries(rt, alloc, &index, packages);
-    drop(index);
-    tried
-}
-
-/// Tries the queries on both indexes of the packages.
-fn try_both(rt: &impl Abort, alloc: Global, packages: &List<Package>) -> Result<(), Fail> {
-    assert!(rt; can_be_listed(packages));
-    try_built(rt, alloc, packages)?;
-    try_grown(rt, alloc, packages)
+fn try_grown(rt: &impl Abort, alloc: Global, packages: List<Package>) -> Result<(), Fail> {
+    assert!(rt; can_be_listed(&packages));
+    let index = grown(alloc, &packages)?;
+    let grown = Indexed { index, packages };
+    lent(grown, |indexed| try_queries(rt, alloc, indexed))
 }
 
 #[test]
 fn queries_find_what_the_plain_scan_finds(rt: HostRuntime) -> Result<(), Fail> {
     let alloc = rt.alloc();
-    let packages = device(alloc, DEVICE)?;
-    let tried = try_both(&rt, alloc, &packages);
-    drop(packages);
-    tried
+    let built = built(&rt, alloc, device(alloc, DEVICE)?)?;
+    lent(built, |indexed| try_queries(&rt, alloc, indexed))?;
+    try_grown(&rt, alloc, device(alloc, DEVICE)?)
 }
 
 /// Tries the queries on an index that stands for the other packages.
-fn try_others(
-    rt: &impl Abort,
-    alloc: Global,
-    index: &FilterIndex,
-    others: &List<Package>,
-) -> Result<(), Fail>
-    requires { StandsFor index.now others.now }
-{
+fn try_others(rt: &impl Abort, alloc: Global, others: &Indexed) -> Result<(), Fail> {
     for line in QUERIES.lines() {
         let (query, _) = line.split_once(" | ").unwrap_or((line, ""));
-        let one = found(alloc, index, others, query)?;
+        let one = found(alloc, others, query)?;
         assert_ne!(rt; one.as_str(), "another than the plain scan", "{line}");
     }
-    let one = found(alloc, index, others, "activity action=x.A")?;
+    let one = found(alloc, others, "activity action=x.A")?;
     assert_eq!(rt; one.as_str(), "one.A:0:0 three.A:0:0 one.Less:7:-1");
     Ok(())
 }
 
 /// Takes the second package out of the index, and tries the queries on the others.
-fn try_dropped(
-    rt: &impl Abort,
-    alloc: Global,
-    index: &mut FilterIndex,
-    packages: &List<Package>,
-) -> Result<(), Fail>
-    requires { StandsFor index.old packages.now }
-{
-    let others = dropped(alloc, index, packages, 10_001)?;
-    let tried = try_others(rt, alloc, index, &others);
-    drop(others);
-    tried
-}
-
-/// Tries the queries on the packages without the second.
-fn try_without(rt: &impl Abort, alloc: Global, packages: &List<Package>) -> Result<(), Fail> {
-    assert!(rt; can_be_listed(packages));
-    let mut index = FilterIndex::build(alloc, packages)?;
-    let tried = try_dropped(rt, alloc, &mut index, packages);
-    drop(index);
-    tried
+fn try_without(rt: &impl Abort, alloc: Global, packages: List<Package>) -> Result<(), Fail> {
+    assert!(rt; can_be_listed(&packages));
+    let mut index = FilterIndex::build(alloc, &packages)?;
+    let packages = dropped(&mut index, packages, 10_001);
+    let others = Indexed { index, packages };
+    lent(others, |others| try_others(rt, alloc, others))
 }
 
 #[test]
 fn nothing_is_found_of_a_package_that_was_dropped(rt: HostRuntime) -> Result<(), Fail> {
-    let alloc = rt.alloc();
-    let packages = device(alloc, DEVICE)?;
-    let tried = try_without(&rt, alloc, &packages);
-    drop(packages);
-    tried
+    try_without(&rt, rt.alloc(), device(rt.alloc(), DEVICE)?)
 }
 
 /// Tries 200,000 intents, each of which finds one activity.
-fn try_numbers(
-    rt: &impl Abort,
-    alloc: Global,
-    index: &FilterIndex,
-    packages: &List<Package>,
-) -> Result<(), Fail>
-    requires { StandsFor index.now packages.now }
-{
+fn try_numbers(rt: &impl Abort, alloc: Global, indexed: &Indexed) -> Result<(), Fail> {
     for call in 0u32..200_000 {
         let number = call % 131_072;
-        let found = count(alloc, index, packages, number)?;
+        let found = count(alloc, indexed, number)?;
         assert_eq!(rt; found, 1, "{number}");
     }
     Ok(())
 }
 
-/// Tries the intents on the index of the packages.
-fn try_many(rt: &impl Abort, alloc: Global, packages: &List<Package>) -> Result<(), Fail> {
-    assert!(rt; can_be_listed(packages));
-    let index = FilterIndex::build(alloc, packages)?;
-    let tried = try_numbers(rt, alloc, &index, packages);
-    drop(index);
-    tried
-}
-
 #[test]
 fn a_query_among_many_finds_its_one(rt: HostRuntime) -> Result<(), Fail> {
     let alloc = rt.alloc();
-    let packages = many(alloc, 256, 16, 32)?;
-    let tried = try_many(&rt, alloc, &packages);
-    drop(packages);
-    tried
+    let built = built(&rt, alloc, many(alloc, 256, 16, 32)?)?;
+    lent(built, |indexed| try_numbers(&rt, alloc, indexed))
 }

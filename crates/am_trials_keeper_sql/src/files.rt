@@ -13,11 +13,11 @@ use std::test::Fail;
 
 /// Rows that are put in this order.
 const PUTS: &str = "\
-uid=10001 host=b.org approved
+uid=10001 host=b.org held
 uid=10001 name=com.b key=kb
 uid=10000 name=com.a key=ka
 uid=10000 permission=p.X held
-uid=10001 host=a.org approved
+uid=10001 host=a.org held
 uid=10000 permission=p.X
 uid=4294967295 name=\u{e9} key=\0'\"
 uid=10001 host=b.org";

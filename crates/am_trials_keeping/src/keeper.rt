@@ -25,7 +25,7 @@ uid=10003 | done: 10002 10003";
 const CALLS: &str = "\
 uid=10000 name=com.a key=ka
 uid=10000 permission=p.X held
-uid=10000 host=h.org approved
+uid=10000 host=h.org held
 uid=10000 name=com.a key=ka gone";
 
 /// Which of these calls fails, and what there is then.

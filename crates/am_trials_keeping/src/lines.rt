@@ -1,6 +1,6 @@
 //! Rows that are written as lines of words, to be put, and that are shown as lines.
 
-use am_keeper::{GrantRow, LinkRow, PackageRow, Row, Rows};
+use am_keeper::{PackageRow, RightRow, Row, Rows};
 use am_trials_words::{last, number, says};
 use am_types::Text;
 use std::alloc::{AllocError, Global};
@@ -30,19 +30,12 @@ pub fn package(alloc: Global, line: &str) -> Result<PackageRow, AllocError> {
     })
 }
 
-fn grant(alloc: Global, line: &str) -> Result<GrantRow, AllocError> {
-    Ok(GrantRow {
+/// The right of a line, to the text of the last word with that key.
+fn right(alloc: Global, line: &str, key: &str) -> Result<RightRow, AllocError> {
+    Ok(RightRow {
         uid: uid(line),
-        permission: text(alloc, line, "permission=")?,
+        text: text(alloc, line, key)?,
         held: says(line, "held"),
-    })
-}
-
-fn link(alloc: Global, line: &str) -> Result<LinkRow, AllocError> {
-    Ok(LinkRow {
-        uid: uid(line),
-        host: text(alloc, line, "host=")?,
-        approved: says(line, "approved"),
     })
 }
 
@@ -51,9 +44,9 @@ pub fn row(alloc: Global, line: &str) -> Result<Row, AllocError> {
     if last(line, "name=").is_some() {
         Ok(Row::Package(package(alloc, line)?))
     } else if last(line, "permission=").is_some() {
-        Ok(Row::Grant(grant(alloc, line)?))
+        Ok(Row::Grant(right(alloc, line, "permission=")?))
     } else {
-        Ok(Row::Link(link(alloc, line)?))
+        Ok(Row::Link(right(alloc, line, "host=")?))
     }
 }
 
@@ -69,18 +62,10 @@ fn show_packages(alloc: Global, out: &mut String, rows: &[PackageRow]) -> Result
     Ok(())
 }
 
-fn show_grants(out: &mut String, rows: &[GrantRow]) -> Result<(), AllocError> {
+fn show_rights(out: &mut String, kind: &str, rows: &[RightRow]) -> Result<(), AllocError> {
     for row in rows {
-        let (uid, permission, held) = (row.uid, row.permission.as_str(), row.held);
-        write!(out, "grant {uid} {permission} {held}\n")?;
-    }
-    Ok(())
-}
-
-fn show_links(out: &mut String, rows: &[LinkRow]) -> Result<(), AllocError> {
-    for row in rows {
-        let (uid, host, approved) = (row.uid, row.host.as_str(), row.approved);
-        write!(out, "link {uid} {host} {approved}\n")?;
+        let (uid, text, held) = (row.uid, row.text.as_str(), row.held);
+        write!(out, "{kind} {uid} {text} {held}\n")?;
     }
     Ok(())
 }
@@ -89,7 +74,7 @@ fn show_links(out: &mut String, rows: &[LinkRow]) -> Result<(), AllocError> {
 pub fn show(alloc: Global, rows: &Rows) -> Result<String, AllocError> {
     let mut out = String::new(alloc);
     show_packages(alloc, &mut out, rows.packages.as_slice())?;
-    show_grants(&mut out, rows.grants.as_slice())?;
-    show_links(&mut out, rows.links.as_slice())?;
+    show_rights(&mut out, "grant", rows.grants.as_slice())?;
+    show_rights(&mut out, "link", rows.links.as_slice())?;
     Ok(out)
 }

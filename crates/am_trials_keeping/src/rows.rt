@@ -90,7 +90,7 @@ fn only_rows_come_back(rt: HostRuntime) -> Result<(), Fail> {
 /// The uid, the length of the permission and the truth of a grant.
 fn grant(row: Row) -> Option<(u32, usize, bool)> {
     match row {
-        Row::Grant(grant) => Some((grant.uid, grant.permission.as_str().len(), grant.held)),
+        Row::Grant(grant) => Some((grant.uid, grant.text.as_str().len(), grant.held)),
         _ => None,
     }
 }

@@ -14,6 +14,14 @@ use std::marker::Brand;
 use std::sync::ledger::{Blank, Ledger};
 use std::test::Fail;
 
+/// Pending intents that are tried, and the steps that they take.
+#[derive(Drop)]
+struct Bench<L: Ledger> {
+    alloc: Global,
+    pending: Pending,
+    steps: Steps<L>,
+}
+
 /// The step at that place of a table, and what is answered to it.
 fn step(table: &'static str, place: usize) -> (&'static str, &'static str) {
     let row = table.lines().nth(place).unwrap_or("");
@@ -149,24 +157,20 @@ fn shown(alloc: Global, used: &Used) -> Result<String, AllocError> {
     Ok(words)
 }
 
-fn got<L: Ledger>(
-    alloc: Global,
-    pending: &mut Pending,
-    line: &str,
-    steps: &mut Steps<L>,
-) -> Result<String, AllocError>
-    requires { pending.old.next ≤ 1125899906842624 }
-    ensures { pending.new.next ≤ pending.old.next + 1 }
+fn got<L: Ledger>(bench: &mut Bench<L>, line: &str) -> Result<String, AllocError>
+    requires { bench.old.pending.next ≤ 1125899906842624 }
+    ensures { bench.new.pending.next ≤ bench.old.pending.next + 1 }
 {
+    let alloc = bench.alloc;
     let asked = intent(alloc, word(line, 4), extras(alloc, word(line, 5))?)?;
     let code = word(line, 3).parse::<i64>().unwrap_or(0);
-    match pending.get(
+    match bench.pending.get(
         uid(line, 1),
         kind(word(line, 6)),
         code,
         asked,
         flags(word(line, 2)),
-        steps,
+        &mut bench.steps,
     ) {
         Ok(Some(token)) => format!(in alloc; "{token}"),
         Ok(None) => String::from_str(alloc, "none"),
@@ -174,14 +178,16 @@ fn got<L: Ledger>(
     }
 }
 
-fn used<L: Ledger>(
-    alloc: Global,
-    pending: &Pending,
-    line: &str,
-    steps: &mut Steps<L>,
-) -> Result<String, AllocError> {
+fn used<L: Ledger>(bench: &mut Bench<L>, line: &str) -> Result<String, AllocError>
+    ensures { bench.new.pending.next ≡ bench.old.pending.next }
+{
+    let alloc = bench.alloc;
     let fill = unaimed(alloc, extras(alloc, word(line, 3))?);
-    let answer = match pending.use_token(token(line), uid(line, 2), Some(&fill), steps) {
+    let (token, by) = (token(line), uid(line, 2));
+    let used = bench
+        .pending
+        .use_token(token, by, Some(&fill), &mut bench.steps);
+    let answer = match used {
         Ok(used) => {
             let words = shown(alloc, &used);
             drop(used);
@@ -194,42 +200,37 @@ fn used<L: Ledger>(
 }
 
 /// What is answered to a line.
-fn said<L: Ledger>(
-    alloc: Global,
-    pending: &mut Pending,
-    line: &str,
-    steps: &mut Steps<L>,
-) -> Result<String, AllocError>
-    requires { pending.old.next ≤ 1125899906842624 }
-    ensures { pending.new.next ≤ pending.old.next + 1 }
+fn said<L: Ledger>(bench: &mut Bench<L>, line: &str) -> Result<String, AllocError>
+    requires { bench.old.pending.next ≤ 1125899906842624 }
+    ensures { bench.new.pending.next ≤ bench.old.pending.next + 1 }
 {
+    let (token, by) = (token(line), uid(line, 2));
     let answer = match word(line, 0) {
-        "get" => return got(alloc, pending, line, steps),
-        "use" => return used(alloc, pending, line, steps),
-        "cancel" => done(pending.cancel(token(line), uid(line, 2), steps)),
-        "give" => done(pending.give(token(line), uid(line, 2), uid(line, 3), steps)),
+        "get" => return got(bench, line),
+        "use" => return used(bench, line),
+        "cancel" => done(bench.pending.cancel(token, by, &mut bench.steps)),
+        "give" => done(
+            bench
+                .pending
+                .give(token, by, uid(line, 3), &mut bench.steps),
+        ),
         "forget" => {
-            pending.forget_uid(uid(line, 1));
+            bench.pending.forget_uid(uid(line, 1));
             "done"
         }
         _ => "what?",
     };
-    String::from_str(alloc, answer)
+    String::from_str(bench.alloc, answer)
 }
 
 /// The place of the first step whose answer isn't the one that was written, or the number of steps.
-fn first_wrong<L: Ledger>(
-    alloc: Global,
-    pending: &mut Pending,
-    table: &'static str,
-    steps: &mut Steps<L>,
-) -> Result<usize, AllocError>
-    requires { pending.old.next ≤ 2001 }
+fn first_wrong<L: Ledger>(bench: &mut Bench<L>, table: &'static str) -> Result<usize, AllocError>
+    requires { bench.old.pending.next ≤ 2001 }
 {
     let count = table.lines().count().min(100);
     for i in 0..count {
         let (line, wanted) = step(table, i);
-        let answer = said(alloc, pending, line, steps)?;
+        let answer = said(bench, line)?;
         if answer.as_str() != wanted {
             return Ok(i);
         }
@@ -237,36 +238,35 @@ fn first_wrong<L: Ledger>(
     Ok(count)
 }
 
-/// Whether a record is made for that code.
-fn is_made<L: Ledger>(
-    alloc: Global,
-    pending: &mut Pending,
-    code: u32,
-    steps: &mut Steps<L>,
-) -> Result<bool, AllocError>
-    requires { pending.old.next ≤ 1125899906842624 }
-    ensures { pending.new.next ≤ pending.old.next + 1 }
+/// The token of a creator's record for that code and intent, which may be filled in.
+fn got_by<L: Ledger>(
+    bench: &mut Bench<L>,
+    code: i64,
+    asked: Intent,
+) -> Result<Option<u64>, PendingFault>
+    requires { bench.old.pending.next ≤ 1125899906842624 }
+    ensures { bench.new.pending.next ≤ bench.old.pending.next + 1 }
 {
-    let asked = intent(alloc, "x.P", List::new(Vec::new(alloc)))?;
-    let code = i64::from(code);
-    Ok(
-        pending
-            .get(10000, Kind::Receiver, code, asked, flags("m"), steps)
-            .is_ok(),
-    )
+    let flags = flags("m");
+    bench.pending.get(10000, Kind::Receiver, code, asked, flags, &mut bench.steps)
+}
+
+/// Whether a record is made for that code.
+fn is_made<L: Ledger>(bench: &mut Bench<L>, code: u32) -> Result<bool, AllocError>
+    requires { bench.old.pending.next ≤ 1125899906842624 }
+    ensures { bench.new.pending.next ≤ bench.old.pending.next + 1 }
+{
+    let asked = intent(bench.alloc, "x.P", List::new(Vec::new(bench.alloc)))?;
+    Ok(got_by(bench, i64::from(code), asked).is_ok())
 }
 
 /// How many of 1,030 records of a creator are made.
-fn records_made<L: Ledger>(
-    alloc: Global,
-    pending: &mut Pending,
-    steps: &mut Steps<L>,
-) -> Result<usize, AllocError>
-    requires { pending.old.next ≤ 1 }
+fn records_made<L: Ledger>(bench: &mut Bench<L>) -> Result<usize, AllocError>
+    requires { bench.old.pending.next ≤ 1 }
 {
     let mut made = 0usize;
     for code in 0..1030u32 {
-        if is_made(alloc, pending, code, steps)? {
+        if is_made(bench, code)? {
             made += 1;
         }
     }
@@ -274,10 +274,13 @@ fn records_made<L: Ledger>(
 }
 
 /// How many of 70 holders of one record are taken.
-fn holders_taken<L: Ledger>(pending: &mut Pending, steps: &mut Steps<L>) -> usize {
+fn holders_taken<L: Ledger>(bench: &mut Bench<L>) -> usize {
     let mut held = 0usize;
     for to in 0..70u32 {
-        if pending.give(1000, 10000, 20000 + to, steps).is_ok() {
+        let given = bench
+            .pending
+            .give(1000, 10000, 20000 + to, &mut bench.steps);
+        if given.is_ok() {
             held += 1;
         }
     }
@@ -291,32 +294,23 @@ fn categorized(alloc: Global, number: u32) -> Result<Intent, AllocError> {
 }
 
 /// Whether the record of that category has the token that comes after its number.
-fn is_numbered<L: Ledger>(
-    alloc: Global,
-    pending: &mut Pending,
-    number: u32,
-    steps: &mut Steps<L>,
-) -> Result<bool, AllocError>
-    requires { pending.old.next ≤ 1125899906842624 }
-    ensures { pending.new.next ≤ pending.old.next + 1 }
+fn is_numbered<L: Ledger>(bench: &mut Bench<L>, number: u32) -> Result<bool, AllocError>
+    requires { bench.old.pending.next ≤ 1125899906842624 }
+    ensures { bench.new.pending.next ≤ bench.old.pending.next + 1 }
 {
-    let asked = categorized(alloc, number)?;
-    let got = pending.get(10000, Kind::Receiver, 0, asked, flags("m"), steps);
+    let asked = categorized(bench.alloc, number)?;
+    let got = got_by(bench, 0, asked);
     Ok(got == Ok(Some(u64::from(number) + 1)))
 }
 
 /// How many of 1,024 categories have records with the tokens that come after their numbers.
-fn numbered<L: Ledger>(
-    alloc: Global,
-    pending: &mut Pending,
-    steps: &mut Steps<L>,
-) -> Result<usize, AllocError>
-    requires { pending.old.next ≤ 1025 }
-    ensures { pending.new.next ≤ pending.old.next + 1024 }
+fn numbered<L: Ledger>(bench: &mut Bench<L>) -> Result<usize, AllocError>
+    requires { bench.old.pending.next ≤ 1025 }
+    ensures { bench.new.pending.next ≤ bench.old.pending.next + 1024 }
 {
     let mut right = 0usize;
     for number in 0..1024u32 {
-        if is_numbered(alloc, pending, number, steps)? {
+        if is_numbered(bench, number)? {
             right += 1;
         }
     }
@@ -324,19 +318,15 @@ fn numbered<L: Ledger>(
 }
 
 /// How many of 2,000 records are made and ended in turn.
-fn ended_in_turn<L: Ledger>(
-    alloc: Global,
-    pending: &mut Pending,
-    steps: &mut Steps<L>,
-) -> Result<usize, AllocError>
-    requires { pending.old.next ≤ 1 }
-    ensures { pending.new.next ≤ 2001 }
+fn ended_in_turn<L: Ledger>(bench: &mut Bench<L>) -> Result<usize, AllocError>
+    requires { bench.old.pending.next ≤ 1 }
+    ensures { bench.new.pending.next ≤ 2001 }
 {
     let mut ended = 0usize;
     for code in 0..2000u32 {
-        let made = is_made(alloc, pending, code, steps)?;
+        let made = is_made(bench, code)?;
         let token = u64::from(code) + 1;
-        if made && pending.cancel(token, 10000, steps).is_ok() {
+        if made && bench.pending.cancel(token, 10000, &mut bench.steps).is_ok() {
             ended += 1;
         }
     }
@@ -357,31 +347,14 @@ enum Trial {
 }
 
 /// The two numbers of a trial.
-fn numbers<L: Ledger>(
-    alloc: Global,
-    trial: Trial,
-    pending: &mut Pending,
-    steps: &mut Steps<L>,
-) -> Result<(usize, usize), AllocError>
-    requires { pending.old.next ≤ 1 }
+fn numbers<L: Ledger>(bench: &mut Bench<L>, trial: Trial) -> Result<(usize, usize), AllocError>
+    requires { bench.old.pending.next ≤ 1 }
 {
     match trial {
-        Trial::Table => {
-            let wrong = first_wrong(alloc, pending, STEPS, steps)?;
-            Ok((STEPS.lines().count(), wrong))
-        }
-        Trial::Limits => {
-            let made = records_made(alloc, pending, steps)?;
-            Ok((made, holders_taken(pending, steps)))
-        }
-        Trial::Categories => {
-            let new = numbered(alloc, pending, steps)?;
-            Ok((new, numbered(alloc, pending, steps)?))
-        }
-        Trial::AfterMany => {
-            let ended = ended_in_turn(alloc, pending, steps)?;
-            Ok((ended, first_wrong(alloc, pending, AFTER_MANY, steps)?))
-        }
+        Trial::Table => Ok((STEPS.lines().count(), first_wrong(bench, STEPS)?)),
+        Trial::Limits => Ok((records_made(bench)?, holders_taken(bench))),
+        Trial::Categories => Ok((numbered(bench)?, numbered(bench)?)),
+        Trial::AfterMany => Ok((ended_in_turn(bench)?, first_wrong(bench, AFTER_MANY)?)),
     }
 }
 
@@ -394,11 +367,13 @@ fn counted<L: Ledger>(
     requires parts { blank.parts ≡ L.parts }
     requires some { 0 < blank.parts }
 {
-    let mut steps = Steps::<L>::new(blank);
-    let mut pending = Pending::new(alloc);
-    let found = numbers(alloc, trial, &mut pending, &mut steps);
-    drop(pending);
-    drop(steps);
+    let mut bench = Bench {
+        alloc,
+        pending: Pending::new(alloc),
+        steps: Steps::<L>::new(blank),
+    };
+    let found = numbers(&mut bench, trial);
+    drop(bench);
     found
 }
 

@@ -7,7 +7,7 @@ use am_keeper::{
     Attached, KeepFail, Keeper, MemoryKeeper, MemoryStore, Row, Rows, RowsBuilder, Store,
     StoredRows,
 };
-use am_trials_runs::{QUIET, Runtime, asked_over, run_over};
+use am_trials_runs::{Asked, QUIET, Runtime, asked_over, run_over};
 use am_trials_spelling::{Exchanged, session_of};
 use am_trials_words::try_sections;
 use am_types::{List, Text};
@@ -227,7 +227,8 @@ fn try_answers(
     store: &mut FailingStore,
 ) -> Result<(), Fail> {
     let Exchanged { input, wanted, .. } = session_of(alloc, rows)?;
-    let left = run_over(rt, alloc, WORDS, BARE, input.as_bytes(), &QUIET, store)?;
+    let asked = Asked::new(WORDS, BARE, input.as_bytes());
+    let left = run_over(rt, alloc, &asked, &QUIET, store)?;
     assert_eq!(rt; left.output.taken(), wanted.as_bytes(), "{rows}");
     assert_eq!(rt; left.status, 0, "{rows}");
     assert_eq!(rt; store.faults, if store.call < 5 { 1 } else { 0 }, "{rows}");

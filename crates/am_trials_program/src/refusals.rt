@@ -36,13 +36,8 @@ fn refuses_heads(rt: HostRuntime) -> Result<(), Fail> {
 #[test]
 fn refuses_bodies(rt: HostRuntime) -> Result<(), Fail> {
     let alloc = rt.alloc();
-    refuses(
-        &rt,
-        alloc,
-        b"POST / HTTP/1.1\r\n\r\n",
-        411,
-        "length_required",
-    )?;
+    let bare = b"POST / HTTP/1.1\r\n\r\n";
+    refuses(&rt, alloc, bare, 411, "length_required")?;
     let large = b"POST / HTTP/1.1\r\nContent-Length: 65537\r\n\r\n";
     refuses(&rt, alloc, large, 413, "body_too_large")
 }

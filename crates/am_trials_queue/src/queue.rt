@@ -154,16 +154,9 @@ fn push_item(shown: &mut String, item: &Item) -> Result<(), AllocError> {
     }
 }
 
-fn show_items(alloc: Global, items: &[Item]) -> Result<String, AllocError> {
-    listed(alloc, items, ",", |shown, item| push_item(shown, item))
-}
-
 fn show_inbox(alloc: Global, queues: &Queues, uid: u32) -> Result<String, Fail> {
-    let shown = lent(
-        queues.inbox(uid)?,
-        |items| show_items(alloc, items.as_slice()),
-    );
-    Ok(shown?)
+    let items = queues.inbox(uid)?;
+    Ok(listed(alloc, items, ",", |shown, item| push_item(shown, item))?)
 }
 
 fn is_due<L: Ledger>(blank: Blank, queues: &Queues, now: u64) -> bool
@@ -263,12 +256,16 @@ fn seen(alloc: Global, queues: &mut Queues, history: &str, copying: bool) -> Res
     Ok(all)
 }
 
+/// What is made of queues that are empty at first.
+fn anew<R, F: FnOnce(&mut Queues) -> R>(alloc: Global, make: F) -> R
+    requires { F.IsAlwaysCallable make }
+{
+    lent(Queues::new(alloc), make)
+}
+
 /// What is seen of a history that begins with empty queues.
 fn seen_anew(alloc: Global, history: &str, copying: bool) -> Result<String, Fail> {
-    lent(
-        Queues::new(alloc),
-        |queues| seen(alloc, queues, history, copying),
-    )
+    anew(alloc, |queues| seen(alloc, queues, history, copying))
 }
 
 #[test]
@@ -311,10 +308,7 @@ fn try_64(rt: &impl Abort, alloc: Global, queues: &mut Queues, word: &str) -> Re
 #[test]
 fn a_sender_has_64_live_broadcasts(rt: HostRuntime) -> Result<(), Fail> {
     for word in ["n:0:p", "o:0:p", "w:0:p"] {
-        lent(
-            Queues::new(rt.alloc()),
-            |queues| try_64(&rt, rt.alloc(), queues, word),
-        )?;
+        anew(rt.alloc(), |queues| try_64(&rt, rt.alloc(), queues, word))?;
     }
     Ok(())
 }
@@ -331,10 +325,7 @@ fn try_late(rt: &impl Abort, alloc: Global, queues: &mut Queues) -> Result<(), F
 
 #[test]
 fn a_sender_sends_again_once_its_broadcasts_are_late(rt: HostRuntime) -> Result<(), Fail> {
-    lent(
-        Queues::new(rt.alloc()),
-        |queues| try_late(&rt, rt.alloc(), queues),
-    )
+    anew(rt.alloc(), |queues| try_late(&rt, rt.alloc(), queues))
 }
 
 /// What a sending to so many receivers shows.
@@ -363,10 +354,7 @@ fn try_many(rt: &impl Abort, alloc: Global, queues: &mut Queues, kind: u8) -> Re
 #[test]
 fn a_broadcast_has_1024_receivers(rt: HostRuntime) -> Result<(), Fail> {
     for kind in [b'n', b'o'] {
-        lent(
-            Queues::new(rt.alloc()),
-            |queues| try_many(&rt, rt.alloc(), queues, kind),
-        )?;
+        anew(rt.alloc(), |queues| try_many(&rt, rt.alloc(), queues, kind))?;
     }
     Ok(())
 }
@@ -383,8 +371,5 @@ fn try_thousand(rt: &impl Abort, alloc: Global, queues: &mut Queues) -> Result<(
 
 #[test]
 fn a_thousand_deliveries_are_due_at_once(rt: HostRuntime) -> Result<(), Fail> {
-    lent(
-        Queues::new(rt.alloc()),
-        |queues| try_thousand(&rt, rt.alloc(), queues),
-    )
+    anew(rt.alloc(), |queues| try_thousand(&rt, rt.alloc(), queues))
 }

@@ -42,6 +42,24 @@ pub const QUIET: Outside = Outside {
     step: 1,
 };
 
+/// What a run begins with: its words, the device file `d`, and what comes from its input.
+#[derive(Drop)]
+pub struct Asked<'a> {
+    words: &'a str,
+    device: &'a str,
+    input: &'a [u8],
+}
+
+impl<'a> Asked<'a> {
+    pub fn new(words: &'a str, device: &'a str, input: &'a [u8]) -> Asked<'a> {
+        Asked {
+            words,
+            device,
+            input,
+        }
+    }
+}
+
 /// What a run leaves: its status, its output and its errors.
 pub struct Left {
     pub status: u8,
@@ -146,20 +164,17 @@ pub fn store(alloc: Global, outside: &Outside) -> Result<MemoryStore, NoMemory> 
     Ok(MemoryStore::new(alloc, List::new(places), calls))
 }
 
-/// Runs the words over the device file `d`, the input, a network without links, and a store with a package at the place
-/// `p`.
+/// Runs what is asked over a network without links, and a store with a package at the place `p`.
 pub fn try_run(
     rt: &impl Runtime,
     alloc: Global,
-    words: &str,
-    device: &str,
-    input: &[u8],
+    asked: &Asked<'_>,
     outside: &Outside,
 ) -> Result<Left, NoMemory>
     requires { 0 < outside.now.most }
 {
     let mut store = store(alloc, outside)?;
-    run_over(rt, alloc, words, device, input, outside, &mut store)
+    run_over(rt, alloc, asked, outside, &mut store)
 }
 
 /// A session over the device with that input.
@@ -172,16 +187,15 @@ pub fn session_over(
 ) -> Result<Left, NoMemory>
     requires { 0 < outside.now.most }
 {
-    try_run(rt, alloc, "session --device d", device, input, outside)
+    let asked = Asked::new("session --device d", device, input);
+    try_run(rt, alloc, &asked, outside)
 }
 
-/// Runs the words over the device file `d`, the input, a network without links, and the store.
+/// Runs what is asked over a network without links, and the store.
 pub fn run_over<T: Store>(
     rt: &impl Runtime,
     alloc: Global,
-    words: &str,
-    device: &str,
-    input: &[u8],
+    asked: &Asked<'_>,
     outside: &Outside,
     store: &mut T,
 ) -> Result<Left, NoMemory>
@@ -190,16 +204,7 @@ where
     requires { 0 < outside.now.most }
 {
     let mut network = network_of(alloc, List::new(Vec::new(alloc)), outside)?;
-    run_on(
-        rt,
-        alloc,
-        words,
-        device,
-        input,
-        outside,
-        store,
-        &mut network,
-    )
+    run_on(rt, alloc, asked, outside, store, &mut network)
 }
 
 /// Runs the words over the device file `d`, the call, a network without links, and the store.
@@ -213,16 +218,15 @@ pub fn asked_over(
 ) -> Result<Left, Fail> {
     let mut input = String::new(alloc);
     push_frame(&mut input, call)?;
-    Ok(run_over(rt, alloc, words, device, input.as_bytes(), &QUIET, store)?)
+    let asked = Asked::new(words, device, input.as_bytes());
+    Ok(run_over(rt, alloc, &asked, &QUIET, store)?)
 }
 
-/// Runs the words over the device file `d`, the input, the store and the network.
+/// Runs what is asked over the store and the network.
 pub fn run_on<R: Runtime, N: Network, T: Store>(
     rt: &R,
     alloc: Global,
-    words: &str,
-    device: &str,
-    input: &[u8],
+    asked: &Asked<'_>,
     outside: &Outside,
     store: &mut T,
     network: &mut N,
@@ -231,12 +235,12 @@ where
     T::Kept: Send,
     requires { 0 < outside.now.most }
 {
-    let words = texts(alloc, words, "")?;
-    let mut files = shelf(alloc, device, outside)?;
-    let room = input.len().saturating_mul(8).saturating_add(65_536);
+    let words = texts(alloc, asked.words, "")?;
+    let mut files = shelf(alloc, asked.device, outside)?;
+    let room = asked.input.len().saturating_mul(8).saturating_add(65_536);
     let mut output = sink(alloc, "output", room, outside)?;
     let mut errors = sink(alloc, "errors", 4096, outside)?;
-    let mut input = source(alloc, input, outside)?;
+    let mut input = source(alloc, asked.input, outside)?;
     let mut clock = StepClock::new(outside.at, outside.step);
     let status = run(
         rt,

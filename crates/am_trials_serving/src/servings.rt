@@ -9,7 +9,7 @@ use crate::sessions::{device_file, text_of, try_end};
 use am_keeper::MemoryStore;
 use am_network::{GatePlan, LinkPlan, MemoryGate, MemoryLink, MemoryNetwork};
 use am_trials_runs::{
-    Outside, QUIET, Runtime, asked_over, network_of, run_on, sink, source, store,
+    Asked, Outside, QUIET, Runtime, asked_over, network_of, run_on, sink, source, store,
 };
 use am_trials_words::{parts, try_sections};
 use am_types::List;
@@ -196,8 +196,8 @@ fn try_serving(
     let (run, wanted, output) = parts(head);
     let (device, words) = run.split_once(' ').ok_or("words")?;
     let mut network = network(alloc, gates)?;
-    let device = device_file(device);
-    let left = run_on(rt, alloc, words, device, b"", &QUIET, store, &mut network)?;
+    let asked = Asked::new(words, device_file(device), b"");
+    let left = run_on(rt, alloc, &asked, &QUIET, store, &mut network)?;
     try_end(rt, alloc, &left, wanted, output, head)?;
     try_gates(rt, alloc, &network, gates)
 }

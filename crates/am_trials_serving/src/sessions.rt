@@ -4,7 +4,7 @@ ghost use Rattle.std.specs.Prelude.{◌<◌};
 mod rows;
 
 use self::rows::ROWS;
-use am_trials_runs::{Left, Outside, QUIET, Runtime, try_run};
+use am_trials_runs::{Asked, Left, Outside, QUIET, Runtime, try_run};
 use am_trials_spelling::{EMPTY, spelled_out};
 use am_trials_words::{parts, try_each};
 use std::alloc::Global;
@@ -124,14 +124,8 @@ fn try_row(rt: &(impl Runtime + Abort), alloc: Global, row: &str) -> Result<(), 
     let (wanted, output) = rest.split_once(" | ").ok_or("an output")?;
     let input = text_of(alloc, input)?;
     let outside = failing(object(name));
-    let left = try_run(
-        rt,
-        alloc,
-        words,
-        device_file(device),
-        input.as_slice(),
-        &outside,
-    )?;
+    let asked = Asked::new(words, device_file(device), input.as_slice());
+    let left = try_run(rt, alloc, &asked, &outside)?;
     try_end(rt, alloc, &left, wanted, output, row)
 }
 

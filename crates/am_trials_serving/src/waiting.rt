@@ -4,7 +4,7 @@ ghost use Rattle.std.specs.Io.{ReadsAtMost};
 
 use am_network::{Acceptor, ListenFail, Network};
 use am_outside::{Failed, MemorySink, MemorySource, Sink, Source};
-use am_trials_runs::{QUIET, Runtime, run_on, sink, source, store};
+use am_trials_runs::{Asked, QUIET, Runtime, run_on, sink, source, store};
 use am_trials_spelling::EMPTY;
 use std::alloc::Global;
 use std::collections::VecDeque;
@@ -291,16 +291,8 @@ fn try_waiting(rt: &(impl Runtime + Abort), alloc: Global, waiting: u32) -> Resu
     let mut network = pair_of(alloc, waiting)?;
     let mut store = store(alloc, &QUIET)?;
     let words = "serve --device d --port 1 --workers 2 --connections 1";
-    let left = run_on(
-        rt,
-        alloc,
-        words,
-        EMPTY,
-        b"",
-        &QUIET,
-        &mut store,
-        &mut network,
-    )?;
+    let asked = Asked::new(words, EMPTY, b"");
+    let left = run_on(rt, alloc, &asked, &QUIET, &mut store, &mut network)?;
     assert!(rt; left.is(0, b"history 2 served 2\n", b""), "{words}");
     try_places(rt, network.released.as_slice(), waiting)
 }

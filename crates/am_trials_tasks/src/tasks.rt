@@ -175,18 +175,10 @@ fn tell_task(told: &mut String, task: &TaskView) -> Result<(), AllocError> {
     tell_instances(told, task.instances.as_slice())
 }
 
-/// The tasks with blanks between them, or a hyphen if there are none.
-fn tell_tasks(alloc: Global, tasks: &[TaskView]) -> Result<String, AllocError> {
-    listed(alloc, tasks, " ", |told, task| tell_task(told, task))
-}
-
-/// The tasks that the uid sees.
+/// The tasks that the uid sees, with blanks between them, or a hyphen if there are none.
 fn told(alloc: Global, tasks: &Tasks, uid: u32) -> Result<String, NoMemory> {
-    let told = lent(
-        tasks.views(uid)?,
-        |views| tell_tasks(alloc, views.as_slice()),
-    );
-    Ok(told?)
+    let views = tasks.views(uid)?;
+    Ok(listed(alloc, views, " ", |told, task| tell_task(told, task))?)
 }
 
 /// The answer of the call, and the tasks after it as its uid sees them: that of `views`, else the

@@ -7,10 +7,11 @@ ghost use Rattle.am_model.specs.Sound.{IsSound};
 use self::documents::{ASKED, DEVICE, FILES, SEEN};
 use am_queries::{Described, read_described};
 use am_resolve::Board;
+use am_trials_words::devices::two_mains;
 use am_trials_words::{number, parts, try_each};
-use am_types::{List, ManifestFault, NoMemory, Queries, Text};
+use am_types::{List, ManifestFault, NoMemory, Queries, Text, Unmade};
 use am_visible::{VisibleFault, answer, answer_file, sees};
-use am_wire_fields::{Unread, WireFault};
+use am_wire_fields::WireFault;
 use std::alloc::{AllocError, Global};
 use std::test::Fail;
 
@@ -114,12 +115,12 @@ fn answer_to_uid(
     };
     match answer(alloc, known, uid, question) {
         Ok(line) => line_of(alloc, &line),
-        Err(Unread::Fault(fault)) => {
+        Err(Unmade::Fault(fault)) => {
             let words = query_refused(alloc, &fault);
             drop(fault);
             words
         }
-        Err(Unread::NoMemory) => String::from_str(alloc, "out of memory"),
+        Err(Unmade::NoMemory) => String::from_str(alloc, "out of memory"),
     }
 }
 
@@ -149,7 +150,7 @@ fn packages_are_answered(rt: HostRuntime) -> Result<(), Fail> {
 #[test]
 fn files_are_asked(rt: HostRuntime) -> Result<(), Fail> {
     let alloc = rt.alloc();
-    let mut document = String::new(alloc);
+    let mut document = two_mains(alloc)?;
     for line in FILES.lines() {
         if let Some(row) = line.strip_prefix("? ") {
             let (name, question, wanted) = parts(row);

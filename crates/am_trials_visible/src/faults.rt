@@ -5,7 +5,7 @@ mod documents;
 use self::documents::{ASKING, FILES, TABLES};
 use am_manifest::read_device;
 use am_queries::read_queries;
-use am_trials_words::{spelled_out, try_answers, try_documents};
+use am_trials_words::{spelled_between, try_answers, try_documents, with_choices};
 use am_types::{List, Queries, Signature, Text};
 use std::alloc::{AllocError, Global};
 use std::test::Fail;
@@ -24,16 +24,15 @@ fn outcome(alloc: Global, document: &str) -> Result<String, AllocError> {
 
 /// The device file of one package whose manifest has that table `queries`, in which `<3:a>` is spelled out.
 fn device_with(alloc: Global, queries: &str) -> Result<String, AllocError> {
-    let mut all = String::from_str(alloc, "system_key = \"s\"\npackage = [{ key = \"k\", ")?;
-    all.push_str("manifest = { package = \"p\", queries = ")?;
-    all.push_str(spelled_out(alloc, queries)?.as_str())?;
-    all.push_str(" } }]\n")?;
-    Ok(all)
+    let front =
+        "system_key = \"s\"\npackage = [{ key = \"k\", manifest = { package = \"p\", queries = ";
+    spelled_between(alloc, front, queries, " } }]\n")
 }
 
 #[test]
 fn tables_are_read_or_have_a_first_fault(rt: HostRuntime) -> Result<(), Fail> {
-    try_answers(TABLES, " => ", 109, |queries| {
+    let tables = with_choices(rt.alloc(), TABLES)?;
+    try_answers(tables.as_str(), " => ", 109, |queries| {
         let document = device_with(rt.alloc(), queries)?;
         Ok(outcome(rt.alloc(), document.as_str())?)
     })
@@ -52,7 +51,12 @@ fn is_read(alloc: Global, document: &str) -> bool {
 #[test]
 fn a_device_is_read_without_its_queries(rt: HostRuntime) -> Result<(), Fail> {
     let alloc = rt.alloc();
-    for line in TABLES.lines().filter(|line| !line.ends_with("not_toml")) {
+    let tables = with_choices(alloc, TABLES)?;
+    for line in tables
+        .as_str()
+        .lines()
+        .filter(|line| !line.ends_with("not_toml"))
+    {
         let (queries, _) = line.split_once(" => ").unwrap_or((line, ""));
         let document = device_with(alloc, queries)?;
         assert!(rt; is_read(alloc, document.as_str()), "{line}");

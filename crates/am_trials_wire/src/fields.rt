@@ -3,7 +3,7 @@ mod bodies;
 
 use self::bodies::BODIES;
 use am_trials_words::{spelled_out, try_answers};
-use am_types::{MimeFault, UriFault};
+use am_types::{MimeFault, Unmade, UriFault};
 use am_uri::Form;
 use am_wire_fields::{
     Unread, WireFault, json_value, only_fields, optional_list, optional_natural, optional_texts,
@@ -82,8 +82,8 @@ fn printed(alloc: Global, fault: WireFault) -> Result<String, AllocError> {
 fn outcome(alloc: Global, body: &[u8]) -> Result<String, AllocError> {
     match read(alloc, body) {
         Ok(told) => Ok(told),
-        Err(Unread::Fault(fault)) => printed(alloc, fault),
-        Err(Unread::NoMemory) => Err(AllocError),
+        Err(Unmade::Fault(fault)) => printed(alloc, fault),
+        Err(Unmade::NoMemory) => Err(AllocError),
     }
 }
 

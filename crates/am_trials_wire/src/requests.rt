@@ -5,9 +5,9 @@ mod shown;
 use self::rows::ROWS;
 use self::shown::shown;
 use crate::endpoints::parts_of;
-use am_trials_words::try_each;
+use am_trials_words::{try_each, with_choices};
+use am_types::Unmade;
 use am_wire::read_request;
-use am_wire_fields::Unread;
 use am_wire_routes::Endpoint;
 use std::alloc::Global;
 use std::process::Abort;
@@ -93,12 +93,12 @@ fn outcome(alloc: Global, endpoint: Endpoint, body: &str) -> Result<String, Fail
             drop(request);
             words
         }
-        Err(Unread::Fault(fault)) => {
+        Err(Unmade::Fault(fault)) => {
             let words = fault.to_string(alloc);
             drop(fault);
             Ok(words?)
         }
-        Err(Unread::NoMemory) => Err(Fail::new("out of memory")),
+        Err(Unmade::NoMemory) => Err(Fail::new("out of memory")),
     }
 }
 
@@ -114,5 +114,6 @@ fn try_row(rt: &impl Abort, alloc: Global, row: &str) -> Result<(), Fail> {
 
 #[test]
 fn bodies(rt: HostRuntime) -> Result<(), Fail> {
-    try_each(ROWS, 647, |row| try_row(&rt, rt.alloc(), row))
+    let rows = with_choices(rt.alloc(), ROWS)?;
+    try_each(rows.as_str(), 647, |row| try_row(&rt, rt.alloc(), row))
 }

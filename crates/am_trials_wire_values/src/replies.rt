@@ -1,8 +1,9 @@
 //! Every reply and every rule, with status and value.
 mod rows;
 
-use self::rows::ROWS;
+use self::rows::{LIMITS, ROWS};
 use crate::parts::{component_a, full, no_outcome, none, outcome, small, try_lines};
+use am_trials_words::lent;
 use am_types::{
     Aim, Component, Entry, InstanceView, Item, ItemKind, Landed, Limit, List, ManifestFault,
     Placed, Receiving, Reply, Request, Rule, ServiceView, TaskView, Text,
@@ -204,24 +205,23 @@ fn refusal(n: u32, alloc: Global) -> Result<Rule, AllocError> {
         43 => Ok(Rule::HistoryFull),
         44 => Ok(Rule::KeeperFault),
         45 => Ok(Rule::BadManifest(ManifestFault::NotToml)),
-        46 => Ok(Rule::BadManifest(ManifestFault::Duplicate(Text::of(alloc, "android")?))),
-        _ => Ok(Rule::OverLimit(limit(n))),
+        _ => Ok(Rule::BadManifest(ManifestFault::Duplicate(Text::of(alloc, "android")?))),
     }
 }
 
 fn limit(n: u32) -> Limit {
     match n {
-        47 => Limit::Packages,
-        48 => Limit::Grants,
-        49 => Limit::Links,
-        50 => Limit::Registered,
-        51 => Limit::Broadcasts,
-        52 => Limit::Receivers,
-        53 => Limit::Pending,
-        54 => Limit::Holders,
-        55 => Limit::Extras,
-        56 => Limit::Tasks,
-        57 => Limit::Activities,
+        0 => Limit::Packages,
+        1 => Limit::Grants,
+        2 => Limit::Links,
+        3 => Limit::Registered,
+        4 => Limit::Broadcasts,
+        5 => Limit::Receivers,
+        6 => Limit::Pending,
+        7 => Limit::Holders,
+        8 => Limit::Extras,
+        9 => Limit::Tasks,
+        10 => Limit::Activities,
         _ => Limit::Services,
     }
 }
@@ -229,20 +229,31 @@ fn limit(n: u32) -> Limit {
 /// The status and the text of a reply.
 pub fn reply_line(alloc: Global, reply: Reply) -> Result<String, Fail> {
     let status = reply_status(&reply);
-    let text = reply_text(alloc, &reply);
-    drop(reply);
-    let text = text?;
+    let text = lent(reply, |reply| reply_text(alloc, reply))?;
     Ok(format!(in alloc; "{status} {text}")?)
 }
 
 #[test]
 fn every_reply_is_written(rt: HostRuntime) -> Result<(), Fail> {
-    let alloc = rt.alloc();
     try_lines(
         &rt,
-        alloc,
+        rt.alloc(),
         ROWS,
-        59,
-        |n| reply_line(alloc, answered(n, alloc)?),
+        47,
+        |n| reply_line(rt.alloc(), answered(n, rt.alloc())?),
     )
+}
+
+#[test]
+fn every_limit_is_written(rt: HostRuntime) -> Result<(), Fail> {
+    let alloc = rt.alloc();
+    let mut n: u32 = 0;
+    for name in LIMITS.split(' ') {
+        let found = reply_line(alloc, Reply::Refused(Rule::OverLimit(limit(n))))?;
+        let wanted = format!(in alloc; "429 {{\"error\":\"over_limit\",\"name\":\"{name}\"}}")?;
+        assert_eq!(rt; found.as_str(), wanted.as_str());
+        n = n.wrapping_add(1);
+    }
+    assert_eq!(rt; n, 12);
+    Ok(())
 }

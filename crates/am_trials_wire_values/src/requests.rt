@@ -5,7 +5,7 @@ use self::rows::ROWS;
 use crate::parts::{
     FILTER_WORDS, component_a, full, no_outcome, ordered, outcome, small, try_lines,
 };
-use am_trials_words::filter;
+use am_trials_words::{filter, lent};
 use am_types::{Answer, Kind, Ordered, PendingFlags, Request, Text};
 use am_wire_values::{request_value, route_of};
 use std::alloc::{AllocError, Global};
@@ -206,9 +206,7 @@ fn text_of(alloc: Global, request: &Request) -> Result<String, AllocError> {
 fn written(n: u32, alloc: Global) -> Result<String, Fail> {
     let request = asked(n, alloc)?;
     let route = route_of(&request);
-    let text = text_of(alloc, &request);
-    drop(request);
-    let text = text?;
+    let text = lent(request, |request| text_of(alloc, request))?;
     Ok(format!(in alloc; "{route} {text}")?)
 }
 

@@ -82,6 +82,25 @@ package = [
     ] } },
 ]";
 
+/// Adds a package with that key and its exported activity `.Main`, all as tables, whose last is a filter that lists
+/// nothing yet.
+fn push_main(file: &mut String, key: &str, package: &str) -> Result<(), AllocError> {
+    write!(file, "[[package]]\nkey = \"{key}\"\n")?;
+    write!(file, "[package.manifest]\npackage = \"{package}\"\n")?;
+    file.push_str("[[package.manifest.activity]]\nname = \".Main\"\nexported = true\n")?;
+    file.push_str("[[package.manifest.activity.intent-filter]]\n")
+}
+
+/// A device of two packages with an activity `.Main` each, of which the first takes an action. What comes behind it is
+/// of the other's filter.
+pub fn two_mains(alloc: Global) -> Result<String, AllocError> {
+    let mut file = String::from_str(alloc, "system_key = \"sys\"\n")?;
+    push_main(&mut file, "k1", "com.one")?;
+    file.push_str("action = [\"x.A\"]\n")?;
+    push_main(&mut file, "k2", "com.two")?;
+    Ok(file)
+}
+
 /// The device file with that browser, if there is one.
 pub fn with_browser(
     alloc: Global,

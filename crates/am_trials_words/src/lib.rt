@@ -9,7 +9,7 @@ mod tables;
 pub use self::filters::filter;
 use self::filters::mime;
 pub use self::lending::{filled, lent};
-pub use self::tables::{try_answers, try_documents, try_each, try_sections};
+pub use self::tables::{try_answers, try_documents, try_each, try_sections, with_choices};
 use am_types::{Component, Extra, Filter, Flags, Intent, Kind, List, Named, Text, Uri, UriFault};
 use am_uri::parse_uri;
 use std::alloc::{AllocError, Global};
@@ -229,17 +229,28 @@ pub fn spelled_out(alloc: Global, text: &str) -> Result<String, AllocError> {
     Ok(all)
 }
 
-/// The items as they are pushed, with that between each two of them; a hyphen if there are none.
-pub fn listed<T, F: FnMut(&mut String, &T) -> Result<(), AllocError>>(
+/// The text between these two, with the first `<3:a>` in it spelled out as `aaa`.
+pub fn spelled_between(
     alloc: Global,
-    items: &[T],
+    front: &str,
+    text: &str,
+    behind: &str,
+) -> Result<String, AllocError> {
+    let spelled = spelled_out(alloc, text)?;
+    format!(in alloc; "{front}{}{behind}", spelled.as_str())
+}
+
+/// The items as they are pushed, with that between each two of them; a hyphen if there are none. The list is dropped.
+pub fn listed<T: Drop, F: FnMut(&mut String, &T) -> Result<(), AllocError>>(
+    alloc: Global,
+    items: List<T>,
     between: &str,
     mut push: F,
 ) -> Result<String, AllocError>
     requires { F.IsAlwaysCallable push }
 {
     let mut all = String::new(alloc);
-    for item in items {
+    for item in items.as_slice() {
         if !all.is_empty() {
             all.push_str(between)?;
         }

@@ -1,6 +1,6 @@
 //! Tables of rows, sections and documents that are tried one after the other.
 use crate::spelled_out;
-use std::alloc::Global;
+use std::alloc::{AllocError, Global};
 use std::test::Fail;
 
 /// Tries each row of a table, of which there are as many as wanted. A line that begins with `#` is a remark, and no
@@ -16,7 +16,7 @@ pub fn try_each<F: FnMut(&str) -> Result<(), Fail>>(
 ) -> Result<(), Fail>
     requires { F.IsAlwaysCallable try_row }
 {
-    let mut rows: u32 = 0;
+    let mut rows: usize = 0;
     for row in table.lines() {
         if !row.starts_with('#') {
             try_row(row)?;
@@ -39,12 +39,10 @@ pub fn try_sections<F: FnMut(&str) -> Result<(), Fail>>(
 ) -> Result<(), Fail>
     requires { F.IsAlwaysCallable try_section }
 {
-    let mut sections: u32 = 0;
     for section in text.split(separator) {
         try_section(section)?;
-        sections = sections.wrapping_add(1);
     }
-    same_count(sections, wanted)
+    same_count(text.split(separator).count(), wanted)
 }
 
 /// Asks what each row of a table asks, which is answered by what stands behind the row's first separator. There are as
@@ -61,14 +59,12 @@ pub fn try_answers<F: FnMut(&str) -> Result<String, Fail>>(
 ) -> Result<(), Fail>
     requires { F.IsAlwaysCallable answer }
 {
-    let mut rows: u32 = 0;
     for row in table.lines() {
         let (asked, told) = row.split_once(separator).unwrap_or((row, "no row"));
         let found = answer(asked)?;
         same_text(found.as_str(), told, asked)?;
-        rows = rows.wrapping_add(1);
     }
-    same_count(rows, wanted)
+    same_count(table.lines().count(), wanted)
 }
 
 /// Asks what becomes of each document of a table, which is answered by the line behind it that begins with `= `. In a
@@ -99,8 +95,35 @@ pub fn try_documents<F: FnMut(&str) -> Result<String, Fail>>(
     Ok(())
 }
 
-fn same_count(found: u32, wanted: u32) -> Result<(), Fail> {
-    if found == wanted {
+/// Adds the row, or a row for each choice that it has.
+fn push_choices(rows: &mut String, row: &str) -> Result<(), AllocError> {
+    let Some((front, rest)) = row.split_once("<any ") else {
+        write!(rows, "{row}\n")?;
+        return Ok(());
+    };
+    let (choices, behind) = rest.split_once('>').unwrap_or((rest, ""));
+    for choice in choices.split(" or ") {
+        write!(rows, "{front}{choice}")?;
+        match behind.split_once("<it>") {
+            Some((middle, end)) => write!(rows, "{middle}{choice}{end}\n")?,
+            None => write!(rows, "{behind}\n")?,
+        }
+    }
+    Ok(())
+}
+
+/// The table with a row for each choice of a row: `<any 1 or 2>` in a row stands for either, and `<it>` behind that for
+/// the same again.
+pub fn with_choices(alloc: Global, table: &str) -> Result<String, AllocError> {
+    let mut rows = String::new(alloc);
+    for row in table.lines() {
+        push_choices(&mut rows, row)?;
+    }
+    Ok(rows)
+}
+
+fn same_count(found: usize, wanted: u32) -> Result<(), Fail> {
+    if found == wanted as usize {
         Ok(())
     } else {
         Err(Fail::new(format_args!("{found} of them, and not {wanted}")))

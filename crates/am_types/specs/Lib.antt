@@ -1,2 +1,3 @@
 pub mod Intents
 pub mod Printing
+pub mod Reading

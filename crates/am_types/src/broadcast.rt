@@ -1,6 +1,6 @@
 ghost use Rattle.std.specs.Prelude.{◌≡◌};
 
-use crate::{Component, Intent, List, Named, Rule, Text, copies};
+use crate::{Component, Intent, List, Named, Rule, Text, copy_parts};
 use std::alloc::AllocError;
 
 /// The result of an ordered broadcast so far.
@@ -15,11 +15,7 @@ impl Clone for Outcome {
     ghost is_clone = { λ x y. y ≡ x };
 
     fn clone(&self) -> Result<Outcome, AllocError> {
-        Ok(Outcome {
-            code: self.code,
-            text: copies::option(&self.text)?,
-            extras: copies::list(&self.extras)?,
-        })
+        copy_parts!(self, Outcome: option(text) list(extras); code)
     }
 }
 
@@ -34,10 +30,7 @@ impl Clone for Ordered {
     ghost is_clone = { λ x y. y ≡ x };
 
     fn clone(&self) -> Result<Ordered, AllocError> {
-        Ok(Ordered {
-            initial: self.initial.clone()?,
-            wanted: self.wanted,
-        })
+        copy_parts!(self, Ordered: value(initial); wanted)
     }
 }
 
@@ -53,10 +46,7 @@ impl Clone for Answer {
     ghost is_clone = { λ x y. y ≡ x };
 
     fn clone(&self) -> Result<Answer, AllocError> {
-        Ok(Answer {
-            set: copies::option(&self.set)?,
-            abort: self.abort,
-        })
+        copy_parts!(self, Answer: option(set); abort)
     }
 }
 
@@ -123,10 +113,7 @@ impl Clone for Spot {
     ghost is_clone = { λ x y. y ≡ x };
 
     fn clone(&self) -> Result<Spot, AllocError> {
-        Ok(Spot {
-            uid: self.uid,
-            aim: self.aim.clone()?,
-        })
+        copy_parts!(self, Spot: value(aim); uid)
     }
 }
 

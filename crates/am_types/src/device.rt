@@ -1,6 +1,6 @@
 ghost use Rattle.std.specs.Prelude.{◌≡◌};
 
-use crate::{Decl, List, Text, copies, drop_parts};
+use crate::{Decl, List, Text, copy_parts, drop_parts};
 use std::alloc::AllocError;
 
 /// An installed package.
@@ -24,13 +24,7 @@ impl Clone for Package {
     ghost is_clone = { λ x y. y ≡ x };
 
     fn clone(&self) -> Result<Package, AllocError> {
-        Ok(Package {
-            uid: self.uid,
-            name: self.name.clone()?,
-            key: self.key.clone()?,
-            stopped: self.stopped,
-            decls: copies::list(&self.decls)?,
-        })
+        copy_parts!(self, Package: value(name key) list(decls); uid stopped)
     }
 }
 
@@ -47,6 +41,15 @@ pub struct Link {
     pub uid: u32,
     /// In lower ASCII case.
     pub host: Text,
+}
+
+/// What a right of a package is to.
+#[derive(Clone, Copy)]
+pub enum RightKind {
+    /// To what a permission guards.
+    Permission,
+    /// To the web links of a host.
+    Host,
 }
 
 /// A device as its file describes it.

@@ -25,3 +25,50 @@ impl<T: Drop> From<AllocFailed<T>> for NoMemory {
         NoMemory
     }
 }
+
+/// Why nothing was made of what was given.
+#[derive(Debug, Drop)]
+pub enum Unmade<F> {
+    /// What is wrong with it: the first fault that is met.
+    Fault(F),
+    /// Memory ran out.
+    NoMemory,
+}
+
+impl<F> From<AllocError> for Unmade<F> {
+    ghost use Rattle.std.specs.Prelude.{◌≡◌};
+    ghost use Rattle.am_types.specs.declared.failure.Unmade.TheVariants as unmade;
+
+    ghost from_gives = { λ _ e. e ≡ unmade.NoMemory };
+
+    fn from(_error: AllocError) -> Unmade<F> {
+        Unmade::NoMemory
+    }
+}
+
+impl<F, T: Drop> From<AllocFailed<T>> for Unmade<F> {
+    ghost use Rattle.std.specs.Prelude.{◌≡◌};
+    ghost use Rattle.am_types.specs.declared.failure.Unmade.TheVariants as unmade;
+
+    ghost from_gives = { λ _ e. e ≡ unmade.NoMemory };
+
+    fn from(_error: AllocFailed<T>) -> Unmade<F> {
+        Unmade::NoMemory
+    }
+}
+
+/// As a line shows it: the fault, or `no_memory`.
+impl<F: fmt::Display> fmt::Display for Unmade<F> {
+    ghost use Rattle.am_types.specs.Printing.{printed_unmade};
+
+    ghost output = { printed_unmade F.output };
+
+    fn fmt<W: fmt::Write>(&self, f: &mut fmt::Formatter<W>) -> fmt::Result {
+        match self {
+            Unmade::Fault(fault) => fmt::Display::fmt(fault, f),
+            Unmade::NoMemory => f.write_str("no_memory"),
+        }
+    }
+}
+
+impl<F: fmt::Debug + fmt::Display + Drop> Error for Unmade<F> {}

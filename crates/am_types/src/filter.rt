@@ -1,6 +1,6 @@
 ghost use Rattle.std.specs.Prelude.{◌≡◌};
 
-use crate::{Glob, List, Mime, Text, copies, drop_parts};
+use crate::{Glob, List, Mime, Text, copy_parts, drop_parts};
 use std::alloc::AllocError;
 
 /// A host, and the port that goes with it, as a filter lists them.
@@ -15,10 +15,7 @@ impl Clone for Authority {
     ghost is_clone = { λ x y. y ≡ x };
 
     fn clone(&self) -> Result<Authority, AllocError> {
-        Ok(Authority {
-            host: self.host.clone()?,
-            port: self.port,
-        })
+        copy_parts!(self, Authority: value(host); port)
     }
 }
 
@@ -75,15 +72,7 @@ impl Clone for Filter {
     ghost is_clone = { λ x y. y ≡ x };
 
     fn clone(&self) -> Result<Filter, AllocError> {
-        Ok(Filter {
-            actions: copies::list(&self.actions)?,
-            categories: copies::list(&self.categories)?,
-            schemes: copies::list(&self.schemes)?,
-            authorities: copies::list(&self.authorities)?,
-            paths: copies::list(&self.paths)?,
-            types: copies::list(&self.types)?,
-            priority: self.priority,
-        })
+        copy_parts!(self, Filter: list(actions categories schemes authorities paths types); priority)
     }
 }
 

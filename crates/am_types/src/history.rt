@@ -1,6 +1,6 @@
 ghost use Rattle.std.specs.Prelude.{◌≡◌};
 
-use crate::{Reply, Request, drop_parts};
+use crate::{Reply, Request, copy_parts, drop_parts};
 use std::alloc::AllocError;
 
 /// A stored call in the history.
@@ -26,14 +26,7 @@ impl Clone for Entry {
     ghost is_clone = { λ x y. y ≡ x };
 
     fn clone(&self) -> Result<Entry, AllocError> {
-        Ok(Entry {
-            desk: self.desk,
-            uid: self.uid,
-            now: self.now,
-            weight: self.weight,
-            request: self.request.clone()?,
-            kept: self.kept,
-        })
+        copy_parts!(self, Entry: value(request); desk uid now weight kept)
     }
 }
 

@@ -1,6 +1,6 @@
 ghost use Rattle.std.specs.Prelude.{◌≡◌};
 
-use crate::{List, Mime, Text, Uri, copies, drop_parts};
+use crate::{List, Mime, Text, Uri, copy_parts, drop_parts};
 use std::alloc::{AllocError, Global};
 
 /// The name of an app component.
@@ -22,10 +22,7 @@ impl Clone for Component {
     ghost is_clone = { λ x y. y ≡ x };
 
     fn clone(&self) -> Result<Component, AllocError> {
-        Ok(Component {
-            package: self.package.clone()?,
-            class: self.class.clone()?,
-        })
+        copy_parts!(self, Component: value(package class))
     }
 }
 
@@ -60,10 +57,7 @@ impl Clone for Named {
     ghost is_clone = { λ x y. y ≡ x };
 
     fn clone(&self) -> Result<Named, AllocError> {
-        Ok(Named {
-            key: self.key.clone()?,
-            value: self.value.clone()?,
-        })
+        copy_parts!(self, Named: value(key value))
     }
 }
 
@@ -148,16 +142,6 @@ impl Clone for Intent {
     ghost is_clone = { λ x y. y ≡ x };
 
     fn clone(&self) -> Result<Intent, AllocError> {
-        Ok(Intent {
-            action: copies::option(&self.action)?,
-            uri: copies::option(&self.uri)?,
-            mime: copies::option(&self.mime)?,
-            identifier: copies::option(&self.identifier)?,
-            categories: copies::list(&self.categories)?,
-            package: copies::option(&self.package)?,
-            component: copies::option(&self.component)?,
-            flags: self.flags,
-            extras: copies::list(&self.extras)?,
-        })
+        copy_parts!(self, Intent: option(action uri mime identifier package component) list(categories extras); flags)
     }
 }

@@ -3,7 +3,7 @@
 
 mod account;
 mod broadcast;
-mod copies;
+pub mod copies;
 mod device;
 mod failure;
 mod filter;
@@ -21,6 +21,7 @@ mod rule;
 mod steps;
 mod task;
 mod text;
+mod uids;
 mod uri;
 mod visible;
 
@@ -28,8 +29,8 @@ pub use account::{Account, Narrowing, Standing};
 pub use broadcast::{
     Aim, Answer, FinishFault, Item, ItemKind, Ordered, Outcome, Receiving, SendFault, Sending, Spot,
 };
-pub use device::{Device, Grant, Link, Package};
-pub use failure::NoMemory;
+pub use device::{Device, Grant, Link, Package, RightKind};
+pub use failure::{NoMemory, Unmade};
 pub use filter::{Authority, FillFault, Filter, PathRule, Why};
 pub use glob::Glob;
 pub use history::{Entry, Shown};
@@ -46,5 +47,6 @@ pub use task::{
     InstanceView, Landed, PlaceFault, Placed, ServiceView, StartCall, TaskFault, TaskView,
 };
 pub use text::Text;
+pub use uids::{ROOT, SYSTEM};
 pub use uri::{Mime, MimeFault, Uri, UriFault};
 pub use visible::{Queries, Signature};

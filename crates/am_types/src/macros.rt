@@ -1,4 +1,4 @@
-//! Drops by hand.
+//! What drops and clones by hand write again for each field.
 
 /// Takes a value apart by all its fields, and drops each: the body of a `drop`. With a derived one each crate that drops
 /// such a value would prove again how its parts are dropped.
@@ -6,5 +6,18 @@
 macro_rules! drop_parts {
     ($value:ident, $kind:ident: $($field:ident)*) => {
         let $kind { $($field: _),* } = $value;
+    };
+}
+
+/// A copy of a value by all its fields: the body of a `clone` that gives an equal value. Each field stands under the
+/// function of `copies` that copies it, and those that are `Copy` behind the semicolon, as in
+/// `copy_parts!(self, Uri: value(text scheme path) option(host); port)`.
+#[macro_export]
+macro_rules! copy_parts {
+    ($value:ident, $kind:ident: $($how:ident($($field:ident)*))* $(; $($same:ident)*)?) => {
+        Ok($kind {
+            $($($field: $crate::copies::$how(&$value.$field)?,)*)*
+            $($($same: $value.$same,)*)?
+        })
     };
 }

@@ -1,6 +1,6 @@
 ghost use Rattle.std.specs.Prelude.{◌≡◌};
 
-use crate::{Filter, List, Text, copies, drop_parts};
+use crate::{Filter, List, Text, copy_parts, drop_parts};
 use std::alloc::AllocError;
 use std::fmt;
 
@@ -49,16 +49,7 @@ impl Clone for Decl {
     ghost is_clone = { λ x y. y ≡ x };
 
     fn clone(&self) -> Result<Decl, AllocError> {
-        Ok(Decl {
-            kind: self.kind,
-            class: self.class.clone()?,
-            exported: self.exported,
-            enabled: self.enabled,
-            permission: copies::option(&self.permission)?,
-            mode: self.mode,
-            affinity: self.affinity.clone()?,
-            filters: copies::list(&self.filters)?,
-        })
+        copy_parts!(self, Decl: value(class affinity) option(permission) list(filters); kind exported enabled mode)
     }
 }
 
@@ -93,27 +84,6 @@ pub enum ManifestFault {
     OverLimit(Text),
     /// A key that isn't read, at this place.
     LeftOut(Text),
-}
-
-impl Clone for ManifestFault {
-    ghost is_clone = { λ x y. y ≡ x };
-
-    fn clone(&self) -> Result<ManifestFault, AllocError> {
-        match self {
-            ManifestFault::NotToml => Ok(ManifestFault::NotToml),
-            ManifestFault::Missing(value) => Ok(ManifestFault::Missing(value.clone()?)),
-            ManifestFault::WrongKind(value) => Ok(ManifestFault::WrongKind(value.clone()?)),
-            ManifestFault::BadUri(value) => Ok(ManifestFault::BadUri(value.clone()?)),
-            ManifestFault::BadMime(value) => Ok(ManifestFault::BadMime(value.clone()?)),
-            ManifestFault::BadPriority => Ok(ManifestFault::BadPriority),
-            ManifestFault::ExportedUnstated(value) => Ok(ManifestFault::ExportedUnstated(
-                value.clone()?,
-            )),
-            ManifestFault::Duplicate(value) => Ok(ManifestFault::Duplicate(value.clone()?)),
-            ManifestFault::OverLimit(value) => Ok(ManifestFault::OverLimit(value.clone()?)),
-            ManifestFault::LeftOut(value) => Ok(ManifestFault::LeftOut(value.clone()?)),
-        }
-    }
 }
 
 /// As a line shows it: its name, then a blank and the place or the thing that it names.

@@ -1,7 +1,4 @@
-ghost use Rattle.std.specs.Prelude.{◌≡◌};
-
 use crate::{Intent, Kind};
-use std::alloc::AllocError;
 
 /// The flags with which a pending intent is asked for.
 #[derive(Clone, Copy, Default)]

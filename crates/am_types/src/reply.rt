@@ -1,9 +1,6 @@
-ghost use Rattle.std.specs.Prelude.{◌≡◌};
-
 use crate::{
-    Account, Component, Entry, Item, Landed, List, Receiving, Rule, ServiceView, TaskView, copies,
+    Account, Component, Entry, Item, Landed, List, Receiving, Rule, ServiceView, TaskView,
 };
-use std::alloc::AllocError;
 
 /// What the manager answers.
 #[derive(Drop)]

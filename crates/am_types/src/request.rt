@@ -145,49 +145,47 @@ fn send_copy(
     }
 }
 
+/// A copy of a value by the fields of its variant, as `copy_parts` makes one of a struct: the body of a `clone` that
+/// gives an equal value. The arms of the other variants are written out behind it.
+macro_rules! copy_variants {
+    ($value:ident, $kind:ident {
+        $($variant:ident: $($how:ident($($field:ident)*))* $(; $($same:ident)*)?,)*
+    }, { $($other:tt)* }) => {
+        match $value {
+            $($kind::$variant { $($($field,)*)* $($($same,)*)? } => Ok($kind::$variant {
+                $($($field: copies::$how($field)?,)*)*
+                $($($same: *$same,)*)?
+            }),)*
+            $($other)*
+        }
+    };
+}
+
 impl Clone for Request {
     ghost is_clone = { λ x y. y ≡ x };
 
     fn clone(&self) -> Result<Request, AllocError> {
-        match self {
-            Request::Query {
-                kind,
-                intent,
-                default_only,
-            } => Ok(Request::Query {
-                kind: *kind,
-                intent: intent.clone()?,
-                default_only: *default_only,
-            }),
-            Request::Explain {
-                kind,
-                intent,
-                caller,
-                permission,
-                shown,
-            } => Ok(Request::Explain {
-                kind: *kind,
-                caller: copies::option(caller)?,
-                permission: copies::option(permission)?,
-                shown: copies::option(shown)?,
-                intent: intent.clone()?,
-            }),
-            Request::Start { intent, source } => Ok(Request::Start {
-                intent: intent.clone()?,
-                source: *source,
-            }),
-            Request::FinishActivity { instance } => Ok(Request::FinishActivity {
-                instance: *instance,
-            }),
-            Request::Back => Ok(Request::Back),
-            Request::ListTasks => Ok(Request::ListTasks),
-            Request::StartService { intent } => Ok(Request::StartService {
-                intent: intent.clone()?,
-            }),
-            Request::StopService { component } => Ok(Request::StopService {
-                component: component.clone()?,
-            }),
-            Request::Services => Ok(Request::Services),
+        copy_variants!(self, Request {
+            Query: value(intent); kind default_only,
+            Explain: option(caller permission shown) value(intent); kind,
+            Start: value(intent); source,
+            FinishActivity: ; instance,
+            StartService: value(intent),
+            StopService: value(component),
+            Register: option(permission) value(filter),
+            Unregister: ; number,
+            Finish: value(answer); delivery,
+            PendingGet: value(intent); kind code flags,
+            PendingSend: option(fill); token,
+            PendingCancel: ; token,
+            PendingGive: value(package); token,
+            Install: value(text key),
+            Uninstall: value(package),
+            Grant: value(package permission); held,
+            Link: value(package host); approved,
+            ForceStop: value(package),
+            History: ; from,
+        }, {
             Request::Send {
                 intent,
                 permission,
@@ -196,67 +194,12 @@ impl Clone for Request {
                 let permission = copies::option(permission)?;
                 send_copy(intent.clone()?, permission, ordered)
             }
-            Request::Register { filter, permission } => Ok(Request::Register {
-                permission: copies::option(permission)?,
-                filter: filter.clone()?,
-            }),
-            Request::Unregister { number } => Ok(Request::Unregister { number: *number }),
+            Request::Back => Ok(Request::Back),
+            Request::ListTasks => Ok(Request::ListTasks),
+            Request::Services => Ok(Request::Services),
             Request::Inbox => Ok(Request::Inbox),
-            Request::Finish { delivery, answer } => Ok(Request::Finish {
-                delivery: *delivery,
-                answer: answer.clone()?,
-            }),
-            Request::PendingGet {
-                kind,
-                code,
-                intent,
-                flags,
-            } => Ok(Request::PendingGet {
-                kind: *kind,
-                code: *code,
-                intent: intent.clone()?,
-                flags: *flags,
-            }),
-            Request::PendingSend { token, fill } => Ok(Request::PendingSend {
-                token: *token,
-                fill: copies::option(fill)?,
-            }),
-            Request::PendingCancel { token } => Ok(Request::PendingCancel { token: *token }),
-            Request::PendingGive { token, package } => Ok(Request::PendingGive {
-                token: *token,
-                package: package.clone()?,
-            }),
-            Request::Install { text, key } => Ok(Request::Install {
-                text: text.clone()?,
-                key: key.clone()?,
-            }),
-            Request::Uninstall { package } => Ok(Request::Uninstall {
-                package: package.clone()?,
-            }),
-            Request::Grant {
-                package,
-                permission,
-                held,
-            } => Ok(Request::Grant {
-                package: package.clone()?,
-                permission: permission.clone()?,
-                held: *held,
-            }),
-            Request::Link {
-                package,
-                host,
-                approved,
-            } => Ok(Request::Link {
-                package: package.clone()?,
-                host: host.clone()?,
-                approved: *approved,
-            }),
-            Request::ForceStop { package } => Ok(Request::ForceStop {
-                package: package.clone()?,
-            }),
             Request::Tick => Ok(Request::Tick),
-            Request::History { from } => Ok(Request::History { from: *from }),
             Request::Status => Ok(Request::Status),
-        }
+        })
     }
 }

@@ -1,6 +1,6 @@
 ghost use Rattle.std.specs.Prelude.{◌≡◌};
 
-use crate::{Component, Filter, List, Text, copies, drop_parts};
+use crate::{Component, Filter, List, Text, copy_parts, drop_parts};
 use std::alloc::AllocError;
 
 /// A component that an intent finds.
@@ -17,12 +17,7 @@ impl Clone for Hit {
     ghost is_clone = { λ x y. y ≡ x };
 
     fn clone(&self) -> Result<Hit, AllocError> {
-        Ok(Hit {
-            component: self.component.clone()?,
-            uid: self.uid,
-            place: self.place,
-            priority: self.priority,
-        })
+        copy_parts!(self, Hit: value(component); uid place priority)
     }
 }
 

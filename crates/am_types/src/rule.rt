@@ -1,7 +1,4 @@
-ghost use Rattle.std.specs.Prelude.{◌≡◌};
-
 use crate::{ManifestFault, Text};
-use std::alloc::AllocError;
 
 /// A quantity of the state that has a limit.
 #[derive(Clone, Copy, Debug, PartialEq, Eq)]
@@ -83,43 +80,4 @@ pub enum Rule {
     StoppedPackage,
     /// The receiver doesn't hold this permission, which the sender requires.
     ReceiverLacks(Text),
-}
-
-impl Clone for Rule {
-    ghost is_clone = { λ x y. y ≡ x };
-
-    fn clone(&self) -> Result<Rule, AllocError> {
-        match self {
-            Rule::UnknownKey => Ok(Rule::UnknownKey),
-            Rule::HistoryFull => Ok(Rule::HistoryFull),
-            Rule::AdminOnly => Ok(Rule::AdminOnly),
-            Rule::NoPackage => Ok(Rule::NoPackage),
-            Rule::NoComponent => Ok(Rule::NoComponent),
-            Rule::NoActivity => Ok(Rule::NoActivity),
-            Rule::NoInstance => Ok(Rule::NoInstance),
-            Rule::NoDelivery => Ok(Rule::NoDelivery),
-            Rule::NoToken => Ok(Rule::NoToken),
-            Rule::NoService => Ok(Rule::NoService),
-            Rule::NoReceiver => Ok(Rule::NoReceiver),
-            Rule::NotExported => Ok(Rule::NotExported),
-            Rule::ProtectedAction => Ok(Rule::ProtectedAction),
-            Rule::NotYours => Ok(Rule::NotYours),
-            Rule::NotHolder => Ok(Rule::NotHolder),
-            Rule::NotCreator => Ok(Rule::NotCreator),
-            Rule::ImplicitService => Ok(Rule::ImplicitService),
-            Rule::NeedsNewTask => Ok(Rule::NeedsNewTask),
-            Rule::Mutability => Ok(Rule::Mutability),
-            Rule::NotOrdered => Ok(Rule::NotOrdered),
-            Rule::Installed => Ok(Rule::Installed),
-            Rule::Canceled => Ok(Rule::Canceled),
-            Rule::KeeperFault => Ok(Rule::KeeperFault),
-            Rule::RegisteredOnly => Ok(Rule::RegisteredOnly),
-            Rule::ManifestImplicit => Ok(Rule::ManifestImplicit),
-            Rule::StoppedPackage => Ok(Rule::StoppedPackage),
-            Rule::NeedsPermission(value) => Ok(Rule::NeedsPermission(value.clone()?)),
-            Rule::BadManifest(value) => Ok(Rule::BadManifest(value.clone()?)),
-            Rule::ReceiverLacks(value) => Ok(Rule::ReceiverLacks(value.clone()?)),
-            Rule::OverLimit(value) => Ok(Rule::OverLimit(*value)),
-        }
-    }
 }

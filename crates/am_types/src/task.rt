@@ -1,7 +1,4 @@
-ghost use Rattle.std.specs.Prelude.{◌≡◌};
-
-use crate::{Component, Flags, Intent, List, Mode, Text, copies};
-use std::alloc::AllocError;
+use crate::{Component, Flags, Intent, List, Mode, Text};
 
 /// What a start did: a fresh instance, a new intent to one that was there, or a task brought to the front.
 #[derive(Clone, Copy, Debug, PartialEq, Eq)]

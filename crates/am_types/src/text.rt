@@ -1,4 +1,5 @@
-ghost use Rattle.std.specs.Prelude.{◌≡◌, Some, IfOk, string_bytes, refl, nat_eq};
+ghost use Rattle.std.specs.Prelude.{◌≡◌, Some, IfOk, map, string_bytes, refl, nat_eq};
+ghost use Rattle.std.specs.Char.{to_ascii_lowercase};
 ghost use Rattle.std.specs.Ordering.{nat_cmp};
 ghost use Rattle.std.specs.Cmp.Lexicographic.{pointwise, slice_cmp, nat_list_eq_equiv, nat_list_cmp_total, texts_ties, texts_po};
 ghost use Rattle.std.specs.Cmp.{on_equiv, on_total, on_po, on_per, partial_equiv_from_equiv};
@@ -49,6 +50,19 @@ impl Text {
         ensures { IfOk result (λ text. text ≡ words.now) }
     {
         Ok(Text::new(String::from_str(alloc, words)?))
+    }
+
+    /// The text of these words, with their ASCII letters in lower case.
+    ///
+    /// # Errors
+    ///
+    /// `AllocError` if memory runs out.
+    pub fn lowered(alloc: Global, words: &str) -> Result<Self, AllocError>
+        ensures { IfOk result (λ text. text ≡ map to_ascii_lowercase words.now) }
+    {
+        let mut text = String::from_str(alloc, words)?;
+        text.make_ascii_lowercase();
+        Ok(Text::new(text))
     }
 
     /// Lends the text. Takes no memory.

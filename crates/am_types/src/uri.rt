@@ -1,6 +1,6 @@
 ghost use Rattle.std.specs.Prelude.{◌≡◌};
 
-use crate::{Text, copies, drop_parts};
+use crate::{Text, copy_parts, drop_parts};
 use std::alloc::AllocError;
 
 /// A URI with its parts.
@@ -27,13 +27,7 @@ impl Clone for Uri {
     ghost is_clone = { λ x y. y ≡ x };
 
     fn clone(&self) -> Result<Uri, AllocError> {
-        Ok(Uri {
-            text: copies::value(&self.text)?,
-            scheme: copies::value(&self.scheme)?,
-            host: copies::option(&self.host)?,
-            port: self.port,
-            path: copies::value(&self.path)?,
-        })
+        copy_parts!(self, Uri: value(text scheme path) option(host); port)
     }
 }
 
@@ -50,10 +44,7 @@ impl Clone for Mime {
     ghost is_clone = { λ x y. y ≡ x };
 
     fn clone(&self) -> Result<Mime, AllocError> {
-        Ok(Mime {
-            main: self.main.clone()?,
-            sub: self.sub.clone()?,
-        })
+        copy_parts!(self, Mime: value(main sub))
     }
 }
 

@@ -1,7 +1,4 @@
-ghost use Rattle.std.specs.Prelude.{◌≡◌};
-
-use crate::{List, Mime, Text, copies};
-use std::alloc::AllocError;
+use crate::{List, Mime, Text};
 
 /// An intent by which a manifest asks to see other packages.
 #[derive(Drop)]

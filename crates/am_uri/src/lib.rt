@@ -10,5 +10,5 @@ mod uri;
 pub use mime::parse_mime;
 pub use path::passes_path;
 pub use scheme::is_scheme;
-pub use text::{Form, sorted, starts_with_dot, with_optional};
+pub use text::{Form, is_visible, sorted, starts_with_dot, with_optional};
 pub use uri::parse_uri;

@@ -43,7 +43,8 @@ fn has_slash(text: &str) -> bool
     text.as_bytes().iter().any(|b| *b == b'/')
 }
 
-fn is_visible(text: &str) -> bool
+/// Whether each byte is a visible ASCII character: from 0x21 to 0x7E.
+pub fn is_visible(text: &str) -> bool
     ensures { result ≡ is_visible text.now }
 {
     text.as_bytes().iter().all(|b| *b >= 33 && *b <= 126)

@@ -5,11 +5,11 @@ use Rattle.serde_json.specs.Data.{Data}
 use Rattle.am_types.specs.declared.request.Request.{Request}
 use Rattle.am_types.specs.declared.request.Request.TheVariants as asks
 use Rattle.am_wire_routes.specs.declared.endpoint.Endpoint.TheVariants.{Query}
-use Rattle.am_wire_fields.specs.declared.fault.Unread.{Unread}
+use Rattle.am_types.specs.declared.failure.Unmade.{Unmade}
 use Rattle.am_wire_fields.specs.declared.fault.WireFault.{WireFault}
 use Rattle.am_wire_fields.specs.Bodies.{value_of}
 use Rattle.am_wire_fields.specs.Fields.{optional_truth}
-use Rattle.am_wire_fields.specs.Reading.{◌>>=◌, Gives}
+use Rattle.am_types.specs.Reading.{◌>>=◌, Gives}
 use Rattle.am_wire_intents.specs.Intents.{required_intent}
 use Rattle.am_wire.specs.Words.{kind_of}
 use Rattle.am_wire.specs.Activities.{fields_of, query_in}
@@ -41,7 +41,7 @@ unfolding request_of posted request_in
 request_read text = behind (value_of text) _ query_read
 
 -- an answer that is what reading a body of a query gives is one
-pub query_given : (answer : Result Request Unread) (text : List ℕ) → Gives answer (request_of Query text)
+pub query_given : (answer : Result Request (Unmade WireFault)) (text : List ℕ) → Gives answer (request_of Query text)
     → IfOk answer (λ r. IsTrue (is_query r))
 query_given (Ok r) text h = request_read text r h
 query_given (Err fault) text h = tt

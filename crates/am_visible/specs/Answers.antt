@@ -16,7 +16,7 @@ use Rattle.am_queries.specs.Queries.{described}
 use Rattle.am_wire_routes.specs.declared.endpoint.Endpoint.TheVariants.{Query}
 use Rattle.am_wire_fields.specs.declared.fault.WireFault.{WireFault}
 use Rattle.am_wire_fields.specs.declared.fault.WireFault.TheVariants.{TooLong}
-use Rattle.am_wire_fields.specs.Reading.{◌>>=◌}
+use Rattle.am_types.specs.Reading.{◌>>=◌}
 use Rattle.am_wire.specs.Requests.{request_of}
 use Rattle.am_wire_values.specs.Replies.{reply_data}
 use Rattle.am_visible.specs.declared.fault.VisibleFault.{VisibleFault}

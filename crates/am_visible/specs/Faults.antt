@@ -1,21 +1,7 @@
 -- Why a question isn't answered.
 use Rattle.std.specs.Prelude.{◌≡◌, Result, Ok, Err}
-use Rattle.am_manifest_filters.specs.declared.fault.ReadFault.{ReadFault}
-use Rattle.am_manifest_filters.specs.declared.fault.ReadFault.TheVariants as faults
-use Rattle.am_wire_fields.specs.declared.fault.Unread.{Unread}
-use Rattle.am_wire_fields.specs.declared.fault.Unread.TheVariants as unread
 use Rattle.am_visible.specs.declared.fault.VisibleFault.{VisibleFault}
 use Rattle.am_visible.specs.declared.fault.VisibleFault.TheVariants as ends
-
--- the fault of a device file
-abbrev pub of_reading : ReadFault → VisibleFault
-of_reading (faults.Manifest fault) = ends.Device fault
-of_reading faults.NoMemory = ends.NoMemory
-
--- the fault of what is asked
-abbrev pub of_query : Unread → VisibleFault
-of_query (unread.Fault fault) = ends.Query fault
-of_query unread.NoMemory = ends.NoMemory
 
 -- the fault is the one that there is, unless memory ran out
 abbrev pub Refuses : {X : Type 0} → VisibleFault → Result X VisibleFault → Type 0

@@ -2,7 +2,7 @@
 ghost use Rattle.std.specs.Prelude.{◌≡◌, IfOk, IsTrue};
 ghost use Rattle.am_model.specs.Boards.{board_of};
 ghost use Rattle.am_model.specs.Sound.{IsSound};
-ghost use Rattle.am_wire_fields.specs.Reading.{Gives};
+ghost use Rattle.am_types.specs.Reading.{Gives};
 ghost use Rattle.am_visible.specs.Answers.{answer_to, file_answer, is_query, line_of, reply_to};
 ghost use Rattle.am_visible.specs.Faults.{Answers};
 
@@ -12,7 +12,7 @@ use crate::reply::{line_of, reply_to};
 use am_installed::caller_named;
 use am_queries::{Described, read_described};
 use am_resolve::Board;
-use am_types::{Device, List, NoMemory, Queries, Request, Text};
+use am_types::{Device, List, NoMemory, Queries, Request, Text, Unmade};
 use am_wire_fields::Unread;
 use std::alloc::Global;
 
@@ -38,8 +38,8 @@ fn line_to(
 ///
 /// # Errors
 ///
-/// `Unread::Fault` with `too_long body` for a text of more than 65,536 bytes, else with the first fault that the reader
-/// of a query's body meets; `Unread::NoMemory` if memory runs out.
+/// `Unmade::Fault` with `too_long body` for a text of more than 65,536 bytes, else with the first fault that the reader
+/// of a query's body meets; `Unmade::NoMemory` if memory runs out.
 #[tactic(auto, unfolding(crate::specs::Answers::answer_to))]
 pub fn answer(alloc: Global, known: Described, caller: u32, text: &[u8]) -> Result<Text, Unread>
     requires sound { IsSound known.device }
@@ -50,7 +50,7 @@ pub fn answer(alloc: Global, known: Described, caller: u32, text: &[u8]) -> Resu
     drop(request);
     match line {
         Ok(line) => Ok(line),
-        Err(NoMemory) => Err(Unread::NoMemory),
+        Err(NoMemory) => Err(Unmade::NoMemory),
     }
 }
 
@@ -69,9 +69,17 @@ pub fn answer_file(
 ) -> Result<Text, VisibleFault>
     ensures { Answers result (file_answer file.now name.now text.now) }
 {
-    let known = read_described(alloc, file)?;
+    let known = match read_described(alloc, file) {
+        Ok(known) => known,
+        Err(Unmade::Fault(fault)) => return Err(VisibleFault::Device(fault)),
+        Err(Unmade::NoMemory) => return Err(VisibleFault::NoMemory),
+    };
     let Some(caller) = caller_named(&known.device.packages, name) else {
         return Err(VisibleFault::NoPackage);
     };
-    Ok(answer(alloc, known, caller, text)?)
+    match answer(alloc, known, caller, text) {
+        Ok(line) => Ok(line),
+        Err(Unmade::Fault(fault)) => Err(VisibleFault::Query(fault)),
+        Err(Unmade::NoMemory) => Err(VisibleFault::NoMemory),
+    }
 }

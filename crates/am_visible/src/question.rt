@@ -1,6 +1,6 @@
 //! What is asked.
 ghost use Rattle.std.specs.Prelude.{◌≡◌, IfOk, IsTrue};
-ghost use Rattle.am_wire_fields.specs.Reading.{Gives};
+ghost use Rattle.am_types.specs.Reading.{Gives};
 ghost use Rattle.am_visible.specs.Answers.{is_query, question_of};
 
 use am_types::Request;

@@ -10,7 +10,7 @@ use Rattle.am_model.specs.Texts.{is_same}
 use Rattle.am_uri.specs.declared.text.Form.TheVariants.{Any}
 use Rattle.am_wire_fields.specs.declared.fault.WireFault.{WireFault}
 use Rattle.am_wire_fields.specs.Texts.{optional_text}
-use Rattle.am_wire_fields.specs.Reading.{◌>>=◌}
+use Rattle.am_types.specs.Reading.{◌>>=◌}
 use Rattle.am_wire_intents.specs.Intents.{required_intent}
 use Rattle.am_wire.specs.Activities.{fields_of}
 use Rattle.am_wire.specs.Words.{kind_of}

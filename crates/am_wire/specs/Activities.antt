@@ -4,10 +4,10 @@ use Rattle.serde_json.specs.Data.{Data}
 use Rattle.am_types.specs.declared.request.Request.{Request}
 use Rattle.am_types.specs.declared.request.Request.TheVariants as asks
 use Rattle.am_wire_fields.specs.declared.fault.WireFault.{WireFault}
-use Rattle.am_wire_fields.specs.Fields.{only_fields, optional_truth}
+use Rattle.am_wire_fields.specs.Fields.{only_fields, optional_truth, required_by}
 use Rattle.am_wire_fields.specs.Numbers.{required_natural, optional_natural}
-use Rattle.am_wire_fields.specs.Reading.{◌>>=◌}
-use Rattle.am_wire_intents.specs.Components.{required_component}
+use Rattle.am_types.specs.Reading.{◌>>=◌}
+use Rattle.am_wire_intents.specs.Components.{component_in}
 use Rattle.am_wire_intents.specs.Intents.{required_intent}
 use Rattle.am_wire.specs.Words.{kind_of}
 
@@ -27,6 +27,22 @@ number_in name body = do
   known ← fields_of (name ∷ []) body
   required_natural name body
 
+-- a body with this field alone, and the request that its value makes
+abbrev pub one_in : {A : Type 0} → List ℕ → (List ℕ → Data → Result A WireFault) → (A → Request) → Data → Result Request WireFault
+one_in name read make body = do
+  known ← fields_of (name ∷ []) body
+  x ← read name body
+  Ok (make x)
+
+-- a body with these two fields alone, which are read in this order, and the request that their values make
+abbrev pub two_in : {A B : Type 0} → List ℕ → (List ℕ → Data → Result A WireFault) → List ℕ → (List ℕ → Data → Result B WireFault)
+    → (A → B → Request) → Data → Result Request WireFault
+two_in first read_first second read_second make body = do
+  known ← fields_of (first ∷ second ∷ []) body
+  x ← read_first first body
+  y ← read_second second body
+  Ok (make x y)
+
 unfoldable pub query_in : Data → Result Request WireFault
 query_in body = do
   known ← fields_of (codes "kind" ∷ codes "intent" ∷ codes "defaultOnly" ∷ []) body
@@ -36,20 +52,10 @@ query_in body = do
   Ok (asks.Query kind intent default_only)
 
 unfoldable pub start_in : Data → Result Request WireFault
-start_in body = do
-  known ← fields_of (codes "intent" ∷ codes "source" ∷ []) body
-  intent ← required_intent (codes "intent") body
-  source ← optional_natural (codes "source") body
-  Ok (asks.Start intent source)
+start_in body = two_in (codes "intent") required_intent (codes "source") optional_natural asks.Start body
 
 unfoldable pub start_service_in : Data → Result Request WireFault
-start_service_in body = do
-  known ← fields_of (codes "intent" ∷ []) body
-  intent ← required_intent (codes "intent") body
-  Ok (asks.StartService intent)
+start_service_in body = one_in (codes "intent") required_intent asks.StartService body
 
 unfoldable pub stop_service_in : Data → Result Request WireFault
-stop_service_in body = do
-  known ← fields_of (codes "component" ∷ []) body
-  component ← required_component (codes "component") body
-  Ok (asks.StopService component)
+stop_service_in body = one_in (codes "component") (required_by component_in) asks.StopService body

@@ -4,18 +4,19 @@ use Rattle.serde_json.specs.Data.{Data}
 use Rattle.serde_json.specs.Find.{get, as_bool}
 use Rattle.am_types.specs.declared.broadcast.Ordered.{Ordered}
 use Rattle.am_types.specs.declared.broadcast.Outcome.{Outcome}
+use Rattle.am_types.specs.declared.filter.Filter.{Filter}
 use Rattle.am_types.specs.declared.request.Request.{Request}
 use Rattle.am_types.specs.declared.request.Request.TheVariants as asks
 use Rattle.am_uri.specs.declared.text.Form.TheVariants.{Any}
 use Rattle.am_wire_fields.specs.declared.fault.WireFault.{WireFault}
-use Rattle.am_wire_fields.specs.Fields.{field, optional_truth}
+use Rattle.am_wire_fields.specs.Fields.{field, optional_truth, required_by}
 use Rattle.am_wire_fields.specs.Numbers.{required_natural, required_whole, optional_whole}
 use Rattle.am_wire_fields.specs.Texts.{optional_text}
-use Rattle.am_wire_fields.specs.Reading.{◌>>=◌}
+use Rattle.am_types.specs.Reading.{◌>>=◌}
 use Rattle.am_wire_intents.specs.Extras.{optional_extras}
 use Rattle.am_wire_intents.specs.Intents.{required_intent}
-use Rattle.am_wire_intents.specs.Filters.{required_filter}
-use Rattle.am_wire.specs.Activities.{fields_of}
+use Rattle.am_wire_intents.specs.Filters.{filter_in}
+use Rattle.am_wire.specs.Activities.{fields_of, two_in}
 
 -- the truth is `true`, and nothing else
 abbrev pub is_true : Option Bool → Bool
@@ -73,12 +74,12 @@ send_in body = do
   intent ← required_intent (codes "intent") body
   sent_with (asks.Send intent) body
 
+-- the filter of a receiver to be registered
+unfoldable pub required_filter : List ℕ → Data → Result Filter WireFault
+required_filter name parent = required_by filter_in name parent
+
 unfoldable pub register_in : Data → Result Request WireFault
-register_in body = do
-  known ← fields_of (codes "filter" ∷ codes "permission" ∷ []) body
-  filter ← required_filter (codes "filter") body
-  permission ← optional_text Any 1024 (codes "permission") body
-  Ok (asks.Register filter permission)
+register_in body = two_in (codes "filter") required_filter (codes "permission") (optional_text Any 1024) asks.Register body
 
 -- the answer sets an outcome: its field `code` is there
 unfoldable pub sets_outcome : Data → Bool

@@ -11,7 +11,7 @@ use Rattle.am_wire_fields.specs.declared.fault.WireFault.{WireFault}
 use Rattle.am_wire_fields.specs.declared.fault.WireFault.TheVariants.{WrongKind, TooLong}
 use Rattle.am_wire_fields.specs.Fields.{required, required_truth}
 use Rattle.am_wire_fields.specs.Texts.{required_text}
-use Rattle.am_wire_fields.specs.Reading.{◌>>=◌}
+use Rattle.am_types.specs.Reading.{◌>>=◌}
 use Rattle.am_wire.specs.Activities.{fields_of}
 
 -- a key for a package's calls: 1 to 255 visible ASCII characters

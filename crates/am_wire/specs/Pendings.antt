@@ -7,9 +7,9 @@ use Rattle.am_uri.specs.declared.text.Form.TheVariants.{Any}
 use Rattle.am_wire_fields.specs.declared.fault.WireFault.{WireFault}
 use Rattle.am_wire_fields.specs.Numbers.{required_natural, required_whole}
 use Rattle.am_wire_fields.specs.Texts.{required_text}
-use Rattle.am_wire_fields.specs.Reading.{◌>>=◌}
+use Rattle.am_types.specs.Reading.{◌>>=◌}
 use Rattle.am_wire_intents.specs.Intents.{required_intent, optional_intent}
-use Rattle.am_wire.specs.Activities.{fields_of}
+use Rattle.am_wire.specs.Activities.{fields_of, two_in}
 use Rattle.am_wire.specs.Words.{pending_kind_of, pending_flags_of}
 
 unfoldable pub pending_get_in : Data → Result Request WireFault
@@ -22,15 +22,7 @@ pending_get_in body = do
   Ok (asks.PendingGet kind code intent flags)
 
 unfoldable pub pending_send_in : Data → Result Request WireFault
-pending_send_in body = do
-  known ← fields_of (codes "token" ∷ codes "fill" ∷ []) body
-  token ← required_natural (codes "token") body
-  fill ← optional_intent (codes "fill") body
-  Ok (asks.PendingSend token fill)
+pending_send_in body = two_in (codes "token") required_natural (codes "fill") optional_intent asks.PendingSend body
 
 unfoldable pub pending_give_in : Data → Result Request WireFault
-pending_give_in body = do
-  known ← fields_of (codes "token" ∷ codes "package" ∷ []) body
-  token ← required_natural (codes "token") body
-  name ← required_text Any 1024 (codes "package") body
-  Ok (asks.PendingGive token name)
+pending_give_in body = two_in (codes "token") required_natural (codes "package") (required_text Any 1024) asks.PendingGive body

@@ -1,5 +1,5 @@
 -- The words of kinds and of pending flags.
-use Rattle.std.specs.Prelude.{ℕ, List, [], ◌∷◌, codes, if◌then◌else◌, Result, Ok}
+use Rattle.std.specs.Prelude.{ℕ, Bool, List, [], ◌∷◌, codes, if◌then◌else◌, Result, Ok}
 use Rattle.serde_json.specs.Data.{Data}
 use Rattle.am_types.specs.declared.manifest.Kind.{Kind}
 use Rattle.am_types.specs.declared.manifest.Kind.TheVariants.{Activity, Service, Receiver}
@@ -8,7 +8,7 @@ use Rattle.am_model.specs.Texts.{is_same, lists}
 use Rattle.am_wire_fields.specs.declared.fault.WireFault.{WireFault}
 use Rattle.am_wire_fields.specs.Fields.{required}
 use Rattle.am_wire_fields.specs.Lists.{list_in, word_in, words_in}
-use Rattle.am_wire_fields.specs.Reading.{◌>>=◌}
+use Rattle.am_types.specs.Reading.{◌>>=◌}
 
 -- the kinds of components
 unfoldable pub kind_words : List (List ℕ)
@@ -42,16 +42,20 @@ unfoldable pub pending_flag_names : List (List ℕ)
 pending_flag_names =
     codes "ONE_SHOT" ∷ codes "NO_CREATE" ∷ codes "CANCEL_CURRENT" ∷ codes "UPDATE_CURRENT" ∷ codes "IMMUTABLE" ∷ codes "MUTABLE" ∷ []
 
+-- the flags whose names are set
+abbrev pub pending_flags_by : (List ℕ → Bool) → PendingFlags
+pending_flags_by is_set = record {
+  one_shot = is_set (codes "ONE_SHOT");
+  no_create = is_set (codes "NO_CREATE");
+  cancel_current = is_set (codes "CANCEL_CURRENT");
+  update_current = is_set (codes "UPDATE_CURRENT");
+  immutable = is_set (codes "IMMUTABLE");
+  mutable = is_set (codes "MUTABLE");
+}
+
 -- the flags whose names are listed, once or more often
 unfoldable pub pending_flags_listed : List (List ℕ) → PendingFlags
-pending_flags_listed names = record {
-  one_shot = lists names (codes "ONE_SHOT");
-  no_create = lists names (codes "NO_CREATE");
-  cancel_current = lists names (codes "CANCEL_CURRENT");
-  update_current = lists names (codes "UPDATE_CURRENT");
-  immutable = lists names (codes "IMMUTABLE");
-  mutable = lists names (codes "MUTABLE");
-}
+pending_flags_listed names = pending_flags_by (lists names)
 
 -- the field `flags` of a request for a pending intent, which must be there
 unfoldable pub pending_flags_of : Data → Result PendingFlags WireFault

@@ -2,7 +2,7 @@
 ghost use Rattle.std.specs.Prelude.{◌≡◌};
 ghost use Rattle.serde_json.specs.Find.{as_str};
 ghost use Rattle.serde_json.specs.View.{view};
-ghost use Rattle.am_wire_fields.specs.Reading.{Gives};
+ghost use Rattle.am_types.specs.Reading.{Gives};
 ghost use Rattle.am_wire.specs.Activities.{fields_of};
 ghost use Rattle.am_wire.specs.Accounts.{is_receiver, asks_receivers, explain_fields, permission_for, asked_with, explain_in};
 

@@ -2,7 +2,7 @@
 ghost use Rattle.std.specs.Prelude.{[], ◌∷◌, codes, map, if◌then◌else◌};
 ghost use Rattle.serde_json.specs.View.{view};
 ghost use Rattle.am_wire_fields.specs.Fields.{optional_truth};
-ghost use Rattle.am_wire_fields.specs.Reading.{Gives};
+ghost use Rattle.am_types.specs.Reading.{Gives};
 ghost use Rattle.am_wire.specs.Activities.{fields_of, plain_in, number_in, query_in, start_in, start_service_in, stop_service_in};
 
 use crate::words::kind_of;
@@ -111,7 +111,7 @@ pub fn start_service_in(alloc: Global, body: &Value) -> Result<Request, Unread>
 }
 
 /// The stop of a service: `component`.
-#[tactic(auto, unfolding(crate::specs::Activities::stop_service_in, am_wire_intents::specs::Components::required_component))]
+#[tactic(auto, unfolding(crate::specs::Activities::stop_service_in))]
 pub fn stop_service_in(alloc: Global, body: &Value) -> Result<Request, Unread>
     ensures { Gives result (stop_service_in (view body.now)) }
 {

@@ -1,10 +1,9 @@
 //! Broadcasts, registered receivers and deliveries.
 ghost use Rattle.std.specs.Prelude.{◌≡◌, [], ◌∷◌, codes};
 ghost use Rattle.serde_json.specs.View.{view};
-ghost use Rattle.am_wire_fields.specs.Reading.{Gives};
-ghost use Rattle.am_wire_intents.specs.Filters.{required_filter};
+ghost use Rattle.am_types.specs.Reading.{Gives};
 ghost use Rattle.am_wire.specs.Activities.{fields_of};
-ghost use Rattle.am_wire.specs.Broadcasts.{is_ordered, send_fields, ordered_in, ordered_if, sent_with, send_in, register_in, sets_outcome, finish_fields, outcome_in, outcome_if, finish_in};
+ghost use Rattle.am_wire.specs.Broadcasts.{is_ordered, send_fields, ordered_in, ordered_if, sent_with, send_in, required_filter, register_in, sets_outcome, finish_fields, outcome_in, outcome_if, finish_in};
 
 use crate::activities::{fields_of, fields_where};
 use am_types::{Answer, Filter, Ordered, Outcome, Request, Text};
@@ -116,7 +115,7 @@ fn only_register_fields(alloc: Global, body: &Value) -> Result<(), Unread>
 }
 
 /// The filter of a receiver to be registered.
-#[tactic(auto, unfolding(am_wire_intents::specs::Filters::required_filter))]
+#[tactic(auto, unfolding(crate::specs::Broadcasts::required_filter))]
 fn required_filter(alloc: Global, body: &Value) -> Result<Filter, Unread>
     ensures { Gives result (required_filter (codes "filter") (view body.now)) }
 {

@@ -1,26 +1,17 @@
 //! Packages, grants and links.
-ghost use Rattle.std.specs.Prelude.{◌≡◌, [], ◌∷◌, codes, IfOk};
+ghost use Rattle.std.specs.Prelude.{[], ◌∷◌, codes};
 ghost use Rattle.serde_json.specs.Find.{as_str};
 ghost use Rattle.serde_json.specs.View.{view};
-ghost use Rattle.am_model.specs.Sound.{is_visible};
-ghost use Rattle.am_model.specs.Texts.{lowered};
-ghost use Rattle.am_wire_fields.specs.Reading.{Gives};
+ghost use Rattle.am_types.specs.Reading.{Gives};
 ghost use Rattle.am_wire.specs.Activities.{fields_of};
 ghost use Rattle.am_wire.specs.Packages.{key_of, key_in, install_in, package_in, grant_fields, grant_in, link_in};
 
 use crate::activities::fields_of;
 use am_types::{Request, Text};
-use am_uri::Form;
+use am_uri::{Form, is_visible};
 use am_wire_fields::{Unread, required, required_text, required_truth, text_within, wrong_kind};
 use serde_json::Value;
-use std::alloc::{AllocError, Global};
-
-/// Whether each byte is a visible ASCII character.
-fn is_visible(text: &str) -> bool
-    ensures { result ≡ is_visible text.now }
-{
-    text.as_bytes().iter().all(|b| *b >= 33 && *b <= 126)
-}
+use std::alloc::Global;
 
 /// The key that a value says.
 #[tactic(auto, unfolding(crate::specs::Packages::key_of))]
@@ -92,15 +83,6 @@ pub fn grant_in(alloc: Global, body: &Value) -> Result<Request, Unread>
     })
 }
 
-/// The text in lower ASCII case.
-fn lowered(alloc: Global, text: &str) -> Result<Text, AllocError>
-    ensures { IfOk result (λ lower. lower ≡ lowered text.now) }
-{
-    let mut lower = String::from_str(alloc, text)?;
-    lower.make_ascii_lowercase();
-    Ok(Text::new(lower))
-}
-
 /// Refuses a body with other fields than those of a link.
 fn only_link_fields(alloc: Global, body: &Value) -> Result<(), Unread>
     ensures { Gives result (fields_of (codes "package" ∷ codes "host" ∷ codes "approved" ∷ []) (view body.now)) }
@@ -119,7 +101,7 @@ pub fn link_in(alloc: Global, body: &Value) -> Result<Request, Unread>
     let approved = required_truth(alloc, "approved", body)?;
     Ok(Request::Link {
         package,
-        host: lowered(alloc, host.as_str())?,
+        host: Text::lowered(alloc, host.as_str())?,
         approved,
     })
 }

@@ -1,6 +1,6 @@
 //! Pending intents.
 ghost use Rattle.serde_json.specs.View.{view};
-ghost use Rattle.am_wire_fields.specs.Reading.{Gives};
+ghost use Rattle.am_types.specs.Reading.{Gives};
 ghost use Rattle.am_wire.specs.Pendings.{pending_get_in, pending_send_in, pending_give_in};
 
 use crate::activities::fields_of;

@@ -1,6 +1,6 @@
 //! The request that a body makes at an endpoint.
 ghost use Rattle.serde_json.specs.View.{view};
-ghost use Rattle.am_wire_fields.specs.Reading.{Gives};
+ghost use Rattle.am_types.specs.Reading.{Gives};
 ghost use Rattle.am_wire.specs.Requests.{request_in, posted, request_of};
 
 use crate::accounts::explain_in;
@@ -110,9 +110,9 @@ fn posted(alloc: Global, endpoint: Endpoint, body: &[u8]) -> Result<Request, Unr
 ///
 /// # Errors
 ///
-/// `Unread::Fault` with the first fault, in this order: the body is no JSON text in UTF-8; it is no object (the name of
+/// `Unmade::Fault` with the first fault, in this order: the body is no JSON text in UTF-8; it is no object (the name of
 /// that fault is `body`); it has a key that is none of its fields, the least one by bytes; and then the first fault of
-/// its fields, in the order above. `Unread::NoMemory` where memory ran out.
+/// its fields, in the order above. `Unmade::NoMemory` where memory ran out.
 #[tactic(auto, unfolding(crate::specs::Requests::request_of))]
 pub fn read_request(alloc: Global, endpoint: Endpoint, body: &[u8]) -> Result<Request, Unread>
     ensures { Gives result (request_of endpoint body.now) }

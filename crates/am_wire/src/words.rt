@@ -1,7 +1,7 @@
 //! The words of kinds and of pending flags.
 ghost use Rattle.std.specs.Prelude.{◌≡◌, codes, map};
 ghost use Rattle.serde_json.specs.View.{view};
-ghost use Rattle.am_wire_fields.specs.Reading.{Gives, GivesBy};
+ghost use Rattle.am_types.specs.Reading.{Gives, GivesBy};
 ghost use Rattle.am_wire_fields.specs.Lists.{words_in};
 ghost use Rattle.am_wire.specs.Words.{kind_among, kind_named, kind_of, pending_kind_of, pending_flag_names, pending_flags_listed, pending_flags_of};
 

@@ -5,9 +5,9 @@ use Rattle.serde_json.specs.Data.{Data}
 use Rattle.serde_json.specs.View.{view, items_view}
 use Rattle.serde_json.specs.declared.value.Value.{Value}
 use Rattle.am_wire_fields.specs.declared.fault.WireFault.{WireFault}
-use Rattle.am_wire_fields.specs.declared.fault.Unread.{Unread}
-use Rattle.am_wire_fields.specs.declared.fault.Unread.TheVariants as unread
-use Rattle.am_wire_fields.specs.Reading.{◌>>=◌, Fails}
+use Rattle.am_types.specs.declared.failure.Unmade.{Unmade}
+use Rattle.am_types.specs.declared.failure.Unmade.TheVariants as unmade
+use Rattle.am_types.specs.Reading.{◌>>=◌, Fails}
 use Rattle.am_wire_fields.specs.Lists.{values_of, each}
 
 -- the items that values stand for, as a list
@@ -41,11 +41,11 @@ module _ {A : Type 0} (read : Data → Result A WireFault) (front : List A) (i :
       let one : front_then front (each read (map view (drop i values))) ≡ front_then (front ++ x ∷ []) (each read (map view (drop (i + 1) values))) = rw (e, h) (regroup front x (each read (map view (drop (i + 1) values)))) in
       sym one ∙ so_far
 
-  pub ends : (e : Unread) (v : Value) → i < length values → v ≡ get_or values i v → Fails e (read (view v))
+  pub ends : (e : Unmade WireFault) (v : Value) → i < length values → v ≡ get_or values i v → Fails e (read (view v))
       → front_then front (each read (map view (drop i values))) ≡ whole → Fails e whole
   unfolding each
-  ends unread.NoMemory v lt is h so_far = tt
-  ends (unread.Fault f) v lt is h so_far =
+  ends unmade.NoMemory v lt is h so_far = tt
+  ends (unmade.Fault f) v lt is h so_far =
       let e = left i v values lt is in
       let one : front_then front (each read (map view (drop i values))) ≡ Err f = rw (e, h) refl in
       sym so_far ∙ one

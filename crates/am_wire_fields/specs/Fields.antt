@@ -6,7 +6,7 @@ use Rattle.serde_json.specs.Find.{get, as_bool, as_object}
 use Rattle.am_model.specs.Texts.{lists}
 use Rattle.am_wire_fields.specs.declared.fault.WireFault.{WireFault}
 use Rattle.am_wire_fields.specs.declared.fault.WireFault.TheVariants.{Missing, WrongKind, UnknownField}
-use Rattle.am_wire_fields.specs.Reading.{◌>>=◌}
+use Rattle.am_types.specs.Reading.{◌>>=◌}
 
 -- a null counts as absent
 abbrev pub unless_null : Option Data → Option Data
@@ -59,6 +59,12 @@ present name (Some value) = Ok value
 unfoldable pub required : List ℕ → Data → Result Data WireFault
 required name parent = present name (field name parent)
 
+-- what a field that must be there says, as `read` reads it
+abbrev pub required_by : {A : Type 0} → (List ℕ → Data → Result A WireFault) → List ℕ → Data → Result A WireFault
+required_by read name parent = do
+  value ← required name parent
+  read name value
+
 -- what a value says of the kind that is asked for, unless it says none
 unfoldable pub of_kind : {A : Type 0} → List ℕ → Option A → Result A WireFault
 of_kind name None = Err (WrongKind name)
@@ -70,9 +76,7 @@ truth_in name value = of_kind name (as_bool value)
 
 -- a field that must be there and says a truth
 unfoldable pub required_truth : List ℕ → Data → Result Bool WireFault
-required_truth name parent = do
-  value ← required name parent
-  truth_in name value
+required_truth name parent = required_by truth_in name parent
 
 -- a truth that is false where none is said
 unfoldable pub truth_or_false : List ℕ → Option Data → Result Bool WireFault

@@ -1,4 +1,3 @@
-pub mod Reading
 pub mod Bodies
 pub mod Fields
 pub mod Texts

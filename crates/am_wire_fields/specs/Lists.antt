@@ -7,7 +7,7 @@ use Rattle.am_uri.specs.declared.text.Form.{Form}
 use Rattle.am_wire_fields.specs.declared.fault.WireFault.{WireFault}
 use Rattle.am_wire_fields.specs.declared.fault.WireFault.TheVariants.{WrongKind, TooLong}
 use Rattle.am_wire_fields.specs.Fields.{field}
-use Rattle.am_wire_fields.specs.Reading.{◌>>=◌}
+use Rattle.am_types.specs.Reading.{◌>>=◌}
 use Rattle.am_wire_fields.specs.Texts.{text_in}
 
 -- the items as a list

@@ -3,8 +3,7 @@ use Rattle.std.specs.Prelude.{ℕ, ℤ, List, Option, option_and_then, Result}
 use Rattle.serde_json.specs.Data.{Data}
 use Rattle.serde_json.specs.Find.{as_number, as_u64, as_i64}
 use Rattle.am_wire_fields.specs.declared.fault.WireFault.{WireFault}
-use Rattle.am_wire_fields.specs.Fields.{field, if_said, of_kind, required}
-use Rattle.am_wire_fields.specs.Reading.{◌>>=◌}
+use Rattle.am_wire_fields.specs.Fields.{field, if_said, of_kind, required_by}
 
 -- the whole number from 0 to 18,446,744,073,709,551,615 that a value says
 unfoldable pub natural_in : List ℕ → Data → Result ℕ WireFault
@@ -16,15 +15,11 @@ whole_in name value = of_kind name (option_and_then as_i64 (as_number value))
 
 -- a field that must be there and says a number from 0 on
 unfoldable pub required_natural : List ℕ → Data → Result ℕ WireFault
-required_natural name parent = do
-  value ← required name parent
-  natural_in name value
+required_natural name parent = required_by natural_in name parent
 
 -- a field that must be there and says a signed number
 unfoldable pub required_whole : List ℕ → Data → Result ℤ WireFault
-required_whole name parent = do
-  value ← required name parent
-  whole_in name value
+required_whole name parent = required_by whole_in name parent
 
 -- a field that says a number from 0 on, if it is there
 unfoldable pub optional_natural : List ℕ → Data → Result (Option ℕ) WireFault

@@ -6,8 +6,7 @@ use Rattle.am_uri.specs.declared.text.Form.{Form}
 use Rattle.am_uri.specs.Texts.{fits}
 use Rattle.am_wire_fields.specs.declared.fault.WireFault.{WireFault}
 use Rattle.am_wire_fields.specs.declared.fault.WireFault.TheVariants.{WrongKind, TooLong}
-use Rattle.am_wire_fields.specs.Fields.{field, if_said, required}
-use Rattle.am_wire_fields.specs.Reading.{◌>>=◌}
+use Rattle.am_wire_fields.specs.Fields.{field, if_said, required_by}
 
 -- the text, unless it has more bytes than so many
 abbrev pub text_within : ℕ → List ℕ → List ℕ → Result (List ℕ) WireFault
@@ -24,9 +23,7 @@ text_in form limit name value = text_of form limit name (as_str value)
 
 -- a field that must be there and says a text
 unfoldable pub required_text : Form → ℕ → List ℕ → Data → Result (List ℕ) WireFault
-required_text form limit name parent = do
-  value ← required name parent
-  text_in form limit name value
+required_text form limit name parent = required_by (text_in form limit) name parent
 
 -- a field that says a text, if it is there
 unfoldable pub optional_text : Form → ℕ → List ℕ → Data → Result (Option (List ℕ)) WireFault

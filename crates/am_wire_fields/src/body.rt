@@ -1,9 +1,10 @@
 //! The JSON value of a body.
 ghost use Rattle.serde_json.specs.View.{view};
-ghost use Rattle.am_wire_fields.specs.Reading.{GivesBy};
+ghost use Rattle.am_types.specs.Reading.{GivesBy};
 ghost use Rattle.am_wire_fields.specs.Bodies.{value_of};
 
 use crate::{Unread, WireFault};
+use am_types::Unmade;
 use serde_json::Value;
 use std::alloc::Global;
 
@@ -19,7 +20,7 @@ pub fn json_value(alloc: Global, bytes: &[u8]) -> Result<Value, Unread>
 {
     match Value::from_slice(alloc, bytes) {
         Ok(value) => Ok(value),
-        Err(error) if error.is_memory() => Err(Unread::NoMemory),
-        Err(_) => Err(Unread::Fault(WireFault::NotJson)),
+        Err(error) if error.is_memory() => Err(Unmade::NoMemory),
+        Err(_) => Err(Unmade::Fault(WireFault::NotJson)),
     }
 }

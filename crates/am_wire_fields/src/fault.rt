@@ -1,7 +1,4 @@
-ghost use Rattle.std.specs.Prelude.{◌≡◌};
-
-use am_types::{MimeFault, Text, UriFault};
-use std::alloc::{AllocError, AllocFailed};
+use am_types::{MimeFault, Text, Unmade, UriFault};
 
 /// Why a request's body is no request: the first fault that reading meets.
 #[derive(Drop)]
@@ -23,30 +20,4 @@ pub enum WireFault {
 }
 
 /// Why nothing was read.
-#[derive(Drop)]
-pub enum Unread {
-    /// What is wrong: the first fault that reading meets.
-    Fault(WireFault),
-    /// Memory ran out.
-    NoMemory,
-}
-
-impl From<AllocError> for Unread {
-    ghost use Rattle.am_wire_fields.specs.declared.fault.Unread.TheVariants.{NoMemory};
-
-    ghost from_gives = { λ _ e. e ≡ NoMemory };
-
-    fn from(_error: AllocError) -> Unread {
-        Unread::NoMemory
-    }
-}
-
-impl<T: Drop> From<AllocFailed<T>> for Unread {
-    ghost use Rattle.am_wire_fields.specs.declared.fault.Unread.TheVariants.{NoMemory};
-
-    ghost from_gives = { λ _ e. e ≡ NoMemory };
-
-    fn from(_error: AllocFailed<T>) -> Unread {
-        Unread::NoMemory
-    }
-}
+pub type Unread = Unmade<WireFault>;

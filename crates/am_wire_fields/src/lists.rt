@@ -2,7 +2,7 @@
 ghost use Rattle.std.specs.Prelude.{◌≡◌, map};
 ghost use Rattle.serde_json.specs.View.{view};
 ghost use Rattle.am_model.specs.Texts.{lists};
-ghost use Rattle.am_wire_fields.specs.Reading.{Gives, GivesBy};
+ghost use Rattle.am_types.specs.Reading.{Gives, GivesBy};
 ghost use Rattle.am_wire_fields.specs.Lists.{few, list_in, optional_list, optional_texts, texts_in, word_in, words_in};
 
 use crate::Unread;

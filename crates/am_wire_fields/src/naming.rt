@@ -1,9 +1,9 @@
 //! The faults that name a field. The name is copied only here, where a fault is met.
 ghost use Rattle.am_wire_fields.specs.declared.fault.WireFault.TheVariants.{Missing, WrongKind, UnknownField, TooLong};
-ghost use Rattle.am_wire_fields.specs.Reading.{IsFault};
+ghost use Rattle.am_types.specs.Reading.{IsFault};
 
 use crate::{Unread, WireFault};
-use am_types::Text;
+use am_types::{Text, Unmade};
 use std::alloc::Global;
 
 /// That a field must be there and isn't, or that memory ran out while its name was copied.
@@ -12,8 +12,8 @@ pub fn missing(alloc: Global, name: &str) -> Unread
     ensures { IsFault result (Missing name.now) }
 {
     match String::from_str(alloc, name) {
-        Ok(name) => Unread::Fault(WireFault::Missing(Text::new(name))),
-        Err(_) => Unread::NoMemory,
+        Ok(name) => Unmade::Fault(WireFault::Missing(Text::new(name))),
+        Err(_) => Unmade::NoMemory,
     }
 }
 
@@ -23,8 +23,8 @@ pub fn wrong_kind(alloc: Global, name: &str) -> Unread
     ensures { IsFault result (WrongKind name.now) }
 {
     match String::from_str(alloc, name) {
-        Ok(name) => Unread::Fault(WireFault::WrongKind(Text::new(name))),
-        Err(_) => Unread::NoMemory,
+        Ok(name) => Unmade::Fault(WireFault::WrongKind(Text::new(name))),
+        Err(_) => Unmade::NoMemory,
     }
 }
 
@@ -34,8 +34,8 @@ pub fn unknown_field(alloc: Global, key: &str) -> Unread
     ensures { IsFault result (UnknownField key.now) }
 {
     match String::from_str(alloc, key) {
-        Ok(key) => Unread::Fault(WireFault::UnknownField(Text::new(key))),
-        Err(_) => Unread::NoMemory,
+        Ok(key) => Unmade::Fault(WireFault::UnknownField(Text::new(key))),
+        Err(_) => Unmade::NoMemory,
     }
 }
 
@@ -45,7 +45,7 @@ pub fn too_long(alloc: Global, name: &str) -> Unread
     ensures { IsFault result (TooLong name.now) }
 {
     match String::from_str(alloc, name) {
-        Ok(name) => Unread::Fault(WireFault::TooLong(Text::new(name))),
-        Err(_) => Unread::NoMemory,
+        Ok(name) => Unmade::Fault(WireFault::TooLong(Text::new(name))),
+        Err(_) => Unmade::NoMemory,
     }
 }

@@ -1,6 +1,6 @@
 //! The fields that say whole numbers. A number with a fraction or an exponent is none, and neither is -0.
 ghost use Rattle.serde_json.specs.View.{view};
-ghost use Rattle.am_wire_fields.specs.Reading.{Gives};
+ghost use Rattle.am_types.specs.Reading.{Gives};
 ghost use Rattle.am_wire_fields.specs.Numbers.{natural_in, optional_natural, optional_whole, required_natural, required_whole, whole_in};
 
 use crate::fields::required;

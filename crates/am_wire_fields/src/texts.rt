@@ -1,7 +1,7 @@
 //! The fields that say texts.
 ghost use Rattle.std.specs.Prelude.{Some};
 ghost use Rattle.serde_json.specs.View.{view};
-ghost use Rattle.am_wire_fields.specs.Reading.{Gives};
+ghost use Rattle.am_types.specs.Reading.{Gives};
 ghost use Rattle.am_wire_fields.specs.Texts.{optional_text, required_text, text_in, text_of, text_within};
 
 use crate::fields::required;

@@ -7,10 +7,10 @@ use Rattle.serde_json.specs.declared.value.Value.{Value}
 use Rattle.am_types.specs.declared.intent.Named.{Named}
 use Rattle.am_wire_fields.specs.declared.fault.WireFault.{WireFault}
 use Rattle.am_wire_fields.specs.declared.fault.WireFault.TheVariants.{WrongKind}
-use Rattle.am_wire_fields.specs.declared.fault.Unread.{Unread}
-use Rattle.am_wire_fields.specs.declared.fault.Unread.TheVariants as unread
+use Rattle.am_types.specs.declared.failure.Unmade.{Unmade}
+use Rattle.am_types.specs.declared.failure.Unmade.TheVariants as unmade
 use Rattle.am_wire_fields.specs.Fields.{keys_in}
-use Rattle.am_wire_fields.specs.Reading.{Fails}
+use Rattle.am_types.specs.Reading.{Fails}
 use Rattle.am_wire_fields.proofs.Each.{front_then, regroup}
 use Rattle.am_wire_intents.specs.Extras.{each_named, named_in}
 use Rattle.am_wire_intents.specs.Filters.{some_values}
@@ -36,11 +36,11 @@ module _ (front : List Named) (entries : List (String Global × Value)) (e : Str
       let one : front_then front (each_named (members_view entries)) ≡ front_then (front ++ x ∷ []) (each_named (members_view left)) = rw (is, h) (regroup front x (each_named (members_view left))) in
       sym one ∙ so_far
 
-  pub ends : (fault : Unread) → Fails fault (named_in (string_bytes e.0) (view e.1))
+  pub ends : (fault : Unmade WireFault) → Fails fault (named_in (string_bytes e.0) (view e.1))
       → front_then front (each_named (members_view entries)) ≡ whole → Fails fault whole
   unfolding each_named
-  ends unread.NoMemory h so_far = tt
-  ends (unread.Fault f) h so_far =
+  ends unmade.NoMemory h so_far = tt
+  ends (unmade.Fault f) h so_far =
       let one : front_then front (each_named (members_view entries)) ≡ Err f = rw (is, h) refl in
       sym so_far ∙ one
 

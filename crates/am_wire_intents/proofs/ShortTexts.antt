@@ -9,7 +9,7 @@ use Rattle.am_uri.specs.Texts.{fits}
 use Rattle.am_wire_fields.specs.declared.fault.WireFault.{WireFault}
 use Rattle.am_wire_fields.specs.declared.fault.WireFault.TheVariants.{WrongKind, TooLong}
 use Rattle.am_wire_fields.specs.Fields.{field, if_said}
-use Rattle.am_wire_fields.specs.Reading.{◌>>=◌}
+use Rattle.am_types.specs.Reading.{◌>>=◌}
 use Rattle.am_wire_fields.specs.Texts.{text_of, text_in, optional_text}
 
 pub short_text : (form : Form) (limit : ℕ) (name : List ℕ) (said : Option (List ℕ)) (text : List ℕ) → text_of form limit name said ≡ Ok text → length text ≤ limit

@@ -6,8 +6,7 @@ use Rattle.am_types.specs.declared.intent.Component.{Component}
 use Rattle.am_model.specs.Sound.{is_name, is_package_name, starts_with_dot}
 use Rattle.am_wire_fields.specs.declared.fault.WireFault.{WireFault}
 use Rattle.am_wire_fields.specs.declared.fault.WireFault.TheVariants.{WrongKind, TooLong}
-use Rattle.am_wire_fields.specs.Fields.{field, if_said, required}
-use Rattle.am_wire_fields.specs.Reading.{◌>>=◌}
+use Rattle.am_wire_fields.specs.Fields.{field, if_said}
 
 -- the parts with one more byte before the first
 abbrev pub with_first : ℕ → Option (List ℕ × List ℕ) → Option (List ℕ × List ℕ)
@@ -41,12 +40,6 @@ of_parts field_name (Some parts) =
 -- the component that a value names
 unfoldable pub component_in : List ℕ → Data → Result Component WireFault
 component_in field_name value = of_parts field_name (option_and_then parts_of (as_str value))
-
--- a field that must be there and names a component
-unfoldable pub required_component : List ℕ → Data → Result Component WireFault
-required_component field_name parent = do
-  value ← required field_name parent
-  component_in field_name value
 
 -- a field that names a component, if it is there
 unfoldable pub optional_component : List ℕ → Data → Result (Option Component) WireFault

@@ -8,7 +8,7 @@ use Rattle.am_types.specs.declared.intent.Named.{Named}
 use Rattle.am_wire_fields.specs.declared.fault.WireFault.{WireFault}
 use Rattle.am_wire_fields.specs.declared.fault.WireFault.TheVariants.{WrongKind, TooLong}
 use Rattle.am_wire_fields.specs.Fields.{field, keys_in}
-use Rattle.am_wire_fields.specs.Reading.{◌>>=◌}
+use Rattle.am_types.specs.Reading.{◌>>=◌}
 
 -- a text among the extras, or a key of theirs, has at most 1,024 bytes
 unfoldable pub short : List ℕ → Result (List ℕ) WireFault

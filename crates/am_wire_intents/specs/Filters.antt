@@ -4,8 +4,6 @@ use Rattle.serde_json.specs.Data.{Data}
 use Rattle.serde_json.specs.Find.{as_str, as_number, as_u64, as_i64}
 use Rattle.am_types.specs.declared.filter.Authority.{Authority}
 use Rattle.am_types.specs.declared.filter.Filter.{Filter}
-use Rattle.am_types.specs.declared.uri.Mime.{Mime}
-use Rattle.am_model.specs.MimeTypes.{mime_of}
 use Rattle.am_model.specs.Uris.{is_scheme}
 use Rattle.am_filter.specs.declared.rows.Paths.{Paths}
 use Rattle.am_filter.specs.declared.rows.DataRow.{DataRow}
@@ -17,9 +15,9 @@ use Rattle.am_wire_fields.specs.declared.fault.WireFault.{WireFault}
 use Rattle.am_wire_fields.specs.declared.fault.WireFault.TheVariants.{WrongKind, TooLong}
 use Rattle.am_wire_fields.specs.Fields.{field, if_said, only_fields, required}
 use Rattle.am_wire_fields.specs.Lists.{list_in, optional_list, each, texts_in}
-use Rattle.am_wire_fields.specs.Reading.{◌>>=◌}
-use Rattle.am_wire_fields.specs.Texts.{text_in, optional_text}
-use Rattle.am_wire_intents.specs.Intents.{categories_of, mime_or_fault}
+use Rattle.am_types.specs.Reading.{◌>>=◌}
+use Rattle.am_wire_fields.specs.Texts.{optional_text}
+use Rattle.am_wire_intents.specs.Intents.{categories_of, optional_mime}
 
 -- a scheme of at most 1,024 bytes
 unfoldable pub scheme_of : Option (List ℕ) → Result (List ℕ) WireFault
@@ -57,23 +55,13 @@ paths_at row = do
   pattern ← optional_text Filled 1024 (codes "pathPattern") row
   Ok (record { literal = literal; prefix = prefix; suffix = suffix; pattern = pattern })
 
--- the type that a nonempty text is
-unfoldable pub row_type : Data → Result Mime WireFault
-row_type value = do
-  text ← text_in Filled 1024 (codes "mimeType") value
-  mime_or_fault (mime_of text)
-
--- the type of a row
-unfoldable pub type_at : Data → Result (Option Mime) WireFault
-type_at row = if_said row_type (field (codes "mimeType") row)
-
 -- what the keys of a row say
 unfoldable pub row_of : Data → Result DataRow WireFault
 row_of row = do
   scheme ← scheme_at row
   authority ← authority_at row
   paths ← paths_at row
-  mime ← type_at row
+  mime ← optional_mime Filled (codes "mimeType") row
   Ok (record { scheme = scheme; authority = authority; paths = paths; mime = mime })
 
 -- the keys of a row
@@ -144,9 +132,3 @@ unfoldable pub filter_in : List ℕ → Data → Result Filter WireFault
 filter_in name value = do
   known ← only_fields name filter_fields value
   filter_of value
-
--- a field that must be there and is a filter
-unfoldable pub required_filter : List ℕ → Data → Result Filter WireFault
-required_filter name parent = do
-  value ← required name parent
-  filter_in name value

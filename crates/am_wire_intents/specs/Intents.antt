@@ -13,9 +13,9 @@ use Rattle.am_uri.specs.declared.text.Form.TheVariants.{Any}
 use Rattle.am_uri.specs.Texts.{sorted_texts}
 use Rattle.am_wire_fields.specs.declared.fault.WireFault.{WireFault}
 use Rattle.am_wire_fields.specs.declared.fault.WireFault.TheVariants.{BadUri, BadMime}
-use Rattle.am_wire_fields.specs.Fields.{field, if_said, only_fields, required}
+use Rattle.am_wire_fields.specs.Fields.{field, if_said, only_fields, required_by}
 use Rattle.am_wire_fields.specs.Lists.{optional_texts}
-use Rattle.am_wire_fields.specs.Reading.{◌>>=◌}
+use Rattle.am_types.specs.Reading.{◌>>=◌}
 use Rattle.am_wire_fields.specs.Texts.{text_in, optional_text}
 use Rattle.am_wire_intents.specs.Components.{optional_component}
 use Rattle.am_wire_intents.specs.Extras.{optional_extras}
@@ -41,15 +41,15 @@ unfoldable pub mime_or_fault : Result Mime MimeFault → Result Mime WireFault
 mime_or_fault (Ok mime) = Ok mime
 mime_or_fault (Err fault) = Err (BadMime fault)
 
--- the MIME type that a value says
-unfoldable pub mime_in : List ℕ → Data → Result Mime WireFault
-mime_in name value = do
-  text ← text_in Any 1024 name value
+-- the MIME type that a value says by a text of the form
+unfoldable pub mime_in : Form → List ℕ → Data → Result Mime WireFault
+mime_in form name value = do
+  text ← text_in form 1024 name value
   mime_or_fault (mime_of text)
 
 -- a field that says a MIME type, if it is there
-unfoldable pub optional_mime : List ℕ → Data → Result (Option Mime) WireFault
-optional_mime name parent = if_said (mime_in name) (field name parent)
+unfoldable pub optional_mime : Form → List ℕ → Data → Result (Option Mime) WireFault
+optional_mime form name parent = if_said (mime_in form name) (field name parent)
 
 -- the categories, each of the form, sorted by bytes, each once
 unfoldable pub categories_of : Form → Data → Result (List (List ℕ)) WireFault
@@ -68,7 +68,7 @@ intent_of parent = do
   flags ← flags_of parent
   identifier ← optional_text Any 1024 (codes "identifier") parent
   name ← optional_text Any 1024 (codes "package") parent
-  mime ← optional_mime (codes "type") parent
+  mime ← optional_mime Any (codes "type") parent
   Ok (record { action = action; uri = uri; mime = mime; identifier = identifier; categories = categories; «package» = name; component = component; flags = flags; extras = extras })
 
 -- the fields of an intent
@@ -85,9 +85,7 @@ intent_in name value = do
 
 -- a field that must be there and is an intent
 unfoldable pub required_intent : List ℕ → Data → Result Intent WireFault
-required_intent name parent = do
-  value ← required name parent
-  intent_in name value
+required_intent name parent = required_by intent_in name parent
 
 -- a field that is an intent, if it is there
 unfoldable pub optional_intent : List ℕ → Data → Result (Option Intent) WireFault

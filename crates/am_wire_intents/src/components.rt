@@ -2,7 +2,7 @@
 ghost use Rattle.std.specs.Prelude.{◌≡◌, IfOk, Some, option_map};
 ghost use Rattle.serde_json.specs.View.{view};
 ghost use Rattle.am_uri.specs.Parts.{both};
-ghost use Rattle.am_wire_fields.specs.Reading.{Gives};
+ghost use Rattle.am_types.specs.Reading.{Gives};
 ghost use Rattle.am_wire_intents.specs.Components.{component_in, full_class, measured, of_parts, optional_component, parts_of};
 
 use am_types::{Component, Text};

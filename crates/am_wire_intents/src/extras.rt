@@ -1,7 +1,7 @@
 //! Extras: an object of texts, signed whole numbers and truths.
 ghost use Rattle.std.specs.Prelude.{◌≡◌, Some};
 ghost use Rattle.serde_json.specs.View.{view, members_view};
-ghost use Rattle.am_wire_fields.specs.Reading.{Gives, GivesBy};
+ghost use Rattle.am_types.specs.Reading.{Gives, GivesBy};
 ghost use Rattle.am_wire_intents.specs.Extras.{each_named, extra_in, extras_in, few_extras, named_in, optional_extras, short};
 
 use am_types::{Extra, List, Named, Text};

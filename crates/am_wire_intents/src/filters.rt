@@ -1,7 +1,7 @@
 //! Filters.
 ghost use Rattle.std.specs.Prelude.{◌≡◌, map};
 ghost use Rattle.serde_json.specs.View.{view};
-ghost use Rattle.am_wire_fields.specs.Reading.{Gives, GivesBy};
+ghost use Rattle.am_types.specs.Reading.{Gives, GivesBy};
 ghost use Rattle.am_wire_intents.specs.Filters.{actions_at, filter_in, priority_at, some_values};
 
 use crate::intents::categories_of;
@@ -80,13 +80,5 @@ pub fn filter_in(alloc: Global, name: &str, value: &Value) -> Result<Filter, Unr
     let categories = categories_of(alloc, Form::Filled, value)?;
     let rows = rows_at(alloc, value)?;
     let priority = or_drop!(priority_at(alloc, value), rows);
-    Ok(Filter {
-        actions,
-        categories,
-        schemes: rows.schemes,
-        authorities: rows.authorities,
-        paths: rows.paths,
-        types: rows.types,
-        priority,
-    })
+    Ok(rows.into_filter(actions, categories, priority))
 }

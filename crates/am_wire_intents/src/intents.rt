@@ -3,13 +3,13 @@ ghost use Rattle.serde_json.specs.View.{view};
 ghost use Rattle.am_model.specs.MimeTypes.{mime_of};
 ghost use Rattle.am_model.specs.Uris.{uri_of};
 ghost use Rattle.am_wire_fields.specs.Fields.{only_fields};
-ghost use Rattle.am_wire_fields.specs.Reading.{Gives};
+ghost use Rattle.am_types.specs.Reading.{Gives};
 ghost use Rattle.am_wire_intents.specs.Intents.{categories_of, intent_fields, intent_in, intent_of, mime_or_fault, optional_intent, optional_mime, optional_uri, required_intent, uri_or_fault};
 
 use crate::components::optional_component;
 use crate::extras::optional_extras;
 use crate::flags::flags_of;
-use am_types::{Intent, List, Mime, MimeFault, Text, Uri, UriFault};
+use am_types::{Intent, List, Mime, MimeFault, Text, Unmade, Uri, UriFault};
 use am_uri::{Form, parse_mime, parse_uri, sorted};
 use am_wire_fields::{
     Unread, WireFault, if_said, only_fields, optional_text, optional_texts, required, text_in,
@@ -17,16 +17,23 @@ use am_wire_fields::{
 use serde_json::Value;
 use std::alloc::Global;
 
+/// What a parser makes of a text: what it finds wrong is a fault of the body, and want of memory stays that.
+macro_rules! or_fault {
+    ($parsed:expr, $fault:ident => $met:ident) => {
+        match $parsed {
+            Ok(value) => Ok(value),
+            Err($fault::NoMemory) => Err(Unmade::NoMemory),
+            Err(fault) => Err(Unmade::Fault(WireFault::$met(fault))),
+        }
+    };
+}
+
 /// The URI that a text is.
 #[tactic(auto, unfolding(crate::specs::Intents::uri_or_fault))]
 fn uri_of(alloc: Global, text: &Text) -> Result<Uri, Unread>
     ensures { Gives result (uri_or_fault (uri_of text.now)) }
 {
-    match parse_uri(alloc, text) {
-        Ok(uri) => Ok(uri),
-        Err(UriFault::NoMemory) => Err(Unread::NoMemory),
-        Err(fault) => Err(Unread::Fault(WireFault::BadUri(fault))),
-    }
+    or_fault!(parse_uri(alloc, text), UriFault => BadUri)
 }
 
 /// The URI that a field says, if it is there.
@@ -42,23 +49,24 @@ fn optional_uri(alloc: Global, name: &str, object: &Value) -> Result<Option<Uri>
 
 /// The MIME type that a text is.
 #[tactic(auto, unfolding(crate::specs::Intents::mime_or_fault))]
-pub fn mime_of(alloc: Global, text: &Text) -> Result<Mime, Unread>
+fn mime_of(alloc: Global, text: &Text) -> Result<Mime, Unread>
     ensures { Gives result (mime_or_fault (mime_of text.now)) }
 {
-    match parse_mime(alloc, text) {
-        Ok(mime) => Ok(mime),
-        Err(MimeFault::NoMemory) => Err(Unread::NoMemory),
-        Err(fault) => Err(Unread::Fault(WireFault::BadMime(fault))),
-    }
+    or_fault!(parse_mime(alloc, text), MimeFault => BadMime)
 }
 
-/// The MIME type that a field says, if it is there.
+/// The MIME type that a field says by a text of the form, if it is there.
 #[tactic(auto, unfolding(crate::specs::Intents::optional_mime, crate::specs::Intents::mime_in))]
-fn optional_mime(alloc: Global, name: &str, object: &Value) -> Result<Option<Mime>, Unread>
-    ensures { Gives result (optional_mime name.now (view object.now)) }
+pub fn optional_mime(
+    alloc: Global,
+    form: Form,
+    name: &str,
+    object: &Value,
+) -> Result<Option<Mime>, Unread>
+    ensures { Gives result (optional_mime form name.now (view object.now)) }
 {
     if_said!(name, object, |value| {
-        let text = text_in(alloc, Form::Any, 1024, name, value)?;
+        let text = text_in(alloc, form, 1024, name, value)?;
         mime_of(alloc, &text)
     })
 }
@@ -85,7 +93,7 @@ fn intent_of(alloc: Global, object: &Value) -> Result<Intent, Unread>
     let flags = flags_of(alloc, object)?;
     let identifier = optional_text(alloc, Form::Any, 1024, "identifier", object)?;
     let package = optional_text(alloc, Form::Any, 1024, "package", object)?;
-    let mime = optional_mime(alloc, "type", object)?;
+    let mime = optional_mime(alloc, Form::Any, "type", object)?;
     Ok(Intent {
         action,
         uri,

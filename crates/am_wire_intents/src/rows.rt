@@ -5,17 +5,17 @@ ghost use Rattle.serde_json.specs.View.{view};
 ghost use Rattle.am_uri.specs.declared.text.Form.TheVariants.{Filled};
 ghost use Rattle.am_wire_fields.specs.Fields.{only_fields};
 ghost use Rattle.am_wire_fields.specs.Lists.{each};
-ghost use Rattle.am_wire_fields.specs.Reading.{Gives, GivesBy};
+ghost use Rattle.am_types.specs.Reading.{Gives, GivesBy};
 ghost use Rattle.am_wire_fields.specs.Texts.{optional_text};
-ghost use Rattle.am_wire_intents.specs.Filters.{authority_at, paths_at, port_at, row_fields, row_in, rows_at, scheme_at, scheme_of, type_at};
+ghost use Rattle.am_wire_intents.specs.Filters.{authority_at, paths_at, port_at, row_fields, row_in, rows_at, scheme_at, scheme_of};
 
-use crate::intents::mime_of;
+use crate::intents::optional_mime;
 use am_filter::{DataRow, DataRows, Paths, merge_rows};
-use am_types::{Authority, Glob, Mime, Text};
+use am_types::{Authority, Glob, Text};
 use am_uri::{Form, is_scheme};
 use am_wire_fields::{
-    Unread, field, if_said, only_fields, optional_list, optional_text, or_drop, text_in,
-    text_within, wrong_kind,
+    Unread, field, if_said, only_fields, optional_list, optional_text, or_drop, text_within,
+    wrong_kind,
 };
 use serde_json::Value;
 use std::alloc::Global;
@@ -110,17 +110,6 @@ fn paths_at(alloc: Global, row: &Value) -> Result<Paths, Unread>
     })
 }
 
-/// The type of a row, whose text isn't empty.
-#[tactic(auto, unfolding(crate::specs::Filters::type_at, crate::specs::Filters::row_type))]
-fn type_at(alloc: Global, row: &Value) -> Result<Option<Mime>, Unread>
-    ensures { Gives result (type_at (view row.now)) }
-{
-    if_said!("mimeType", row, |value| {
-        let text = text_in(alloc, Form::Filled, 1024, "mimeType", value)?;
-        mime_of(alloc, &text)
-    })
-}
-
 /// Refuses a value that is no object with the keys of a row only.
 fn only_row_fields(alloc: Global, value: &Value) -> Result<(), Unread>
     ensures { Gives result (only_fields (codes "data") row_fields (view value.now)) }
@@ -151,7 +140,7 @@ fn row_in(alloc: Global, row: &Value) -> Result<DataRow, Unread>
     let scheme = scheme_at(alloc, row)?;
     let authority = authority_at(alloc, row)?;
     let paths = paths_at(alloc, row)?;
-    let mime = or_drop!(type_at(alloc, row), paths);
+    let mime = or_drop!(optional_mime(alloc, Form::Filled, "mimeType", row), paths);
     Ok(DataRow {
         scheme,
         authority,

@@ -22,38 +22,46 @@ limit_name Tasks = codes "tasks"
 limit_name Activities = codes "activities"
 limit_name Services = codes "services"
 
+-- the status and the name of a refusal; the last four rules skip a receiver and never refuse a request
+abbrev pub refusal_of : Rule → ℕ × List ℕ
+refusal_of UnknownKey = (401, codes "unknown_key")
+refusal_of HistoryFull = (429, codes "history_full")
+refusal_of AdminOnly = (403, codes "admin_only")
+refusal_of NoPackage = (404, codes "no_package")
+refusal_of NoComponent = (404, codes "no_component")
+refusal_of NoActivity = (404, codes "no_activity")
+refusal_of NoInstance = (404, codes "no_instance")
+refusal_of NoDelivery = (404, codes "no_delivery")
+refusal_of NoToken = (404, codes "no_token")
+refusal_of NoService = (404, codes "no_service")
+refusal_of NoReceiver = (404, codes "no_receiver")
+refusal_of NotExported = (403, codes "not_exported")
+refusal_of (NeedsPermission permission) = (403, codes "needs_permission")
+refusal_of ProtectedAction = (403, codes "protected_action")
+refusal_of NotYours = (403, codes "not_yours")
+refusal_of NotHolder = (403, codes "not_holder")
+refusal_of NotCreator = (403, codes "not_creator")
+refusal_of ImplicitService = (400, codes "implicit_service")
+refusal_of NeedsNewTask = (400, codes "needs_new_task")
+refusal_of Mutability = (400, codes "mutability")
+refusal_of NotOrdered = (400, codes "not_ordered")
+refusal_of Installed = (409, codes "installed")
+refusal_of Canceled = (410, codes "canceled")
+refusal_of (OverLimit limit) = (429, codes "over_limit")
+refusal_of (BadManifest fault) = (422, codes "bad_manifest")
+refusal_of KeeperFault = (503, codes "keeper_fault")
+refusal_of RegisteredOnly = (403, codes "registered_only")
+refusal_of ManifestImplicit = (403, codes "manifest_implicit")
+refusal_of StoppedPackage = (403, codes "stopped_package")
+refusal_of (ReceiverLacks permission) = (403, codes "receiver_lacks")
+
 -- the name of a rule
 abbrev pub rule_name : Rule → List ℕ
-rule_name UnknownKey = codes "unknown_key"
-rule_name HistoryFull = codes "history_full"
-rule_name AdminOnly = codes "admin_only"
-rule_name NoPackage = codes "no_package"
-rule_name NoComponent = codes "no_component"
-rule_name NoActivity = codes "no_activity"
-rule_name NoInstance = codes "no_instance"
-rule_name NoDelivery = codes "no_delivery"
-rule_name NoToken = codes "no_token"
-rule_name NoService = codes "no_service"
-rule_name NoReceiver = codes "no_receiver"
-rule_name NotExported = codes "not_exported"
-rule_name (NeedsPermission permission) = codes "needs_permission"
-rule_name ProtectedAction = codes "protected_action"
-rule_name NotYours = codes "not_yours"
-rule_name NotHolder = codes "not_holder"
-rule_name NotCreator = codes "not_creator"
-rule_name ImplicitService = codes "implicit_service"
-rule_name NeedsNewTask = codes "needs_new_task"
-rule_name Mutability = codes "mutability"
-rule_name NotOrdered = codes "not_ordered"
-rule_name Installed = codes "installed"
-rule_name Canceled = codes "canceled"
-rule_name (OverLimit limit) = codes "over_limit"
-rule_name (BadManifest fault) = codes "bad_manifest"
-rule_name KeeperFault = codes "keeper_fault"
-rule_name RegisteredOnly = codes "registered_only"
-rule_name ManifestImplicit = codes "manifest_implicit"
-rule_name StoppedPackage = codes "stopped_package"
-rule_name (ReceiverLacks permission) = codes "receiver_lacks"
+rule_name rule = (refusal_of rule).1
+
+-- the status of a refusal
+abbrev pub rule_status : Rule → ℕ
+rule_status rule = (refusal_of rule).0
 
 -- what a rule names: a permission, a limit, or the fault of a manifest
 abbrev pub named_by : Rule → Option (List ℕ)
@@ -71,36 +79,3 @@ error_data error (Some name) = object (member (codes "error") (string error) (me
 -- the value of a refusal
 abbrev pub refusal_data : Rule → Data
 refusal_data rule = error_data (rule_name rule) (named_by rule)
-
--- the status of a refusal; the last four rules skip a receiver and never refuse a request
-abbrev pub rule_status : Rule → ℕ
-rule_status UnknownKey = 401
-rule_status HistoryFull = 429
-rule_status AdminOnly = 403
-rule_status NoPackage = 404
-rule_status NoComponent = 404
-rule_status NoActivity = 404
-rule_status NoInstance = 404
-rule_status NoDelivery = 404
-rule_status NoToken = 404
-rule_status NoService = 404
-rule_status NoReceiver = 404
-rule_status NotExported = 403
-rule_status (NeedsPermission permission) = 403
-rule_status ProtectedAction = 403
-rule_status NotYours = 403
-rule_status NotHolder = 403
-rule_status NotCreator = 403
-rule_status ImplicitService = 400
-rule_status NeedsNewTask = 400
-rule_status Mutability = 400
-rule_status NotOrdered = 400
-rule_status Installed = 409
-rule_status Canceled = 410
-rule_status (OverLimit limit) = 429
-rule_status (BadManifest fault) = 422
-rule_status KeeperFault = 503
-rule_status RegisteredOnly = 403
-rule_status ManifestImplicit = 403
-rule_status StoppedPackage = 403
-rule_status (ReceiverLacks permission) = 403

@@ -6,7 +6,7 @@ ghost use Rattle.am_wire_values.specs.Intents.{component_data, extra_data, extra
 
 use crate::fields::{Members, put_given, put_some_texts, some_listed};
 use crate::names::flag_values;
-use crate::shown::{Shown, put_shown, put_some};
+use crate::shown::{Shown, object_with, put_shown, put_some};
 use am_types::{Component, Extra, Intent, List, Mime, Named, Uri};
 use serde_json::{Map, Value, put};
 use std::alloc::{AllocError, Global};
@@ -88,9 +88,10 @@ impl Shown for Component {
 pub(crate) fn extras_value(alloc: Global, extras: &List<Named>) -> Result<Value, AllocError>
     ensures { IfOk result (λ value. view value ≡ extras_data extras.now) }
 {
-    let mut members = Map::new(alloc);
-    put_extras(alloc, &mut members, extras.as_slice())?;
-    Ok(Value::Object(members))
+    object_with!(
+        alloc,
+        |members| put_extras(alloc, &mut members, extras.as_slice())
+    )
 }
 
 /// Puts extras under their keys.

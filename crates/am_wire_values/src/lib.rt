@@ -16,6 +16,7 @@ mod views;
 
 pub use filters::filter_value;
 pub use intents::intent_value;
+pub use names::{narrowing_name, why_name};
 pub use replies::{reply_status, reply_text, reply_value};
 pub use requests::request_value;
 pub use routes::route_of;

@@ -42,8 +42,8 @@ pub(crate) fn placed_name(how: Placed) -> &'static str
     }
 }
 
-/// Why a filter doesn't pass.
-pub(crate) fn why_name(why: Why) -> &'static str
+/// Why a filter doesn't pass. Takes no memory.
+pub fn why_name(why: Why) -> &'static str
     ensures { result.now ≡ why_name why }
 {
     match why {
@@ -56,8 +56,8 @@ pub(crate) fn why_name(why: Why) -> &'static str
     }
 }
 
-/// By what the activities that open a web intent are narrowed.
-pub(crate) fn narrowing_name(by: Narrowing) -> &'static str
+/// By what the activities that open a web intent are narrowed. Takes no memory.
+pub fn narrowing_name(by: Narrowing) -> &'static str
     ensures { result.now ≡ narrowing_name by }
 {
     match by {

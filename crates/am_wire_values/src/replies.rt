@@ -8,10 +8,10 @@ ghost use Rattle.am_wire_values.specs.Replies.{reply_data, status_of};
 
 use crate::fields::{Members, listed};
 use crate::rules::{put_refusal, rule_status};
-use crate::shown::{put_all, put_shown};
+use crate::shown::{object_with, put_all, put_shown};
 use crate::views::{entry_values, put_landed};
 use am_types::{Entry, NoMemory, Reply};
-use serde_json::{Map, Value, put};
+use serde_json::{Value, put};
 use std::alloc::{AllocError, Global};
 
 /// The reply as a value. Its text is compact, with the fields of each object in the order of their
@@ -33,9 +33,7 @@ pub fn reply_text(alloc: Global, reply: &Reply) -> Result<String, NoMemory>
 fn value_of(alloc: Global, reply: &Reply) -> Result<Value, AllocError>
     ensures { IfOk result (λ value. view value ≡ reply_data reply.now) }
 {
-    let mut members = Map::new(alloc);
-    put_reply(alloc, &mut members, reply)?;
-    Ok(Value::Object(members))
+    object_with!(alloc, |members| put_reply(alloc, &mut members, reply))
 }
 
 /// Puts what a reply says.

@@ -7,9 +7,9 @@ ghost use Rattle.am_wire_values.specs.Requests.{explain_data, finish_data, get_d
 use crate::fields::{Members, listed, put_word, some_truth};
 use crate::names::{kind_name, pending_flag_values, pending_name};
 use crate::outcomes::{put_ordered, put_outcome};
-use crate::shown::{Shown, put_all, put_shown, put_some};
+use crate::shown::{Shown, object_with, put_all, put_shown, put_some};
 use am_types::{Answer, Intent, Kind, Ordered, PendingFlags, Request, Text};
-use serde_json::{Map, Value, put};
+use serde_json::{Value, put};
 use std::alloc::{AllocError, Global};
 
 /// A request as the value that its body says: `{}` for one without a body. What is absent or at
@@ -17,9 +17,7 @@ use std::alloc::{AllocError, Global};
 pub fn request_value(alloc: Global, request: &Request) -> Result<Value, AllocError>
     ensures { IfOk result (λ value. view value ≡ request_data request.now) }
 {
-    let mut members = Map::new(alloc);
-    put_request(alloc, &mut members, request)?;
-    Ok(Value::Object(members))
+    object_with!(alloc, |members| put_request(alloc, &mut members, request))
 }
 
 impl Shown for Request {

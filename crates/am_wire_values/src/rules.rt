@@ -6,8 +6,9 @@ ghost use Rattle.serde_json.specs.View.{view, members_view};
 ghost use Rattle.am_wire_values.specs.Rules.{error_data, limit_name, named_by, refusal_data, rule_name, rule_status};
 
 use crate::fields::{Members, put_word};
+use crate::shown::object_with;
 use am_types::{Limit, Rule};
-use serde_json::{Map, Value};
+use serde_json::Value;
 use std::alloc::{AllocError, Global};
 
 /// Puts a refusal: its name, and what it names.
@@ -29,9 +30,7 @@ pub(crate) fn put_refusal(
 pub fn error_value(alloc: Global, error: &str, name: Option<&str>) -> Result<Value, AllocError>
     ensures { IfOk result (λ value. view value ≡ error_data error.now (option_copied name.entry)) }
 {
-    let mut members = Map::new(alloc);
-    put_error(alloc, &mut members, error, name)?;
-    Ok(Value::Object(members))
+    object_with!(alloc, |members| put_error(alloc, &mut members, error, name))
 }
 
 /// Puts an error, and a name if there is one.

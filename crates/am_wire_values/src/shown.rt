@@ -151,3 +151,14 @@ macro_rules! object_of {
 }
 
 pub(crate) use object_of;
+
+/// An object of the members that are put.
+macro_rules! object_with {
+    ($alloc:expr, |$members:ident| $put:expr) => {{
+        let mut $members = serde_json::Map::new($alloc);
+        $put?;
+        Ok(serde_json::Value::Object($members))
+    }};
+}
+
+pub(crate) use object_with;

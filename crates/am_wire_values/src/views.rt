@@ -13,7 +13,7 @@ use crate::intents::extras_value;
 use crate::names::placed_name;
 use crate::routes::route_of;
 use crate::rules::{named_by, rule_name};
-use crate::shown::{Shown, object_of, put_shown};
+use crate::shown::{Shown, object_of, object_with, put_shown};
 use am_types::{
     Aim, Entry, InstanceView, Intent, Item, ItemKind, Landed, Outcome, Receiving, Rule,
     ServiceView, TaskView,
@@ -75,9 +75,10 @@ impl Shown for Aim {
 pub(crate) fn verdict_value(alloc: Global, aim: &Aim, verdict: &str) -> Result<Value, AllocError>
     ensures { IfOk result (λ value. view value ≡ object (judged aim.now verdict.now)) }
 {
-    let mut members = Map::new(alloc);
-    put_judged(alloc, &mut members, aim, verdict)?;
-    Ok(Value::Object(members))
+    object_with!(
+        alloc,
+        |members| put_judged(alloc, &mut members, aim, verdict)
+    )
 }
 
 /// Puts whom the verdict is on, and the verdict.
@@ -97,9 +98,7 @@ pub(crate) fn put_judged(
 pub(crate) fn skipped_value(alloc: Global, aim: &Aim, rule: &Rule) -> Result<Value, AllocError>
     ensures { IfOk result (λ value. view value ≡ skipped_data aim.now (rule_name rule.now) (named_by rule.now)) }
 {
-    let mut members = Map::new(alloc);
-    put_skipped(alloc, &mut members, aim, rule)?;
-    Ok(Value::Object(members))
+    object_with!(alloc, |members| put_skipped(alloc, &mut members, aim, rule))
 }
 
 /// Puts which receiver was left out, by which rule, and what that names.

@@ -11,7 +11,7 @@ use Rattle.am_wire_fields.specs.declared.fault.WireFault.{WireFault}
 use Rattle.am_wire_fields.specs.Fields.{required}
 use Rattle.am_wire_fields.specs.Lists.{word_in}
 use Rattle.am_wire_fields.specs.Numbers.{required_natural}
-use Rattle.am_wire_fields.specs.Reading.{◌>>=◌}
+use Rattle.am_types.specs.Reading.{◌>>=◌}
 use Rattle.am_wire.specs.Activities.{fields_of, plain_in, number_in}
 use Rattle.am_wire.specs.Words.{kind_words, kind_named, kind_among, kind_of}
 use Rattle.am_wire_values.specs.Fields.{natural}

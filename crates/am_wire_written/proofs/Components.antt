@@ -19,9 +19,10 @@ use Rattle.am_model.specs.Uris.{has_scheme, is_port_good, is_escaped, path_text,
 use Rattle.am_uri.specs.declared.text.Form.{Form}
 use Rattle.am_uri.specs.declared.text.Form.TheVariants.{Any}
 use Rattle.am_wire_fields.specs.declared.fault.WireFault.TheVariants.{WrongKind, TooLong}
-use Rattle.am_wire_fields.specs.Reading.{◌>>=◌}
+use Rattle.am_types.specs.Reading.{◌>>=◌}
+use Rattle.am_wire_fields.specs.Fields.{required_by}
 use Rattle.am_wire_fields.specs.Texts.{text_in}
-use Rattle.am_wire_intents.specs.Components.{parts_of, with_first, full_class, measured, of_parts, component_in, required_component, optional_component}
+use Rattle.am_wire_intents.specs.Components.{parts_of, with_first, full_class, measured, of_parts, component_in, optional_component}
 use Rattle.am_wire_intents.specs.Intents.{uri_or_fault, uri_in, optional_uri, mime_or_fault, mime_in, optional_mime}
 use Rattle.am_wire_values.specs.Intents.{component_data, mime_data, uri_data}
 use Rattle.am_wire_written.proofs.Kept.{IsKept}
@@ -82,22 +83,18 @@ unfolding mime_or_fault
 mime_is (Ok m) mime h = ap Ok (same_ok m mime h)
 mime_is (Err f) mime h = absurd (cc)
 
-pub mime_read_again : (form : Form) (name : List ℕ) (value : Data) (mime : Mime) → IsKept value → (text_in form 1024 name value >>= λ text. mime_or_fault (mime_of text)) ≡ Ok mime
-    → (text_in form 1024 name (mime_data mime) >>= λ text. mime_or_fault (mime_of text)) ≡ Ok mime
-mime_read_again form name value mime k h =
+pub mime_again : (form : Form) (name : List ℕ) → IsReread (mime_in form name) mime_data
+unfolding mime_in
+mime_again form name value mime k h =
     let s = step (text_in form 1024 name value) (λ text. mime_or_fault (mime_of text)) mime h in
     let same = mime_text s.value mime (mime_is (mime_of s.value) mime s.later) in
     ap (λ t. text_in form 1024 name (string t) >>= λ text. mime_or_fault (mime_of text)) same
     ∙ steps (text_in form 1024 name (string s.value)) (λ text. mime_or_fault (mime_of text)) s.value mime (text_again form 1024 name value s.value k s.first) s.later
 
-pub mime_again : (name : List ℕ) → IsReread (mime_in name) mime_data
-unfolding mime_in
-mime_again name value mime k h = mime_read_again Any name value mime k h
-
-pub mime_field : (name : List ℕ) (value : Data) (o : Option Mime) (es : List Entry) → IsKept value → optional_mime name value ≡ Ok o
-    → are_apart es ≡ true → value_at name es ≡ option_map mime_data o → optional_mime name (object (members_with es)) ≡ Ok o
+pub mime_field : (name : List ℕ) (value : Data) (o : Option Mime) (es : List Entry) → IsKept value → optional_mime Any name value ≡ Ok o
+    → are_apart es ≡ true → value_at name es ≡ option_map mime_data o → optional_mime Any name (object (members_with es)) ≡ Ok o
 unfolding optional_mime
-mime_field name value o es k h apart is = option_field (mime_in name) mime_data (mime_again name) (λ m. refl) name value o es k h apart is
+mime_field name value o es k h apart is = option_field (mime_in Any name) mime_data (mime_again Any name) (λ m. refl) name value o es k h apart is
 
 -- ---- URIs
 
@@ -209,7 +206,6 @@ pub component_field : (name : List ℕ) (value : Data) (o : Option Component) (e
 unfolding optional_component
 component_field name value o es k h apart is = option_field (component_in name) component_data (component_again name) (λ c. refl) name value o es k h apart is
 
-pub required_component_again : (name : List ℕ) (parent : Data) (c : Component) (es : List Entry) → IsKept parent → required_component name parent ≡ Ok c
-    → are_apart es ≡ true → value_at name es ≡ Some (component_data c) → required_component name (object (members_with es)) ≡ Ok c
-unfolding required_component
+pub required_component_again : (name : List ℕ) (parent : Data) (c : Component) (es : List Entry) → IsKept parent → required_by component_in name parent ≡ Ok c
+    → are_apart es ≡ true → value_at name es ≡ Some (component_data c) → required_by component_in name (object (members_with es)) ≡ Ok c
 required_component_again name parent c es k h apart is = field_again (component_in name) component_data (component_again name) name parent c es k h apart is refl

@@ -13,7 +13,7 @@ use Rattle.am_types.specs.declared.intent.Extra.TheVariants.{Word, Whole, Truth}
 use Rattle.am_types.specs.declared.intent.Named.{Named}
 use Rattle.am_wire_fields.specs.declared.fault.WireFault.TheVariants.{TooLong}
 use Rattle.am_wire_fields.specs.Fields.{unless_null, field, keys_in}
-use Rattle.am_wire_fields.specs.Reading.{◌>>=◌}
+use Rattle.am_types.specs.Reading.{◌>>=◌}
 use Rattle.am_wire_intents.specs.Extras.{short, whole_extra, extra_in, named_in, each_named, few_extras, extras_of, extras_in, extras_if_said, optional_extras}
 use Rattle.am_wire_values.specs.Intents.{extra_data, with_extras, some_extras}
 use Rattle.am_wire_written.proofs.Kept.{IsKept, AreMembersKept, ForSome, field_kept}

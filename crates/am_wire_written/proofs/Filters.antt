@@ -19,10 +19,10 @@ use Rattle.am_wire_fields.specs.declared.fault.WireFault.TheVariants.{WrongKind}
 use Rattle.am_wire_fields.specs.Fields.{unless_null, field, only_fields, required}
 use Rattle.am_wire_fields.specs.Lists.{list_in, list_if_said, optional_list, texts_in, each}
 use Rattle.am_wire_fields.specs.Texts.{text_in, optional_text}
-use Rattle.am_wire_intents.specs.Filters.{row_in, rows_at, some_values, actions_at, priority_of, priority_if_said, priority_at, filter_of, filter_fields, filter_in, required_filter}
+use Rattle.am_wire_intents.specs.Filters.{row_in, rows_at, some_values, actions_at, priority_of, priority_if_said, priority_at, filter_of, filter_fields, filter_in}
 use Rattle.am_wire_intents.specs.Intents.{categories_of}
 use Rattle.am_wire.specs.Activities.{fields_of}
-use Rattle.am_wire.specs.Broadcasts.{register_in}
+use Rattle.am_wire.specs.Broadcasts.{register_in, required_filter}
 use Rattle.am_wire_values.specs.Fields.{whole, some_whole, some_listed, texts_data, some_texts}
 use Rattle.am_wire_values.specs.Filters.{scheme_row, authority_row, path_row, type_row, rows_of, filter_data}
 use Rattle.am_wire_values.specs.Requests.{register_data, request_data}

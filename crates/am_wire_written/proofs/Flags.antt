@@ -10,9 +10,9 @@ use Rattle.am_types.specs.declared.pending.PendingFlags.{PendingFlags}
 use Rattle.am_model.specs.Texts.{is_same, lists}
 use Rattle.am_wire_fields.specs.Fields.{unless_null, field, required}
 use Rattle.am_wire_fields.specs.Lists.{list_in, list_if_said, optional_list, words_in}
-use Rattle.am_wire_fields.specs.Reading.{◌>>=◌}
-use Rattle.am_wire_intents.specs.Flags.{flag_names, flags_listed, flags_of}
-use Rattle.am_wire.specs.Words.{pending_flag_names, pending_flags_listed, pending_flags_of}
+use Rattle.am_types.specs.Reading.{◌>>=◌}
+use Rattle.am_wire_intents.specs.Flags.{flag_names, flags_by, flags_listed, flags_of}
+use Rattle.am_wire.specs.Words.{pending_flag_names, pending_flags_by, pending_flags_listed, pending_flags_of}
 use Rattle.am_wire_values.specs.Fields.{some_texts, texts_data}
 use Rattle.am_wire_values.specs.Names.{names_set, flags_named, pending_named}
 use Rattle.am_wire_written.proofs.Lists.{list_again, list_if_again, within_again, mapped_length}
@@ -96,25 +96,15 @@ set_length (row ∷ rows) = by row.0 (set_length rows)
 few_set : (rows : List Row) → nat_lt 64 (length rows) ≡ false → nat_lt 64 (length (map string (names_set rows))) ≡ false
 few_set rows h = within_again (map string (names_set rows)) rows (omega (arith, mapped_length string (names_set rows), set_length rows)) h
 
+-- flags that are made by which names are listed are made by which are set
+flags_made : {F : Type 0} (made_by : (List ℕ → Bool) → F) (rows : List Row) → rows_apart rows ≡ true → made_by (lists (names_set rows)) ≡ made_by (is_set rows)
+flags_made made_by rows apart = λ i. made_by (λ name. set_listed rows name apart i)
+
 -- ---- of an intent
 
 flags_again : (flags : Flags) → flags_listed (names_set (flags_named flags)) ≡ flags
 unfolding flags_listed
-flags_again flags =
-    let rows = flags_named flags in
-    let of : (name : List ℕ) → lists (names_set rows) name ≡ is_set rows name = λ name. set_listed rows name refl in
-    λ i. record {
-      new_task = of (codes "NEW_TASK") i;
-      multiple_task = of (codes "MULTIPLE_TASK") i;
-      clear_task = of (codes "CLEAR_TASK") i;
-      clear_top = of (codes "CLEAR_TOP") i;
-      single_top = of (codes "SINGLE_TOP") i;
-      reorder_to_front = of (codes "REORDER_TO_FRONT") i;
-      registered_only = of (codes "REGISTERED_ONLY") i;
-      foreground = of (codes "FOREGROUND") i;
-      no_abort = of (codes "NO_ABORT") i;
-      include_stopped = of (codes "INCLUDE_STOPPED") i;
-    }
+flags_again flags = flags_made flags_by (flags_named flags) refl
 
 pub flags_field : (flags : Flags) (es : List Entry) → are_apart es ≡ true → value_at (codes "flags") es ≡ some_texts (names_set (flags_named flags)) → flags_of (object (members_with es)) ≡ Ok flags
 unfolding flags_of optional_list
@@ -128,17 +118,7 @@ flags_field flags es apart is =
 
 pending_again : (flags : PendingFlags) → pending_flags_listed (names_set (pending_named flags)) ≡ flags
 unfolding pending_flags_listed
-pending_again flags =
-    let rows = pending_named flags in
-    let of : (name : List ℕ) → lists (names_set rows) name ≡ is_set rows name = λ name. set_listed rows name refl in
-    λ i. record {
-      one_shot = of (codes "ONE_SHOT") i;
-      no_create = of (codes "NO_CREATE") i;
-      cancel_current = of (codes "CANCEL_CURRENT") i;
-      update_current = of (codes "UPDATE_CURRENT") i;
-      immutable = of (codes "IMMUTABLE") i;
-      mutable = of (codes "MUTABLE") i;
-    }
+pending_again flags = flags_made pending_flags_by (pending_named flags) refl
 
 pub pending_flags_at : (flags : PendingFlags) (es : List Entry) → are_apart es ≡ true → value_at (codes "flags") es ≡ Some (texts_data (names_set (pending_named flags)))
     → pending_flags_of (object (members_with es)) ≡ Ok flags

@@ -8,7 +8,7 @@ use Rattle.am_uri.specs.declared.text.Form.TheVariants.{Any}
 use Rattle.am_uri.specs.Texts.{sorted_texts}
 use Rattle.am_wire_fields.specs.Fields.{unless_null, field, only_fields}
 use Rattle.am_wire_fields.specs.Lists.{list_if_said, optional_list, texts_in, optional_texts}
-use Rattle.am_wire_fields.specs.Reading.{◌>>=◌}
+use Rattle.am_types.specs.Reading.{◌>>=◌}
 use Rattle.am_wire_fields.specs.Texts.{text_in}
 use Rattle.am_wire_intents.specs.Flags.{flags_of}
 use Rattle.am_wire_intents.specs.Intents.{categories_of, intent_of, intent_fields, intent_in, required_intent, optional_intent}

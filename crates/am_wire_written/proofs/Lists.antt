@@ -18,7 +18,7 @@ use Rattle.am_wire_fields.specs.declared.fault.WireFault.{WireFault}
 use Rattle.am_wire_fields.specs.declared.fault.WireFault.TheVariants.{TooLong}
 use Rattle.am_wire_fields.specs.Fields.{unless_null}
 use Rattle.am_wire_fields.specs.Lists.{values_of, few, list_of, list_in, list_if_said, each}
-use Rattle.am_wire_fields.specs.Reading.{◌>>=◌}
+use Rattle.am_types.specs.Reading.{◌>>=◌}
 use Rattle.am_wire_values.specs.Fields.{listed, some_listed}
 use Rattle.am_wire_written.proofs.Kept.{IsKept, AreItemsKept, ForSome}
 use Rattle.am_wire_written.proofs.Options.{IsReread}

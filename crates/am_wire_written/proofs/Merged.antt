@@ -14,7 +14,7 @@ use Rattle.am_filter.specs.Rows.{with_paths, with_row, no_rows}
 use Rattle.am_uri.specs.Texts.{with_text}
 use Rattle.am_wire_fields.specs.declared.fault.WireFault.{WireFault}
 use Rattle.am_wire_fields.specs.Lists.{each}
-use Rattle.am_wire_fields.specs.Reading.{◌>>=◌}
+use Rattle.am_types.specs.Reading.{◌>>=◌}
 use Rattle.am_wire_intents.specs.Filters.{row_in}
 use Rattle.am_wire_values.specs.Filters.{scheme_row, authority_row, path_row, type_row, rows_of}
 use Rattle.am_wire_written.proofs.Lists.{sorted_again}

@@ -1,8 +1,6 @@
 -- Packages, grants and links: what was read of a body is read of what is written for it.
 use Rattle.std.proofs.Common.{◌≡◌, ℕ, suc, true, cond, List, [], ◌∷◌, length, Option, Some, None, Ok, Err, refl, sym, ap, ◌∙◌, subst}
 use Rattle.std.specs.Prelude.{codes, nat_lt, ◌==◌}
-use Rattle.std.specs.Char.{to_ascii_lowercase}
-use Rattle.std.proofs.lemmas.Str.Ascii.{lowercase-lowercase}
 use Rattle.serde_json.specs.Data.{Data, boolean, string, object}
 use Rattle.serde_json.specs.Find.{as_str}
 use Rattle.am_types.specs.declared.request.Request.{Request}
@@ -15,6 +13,7 @@ use Rattle.am_wire_fields.specs.Fields.{required, required_truth}
 use Rattle.am_wire_fields.specs.Texts.{text_of, text_in, required_text}
 use Rattle.am_wire.specs.Activities.{fields_of}
 use Rattle.am_wire.specs.Packages.{key_of, key_in, package_in, link_in}
+use Rattle.am_wire.proofs.Made.{lowered_again}
 use Rattle.am_wire_values.specs.Requests.{with_one, link_data, request_data}
 use Rattle.am_wire_written.proofs.Kept.{IsKept}
 use Rattle.am_wire_written.proofs.Objects.{Entry, members_with, value_at, are_apart}
@@ -62,10 +61,6 @@ package_again value name k h =
 lowered_length : (text : List ℕ) → length (lowered text) ≡ length text
 lowered_length [] = refl
 lowered_length (b ∷ bytes) = ap suc (lowered_length bytes)
-
-lowered_again : (text : List ℕ) → lowered (lowered text) ≡ lowered text
-lowered_again [] = refl
-lowered_again (b ∷ bytes) = ap (λ c. c ∷ lowered (lowered bytes)) (lowercase-lowercase b) ∙ ap (λ (cs : List ℕ). to_ascii_lowercase b ∷ cs) (lowered_again bytes)
 
 -- a host in lower case is as long as it was
 host_of : (o : Option (List ℕ)) (host : List ℕ) → text_of Any 1024 (codes "host") o ≡ Ok host → text_of Any 1024 (codes "host") (Some (lowered host)) ≡ Ok (lowered host)

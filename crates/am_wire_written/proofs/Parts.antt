@@ -7,11 +7,11 @@ use Rattle.am_types.specs.declared.intent.Intent.{Intent}
 use Rattle.am_types.specs.declared.request.Request.{Request}
 use Rattle.am_uri.specs.declared.text.Form.TheVariants.{Any}
 use Rattle.am_wire_fields.specs.declared.fault.WireFault.{WireFault}
-use Rattle.am_wire_fields.specs.Fields.{optional_truth, required_truth}
+use Rattle.am_wire_fields.specs.Fields.{optional_truth, required_by, required_truth}
 use Rattle.am_wire_fields.specs.Numbers.{required_natural, optional_natural}
-use Rattle.am_wire_fields.specs.Reading.{◌>>=◌}
+use Rattle.am_types.specs.Reading.{◌>>=◌}
 use Rattle.am_wire_fields.specs.Texts.{required_text}
-use Rattle.am_wire_intents.specs.Components.{required_component}
+use Rattle.am_wire_intents.specs.Components.{component_in}
 use Rattle.am_wire_intents.specs.Intents.{required_intent, optional_intent}
 use Rattle.am_wire.specs.Activities.{fields_of}
 use Rattle.am_wire_values.specs.Fields.{natural, some_truth}
@@ -56,7 +56,7 @@ abbrev pub truth_or_false : List ℕ → Part Bool
 truth_or_false name = record { name = name; read = optional_truth name; write = some_truth; again = λ value b es k h apart is. truth_field name b es apart is }
 
 abbrev pub component : List ℕ → Part Component
-component name = record { name = name; read = required_component name; write = λ c. Some (component_data c); again = required_component_again name }
+component name = record { name = name; read = required_by component_in name; write = λ c. Some (component_data c); again = required_component_again name }
 
 abbrev pub intent : List ℕ → Part Intent
 intent name = record { name = name; read = required_intent name; write = λ i. Some (intent_data i); again = required_intent_again name }

@@ -12,9 +12,9 @@ use Rattle.am_wire_fields.specs.Bodies.{json_of, value_of}
 use Rattle.am_wire.specs.Activities.{query_in, start_in, start_service_in, stop_service_in}
 use Rattle.am_wire.specs.Packages.{install_in, package_in, grant_fields, grant_in}
 use Rattle.am_wire.specs.Pendings.{pending_send_in, pending_give_in}
-use Rattle.am_wire.specs.Requests.{request_in, posted, request_of}
+use Rattle.am_wire.specs.Requests.{request_in, endpoint_at, posted, request_of}
 use Rattle.am_wire_values.specs.Requests.{with_one, query_data, start_data, pending_send_data, grant_data, request_data}
-use Rattle.am_wire_written.specs.Written.{endpoint_at, IsReadable, HasFewRows}
+use Rattle.am_wire_written.specs.Written.{IsReadable, HasFewRows}
 use Rattle.am_wire_written.proofs.Accounts.{explain_again}
 use Rattle.am_wire_written.proofs.Activities.{plain_again, kind_part, made_again, numbered}
 use Rattle.am_wire_written.proofs.Broadcasts.{send_again, finish_again}

@@ -22,13 +22,14 @@ use Rattle.am_wire_fields.specs.declared.fault.WireFault.{WireFault}
 use Rattle.am_wire_fields.specs.declared.fault.WireFault.TheVariants.{WrongKind, TooLong}
 use Rattle.am_wire_fields.specs.Fields.{unless_null, field, if_said, only_fields}
 use Rattle.am_wire_fields.specs.Lists.{each}
-use Rattle.am_wire_fields.specs.Reading.{◌>>=◌}
+use Rattle.am_types.specs.Reading.{◌>>=◌}
 use Rattle.am_wire_fields.specs.Texts.{text_in, optional_text}
-use Rattle.am_wire_intents.specs.Filters.{scheme_of, scheme_at, port_of, port_at, authority_at, paths_at, row_type, type_at, row_of, row_fields, row_in}
+use Rattle.am_wire_intents.specs.Filters.{scheme_of, scheme_at, port_of, port_at, authority_at, paths_at, row_of, row_fields, row_in}
+use Rattle.am_wire_intents.specs.Intents.{mime_in, optional_mime}
 use Rattle.am_wire_values.specs.Fields.{natural}
 use Rattle.am_wire_values.specs.Filters.{scheme_row, authority_row, path_row, type_row}
 use Rattle.am_wire_values.specs.Intents.{mime_data}
-use Rattle.am_wire_written.proofs.Components.{mime_read_again}
+use Rattle.am_wire_written.proofs.Components.{mime_again}
 use Rattle.am_wire_written.proofs.Kept.{IsKept, ForSome, field_kept}
 use Rattle.am_wire_written.proofs.Lists.{AreKept, AreSorted, none_sorted, all_put}
 use Rattle.am_wire_written.proofs.Objects.{Entry, members_with, value_at, are_apart, field_at, only_listed}
@@ -93,7 +94,7 @@ scheme_of_again (Some said) text h =
     subst P (same_ok said text short.1) h
 
 reads_scheme : (text : List ℕ) → scheme_of (Some text) ≡ Ok text → ReadsScheme text
-unfolding row_in row_of scheme_at authority_at port_at paths_at type_at optional_text field
+unfolding row_in row_of scheme_at authority_at port_at paths_at optional_mime optional_text field
 reads_scheme text h =
     let d = scheme_row text in
     steps (only_fields (codes "data") row_fields d) (λ known. row_of d) tt (row_with_scheme text) (only_listed (codes "data") row_fields ((codes "scheme", Some (string text)) ∷ []) refl)
@@ -133,9 +134,9 @@ no_scheme : (es : List Entry) → are_apart es ≡ true → value_at (codes "sch
 unfolding scheme_at
 no_scheme es apart is = ap (if_said (λ value. scheme_of (as_str value))) (field_at (codes "scheme") es apart ∙ ap unless_null is)
 
-no_type : (es : List Entry) → are_apart es ≡ true → value_at (codes "mimeType") es ≡ None → type_at (object (members_with es)) ≡ Ok None
-unfolding type_at
-no_type es apart is = ap (if_said row_type) (field_at (codes "mimeType") es apart ∙ ap unless_null is)
+no_type : (es : List Entry) → are_apart es ≡ true → value_at (codes "mimeType") es ≡ None → optional_mime Filled (codes "mimeType") (object (members_with es)) ≡ Ok None
+unfolding optional_mime
+no_type es apart is = ap (if_said (mime_in Filled (codes "mimeType"))) (field_at (codes "mimeType") es apart ∙ ap unless_null is)
 
 no_paths : (es : List Entry) → are_apart es ≡ true → value_at (codes "path") es ≡ None → value_at (codes "pathPrefix") es ≡ None → value_at (codes "pathSuffix") es ≡ None → value_at (codes "pathPattern") es ≡ None
     → paths_at (object (members_with es)) ≡ Ok (record { literal = None; prefix = None; suffix = None; pattern = None })
@@ -160,7 +161,7 @@ reads_authority value host port k h p =
     (steps (optional_text Filled 1024 (codes "host") d) _ (Some host) (Some a) (text_field Filled 1024 (codes "host") value (Some host) es k h refl refl)
     (steps (port_at d) _ port (Some a) (port_field value port es k p refl refl) refl))
     (steps (paths_at d) _ _ (row_with_authority a) (no_paths es refl refl refl refl refl)
-    (steps (type_at d) _ None (row_with_authority a) (no_type es refl refl) refl))))
+    (steps (optional_mime Filled (codes "mimeType") d) _ None (row_with_authority a) (no_type es refl refl) refl))))
 
 authority_of : (value : Data) (host : Option (List ℕ)) (port : Option ℕ) → IsKept value → optional_text Filled 1024 (codes "host") value ≡ Ok host → port_at value ≡ Ok port
     → ForSome ReadsAuthority (option_map {U = Authority} (λ name. record { host = name; port = port }) host)
@@ -185,12 +186,12 @@ path_said : (name : List ℕ) (value : Data) (o : Option (List ℕ)) → IsKept 
 unfolding optional_text
 path_said name value o k h = said_is_read (text_in Filled 1024 name) string (text_again Filled 1024 name) (field name value) o (field_kept name value k) h
 
-reads_path : (rule : PathRule) (d : Data) → only_fields (codes "data") row_fields d ≡ Ok tt → scheme_at d ≡ Ok None → authority_at d ≡ Ok None → paths_at d ≡ Ok (paths_with rule) → type_at d ≡ Ok None
+reads_path : (rule : PathRule) (d : Data) → only_fields (codes "data") row_fields d ≡ Ok tt → scheme_at d ≡ Ok None → authority_at d ≡ Ok None → paths_at d ≡ Ok (paths_with rule) → optional_mime Filled (codes "mimeType") d ≡ Ok None
     → row_in d ≡ Ok (row_with_path rule)
 unfolding row_in row_of
 reads_path rule d known s a p t =
     steps (only_fields (codes "data") row_fields d) (λ known. row_of d) tt (row_with_path rule) known
-    (steps (scheme_at d) _ None (row_with_path rule) s (steps (authority_at d) _ None (row_with_path rule) a (steps (paths_at d) _ (paths_with rule) (row_with_path rule) p (steps (type_at d) _ None (row_with_path rule) t refl))))
+    (steps (scheme_at d) _ None (row_with_path rule) s (steps (authority_at d) _ None (row_with_path rule) a (steps (paths_at d) _ (paths_with rule) (row_with_path rule) p (steps (optional_mime Filled (codes "mimeType") d) _ None (row_with_path rule) t refl))))
 
 -- the text of a path rule is read again under its key
 abbrev IsPathSaid : PathRule → Type 0
@@ -206,7 +207,7 @@ said_then name text more got h e =
     steps (text_in Filled 1024 name (string text) >>= λ t. Ok (Some t)) more (Some text) got (steps (text_in Filled 1024 name (string text)) (λ t. Ok (Some t)) text (Some text) h refl) e
 
 reads_rule : (rule : PathRule) → IsPathSaid rule → ReadsPath rule
-unfolding scheme_at authority_at port_at paths_at type_at optional_text field
+unfolding scheme_at authority_at port_at paths_at optional_mime optional_text field
 reads_rule (Literal text) h =
     reads_path (Literal text) (path_row (Literal text)) (only_listed (codes "data") row_fields ((codes "path", Some (string text)) ∷ []) refl) refl refl (said_then (codes "path") text _ (paths_with (Literal text)) h refl) refl
 reads_rule (Prefix text) h =
@@ -240,22 +241,18 @@ paths_read value paths k h =
 
 -- ---- types
 
-row_type_again : IsReread row_type mime_data
-unfolding row_type
-row_type_again value mime k h = mime_read_again Filled (codes "mimeType") value mime k h
-
-reads_type : (mime : Mime) → row_type (mime_data mime) ≡ Ok mime → ReadsType mime
-unfolding row_in row_of scheme_at authority_at port_at paths_at type_at optional_text field
+reads_type : (mime : Mime) → mime_in Filled (codes "mimeType") (mime_data mime) ≡ Ok mime → ReadsType mime
+unfolding row_in row_of scheme_at authority_at port_at paths_at optional_mime optional_text field
 reads_type mime h =
     let d = type_row mime in
     steps (only_fields (codes "data") row_fields d) (λ known. row_of d) tt (row_with_type mime) (only_listed (codes "data") row_fields ((codes "mimeType", Some (mime_data mime)) ∷ []) refl)
-    (steps (type_at d) _ (Some mime) (row_with_type mime) (steps (row_type (mime_data mime)) (λ mime. Ok (Some mime)) mime (Some mime) h refl) refl)
+    (steps (optional_mime Filled (codes "mimeType") d) _ (Some mime) (row_with_type mime) (steps (mime_in Filled (codes "mimeType") (mime_data mime)) (λ mime. Ok (Some mime)) mime (Some mime) h refl) refl)
 
-type_read : (value : Data) (o : Option Mime) → IsKept value → type_at value ≡ Ok o → ForSome ReadsType o
-unfolding type_at
+type_read : (value : Data) (o : Option Mime) → IsKept value → optional_mime Filled (codes "mimeType") value ≡ Ok o → ForSome ReadsType o
+unfolding optional_mime
 type_read value o k h =
     for_some _ ReadsType reads_type o
-    (said_is_read row_type mime_data row_type_again (field (codes "mimeType") value) o (field_kept (codes "mimeType") value k) h)
+    (said_is_read (mime_in Filled (codes "mimeType")) mime_data (mime_again Filled (codes "mimeType")) (field (codes "mimeType") value) o (field_kept (codes "mimeType") value k) h)
 
 -- ---- a row
 
@@ -273,7 +270,7 @@ row_read value row k h =
     let two = step (scheme_at value) _ row one.later in
     let three = step (authority_at value) _ row two.later in
     let four = step (paths_at value) _ row three.later in
-    let five = step (type_at value) _ row four.later in
+    let five = step (optional_mime Filled (codes "mimeType") value) _ row four.later in
     let got : DataRow = record { scheme = two.value; authority = three.value; paths = four.value; mime = five.value } in
     subst ReadRow (same_ok got row five.later) (record {
       scheme = scheme_read value two.value k two.first;

@@ -1,7 +1,7 @@
 -- The steps of a reader: what was read at each, and what is read where each reads.
 use Rattle.std.proofs.Common.{◌≡◌, Result, Ok, Err, Option, Some, None, refl, ap, ◌∙◌}
 use Rattle.am_wire_fields.specs.declared.fault.WireFault.{WireFault}
-use Rattle.am_wire_fields.specs.Reading.{◌>>=◌}
+use Rattle.am_types.specs.Reading.{◌>>=◌}
 
 -- a step that was read, and what was read behind it
 pub record Step {A B : Type 0} (read : Result A WireFault) (more : A → Result B WireFault) (got : B) : Type 0 where

@@ -11,7 +11,7 @@ use Rattle.am_wire_fields.specs.declared.fault.WireFault.{WireFault}
 use Rattle.am_wire_fields.specs.declared.fault.WireFault.TheVariants.{WrongKind, TooLong}
 use Rattle.am_wire_fields.specs.Fields.{unless_null, field, present, required, of_kind, truth_in, truth_or_false, optional_truth, required_truth}
 use Rattle.am_wire_fields.specs.Lists.{word_of, word_in, words_in}
-use Rattle.am_wire_fields.specs.Reading.{◌>>=◌}
+use Rattle.am_types.specs.Reading.{◌>>=◌}
 use Rattle.am_wire_fields.specs.Texts.{text_of, text_in, optional_text, required_text}
 use Rattle.am_wire_values.specs.Fields.{some_truth}
 use Rattle.am_wire_written.proofs.Kept.{IsKept, ForSome, field_kept}

@@ -2,8 +2,8 @@
 ghost use Rattle.std.specs.Prelude.{◌≡◌, IfOk, Ok, string_bytes};
 ghost use Rattle.serde_json.specs.Written.{compact_text};
 ghost use Rattle.am_wire_values.specs.Requests.{request_data};
-ghost use Rattle.am_wire.specs.Requests.{request_of};
-ghost use Rattle.am_wire_written.specs.Written.{endpoint_at, HasFewRows, IsReadable};
+ghost use Rattle.am_wire.specs.Requests.{endpoint_at, request_of};
+ghost use Rattle.am_wire_written.specs.Written.{HasFewRows, IsReadable};
 
 use am_types::{NoMemory, Request};
 use am_wire_values::request_value;

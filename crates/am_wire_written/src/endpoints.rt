@@ -2,7 +2,7 @@
 ghost use Rattle.std.specs.Prelude.{◌≡◌};
 ghost use Rattle.am_wire_routes.specs.Table.{path_of};
 ghost use Rattle.am_wire_values.specs.Routes.{route_of};
-ghost use Rattle.am_wire_written.specs.Written.{endpoint_at};
+ghost use Rattle.am_wire.specs.Requests.{endpoint_at};
 
 use am_types::Request;
 use am_wire_routes::Endpoint;

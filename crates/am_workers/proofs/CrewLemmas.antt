@@ -10,8 +10,8 @@ use Rattle.am_history.specs.Desks.{DeskView, Origin, Sharing, opening_of}
 use Rattle.am_history.specs.History.{Extends, IsLegal, entries_of}
 use Rattle.am_baton.specs.Shared.{AreAll, AreNew, IsNumbered, new_desk}
 use Rattle.am_baton.proofs.Desks.{new_all, still_all}
-use Rattle.am_workers.specs.declared.worker.Totals.{Totals}
 use Rattle.am_workers.specs.declared.worker.Worker.{Worker}
+use Rattle.am_workers.specs.declared.working.Worked.{Worked as Totals}
 use Rattle.am_workers.specs.Work.{WorkerView}
 use Rattle.am_workers.specs.Serving.{NetworkView, ServesAll, all_released, faults_raised}
 use Rattle.am_workers.proofs.ServingLemmas.{WorksAs, along, begin_from, desk_at, gate_at, of_workers, same_desks, serves_all}

@@ -8,7 +8,7 @@ use Rattle.am_history.specs.Desks.{Origin, opening_of}
 use Rattle.am_history.specs.History.{IsLegal}
 use Rattle.am_history.specs.Steps.{is_formed}
 use Rattle.am_baton.specs.Shared.{IsNumbered}
-use Rattle.am_workers.specs.declared.worker.Totals.{Totals}
+use Rattle.am_workers.specs.declared.working.Worked.{Worked}
 use Rattle.am_workers.specs.Work.{AreItsLinks, IsWorked, MayStop, Service}
 
 -- a network as clauses see it: what it was asked for last, if it tells that, and its two counts of faults
@@ -43,7 +43,7 @@ pub record Begun : Type 0 where
 -- and what it had as its serving ended, with what the workers did
 pub record Ended : Type 0 where
   pub history : List Entry
-  pub totals : Totals
+  pub totals : Worked
 
 -- one gate as it was released, with the links that its worker served
 pub record Gatework : Type 0 where

@@ -7,5 +7,4 @@ mod worker;
 mod working;
 
 pub use serving::serve;
-pub use worker::Totals;
 pub use working::{Worked, work};

@@ -3,7 +3,8 @@ ghost use Rattle.std.specs.Prelude.{◌≡◌, ◌≤◌, ℕ, Some, IfOk, IfSom
 ghost use Rattle.am_network.specs.Links.{IsNewGate};
 ghost use Rattle.am_workers.specs.Serving.{MayReleaseAll, ServesAll, network_of};
 
-use crate::worker::{Totals, dismiss, gather, totals_of, work_all};
+use crate::worker::{dismiss, gather, totals_of, work_all};
+use crate::working::Worked;
 use am_baton::{close, share};
 use am_keeper::Keeper;
 use am_machine::Manager;
@@ -31,7 +32,7 @@ pub fn serve<R, K: Keeper + Send, N: Network, C: Clock>(
     gates: Vec<N::Gate>,
     clock: &C,
     most: Option<u32>,
-) -> Result<(Manager<K>, Totals), NoMemory>
+) -> Result<(Manager<K>, Worked), NoMemory>
 where
     R: Threads + Wait + Clone + Drop + Send + Sync,
     requires some { 1 ≤ vec_len gates }

@@ -18,15 +18,6 @@ use std::sync::Wait;
 use std::thread;
 use std::thread::Threads;
 
-/// What the workers did together.
-#[derive(Clone, Copy, Debug, PartialEq, Eq)]
-pub struct Totals {
-    /// How many links they served. It stays at the greatest 64-bit number.
-    pub served: u64,
-    /// Whether the gate of one of them failed.
-    pub failed: bool,
-}
-
 /// A worker: its desk, its gate, and all else that it works with.
 #[derive(Drop)]
 pub struct Worker<D: Drop, A: Drop, C: Drop> {
@@ -153,11 +144,11 @@ pub(crate) fn work_all<R: Threads + Wait + Sync, D: Desk + Drop + Send, A: Accep
 }
 
 // What the workers did together.
-pub(crate) fn totals_of<D: Drop, A: Drop, C: Drop>(workers: &[Worker<D, A, C>]) -> Totals
+pub(crate) fn totals_of<D: Drop, A: Drop, C: Drop>(workers: &[Worker<D, A, C>]) -> Worked
     ensures served { result.served ≡ min 18446744073709551615 (sum_by (λ (w : Worker D A C). w.worked.served) workers.now) }
     ensures failed { result.failed ≡ list_any (λ (w : Worker D A C). w.worked.failed) workers.now }
 {
-    Totals {
+    Worked {
         served: served_by(workers),
         failed: workers.iter().any(|worker| worker.worked.failed),
     }

@@ -11,12 +11,12 @@ use am_outside::{Clock, Failed};
 use std::alloc::Global;
 use std::sync::Wait;
 
-/// What a worker did.
+/// What a worker did, or workers together.
 #[derive(Clone, Copy, Debug, PartialEq, Eq)]
 pub struct Worked {
-    /// How many links it served and handed back. It stays at the greatest 64-bit number.
+    /// How many links were served and handed back. It stays at the greatest 64-bit number.
     pub served: u64,
-    /// Whether it stopped since its gate failed.
+    /// Whether a worker stopped since its gate failed.
     pub failed: bool,
 }
 

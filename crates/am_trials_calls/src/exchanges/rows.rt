@@ -5,12 +5,12 @@
 pub const ANSWERED: &str =
     r#"empty | Host: 127.0.0.1:8080\r\nUser-Agent: curl/7.88.1\r\nAccept: */*\r\nAM-Key: k1\r\nContent-Type: application/x-www-form-urlencoded\r\n | 200 OK | {"intent":{"action":"a.X"},"kind":"activity"} -> {"components":[]}
 # A filter without an action passes nothing; an intent without one passes where the filter lists one.
-no_action | AM-Key: k1\r\n | 200 OK | {"kind":"activity","intent":{}} -> {"components":["com.one/com.one.Main"]}
+no_action_root | AM-Key: k1\r\n | 200 OK | {"kind":"activity","intent":{}} -> {"components":["com.one/com.one.Main"]}
 # Each category of the intent is listed; a filter may list more.
 default | AM-Key: k1\r\n | 200 OK | {"kind":"activity","intent":{"action":"x.A","categories":["android.intent.category.BROWSABLE"]}} -> {"components":[]}
-both | AM-Key: k1\r\n | 200 OK | {"kind":"activity","intent":{"action":"x.A"}} -> {"components":["com.one/com.one.Main"]}
+two_categories | AM-Key: k1\r\n | 200 OK | {"kind":"activity","intent":{"action":"x.A"}} -> {"components":["com.one/com.one.Main"]}
 # Where the default category is wanted, it is listed.
-browsable | AM-Key: k1\r\n | 200 OK | {"kind":"activity","intent":{"action":"x.A"},"defaultOnly":true} -> {"components":[]}
+no_default | AM-Key: k1\r\n | 200 OK | {"kind":"activity","intent":{"action":"x.A"},"defaultOnly":true} -> {"components":[]}
 default | AM-Key: k1\r\n | 200 OK | {"kind":"activity","intent":{"action":"x.A"},"defaultOnly":true} -> {"components":["com.one/com.one.Main"]}
 # The key of no one, and of the root.
 default | AM-Key: kx\r\n | 401 Unauthorized | {"kind":"activity","intent":{"action":"x.A"}} -> {"error":"unknown_key"}
@@ -23,10 +23,10 @@ services | AM-Key: sys\r\n | 200 OK | {"kind":"service","intent":{"action":"x.A"
 # Only enabled components of the kind.
 kinds | AM-Key: k1\r\n | 200 OK | {"kind":"activity","intent":{"action":"x.A"}} -> {"components":["com.two/com.two.Main"]}
 # A component that is named, if it is enabled, whatever its filters say.
-no_action | AM-Key: k1\r\n | 200 OK | {"kind":"activity","intent":{"action":"x.A","package":"com.one","component":"com.two/com.two.Main"},"defaultOnly":true} -> {"components":["com.two/com.two.Main"]}
+no_action_root | AM-Key: k1\r\n | 200 OK | {"kind":"activity","intent":{"action":"x.A","package":"com.one","component":"com.two/com.two.Main"},"defaultOnly":true} -> {"components":["com.two/com.two.Main"]}
 kinds | AM-Key: k1\r\n | 200 OK | {"kind":"activity","intent":{"action":"x.A","component":"com.one/com.one.Main"}} -> {"components":[]}
 # The components of a package that is named.
-twins | AM-Key: k1\r\n | 200 OK | {"kind":"activity","intent":{"action":"x.A","package":"com.two"}} -> {"components":["com.two/com.two.Main"]}
+alike | AM-Key: k1\r\n | 200 OK | {"kind":"activity","intent":{"action":"x.A","package":"com.two"}} -> {"components":["com.two/com.two.Main"]}
 kinds | AM-Key: k1\r\n | 200 OK | {"kind":"receiver","intent":{"action":"x.A"}} -> {"components":["com.two/com.two.Side","com.one/com.one.Side"]}
 kinds | AM-Key: k1\r\n | 200 OK | {"kind":"receiver","intent":{"action":"x.A","package":"com.one"}} -> {"components":["com.one/com.one.Side"]}
 kinds | AM-Key: k1\r\n | 200 OK | {"kind":"service","intent":{"action":"x.A"}} -> {"components":[]}

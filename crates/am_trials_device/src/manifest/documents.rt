@@ -1,4 +1,5 @@
-//! Documents, each followed by a line with what becomes of it. `<3:a>` in a line stands for `aaa`.
+//! Documents, each followed by a line with what becomes of it, and lines of documents, each with that behind an arrow.
+//! `<3:a>` in a line stands for `aaa`.
 
 /// Device files.
 pub const DEVICES: &str = r#"= missing system_key
@@ -7,12 +8,6 @@ package = 1
 system_key = "s"
 = read
 system_key = 
-= not_toml
-system_key = "s"
-system_key = "s"
-= not_toml
-system_key = "s"
-x = 9223372036854775808
 = not_toml
 system_key = 9223372036854775807
 = wrong_kind system_key
@@ -27,15 +22,6 @@ system_key = 1979-05-27
 system_key = "!~"
 package = {}
 = wrong_kind package
-system_key = "s"
-package = []
-= read
-system_key = "s"
-package = [[]]
-= wrong_kind package[0]
-system_key = "s"
-[[package]]
-= missing package[0].key
 system_key = "s"
 [[package]]
 key = true
@@ -55,92 +41,9 @@ key = "k"
 [package.manifest]
 = missing package[0].manifest.package
 system_key = "s"
-package = [{ key = "k", manifest = { package = "a" } }, { key = "l", manifest = { package = "b", activity = [{ name = "A" }, {}] } }]
-= missing package[1].manifest.activity[1].name
-system_key = "s"
-package = [{ key = "k", manifest = { package = "a" } }, { key = "l", manifest = { package = "a" } }]
-= duplicate a
-system_key = "s"
-package = [{ key = "k", manifest = { package = "a" } }, { key = "k", manifest = { package = "b" } }]
-= duplicate b
-system_key = "s"
-package = [{ key = "s", manifest = { package = "a" } }]
-= duplicate a
-system_key = "s"
-package = [{ key = "k", manifest = { package = "android" } }]
-= duplicate android
-system_key = "s"
-package = [{ key = "k", manifest = { package = "android" } }, { key = "l" }]
-= missing package[1].manifest
-system_key = "s"
-root_key = 1
-= wrong_kind root_key
-system_key = "s"
-root_key = ""
-= wrong_kind root_key
-system_key = "s"
-root_key = "s"
-= duplicate root_key
-system_key = "s"
 root_key = "r"
 browser = ".b"
 = wrong_kind browser
-system_key = "s"
-browser = "a/b"
-= wrong_kind browser
-system_key = "s"
-browser = "com.browser"
-= read
-system_key = "s"
-protected = "x"
-= wrong_kind protected
-system_key = "s"
-protected = [1]
-= wrong_kind protected[0]
-system_key = "s"
-exempt = ["x", ""]
-= wrong_kind exempt[1]
-system_key = "s"
-exempt = {}
-= wrong_kind exempt
-system_key = "s"
-grant = 1
-= wrong_kind grant
-system_key = "s"
-grant = ["x"]
-= wrong_kind grant[0]
-system_key = "s"
-grant = [{}]
-= missing grant[0].package
-system_key = "s"
-grant = [{ package = "b" }]
-= wrong_kind grant[0].package
-system_key = "s"
-link = [{ package = 1 }]
-= wrong_kind link[0].package
-system_key = "s"
-link = [{ package = "b", host = "" }]
-= wrong_kind link[0].package
-system_key = "s"
-package = [{ key = "k", manifest = { package = "p" } }]
-grant = [{ package = "p" }]
-= missing grant[0].permission
-system_key = "s"
-package = [{ key = "k", manifest = { package = "p" } }]
-grant = [{ package = "p", permission = "x" }, { package = "p", permission = 1 }]
-= wrong_kind grant[1].permission
-system_key = "s"
-package = [{ key = "k", manifest = { package = "p" } }]
-link = [{ package = "p", host = "" }]
-= wrong_kind link[0].host
-system_key = "s"
-package = [{ key = "k", manifest = { package = "p" } }]
-link = [{ package = "p", host = "H" }]
-= read
-system_key = "s"
-package = [{ key = "k", manifest = { package = "p" } }]
-root_key = "k"
-= duplicate p
 system_key = "s"
 package = [{ key = "k", manifest = { package = "p" } }]
 link = [{}]
@@ -150,9 +53,6 @@ system_key = "<255:k>"
 = read
 system_key = "<256:k>"
 = wrong_kind system_key
-system_key = "s"
-system_key.x = 1
-= not_toml
 system_key = "s
 = not_toml
 system_key = "s"
@@ -164,9 +64,6 @@ x = <81:[>
 <81:]>
 = not_toml
 system_key = "s"
-root_key = "<256:r>"
-= wrong_kind root_key
-system_key = "s"
 root_key = 2026-01-01T00:00:00Z
 browser = 1
 = wrong_kind root_key
@@ -174,15 +71,6 @@ system_key = "s"
 root_key = "s"
 package = [{ key = "k" }]
 = missing package[0].manifest
-system_key = "s"
-browser = "<1024:b>"
-= read
-system_key = "s"
-browser = "<1025:b>"
-= over_limit text
-system_key = "s"
-protected = [<1024:"x",>]
-= read
 system_key = "s"
 protected = [<1025:"x",>]
 exempt = 1
@@ -192,36 +80,6 @@ exempt = [<1025:"x",>]
 package = 1
 = over_limit list
 system_key = "s"
-exempt = ["<1025:x>", 1]
-= over_limit text
-system_key = "s"
-package = [<256:{},>]
-= missing package[0].key
-system_key = "s"
-package = [<257:{},>]
-= over_limit packages
-system_key = "s"
-package = [{ key = "k", manifest = { package = "a", activity = [<256:{ name = "A" },>] } }]
-= duplicate a.A
-system_key = "s"
-package = [{ key = "k", manifest = { package = "a", activity = [<257:{ name = "A" },>] } }]
-= over_limit components
-system_key = "s"
-package = [{ key = "k", manifest = { package = "a", receiver = [{ name = "<1025:A>" }] } }]
-= over_limit text
-system_key = "s"
-package = [{ key = "k", manifest = { package = 1 } }]
-= wrong_kind package[0].manifest.package
-system_key = "s"
-package = [{ key = "k", manifest = { package = "a", activity = [{ name = "A" }, { name = 1 }] } }]
-= wrong_kind package[0].manifest.activity[1].name
-system_key = "s"
-package = [{ key = "k", manifest = { package = "a", service = [{ name = "A", intent-filter = [{}] }] } }]
-= exported_unstated a.A
-system_key = "s"
-package = [{ key = "k", manifest = { package = "a", service = [{ name = "A", exported = true, intent-filter = [{}, { data = [{}, { mime = "a/b" }] }] }] } }]
-= left_out package[0].manifest.service[0].intent-filter[1].data[1].mime
-system_key = "s"
 package = [{ key = "k", manifest = { package = "a" } }, { key = "l", manifest = { package = "b" } }, { key = "l", manifest = { package = "b" } }, { key = "k", manifest = { package = "a" } }]
 grant = 1
 = duplicate b
@@ -229,31 +87,71 @@ system_key = "s"
 root_key = "r"
 package = [{ key = "k", manifest = { package = "a" } }, { key = "r", manifest = { package = "b" } }]
 = duplicate b
-system_key = "s"
-grant = {}
-= wrong_kind grant
-system_key = "s"
-package = [{ key = "k", manifest = { package = "p" } }]
-grant = [{ package = "p", permission = "<1025:x>" }]
-= over_limit text
-system_key = "s"
-link = 1.5
-= wrong_kind link
-system_key = "s"
-link = [0]
-= wrong_kind link[0]
-system_key = "s"
-package = [{ key = "k", manifest = { package = "p" } }]
-link = [{ package = "p", host = "x" }, { package = "p" }]
-= missing link[1].host
-system_key = "s"
-package = [{ key = "k", manifest = { package = "p" } }]
-link = [{ package = "P", host = "x" }]
-= wrong_kind link[0].package
-system_key = "s"
-#<1048576:xxxxxxxxxxxxxxxx>
-= over_limit device
 "#;
+
+/// How a device file begins.
+pub const KEY: &str = "system_key = \"s\"\r\n";
+
+/// The line behind that beginning, and what becomes of the file.
+pub const AFTER_KEY: &str = r#"system_key = "s" => not_toml
+x = 9223372036854775808 => not_toml
+package = [] => read
+package = [[]] => wrong_kind package[0]
+[[package]] => missing package[0].key
+package = [{ key = "k", manifest = { package = "a" } }, { key = "l", manifest = { package = "b", activity = [{ name = "A" }, {}] } }] => missing package[1].manifest.activity[1].name
+package = [{ key = "k", manifest = { package = "a" } }, { key = "l", manifest = { package = "a" } }] => duplicate a
+package = [{ key = "k", manifest = { package = "a" } }, { key = "k", manifest = { package = "b" } }] => duplicate b
+package = [{ key = "s", manifest = { package = "a" } }] => duplicate a
+package = [{ key = "k", manifest = { package = "android" } }] => duplicate android
+package = [{ key = "k", manifest = { package = "android" } }, { key = "l" }] => missing package[1].manifest
+root_key = 1 => wrong_kind root_key
+root_key = "" => wrong_kind root_key
+root_key = "s" => duplicate root_key
+browser = "a/b" => wrong_kind browser
+browser = "com.browser" => read
+protected = "x" => wrong_kind protected
+protected = [1] => wrong_kind protected[0]
+exempt = ["x", ""] => wrong_kind exempt[1]
+exempt = {} => wrong_kind exempt
+grant = 1 => wrong_kind grant
+grant = ["x"] => wrong_kind grant[0]
+grant = [{}] => missing grant[0].package
+grant = [{ package = "b" }] => wrong_kind grant[0].package
+link = [{ package = 1 }] => wrong_kind link[0].package
+link = [{ package = "b", host = "" }] => wrong_kind link[0].package
+system_key.x = 1 => not_toml
+root_key = "<256:r>" => wrong_kind root_key
+browser = "<1024:b>" => read
+browser = "<1025:b>" => over_limit text
+protected = [<1024:"x",>] => read
+exempt = ["<1025:x>", 1] => over_limit text
+package = [<256:{},>] => missing package[0].key
+package = [<257:{},>] => over_limit packages
+package = [{ key = "k", manifest = { package = "a", activity = [<256:{ name = "A" },>] } }] => duplicate a.A
+package = [{ key = "k", manifest = { package = "a", activity = [<257:{ name = "A" },>] } }] => over_limit components
+package = [{ key = "k", manifest = { package = "a", receiver = [{ name = "<1025:A>" }] } }] => over_limit text
+package = [{ key = "k", manifest = { package = 1 } }] => wrong_kind package[0].manifest.package
+package = [{ key = "k", manifest = { package = "a", activity = [{ name = "A" }, { name = 1 }] } }] => wrong_kind package[0].manifest.activity[1].name
+package = [{ key = "k", manifest = { package = "a", service = [{ name = "A", intent-filter = [{}] }] } }] => exported_unstated a.A
+package = [{ key = "k", manifest = { package = "a", service = [{ name = "A", exported = true, intent-filter = [{}, { data = [{}, { mime = "a/b" }] }] }] } }] => left_out package[0].manifest.service[0].intent-filter[1].data[1].mime
+grant = {} => wrong_kind grant
+link = 1.5 => wrong_kind link
+link = [0] => wrong_kind link[0]
+#<1048576:xxxxxxxxxxxxxxxx> => over_limit device"#;
+
+/// How a device file of one package begins.
+pub const PACKAGE: &str =
+    "system_key = \"s\"\r\npackage = [{ key = \"k\", manifest = { package = \"p\" } }]\r\n";
+
+/// The line behind that beginning, and what becomes of the file.
+pub const AFTER_PACKAGE: &str = r#"grant = [{ package = "p" }] => missing grant[0].permission
+grant = [{ package = "p", permission = "x" }, { package = "p", permission = 1 }] => wrong_kind grant[1].permission
+link = [{ package = "p", host = "" }] => wrong_kind link[0].host
+link = [{ package = "p", host = "H" }] => read
+root_key = "k" => duplicate p
+grant = [{ package = "p", permission = "<1025:x>" }] => over_limit text
+link = [{ package = "p", host = "x" }, { package = "p" }] => missing link[1].host
+link = [{ package = "P", host = "x" }] => wrong_kind link[0].package"#;
 
 /// Manifests.
 pub const MANIFESTS: &str = r#"= missing package
@@ -290,39 +188,6 @@ activity = [{ name = "" }]
 package = "a"
 activity = [{ name = "a/b", exported = 1 }]
 = wrong_kind activity[0].name
-package = "a"
-activity = [{ name = "A", exported = "true" }]
-= wrong_kind activity[0].exported
-package = "a"
-activity = [{ name = "A", enabled = 0, intent-filter = 1 }]
-= wrong_kind activity[0].enabled
-package = "a"
-activity = [{ name = "A", intent-filter = 1 }]
-= wrong_kind activity[0].intent-filter
-package = "a"
-activity = [{ name = "A", intent-filter = ["x"] }]
-= wrong_kind activity[0].intent-filter[0]
-package = "a"
-activity = [{ name = "A", intent-filter = [{}, { action = "x" }] }]
-= wrong_kind activity[0].intent-filter[1].action
-package = "a"
-activity = [{ name = "A", intent-filter = [{ action = ["x", ""] }] }]
-= wrong_kind activity[0].intent-filter[0].action[1]
-package = "a"
-activity = [{ name = "A", intent-filter = [{ category = [12:00:00] }] }]
-= wrong_kind activity[0].intent-filter[0].category[0]
-package = "a"
-activity = [{ name = "A", intent-filter = [{ priority = 1.0 }] }]
-= wrong_kind activity[0].intent-filter[0].priority
-package = "a"
-activity = [{ name = "A", intent-filter = [{ priority = 2147483648 }] }]
-= bad_priority
-package = "a"
-activity = [{ name = "A", intent-filter = [{ priority = -2147483649 }] }]
-= bad_priority
-package = "a"
-activity = [{ name = "A", exported = true, intent-filter = [{ priority = 2147483647 }, { priority = -2147483648 }] }]
-= read
 package = "com.a"
 activity = [{ name = ".M", intent-filter = [{ action = ["x"] }] }]
 = exported_unstated com.a.M
@@ -352,92 +217,8 @@ receiver = [{ name = "S" }]
 service = [{ name = ".S" }]
 = duplicate a.S
 package = "a"
-activity = [{ name = "A", permission = "" }]
-= wrong_kind activity[0].permission
-package = "a"
 service = [{ name = "A", permission = 1 }]
 = wrong_kind service[0].permission
-package = "a"
-activity = [{ name = "A", launchMode = "singletop" }]
-= wrong_kind activity[0].launchMode
-package = "a"
-activity = [{ name = "A", launchMode = 2, taskAffinity = 1 }]
-= wrong_kind activity[0].launchMode
-package = "a"
-activity = [{ name = "A", launchMode = "singleInstancePerTask", taskAffinity = "" }]
-= read
-package = "a"
-activity = [{ name = "A", taskAffinity = [] }]
-= wrong_kind activity[0].taskAffinity
-package = "a"
-activity = [{ name = "A", exported = true, intent-filter = [{ data = 1 }] }]
-= wrong_kind activity[0].intent-filter[0].data
-package = "a"
-activity = [{ name = "A", exported = true, intent-filter = [{ data = [1] }] }]
-= wrong_kind activity[0].intent-filter[0].data[0]
-package = "a"
-activity = [{ name = "A", exported = true, intent-filter = [{ data = [{ scheme = "http", ssp = "x" }] }] }]
-= left_out activity[0].intent-filter[0].data[0].ssp
-package = "a"
-activity = [{ name = "A", exported = true, intent-filter = [{ data = [{}, { zz = 1, aa = 1, scheme = 1 }] }] }]
-= left_out activity[0].intent-filter[0].data[1].aa
-package = "a"
-activity = [{ name = "A", exported = true, intent-filter = [{ data = [{ scheme = 1 }] }] }]
-= wrong_kind activity[0].intent-filter[0].data[0].scheme
-package = "a"
-activity = [{ name = "A", exported = true, intent-filter = [{ data = [{ scheme = "1a" }] }] }]
-= bad_uri activity[0].intent-filter[0].data[0].scheme
-package = "a"
-activity = [{ name = "A", exported = true, intent-filter = [{ data = [{ scheme = "a_b", host = 1 }] }] }]
-= bad_uri activity[0].intent-filter[0].data[0].scheme
-package = "a"
-activity = [{ name = "A", exported = true, intent-filter = [{ data = [{ scheme = "a+-.1", host = "" }] }] }]
-= wrong_kind activity[0].intent-filter[0].data[0].host
-package = "a"
-activity = [{ name = "A", exported = true, intent-filter = [{ data = [{ port = 99999 }] }] }]
-= read
-package = "a"
-activity = [{ name = "A", exported = true, intent-filter = [{ data = [{ port = 100000 }] }] }]
-= wrong_kind activity[0].intent-filter[0].data[0].port
-package = "a"
-activity = [{ name = "A", exported = true, intent-filter = [{ data = [{ port = -1 }] }] }]
-= wrong_kind activity[0].intent-filter[0].data[0].port
-package = "a"
-activity = [{ name = "A", exported = true, intent-filter = [{ data = [{ port = "80" }] }] }]
-= wrong_kind activity[0].intent-filter[0].data[0].port
-package = "a"
-activity = [{ name = "A", exported = true, intent-filter = [{ data = [{ path = "" }] }] }]
-= wrong_kind activity[0].intent-filter[0].data[0].path
-package = "a"
-activity = [{ name = "A", exported = true, intent-filter = [{ data = [{ pathPrefix = 1 }] }] }]
-= wrong_kind activity[0].intent-filter[0].data[0].pathPrefix
-package = "a"
-activity = [{ name = "A", exported = true, intent-filter = [{ data = [{ pathSuffix = 1 }] }] }]
-= wrong_kind activity[0].intent-filter[0].data[0].pathSuffix
-package = "a"
-activity = [{ name = "A", exported = true, intent-filter = [{ data = [{ pathPattern = 1 }] }] }]
-= wrong_kind activity[0].intent-filter[0].data[0].pathPattern
-package = "a"
-activity = [{ name = "A", exported = true, intent-filter = [{ data = [{ mimeType = 1 }] }] }]
-= wrong_kind activity[0].intent-filter[0].data[0].mimeType
-package = "a"
-activity = [{ name = "A", exported = true, intent-filter = [{ data = [{ mimeType = "a" }] }] }]
-= bad_mime activity[0].intent-filter[0].data[0].mimeType
-package = "a"
-activity = [{ name = "A", exported = true, intent-filter = [{ data = [{ mimeType = "a/" }] }] }]
-= bad_mime activity[0].intent-filter[0].data[0].mimeType
-package = "a"
-activity = [{ name = "A", exported = true, intent-filter = [{ data = [{ mimeType = "/a" }] }] }]
-= bad_mime activity[0].intent-filter[0].data[0].mimeType
-package = "a"
-activity = [{ name = "A", exported = true, intent-filter = [{ data = [{ mimeType = "a/b/c" }] }] }]
-= bad_mime activity[0].intent-filter[0].data[0].mimeType
-package = "a"
-activity = [{ name = "A", exported = true, intent-filter = [{ data = [{ mimeType = "a /b" }] }] }]
-= bad_mime activity[0].intent-filter[0].data[0].mimeType
-package = "a"
-activity = [{ name = "A", exported = true, intent-filter = [{ data = [{ mimeType = "*/*" }] }] }]
-= read
 package = "<1024:a>"
 activity = [{ name = "<1023:A>" }]
 = read
@@ -456,39 +237,6 @@ package = "a"
 package = "a"
 = not_toml
 package = "a"
-activity = [{ name = "A", name = "A" }]
-= not_toml
-package = "a"
-activity = [{ name = "A", exported = 2026-01-01 }]
-= wrong_kind activity[0].exported
-package = "a"
-activity = [{ name = "A", enabled = "true" }]
-= wrong_kind activity[0].enabled
-package = "a"
-activity = [{ name = "A", permission = 1.5 }]
-= wrong_kind activity[0].permission
-package = "a"
-activity = [{ name = "A", permission = "<1025:p>" }]
-= over_limit text
-package = "a"
-activity = [{ name = "A", launchMode = "standard" }]
-= read
-package = "a"
-activity = [{ name = "A", launchMode = "singleTop" }]
-= read
-package = "a"
-activity = [{ name = "A", launchMode = "singleTask" }]
-= read
-package = "a"
-activity = [{ name = "A", launchMode = "singleInstance" }]
-= read
-package = "a"
-activity = [{ name = "A", taskAffinity = 07:32:00 }]
-= wrong_kind activity[0].taskAffinity
-package = "a"
-activity = [{ name = "A", taskAffinity = "<1025:t>" }]
-= over_limit text
-package = "a"
 service = [[]]
 = wrong_kind service[0]
 package = "a"
@@ -506,108 +254,94 @@ receiver = [{ name = "R", launchMode = "none", taskAffinity = [] }]
 package = "a"
 receiver = [{ name = "R", intent-filter = [{ category = ["c"] }] }]
 = exported_unstated a.R
-package = "a"
-activity = [{ name = "A", exported = true, intent-filter = [<32:{},>] }]
-= read
-package = "a"
-activity = [{ name = "A", exported = true, intent-filter = [<33:{},>] }]
-= over_limit filters
-package = "a"
-activity = [{ name = "A", exported = true, intent-filter = [{ action = [<64:"x",>] }] }]
-= read
-package = "a"
-activity = [{ name = "A", exported = true, intent-filter = [{ action = [<65:"x",>], category = 1 }] }]
-= over_limit list
-package = "a"
-activity = [{ name = "A", exported = true, intent-filter = [{ action = ["<1025:x>"] }] }]
-= over_limit text
-package = "a"
-activity = [{ name = "A", exported = true, intent-filter = [{ category = [<65:"x",>] }] }]
-= over_limit list
-package = "a"
-activity = [{ name = "A", exported = true, intent-filter = [{ category = "x" }] }]
-= wrong_kind activity[0].intent-filter[0].category
-package = "a"
-activity = [{ name = "A", exported = true, intent-filter = [{ priority = "1" }] }]
-= wrong_kind activity[0].intent-filter[0].priority
-package = "a"
-activity = [{ name = "A", exported = true, intent-filter = [{ priority = 9223372036854775807 }] }]
-= bad_priority
-package = "a"
-activity = [{ name = "A", exported = true, intent-filter = [{ priority = 9223372036854775808 }] }]
-= not_toml
-package = "a"
-activity = [{ name = "A", exported = true, intent-filter = [{ data = [<64:{},>] }] }]
-= read
-package = "a"
-activity = [{ name = "A", exported = true, intent-filter = [{ data = [<65:{},>] }] }]
-= over_limit list
-package = "a"
-activity = [{ name = "A", exported = true, intent-filter = [{ data = [{ scheme = "" }] }] }]
-= wrong_kind activity[0].intent-filter[0].data[0].scheme
-package = "a"
-activity = [{ name = "A", exported = true, intent-filter = [{ data = [{ scheme = "é" }] }] }]
-= bad_uri activity[0].intent-filter[0].data[0].scheme
-package = "a"
-activity = [{ name = "A", exported = true, intent-filter = [{ data = [{ host = false }] }] }]
-= wrong_kind activity[0].intent-filter[0].data[0].host
-package = "a"
-activity = [{ name = "A", exported = true, intent-filter = [{ data = [{ host = "<1025:h>" }] }] }]
-= over_limit text
-package = "a"
-activity = [{ name = "A", exported = true, intent-filter = [{ data = [{ port = 80.0 }] }] }]
-= wrong_kind activity[0].intent-filter[0].data[0].port
-package = "a"
-activity = [{ name = "A", exported = true, intent-filter = [{ data = [{ port = 0, path = 1.0 }] }] }]
-= wrong_kind activity[0].intent-filter[0].data[0].path
-package = "a"
-activity = [{ name = "A", exported = true, intent-filter = [{ data = [{ pathPrefix = "" }] }] }]
-= wrong_kind activity[0].intent-filter[0].data[0].pathPrefix
-package = "a"
-activity = [{ name = "A", exported = true, intent-filter = [{ data = [{ pathSuffix = 12:00:00, pathPattern = 1 }] }] }]
-= wrong_kind activity[0].intent-filter[0].data[0].pathSuffix
-package = "a"
-activity = [{ name = "A", exported = true, intent-filter = [{ data = [{ pathPattern = "", mimeType = 1 }] }] }]
-= wrong_kind activity[0].intent-filter[0].data[0].pathPattern
-package = "a"
-activity = [{ name = "A", exported = true, intent-filter = [{ data = [{ pathPattern = "<1024:*>" }] }] }]
-= read
-package = "a"
-activity = [{ name = "A", exported = true, intent-filter = [{ data = [{ pathPattern = "<1025:*>" }] }] }]
-= over_limit text
-package = "a"
-activity = [{ name = "A", exported = true, intent-filter = [{ data = [{ mimeType = "<1025:a>" }] }] }]
-= over_limit text
-package = "a"
-activity = [{ name = "A", exported = true, intent-filter = [{ data = [{ scheme = 1, a = 1, Z = 1 }] }] }]
-= left_out activity[0].intent-filter[0].data[0].Z
-package = "a"
-activity = [{ name = "A", exported = true, intent-filter = [{ data = [{ pathAdvancedPattern = "x" }] }] }]
-= left_out activity[0].intent-filter[0].data[0].pathAdvancedPattern
 "#;
 
-/// Device files, each with what its packages declare.
-pub const SUMMARIES: &str = r#"system_key = "sys"
-[[package]]
-key = "k1"
-[package.manifest]
-package = "com.one"
-[[package.manifest.activity]]
-name = ".Main"
-exported = true
-[[package.manifest.activity.intent-filter]]
-action = ["x.A"]
-[[package]]
-key = "k2"
-[package.manifest]
-package = "com.two"
-[[package.manifest.activity]]
-name = ".Main"
-exported = true
-[[package.manifest.activity.intent-filter]]
-category = ["x.C"]
-= sys | 10000 com.one k1 false / com.one.Main com.one true true true ( 0 x.A ; ) | 10001 com.two k2 false / com.two.Main com.two true true true
-system_key = "s"
+/// What the activity `A` of the package `a` has besides its name, and what becomes of the manifest.
+pub const ACTIVITIES: &str = r#"exported = "true" => wrong_kind activity[0].exported
+enabled = 0, intent-filter = 1 => wrong_kind activity[0].enabled
+intent-filter = 1 => wrong_kind activity[0].intent-filter
+intent-filter = ["x"] => wrong_kind activity[0].intent-filter[0]
+intent-filter = [{}, { action = "x" }] => wrong_kind activity[0].intent-filter[1].action
+intent-filter = [{ action = ["x", ""] }] => wrong_kind activity[0].intent-filter[0].action[1]
+intent-filter = [{ category = [12:00:00] }] => wrong_kind activity[0].intent-filter[0].category[0]
+intent-filter = [{ priority = 1.0 }] => wrong_kind activity[0].intent-filter[0].priority
+intent-filter = [{ priority = 2147483648 }] => bad_priority
+intent-filter = [{ priority = -2147483649 }] => bad_priority
+exported = true, intent-filter = [{ priority = 2147483647 }, { priority = -2147483648 }] => read
+permission = "" => wrong_kind activity[0].permission
+launchMode = "singletop" => wrong_kind activity[0].launchMode
+launchMode = 2, taskAffinity = 1 => wrong_kind activity[0].launchMode
+launchMode = "singleInstancePerTask", taskAffinity = "" => read
+taskAffinity = [] => wrong_kind activity[0].taskAffinity
+name = "A" => not_toml
+exported = 2026-01-01 => wrong_kind activity[0].exported
+enabled = "true" => wrong_kind activity[0].enabled
+permission = 1.5 => wrong_kind activity[0].permission
+permission = "<1025:p>" => over_limit text
+launchMode = "standard" => read
+launchMode = "singleTop" => read
+launchMode = "singleTask" => read
+launchMode = "singleInstance" => read
+taskAffinity = 07:32:00 => wrong_kind activity[0].taskAffinity
+taskAffinity = "<1025:t>" => over_limit text
+exported = true, intent-filter = [<32:{},>] => read
+exported = true, intent-filter = [<33:{},>] => over_limit filters"#;
+
+/// What the filter of the exported activity `A` of the package `a` has, and what becomes of the manifest.
+pub const FILTERS: &str = r#"data = 1 => wrong_kind activity[0].intent-filter[0].data
+data = [1] => wrong_kind activity[0].intent-filter[0].data[0]
+data = [{ scheme = "http", ssp = "x" }] => left_out activity[0].intent-filter[0].data[0].ssp
+data = [{}, { zz = 1, aa = 1, scheme = 1 }] => left_out activity[0].intent-filter[0].data[1].aa
+data = [{ scheme = 1 }] => wrong_kind activity[0].intent-filter[0].data[0].scheme
+data = [{ scheme = "1a" }] => bad_uri activity[0].intent-filter[0].data[0].scheme
+data = [{ scheme = "a_b", host = 1 }] => bad_uri activity[0].intent-filter[0].data[0].scheme
+data = [{ scheme = "a+-.1", host = "" }] => wrong_kind activity[0].intent-filter[0].data[0].host
+data = [{ port = 99999 }] => read
+data = [{ port = 100000 }] => wrong_kind activity[0].intent-filter[0].data[0].port
+data = [{ port = -1 }] => wrong_kind activity[0].intent-filter[0].data[0].port
+data = [{ port = "80" }] => wrong_kind activity[0].intent-filter[0].data[0].port
+data = [{ path = "" }] => wrong_kind activity[0].intent-filter[0].data[0].path
+data = [{ pathPrefix = 1 }] => wrong_kind activity[0].intent-filter[0].data[0].pathPrefix
+data = [{ pathSuffix = 1 }] => wrong_kind activity[0].intent-filter[0].data[0].pathSuffix
+data = [{ pathPattern = 1 }] => wrong_kind activity[0].intent-filter[0].data[0].pathPattern
+data = [{ mimeType = 1 }] => wrong_kind activity[0].intent-filter[0].data[0].mimeType
+data = [{ mimeType = "a" }] => bad_mime activity[0].intent-filter[0].data[0].mimeType
+data = [{ mimeType = "a/" }] => bad_mime activity[0].intent-filter[0].data[0].mimeType
+data = [{ mimeType = "/a" }] => bad_mime activity[0].intent-filter[0].data[0].mimeType
+data = [{ mimeType = "a/b/c" }] => bad_mime activity[0].intent-filter[0].data[0].mimeType
+data = [{ mimeType = "a /b" }] => bad_mime activity[0].intent-filter[0].data[0].mimeType
+data = [{ mimeType = "*/*" }] => read
+action = [<64:"x",>] => read
+action = [<65:"x",>], category = 1 => over_limit list
+action = ["<1025:x>"] => over_limit text
+category = [<65:"x",>] => over_limit list
+category = "x" => wrong_kind activity[0].intent-filter[0].category
+priority = "1" => wrong_kind activity[0].intent-filter[0].priority
+priority = 9223372036854775807 => bad_priority
+priority = 9223372036854775808 => not_toml
+data = [<64:{},>] => read
+data = [<65:{},>] => over_limit list
+data = [{ scheme = "" }] => wrong_kind activity[0].intent-filter[0].data[0].scheme
+data = [{ scheme = "é" }] => bad_uri activity[0].intent-filter[0].data[0].scheme
+data = [{ host = false }] => wrong_kind activity[0].intent-filter[0].data[0].host
+data = [{ host = "<1025:h>" }] => over_limit text
+data = [{ port = 80.0 }] => wrong_kind activity[0].intent-filter[0].data[0].port
+data = [{ port = 0, path = 1.0 }] => wrong_kind activity[0].intent-filter[0].data[0].path
+data = [{ pathPrefix = "" }] => wrong_kind activity[0].intent-filter[0].data[0].pathPrefix
+data = [{ pathSuffix = 12:00:00, pathPattern = 1 }] => wrong_kind activity[0].intent-filter[0].data[0].pathSuffix
+data = [{ pathPattern = "", mimeType = 1 }] => wrong_kind activity[0].intent-filter[0].data[0].pathPattern
+data = [{ pathPattern = "<1024:*>" }] => read
+data = [{ pathPattern = "<1025:*>" }] => over_limit text
+data = [{ mimeType = "<1025:a>" }] => over_limit text
+data = [{ scheme = 1, a = 1, Z = 1 }] => left_out activity[0].intent-filter[0].data[0].Z
+data = [{ pathAdvancedPattern = "x" }] => left_out activity[0].intent-filter[0].data[0].pathAdvancedPattern"#;
+
+/// What the packages of a device of two mains declare, of which the second lists a category.
+pub const MAINS: &str =
+    "sys | 10000 com.one k1 false / com.one.Main com.one true true true ( 0 x.A ; ) | 10001 com.two k2 false / com.two.Main com.two true true true";
+
+/// A device file with what its package declares.
+pub const SUMMARIES: &str = r#"system_key = "s"
 package = [{ key = "k", manifest = { package = "p", activity = [{ name = "A" }, { name = "b.C", enabled = false, exported = false, intent-filter = [{ action = ["z", "a", "z", "Z"], category = ["c", "b"], priority = -5 }, { category = ["c"] }] }] } }]
 = s | 10000 p k false / p.A p false true true / b.C p false false true ( -5 Z a z ; b c )
 "#;

@@ -1,18 +1,7 @@
 //! Accounts in words.
-use am_types::{Account, Aim, List, Narrowing, Rule, Standing, Why};
+use am_types::{Account, Aim, List, Rule, Standing, Why};
+use am_wire_values::{narrowing_name, why_name};
 use std::alloc::{AllocError, Global};
-
-/// The name of the test of a filter that fails.
-fn reason_name(why: Why) -> &'static str {
-    match why {
-        Why::Action => "action",
-        Why::Scheme => "scheme",
-        Why::Host => "host",
-        Why::Path => "path",
-        Why::Type_ => "type",
-        Why::Category => "category",
-    }
-}
 
 /// The reasons, with commas.
 fn reasons(alloc: Global, all: &List<Why>) -> Result<String, AllocError> {
@@ -21,18 +10,10 @@ fn reasons(alloc: Global, all: &List<Why>) -> Result<String, AllocError> {
         if i > 0 {
             text.push(',')?;
         }
-        text.push_str(reason_name(*why))?;
+        text.push_str(why_name(*why))?;
     }
     text.push(')')?;
     Ok(text)
-}
-
-fn narrowing_name(narrowing: Narrowing) -> &'static str {
-    match narrowing {
-        Narrowing::Approved => "narrowed(approved)",
-        Narrowing::Browser => "narrowed(browser)",
-        Narrowing::General => "narrowed(general)",
-    }
 }
 
 /// The name of a rule, with the permission that it names.
@@ -56,7 +37,7 @@ fn standing(alloc: Global, standing: &Standing) -> Result<String, AllocError> {
         Standing::OtherPackage => String::from_str(alloc, "other_package"),
         Standing::Disabled => String::from_str(alloc, "disabled"),
         Standing::Filters(all) => reasons(alloc, all),
-        Standing::Narrowed(narrowing) => String::from_str(alloc, narrowing_name(*narrowing)),
+        Standing::Narrowed(by) => format!(in alloc; "narrowed({})", narrowing_name(*by)),
         Standing::Outranked => String::from_str(alloc, "outranked"),
         Standing::Tied => String::from_str(alloc, "tied"),
         Standing::Refused(refusal) => rule(alloc, refusal),

@@ -98,26 +98,8 @@ app | {"kind":"activity"} | query refused: missing intent
 uid=10000 | {"kind":"activity","intent":{"action":"Look"}} | {"components":["looked/looked.M"]}"#;
 
 /// Device files with their questions: behind each bar who asks, what, and what the answer is. A line of two dashes
-/// ends a file.
-pub const FILES: &str = r#"system_key = "sys"
-[[package]]
-key = "k1"
-[package.manifest]
-package = "com.one"
-[[package.manifest.activity]]
-name = ".Main"
-exported = true
-[[package.manifest.activity.intent-filter]]
-action = ["x.A"]
-[[package]]
-key = "k2"
-[package.manifest]
-package = "com.two"
-[[package.manifest.activity]]
-name = ".Main"
-exported = true
-[[package.manifest.activity.intent-filter]]
-action = ["x.B"]
+/// ends a file. The first file begins with two mains.
+pub const FILES: &str = r#"action = ["x.B"]
 category = ["x.C"]
 ? com.two | {"intent":{"action":"x.A"},"kind":"activity"} | {"components":[]}
 ? com.one | {"intent":{"action":"x.A"},"kind":"activity"} | {"components":["com.one/com.one.Main"]}

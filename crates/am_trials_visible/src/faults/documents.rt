@@ -1,4 +1,5 @@
 //! Tables `queries` and device files with them, each with what becomes of it. `<3:a>` stands for `aaa`.
+//! A row with `<any 1 or 2>` stands for a row with either.
 
 /// The table `queries` of a manifest, and its fault.
 pub const TABLES: &str = r#"1 => wrong_kind package[0].manifest.queries
@@ -12,10 +13,7 @@ false => wrong_kind package[0].manifest.queries
 { package = [], intent = [] } => read
 { package = [], package = [] } => not_toml
 { provider = 1, Package = 1, packages = [1], intents = [1], "" = 1 } => read
-{ package = 1 } => wrong_kind package[0].manifest.queries.package
-{ package = "a" } => wrong_kind package[0].manifest.queries.package
-{ package = {} } => wrong_kind package[0].manifest.queries.package
-{ package = 07:32:00 } => wrong_kind package[0].manifest.queries.package
+{ package = <any 1 or "a" or {} or 07:32:00> } => wrong_kind package[0].manifest.queries.package
 { package = [1] } => wrong_kind package[0].manifest.queries.package[0]
 { package = ["a", [] ] } => wrong_kind package[0].manifest.queries.package[1]
 { package = ["a", "b", { name = "c" }] } => wrong_kind package[0].manifest.queries.package[2]
@@ -32,11 +30,9 @@ false => wrong_kind package[0].manifest.queries
 { package = ["<1025:a>", 1] } => over_limit text
 { package = [".<1025:a>"] } => wrong_kind package[0].manifest.queries.package[0]
 { package = [1, "<1025:a>"] } => wrong_kind package[0].manifest.queries.package[0]
-{ intent = 1 } => wrong_kind package[0].manifest.queries.intent
-{ intent = "x" } => wrong_kind package[0].manifest.queries.intent
+{ intent = <any 1 or "x"> } => wrong_kind package[0].manifest.queries.intent
 { intent = { action = "x" } } => wrong_kind package[0].manifest.queries.intent
-{ intent = [1] } => wrong_kind package[0].manifest.queries.intent[0]
-{ intent = ["x"] } => wrong_kind package[0].manifest.queries.intent[0]
+{ intent = <any [1] or ["x"]> } => wrong_kind package[0].manifest.queries.intent[0]
 { intent = [{ action = "x" }, []] } => wrong_kind package[0].manifest.queries.intent[1]
 { intent = [<64:{ action = "x" },>] } => read
 { intent = [<65:{ action = "x" },>] } => over_limit list
@@ -45,13 +41,10 @@ false => wrong_kind package[0].manifest.queries
 { intent = [<63:{ action = "x" },>{}] } => missing package[0].manifest.queries.intent[63].action
 { intent = [{}] } => missing package[0].manifest.queries.intent[0].action
 { intent = [{ scheme = "" }] } => missing package[0].manifest.queries.intent[0].action
-{ intent = [{ action = 1 }] } => wrong_kind package[0].manifest.queries.intent[0].action
-{ intent = [{ action = ["x"] }] } => wrong_kind package[0].manifest.queries.intent[0].action
-{ intent = [{ action = "" }] } => wrong_kind package[0].manifest.queries.intent[0].action
+{ intent = [{ action = <any 1 or ["x"] or ""> }] } => wrong_kind package[0].manifest.queries.intent[0].action
 { intent = [{ action = "<1024:x>" }] } => read
 { intent = [{ action = "<1025:x>", category = 1 }] } => over_limit text
-{ intent = [{ action = "x", category = "c" }] } => wrong_kind package[0].manifest.queries.intent[0].category
-{ intent = [{ action = "x", category = {} }] } => wrong_kind package[0].manifest.queries.intent[0].category
+{ intent = [{ action = "x", category = <any "c" or {}> }] } => wrong_kind package[0].manifest.queries.intent[0].category
 { intent = [{ action = "x", category = [1] }] } => wrong_kind package[0].manifest.queries.intent[0].category[0]
 { intent = [{ action = "x", category = ["c", ""] }] } => wrong_kind package[0].manifest.queries.intent[0].category[1]
 { intent = [{ action = "x", category = ["c", "c", ["c"]] }] } => wrong_kind package[0].manifest.queries.intent[0].category[2]
@@ -59,33 +52,18 @@ false => wrong_kind package[0].manifest.queries
 { intent = [{ action = "x", category = [<65:"c",>] }] } => over_limit list
 { intent = [{ action = "x", category = [<65:1,>] }] } => over_limit list
 { intent = [{ action = "x", category = ["<1025:c>"] }] } => over_limit text
-{ intent = [{ action = "x", scheme = 1 }] } => wrong_kind package[0].manifest.queries.intent[0].scheme
-{ intent = [{ action = "x", scheme = ["http"] }] } => wrong_kind package[0].manifest.queries.intent[0].scheme
-{ intent = [{ action = "x", scheme = "" }] } => wrong_kind package[0].manifest.queries.intent[0].scheme
-{ intent = [{ action = "x", scheme = "1a" }] } => bad_uri package[0].manifest.queries.intent[0].scheme
-{ intent = [{ action = "x", scheme = "a_b" }] } => bad_uri package[0].manifest.queries.intent[0].scheme
-{ intent = [{ action = "x", scheme = "http:" }] } => bad_uri package[0].manifest.queries.intent[0].scheme
-{ intent = [{ action = "x", scheme = "*" }] } => bad_uri package[0].manifest.queries.intent[0].scheme
-{ intent = [{ action = "x", scheme = "é" }] } => bad_uri package[0].manifest.queries.intent[0].scheme
+{ intent = [{ action = "x", scheme = <any 1 or ["http"] or ""> }] } => wrong_kind package[0].manifest.queries.intent[0].scheme
+{ intent = [{ action = "x", scheme = <any "1a" or "a_b" or "http:" or "*" or "é"> }] } => bad_uri package[0].manifest.queries.intent[0].scheme
 { intent = [{ action = "x" }, { action = "x", scheme = "+a" }] } => bad_uri package[0].manifest.queries.intent[1].scheme
 { intent = [{ action = "x", scheme = "a+-.1" }, { action = "x", scheme = "HTTP" }] } => read
 { intent = [{ action = "x", scheme = "<1024:a>" }] } => read
 { intent = [{ action = "x", scheme = "<1025:a>" }] } => over_limit text
 { intent = [{ action = "x", scheme = "<1025:_>" }] } => over_limit text
-{ intent = [{ action = "x", host = 1 }] } => wrong_kind package[0].manifest.queries.intent[0].host
-{ intent = [{ action = "x", host = true }] } => wrong_kind package[0].manifest.queries.intent[0].host
-{ intent = [{ action = "x", host = "" }] } => wrong_kind package[0].manifest.queries.intent[0].host
+{ intent = [{ action = "x", host = <any 1 or true or ""> }] } => wrong_kind package[0].manifest.queries.intent[0].host
 { intent = [{ action = "x", host = "<1025:h>" }] } => over_limit text
 { intent = [{ action = "x", host = "*" }, { action = "x", host = "h:80/x" }] } => read
-{ intent = [{ action = "x", mimeType = 1 }] } => wrong_kind package[0].manifest.queries.intent[0].mimeType
-{ intent = [{ action = "x", mimeType = ["a/b"] }] } => wrong_kind package[0].manifest.queries.intent[0].mimeType
-{ intent = [{ action = "x", mimeType = "" }] } => wrong_kind package[0].manifest.queries.intent[0].mimeType
-{ intent = [{ action = "x", mimeType = "a" }] } => bad_mime package[0].manifest.queries.intent[0].mimeType
-{ intent = [{ action = "x", mimeType = "a/" }] } => bad_mime package[0].manifest.queries.intent[0].mimeType
-{ intent = [{ action = "x", mimeType = "/b" }] } => bad_mime package[0].manifest.queries.intent[0].mimeType
-{ intent = [{ action = "x", mimeType = "a/b/c" }] } => bad_mime package[0].manifest.queries.intent[0].mimeType
-{ intent = [{ action = "x", mimeType = "a/b; c" }] } => bad_mime package[0].manifest.queries.intent[0].mimeType
-{ intent = [{ action = "x", mimeType = "a/\u007f" }] } => bad_mime package[0].manifest.queries.intent[0].mimeType
+{ intent = [{ action = "x", mimeType = <any 1 or ["a/b"] or ""> }] } => wrong_kind package[0].manifest.queries.intent[0].mimeType
+{ intent = [{ action = "x", mimeType = <any "a" or "a/" or "/b" or "a/b/c" or "a/b; c" or "a/\u007f"> }] } => bad_mime package[0].manifest.queries.intent[0].mimeType
 { intent = [{ action = "x", mimeType = "*/*" }, { action = "x", mimeType = "a/*" }, { action = "x", mimeType = "é/ü" }] } => read
 { intent = [{ action = "x", mimeType = "<1025:a>" }] } => over_limit text
 { intent = [{ action = "x", path = "/a" }] } => left_out package[0].manifest.queries.intent[0].path

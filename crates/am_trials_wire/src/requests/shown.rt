@@ -34,8 +34,9 @@ fn push_if(all: &mut String, word: &str, holds: bool) -> Result<(), AllocError> 
     all.push_str(if holds { word } else { "" })
 }
 
-fn push_component(all: &mut String, component: &Component) -> Result<(), AllocError> {
-    push_text(all, " ", &component.package)?;
+/// Adds a component behind the name.
+fn push_component(all: &mut String, front: &str, component: &Component) -> Result<(), AllocError> {
+    push_text(all, front, &component.package)?;
     push_text(all, "/", &component.class)
 }
 
@@ -119,7 +120,7 @@ fn push_asked(all: &mut String, intent: &Intent) -> Result<(), AllocError> {
     push_optional(all, " action=", &intent.action)?;
     push_texts(all, " category=", &intent.categories)?;
     if let Some(component) = &intent.component {
-        push_component(all, component)?;
+        push_component(all, " ", component)?;
     }
     if let Some(uri) = &intent.uri {
         push_uri(all, uri)?;
@@ -139,14 +140,18 @@ fn push_carried(all: &mut String, intent: &Intent) -> Result<(), AllocError> {
     Ok(())
 }
 
-fn push_intent(all: &mut String, intent: &Intent) -> Result<(), AllocError> {
+/// Adds an intent behind the name.
+fn push_intent(all: &mut String, front: &str, intent: &Intent) -> Result<(), AllocError> {
+    all.push_str(front)?;
     all.push_str(" [")?;
     push_asked(all, intent)?;
     push_carried(all, intent)?;
     all.push_str(" ]")
 }
 
-fn push_kind(all: &mut String, kind: Kind) -> Result<(), AllocError> {
+/// Adds a kind behind the name.
+fn push_kind(all: &mut String, front: &str, kind: Kind) -> Result<(), AllocError> {
+    all.push_str(front)?;
     all.push_str(match kind {
         Kind::Activity => " activity",
         Kind::Service => " service",
@@ -206,11 +211,24 @@ fn push_rows(all: &mut String, filter: &Filter) -> Result<(), AllocError> {
     Ok(())
 }
 
-fn push_filter(all: &mut String, filter: &Filter) -> Result<(), AllocError> {
+/// Adds a filter behind the name.
+fn push_filter(all: &mut String, front: &str, filter: &Filter) -> Result<(), AllocError> {
+    all.push_str(front)?;
     push_texts(all, " action=", &filter.actions)?;
     push_texts(all, " category=", &filter.categories)?;
     push_rows(all, filter)?;
     write!(all, " priority={}", filter.priority)
+}
+
+/// Adds the kind and the intent that a question asks for behind its name.
+fn push_question(
+    all: &mut String,
+    front: &str,
+    kind: Kind,
+    intent: &Intent,
+) -> Result<(), AllocError> {
+    push_kind(all, front, kind)?;
+    push_intent(all, "", intent)
 }
 
 /// Adds a question whom an intent would reach.
@@ -223,8 +241,7 @@ fn push_explained(all: &mut String, request: &Request) -> Result<(), AllocError>
             permission,
             shown,
         } => {
-            push_kind(all, *kind)?;
-            push_intent(all, intent)?;
+            push_question(all, "Explain", *kind, intent)?;
             push_optional(all, " as=", caller)?;
             push_optional(all, " permission=", permission)?;
             push_optional(all, " of=", shown)
@@ -241,20 +258,19 @@ fn push_activity(all: &mut String, request: &Request) -> Result<(), AllocError> 
             intent,
             default_only,
         } => {
-            push_kind(all, *kind)?;
-            push_intent(all, intent)?;
+            push_question(all, "Query", *kind, intent)?;
             push_if(all, " defaultOnly", *default_only)
         }
         Request::Start { intent, source } => {
-            push_intent(all, intent)?;
+            push_intent(all, "Start", intent)?;
             match source {
                 None => Ok(()),
                 Some(source) => push_number(all, " source=", *source),
             }
         }
-        Request::FinishActivity { instance } => push_number(all, " ", *instance),
-        Request::StartService { intent } => push_intent(all, intent),
-        Request::StopService { component } => push_component(all, component),
+        Request::FinishActivity { instance } => push_number(all, "FinishActivity ", *instance),
+        Request::StartService { intent } => push_intent(all, "StartService", intent),
+        Request::StopService { component } => push_component(all, "StopService ", component),
         _ => push_explained(all, request),
     }
 }
@@ -267,17 +283,17 @@ fn push_broadcast(all: &mut String, request: &Request) -> Result<(), AllocError>
             permission,
             ordered,
         } => {
-            push_intent(all, intent)?;
+            push_intent(all, "Send", intent)?;
             push_optional(all, " permission=", permission)?;
             push_ordered(all, ordered)
         }
         Request::Register { filter, permission } => {
-            push_filter(all, filter)?;
+            push_filter(all, "Register", filter)?;
             push_optional(all, " permission=", permission)
         }
-        Request::Unregister { number } => push_number(all, " ", *number),
+        Request::Unregister { number } => push_number(all, "Unregister ", *number),
         Request::Finish { delivery, answer } => {
-            push_number(all, " ", *delivery)?;
+            push_number(all, "Finish ", *delivery)?;
             push_answer(all, answer)
         }
         _ => push_pending(all, request),
@@ -293,35 +309,36 @@ fn push_pending(all: &mut String, request: &Request) -> Result<(), AllocError> {
             intent,
             flags,
         } => {
-            push_kind(all, *kind)?;
+            push_kind(all, "PendingGet", *kind)?;
             push_whole(all, " ", *code)?;
-            push_intent(all, intent)?;
+            push_intent(all, "", intent)?;
             push_pending_flags(all, *flags)
         }
         Request::PendingSend { token, fill } => {
-            push_number(all, " ", *token)?;
+            push_number(all, "PendingSend ", *token)?;
             match fill {
                 None => Ok(()),
-                Some(intent) => push_intent(all, intent),
+                Some(intent) => push_intent(all, "", intent),
             }
         }
-        Request::PendingCancel { token } => push_number(all, " ", *token),
+        Request::PendingCancel { token } => push_number(all, "PendingCancel ", *token),
         Request::PendingGive { token, package } => {
-            push_number(all, " ", *token)?;
+            push_number(all, "PendingGive ", *token)?;
             push_text(all, " package=", package)
         }
         _ => push_package(all, request),
     }
 }
 
-/// Adds what a package may, and whether it may.
+/// Adds what a package may, and whether it may, behind the name.
 fn push_right(
     all: &mut String,
+    front: &str,
     package: &Text,
     right: &Text,
     holds: bool,
 ) -> Result<(), AllocError> {
-    push_text(all, " ", package)?;
+    push_text(all, front, package)?;
     push_text(all, " ", right)?;
     push_truth(all, " ", holds)
 }
@@ -330,60 +347,42 @@ fn push_right(
 fn push_package(all: &mut String, request: &Request) -> Result<(), AllocError> {
     match request {
         Request::Install { text, key } => {
-            push_text(all, " text=", text)?;
+            push_text(all, "Install text=", text)?;
             push_text(all, " key=", key)
         }
-        Request::Uninstall { package } => push_text(all, " ", package),
+        Request::Uninstall { package } => push_text(all, "Uninstall ", package),
         Request::Grant {
             package,
             permission,
             held,
-        } => push_right(all, package, permission, *held),
+        } => push_right(all, "Grant ", package, permission, *held),
         Request::Link {
             package,
             host,
             approved,
-        } => push_right(all, package, host, *approved),
-        Request::ForceStop { package } => push_text(all, " ", package),
-        Request::History { from } => push_number(all, " ", *from),
-        _ => Ok(()),
+        } => push_right(all, "Link ", package, host, *approved),
+        Request::ForceStop { package } => push_text(all, "ForceStop ", package),
+        Request::History { from } => push_number(all, "History ", *from),
+        _ => push_bare(all, request),
     }
 }
 
-fn name_of(request: &Request) -> &'static str {
-    match request {
-        Request::Query { .. } => "Query",
-        Request::Explain { .. } => "Explain",
-        Request::Start { .. } => "Start",
-        Request::FinishActivity { .. } => "FinishActivity",
+/// Adds a request that has nothing but its name.
+fn push_bare(all: &mut String, request: &Request) -> Result<(), AllocError> {
+    all.push_str(match request {
         Request::Back => "Back",
         Request::ListTasks => "ListTasks",
-        Request::StartService { .. } => "StartService",
-        Request::StopService { .. } => "StopService",
         Request::Services => "Services",
-        Request::Send { .. } => "Send",
-        Request::Register { .. } => "Register",
-        Request::Unregister { .. } => "Unregister",
         Request::Inbox => "Inbox",
-        Request::Finish { .. } => "Finish",
-        Request::PendingGet { .. } => "PendingGet",
-        Request::PendingSend { .. } => "PendingSend",
-        Request::PendingCancel { .. } => "PendingCancel",
-        Request::PendingGive { .. } => "PendingGive",
-        Request::Install { .. } => "Install",
-        Request::Uninstall { .. } => "Uninstall",
-        Request::Grant { .. } => "Grant",
-        Request::Link { .. } => "Link",
-        Request::ForceStop { .. } => "ForceStop",
         Request::Tick => "Tick",
-        Request::History { .. } => "History",
         Request::Status => "Status",
-    }
+        _ => "a request with more",
+    })
 }
 
 /// The name of the request, and then what it has.
 pub fn shown(alloc: Global, request: &Request) -> Result<String, Fail> {
-    let mut all = String::from_str(alloc, name_of(request))?;
+    let mut all = String::new(alloc);
     push_activity(&mut all, request)?;
     Ok(all)
 }

@@ -46,16 +46,8 @@ pub const ROWS: &str = r#"200 {"components":["com.a/com.a.Main","com.b/x.Y$Z"]}
 429 {"error":"history_full"}
 503 {"error":"keeper_fault"}
 422 {"error":"bad_manifest","name":"not_toml"}
-422 {"error":"bad_manifest","name":"duplicate android"}
-429 {"error":"over_limit","name":"packages"}
-429 {"error":"over_limit","name":"grants"}
-429 {"error":"over_limit","name":"links"}
-429 {"error":"over_limit","name":"registered"}
-429 {"error":"over_limit","name":"broadcasts"}
-429 {"error":"over_limit","name":"receivers"}
-429 {"error":"over_limit","name":"pending"}
-429 {"error":"over_limit","name":"holders"}
-429 {"error":"over_limit","name":"extras"}
-429 {"error":"over_limit","name":"tasks"}
-429 {"error":"over_limit","name":"activities"}
-429 {"error":"over_limit","name":"services"}"#;
+422 {"error":"bad_manifest","name":"duplicate android"}"#;
+
+/// The names of the limits.
+pub const LIMITS: &str =
+    "packages grants links registered broadcasts receivers pending holders extras tasks activities services";

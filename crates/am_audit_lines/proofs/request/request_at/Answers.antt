@@ -1,13 +1,13 @@
 use Rattle.std.proofs.Common.{◌≡◌, sym, ap, ◌∙◌}
 use Rattle.serde_json.specs.View.{view}
 use Rattle.am_wire.specs.Requests.{request_of}
-use Rattle.am_audit_lines.proofs.Endpoints.{read_is_at}
+use Rattle.am_wire.proofs.Made.{read_is_made}
 use Rattle.am_audit_lines.proofs.Entries.{found_is, not_refused}
 use Rattle.am_audit_lines.proofs.request.request_at.Goals as goal
 
 pub if_written-requires : goal.if_written-requires
 if_written-requires c =
-    ap (λ e. request_of e c.as_str.result.now) (read_is_at c.args.endpoint c.as_bytes.result.now c.in-Ok.request c.in-Ok.ensures)
+    ap (λ e. request_of e c.as_str.result.now) (read_is_made c.args.endpoint c.as_bytes.result.now c.in-Ok.request c.in-Ok.ensures).0
     ∙ ap (request_of c.args.endpoint) (c.as_str.ensures.value ∙ sym c.as_bytes.ensures.value)
     ∙ c.in-Ok.ensures
 

@@ -8,7 +8,7 @@ insert-requires c =
     rw (c.place_of-place.ensures, c.deref.ensures.value)
     (omega (arith, place_within before_registered c.args.registration c.args.registered.now.items, c.args.registered.now.ok.0))
 
-pub returns-in-Ok-clause-put : goal.returns-in-Ok-clause-put
-returns-in-Ok-clause-put c =
-    rw (c.in-Ok.ensures.items, c.place_of-place.ensures, c.deref.ensures.value)
+pub returns-clause-put : goal.returns-clause-put
+returns-clause-put c =
+    rw (c.in_ok-insert.ensures.items, c.place_of-place.ensures, c.deref.ensures.value)
     (sym (inserted_at before_registered c.args.registration c.args.registered.now.items))

@@ -2,7 +2,7 @@ use Rattle.std.proofs.Common.{◌≡◌, ℕ, Result, drop, map}
 use Rattle.am_types.specs.declared.manifest.ManifestFault.{ManifestFault}
 use Rattle.toml.specs.Data.{Data}
 use Rattle.toml.specs.View.{view}
-use Rattle.am_manifest_filters.specs.Reading.{Gives}
+use Rattle.am_types.specs.Reading.{Gives}
 use Rattle.am_manifest_filters.specs.Tables.{each}
 use Rattle.am_manifest_filters.proofs.Each.{front_then}
 use Rattle.am_manifest_filters.proofs.tables.read_each.Given as goal

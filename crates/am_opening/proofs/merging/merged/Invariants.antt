@@ -1,7 +1,9 @@
+use Rattle.am_keeper.specs.declared.rows.RightRow.{RightRow}
+use Rattle.am_opening.specs.Merging.{is_live, of_row}
 use Rattle.am_opening.proofs.Follows.{IsMerging}
 use Rattle.am_opening.proofs.merging.merged.Given as goal
 
 -- the rows so far were merged
 abbrev pub invariant-loop-row : goal.invariant-loop-row
-invariant-loop-row g l =
-    IsMerging g.R.RightRow.right_of g.R.RightRow.held (g.R.RightRow.live l.packages) l.fn.rights.items l.rows l.row-index l.done.items l.left.items
+invariant-loop-row l =
+    IsMerging of_row (λ (row : RightRow). row.held) (is_live l.kind l.packages) l.fn.rights.items l.rows l.row-index l.done.items l.left.items

@@ -8,7 +8,7 @@ insert-requires c =
     rw (c.place_of-place.ensures, c.deref.ensures.value)
     (omega (arith, place_within before_package c.args.package c.args.packages.now.items, c.args.packages.now.ok.0))
 
-pub returns-in-Ok : goal.returns-in-Ok
-returns-in-Ok c =
-    rw (c.in-Ok.ensures.items, c.place_of-place.ensures, c.deref.ensures.value)
+pub returns : goal.returns
+returns c =
+    rw (c.in_ok-insert.ensures.items, c.place_of-place.ensures, c.deref.ensures.value)
     (sym (inserted_at before_package c.args.package c.args.packages.now.items))

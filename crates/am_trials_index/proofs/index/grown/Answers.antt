@@ -1,4 +1,4 @@
-use Rattle.std.proofs.Common.{◌≡◌, ℕ, ◌+◌, ◌<◌, ◌≤◌, ◌++◌, ◌∷◌, [], ◌∙◌, List, length, take, sym, ap, subst, arith}
+use Rattle.std.proofs.Common.{◌≡◌, ℕ, ◌+◌, ◌<◌, ◌≤◌, ◌++◌, ◌∷◌, [], ◌∙◌, List, length, take, get_or, sym, ap, subst, arith}
 use Rattle.std.specs.List.Sorted.{IsStrictlyIncreasing}
 use Rattle.std.proofs.lemmas.List.{get_or-take, length-take, take-map, take_more}
 use Rattle.std.proofs.lemmas.List.Elements.{All-take}
@@ -22,18 +22,23 @@ listed-take ps n listed = record {
   few = All-take (λ (p : Package). length p.decls ≤ 256) n ps listed.few;
 }
 
+-- the first packages and the next one are one more of the first
+next-taken : (ps : List Package) (at : ℕ) (p : Package) → at < length ps → p ≡ get_or ps at p → take (at + 1) ps ≡ take at ps ++ p ∷ []
+next-taken ps at p lt is = take_more ps at p lt ∙ ap (λ (x : Package). take at ps ++ x ∷ []) (sym is)
+
+-- and so they can be listed as all can
+listed-next : (ps : List Package) (at : ℕ) (p : Package) → at < length ps → p ≡ get_or ps at p → CanBeListed ps → CanBeListed (take at ps ++ p ∷ [])
+listed-next ps at p lt is listed = subst (λ (l : List Package). CanBeListed l) (next-taken ps at p lt is) (listed-take ps (at + 1) listed)
+
 pub add-requires : goal.add-requires
 add-requires c =
     let at = c.loop-package.package-index in
     let packages = c.as_slice-package-items.result.now in
-    let p = c.package-item.result in
-    let more : take (at + 1) packages ≡ take at packages ++ p ∷ [] =
-    take_more packages at p c.loop-package-test.true ∙ ap (λ x. take at packages ++ x ∷ []) (sym c.package-item.is) in (
+    let listed : CanBeListed packages = subst (λ (l : List Package). CanBeListed l) (sym c.as_slice-package-items.ensures) c.requires in (
       take at packages,
       (
         c.loop-package.invariant,
-        subst (λ (l : List Package). CanBeListed l) more
-            (listed-take packages (at + 1) (subst (λ (l : List Package). CanBeListed l) (sym c.as_slice-package-items.ensures) c.requires)),
+        listed-next packages at c.package-item.result c.loop-package-test.true c.package-item.is listed,
       ),
     )
 
@@ -42,9 +47,7 @@ loop-package-preserved c =
     let at = c.loop-package.package-index in
     let packages = c.as_slice-package-items.result.now in
     let p = c.package-item.result in
-    let more : take (at + 1) packages ≡ take at packages ++ p ∷ [] =
-    take_more packages at p c.loop-package-test.true ∙ ap (λ x. take at packages ++ x ∷ []) (sym c.package-item.is) in
-    subst (λ (l : List Package). StandsFor c.add.new.self l) (sym more)
+    let listed : CanBeListed packages = subst (λ (l : List Package). CanBeListed l) (sym c.as_slice-package-items.ensures) c.requires in
+    subst (λ (l : List Package). StandsFor c.add.new.self l) (sym (next-taken packages at p c.loop-package-test.true c.package-item.is))
     (c.in_ok-add.ensures.added (take at packages) c.loop-package.invariant
-    (subst (λ (l : List Package). CanBeListed l) more
-    (listed-take packages (at + 1) (subst (λ (l : List Package). CanBeListed l) (sym c.as_slice-package-items.ensures) c.requires))))
+    (listed-next packages at p c.loop-package-test.true c.package-item.is listed))

@@ -10,7 +10,7 @@ use Rattle.am_live.proofs.live.Live.after_use.Goals.{then-one_shot, else-one_sho
 pub returns-clause-done : goal.returns-clause-done
 returns-clause-done g c =
     let used = c.args.used in
-    let lent : Reply × State = lend (at_moment c.args.self.now c.args.moment) used.creator used.intent used.kind in
+    let lent : Reply × State = lend (at_moment c.args.self.now c.args.by.moment) used.creator used.intent used.kind in
     let chosen : Bool → Reply × State = λ b. if b then used_up c.args.token used.creator lent else lent in
     elim c.if-one_shot.branch [
       | then-one_shot w ↦

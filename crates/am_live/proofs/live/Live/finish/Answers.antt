@@ -9,10 +9,10 @@ returns-clause-done g c =
     elim c.match-finish.branch [
       | in-Ok w ↦
           rw w.result-is
-          (finish_done c.args.self.now _ c.args.moment c.args.caller c.args.delivery c.args.answer.now c.in_ok-answer.answer before c.in_ok-answer.ensures.same
+          (finish_done c.args.self.now _ c.args.by.moment c.args.by.uid c.args.delivery c.args.answer.now c.in_ok-answer.answer before c.in_ok-answer.ensures.same
           c.finish.new.self w.in-Ok.ensures.finished)
       | in-Err w ↦
           rw w.result-is
-          (finish_refused c.args.self.now _ c.args.moment c.args.caller c.args.delivery c.args.answer.now c.in_ok-answer.answer before c.in_ok-answer.ensures.same
+          (finish_refused c.args.self.now _ c.args.by.moment c.args.by.uid c.args.delivery c.args.answer.now c.in_ok-answer.answer before c.in_ok-answer.ensures.same
           c.finish.new.self w.in-Err.fault w.finish_rule.result w.in-Err.ensures.refused w.in-Err.ensures.same w.finish_rule.ensures)
     ]

@@ -15,21 +15,21 @@ use Rattle.am_live.proofs.live.Live.pending_send.Goals as goal
 pub returns-in-Ok-clause-done : goal.returns-in-Ok-clause-done
 returns-in-Ok-clause-done g c =
     let fill = option_copied c.args.fill in
-    let state : State = at_moment c.args.self.now c.args.moment in
-    let is : use_token c.args.self.now.pendings c.args.token c.args.caller fill ≡ Ok c.in-Ok.used =
-    ap (λ (s : State). use_token s.pendings c.args.token c.args.caller fill) (sym c.self.view_is) ∙ c.in-Ok.ensures.answer in
+    let state : State = at_moment c.args.self.now c.args.by.moment in
+    let is : use_token c.args.self.now.pendings c.args.token c.args.by.uid fill ≡ Ok c.in-Ok.used =
+    ap (λ (s : State). use_token s.pendings c.args.token c.args.by.uid fill) (sym c.self.view_is) ∙ c.in-Ok.ensures.answer in
     IfOk-weaker c.after_use.result
     (λ (reply : Reply). after_use state c.args.token (Ok c.in-Ok.used) ≡ (reply, c.after_use.new.self))
-    (λ (reply : Reply). pending_send state c.args.caller c.args.token fill ≡ (reply, c.after_use.new.self))
-    (λ (reply : Reply) done. sent_as state c.args.caller c.args.token fill (Ok c.in-Ok.used) is ∙ done)
+    (λ (reply : Reply). pending_send state c.args.by.uid c.args.token fill ≡ (reply, c.after_use.new.self))
+    (λ (reply : Reply) done. sent_as state c.args.by.uid c.args.token fill (Ok c.in-Ok.used) is ∙ done)
     c.after_use.ensures.done
 
 pub returns-in_ok-reply-in-Err-clause-done : goal.returns-in_ok-reply-in-Err-clause-done
 returns-in_ok-reply-in-Err-clause-done g c =
     let fill = option_copied c.args.fill in
-    let said : State → Result Used PendingFault = λ state. use_token state.pendings c.args.token c.args.caller fill in
+    let said : State → Result Used PendingFault = λ state. use_token state.pendings c.args.token c.args.by.uid fill in
     let refused : IsRefusal c.in-Err.fault (said c.args.self.now) =
     subst (λ (state : State). IsRefusal c.in-Err.fault (said state)) c.self.view_is c.in-Err.ensures.answer in
-    sent_as (at_moment c.args.self.now c.args.moment) c.args.caller c.args.token fill (Err c.in-Err.fault)
+    sent_as (at_moment c.args.self.now c.args.by.moment) c.args.by.uid c.args.token fill (Err c.in-Err.fault)
     (fault_is c.in-Err.fault (said c.args.self.now) c.in_ok-reply-in-Err.ensures.known refused)
     ∙ (λ i. (sym c.in_ok-reply-in-Err.ensures.rule i, sym c.settle.ensures i))
