@@ -6,9 +6,9 @@ ghost use Rattle.am_baton.specs.Shared.{AddsOne, Put, Taken, holding};
 use crate::baton::{Baton, Stand};
 use crate::rule::{Puts, Takes};
 use crate::view::Ticket;
-use am_desk::Desk;
+use am_desk::{Desk, DeskCall};
 use am_keeper::Keeper;
-use am_types::{NoMemory, Request, Shown, Text};
+use am_types::{NoMemory, Shown};
 use crossbeam_queue::Pass;
 use std::marker::Model;
 use std::sync::{Arc, Wait};
@@ -79,17 +79,17 @@ fn give<R: Wait, K: Keeper>(
 impl<R: Wait, K: Keeper> Desk for SharedDesk<R, K> {
     ghost view = { λ d. d };
 
-    fn call(
-        &mut self,
-        key: &Text,
-        now: u64,
-        weight: u32,
-        request: Request,
-    ) -> Result<Shown, NoMemory> {
+    fn call(&mut self, asked: DeskCall<'_>) -> Result<Shown, NoMemory> {
         let stand: &Stand<K> = &self.stand;
         let _turn = stand.gate.lock(&self.rt);
         let mut baton = take(&self.rt, stand, &mut self.pass);
-        let shown = baton.manager.step(self.number, key, now, weight, request);
+        let shown = baton.manager.step(
+            self.number,
+            asked.key,
+            asked.now,
+            asked.weight,
+            asked.request,
+        );
         give(&self.rt, stand, &mut self.pass, baton);
         shown
     }

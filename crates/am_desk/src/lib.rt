@@ -8,25 +8,34 @@ ghost use Rattle.am_history.specs.Steps.{is_formed};
 
 use am_types::{NoMemory, Request, Shown, Text};
 
+/// A call as it is made on a desk: with which key, at which moment in milliseconds, how long the body of its request
+/// is in bytes, and what it asks.
+#[derive(Drop)]
+pub struct DeskCall<'k> {
+    pub key: &'k Text,
+    pub now: u64,
+    pub weight: u32,
+    pub request: Request,
+}
+
 /// Where a connection's calls are made. The manager behind it may be shared with other desks.
 pub trait Desk {
     /// Where its manager comes from, its number, which desks share the manager, and the entries of
     /// the history that it has seen.
     ghost view: { Self → DeskView };
 
-    /// Makes one call at the moment `now`, in milliseconds, of a request of the form that a body is
-    /// read as. `weight` is the length of the request's body, in bytes. After `NoMemory` the call
+    /// Makes one call, of a request of the form that a body is read as. After `NoMemory` the call
     /// itself changed nothing, but the desk may have seen more calls of others.
-    fn call(
-        &mut self,
-        key: &Text,
-        now: u64,
-        weight: u32,
-        request: Request,
-    ) -> Result<Shown, NoMemory>
-        requires formed { IsTrue (is_formed request) }
+    fn call(&mut self, asked: DeskCall<'_>) -> Result<Shown, NoMemory>
+        requires formed { IsTrue (is_formed asked.request) }
         ensures shown { IfOk result (λ shown. Shows (view self.old) (view self.new)
-            (record { desk = (view self.old).number; key = key.now; now = now; weight = weight; request = request })
+            (record {
+              desk = (view self.old).number;
+              key = asked.entry.key.now;
+              now = asked.entry.now;
+              weight = asked.entry.weight;
+              request = asked.entry.request;
+            })
             shown) }
         ensures refused { OnErr result (SeesOthers (view self.old) (view self.new).seen) }
         ensures legal { IsLegal (start_of (view self.new)) (view self.new).seen }

@@ -10,7 +10,7 @@ ghost use Rattle.am_drill.specs.Drills.{answer, history_after};
 use crate::draws::Draws;
 use crate::requests::request;
 use crate::texts::numbered;
-use am_desk::Desk;
+use am_desk::{Desk, DeskCall};
 use am_types::{NoMemory, Request, Text};
 use am_wire_values::{reply_status, request_value};
 use std::alloc::Global;
@@ -78,7 +78,12 @@ fn make<D: Desk>(
         drop(request);
         return Err(NoMemory);
     };
-    let shown = desk.call(key, now, weight, request)?;
+    let shown = desk.call(DeskCall {
+        key,
+        now,
+        weight,
+        request,
+    })?;
     let status = reply_status(&shown.reply);
     drop(shown);
     Ok(status)

@@ -26,7 +26,7 @@ use Rattle.am_model.specs.Tasks as tasks
 use Rattle.am_model.specs.Tasks.{Tasks, owner, may_end}
 use Rattle.am_model.specs.Placement.{place}
 use Rattle.am_history.specs.State.{State, with_packages}
-use Rattle.am_history.specs.Answers.{refused, done, unless_refused}
+use Rattle.am_history.specs.Answers.{refused, done_or, unless_refused}
 
 -- the names of the components that were found
 abbrev pub components_of : List Hit → List Component
@@ -117,8 +117,7 @@ end_rule ends.NotYours = rules.NotYours
 
 -- an instance was ended, or it wasn't
 abbrev pub after_end : State → Result Tasks TaskFault → Reply × State
-after_end state (Err fault) = refused state (end_rule fault)
-after_end state (Ok left) = done (record state { tasks = left })
+after_end state left = done_or state end_rule (λ (all : Tasks). record state { tasks = all }) left
 
 -- an activity instance is ended
 unfoldable pub finish_activity : State → ℕ → ℕ → Reply × State

@@ -1,5 +1,5 @@
 -- Answers that several requests have in common.
-use Rattle.std.specs.Prelude.{ℕ, List, if◌then◌else◌, Option, Some, None}
+use Rattle.std.specs.Prelude.{ℕ, List, if◌then◌else◌, Option, Some, None, Result, Ok, Err}
 use Rattle.am_types.specs.declared.device.Package.{Package}
 use Rattle.am_types.specs.declared.reply.Reply.{Reply}
 use Rattle.am_types.specs.declared.reply.Reply.TheVariants.{Refused, Plain}
@@ -16,6 +16,11 @@ refused state rule = (Refused rule, state)
 -- done: that is the state now
 abbrev pub done : State → Reply × State
 done state = (Plain, state)
+
+-- refused by the rule of the fault, if there is one; else done, in the state with what is left
+abbrev pub done_or : {A F : Type 0} → State → (F → Rule) → (A → State) → Result A F → Reply × State
+done_or state rule next (Err fault) = refused state (rule fault)
+done_or state rule next (Ok left) = done (next left)
 
 -- refused by the rule, if there is one; else what follows
 abbrev pub unless_refused : State → Option Rule → Reply × State → Reply × State

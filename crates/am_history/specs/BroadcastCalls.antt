@@ -22,7 +22,7 @@ use Rattle.am_model.specs.Receivers.{is_protected, receivers, admitted}
 use Rattle.am_model.specs.Broadcasts.{Broadcasts}
 use Rattle.am_model.specs.Sending as sending
 use Rattle.am_history.specs.State.{State}
-use Rattle.am_history.specs.Answers.{refused, done}
+use Rattle.am_history.specs.Answers.{refused, done, done_or}
 
 -- the rule by which a broadcast isn't sent (want of memory, which a sending never gives, stands with the last)
 abbrev pub send_rule : SendFault → Rule
@@ -104,8 +104,7 @@ finish_rule ends.NotOrdered = rules.NotOrdered
 
 -- the delivery was finished, or it wasn't
 abbrev pub after_finish : State → Result Broadcasts FinishFault → Reply × State
-after_finish state (Err fault) = refused state (finish_rule fault)
-after_finish state (Ok left) = done (record state { broadcasts = left })
+after_finish state left = done_or state finish_rule (λ (all : Broadcasts). record state { broadcasts = all }) left
 
 -- a delivery is finished
 unfoldable pub finish : State → ℕ → ℕ → Answer → Reply × State

@@ -16,7 +16,7 @@ use Rattle.am_types.specs.declared.rule.Limit.TheVariants as limits
 use Rattle.am_model.specs.Pendings as pendings
 use Rattle.am_model.specs.Pendings.{Pendings, Asked}
 use Rattle.am_history.specs.State.{State}
-use Rattle.am_history.specs.Answers.{refused, done, for_package}
+use Rattle.am_history.specs.Answers.{refused, done_or, for_package}
 use Rattle.am_history.specs.Activities.{start}
 use Rattle.am_history.specs.Services.{start_service}
 use Rattle.am_history.specs.BroadcastCalls.{send}
@@ -44,8 +44,7 @@ pending_get state caller kind code intent flags =
 
 -- the records after a call, or the rule that refuses it
 abbrev pub after_change : State → Result Pendings PendingFault → Reply × State
-after_change state (Err fault) = refused state (pending_rule fault)
-after_change state (Ok left) = done (record state { pendings = left })
+after_change state left = done_or state pending_rule (λ (all : Pendings). record state { pendings = all }) left
 
 -- a token is canceled by its creator
 unfoldable pub pending_cancel : State → ℕ → ℕ → Reply × State

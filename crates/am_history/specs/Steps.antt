@@ -52,37 +52,41 @@ after_due state now = at_moment state (moment_after state now)
 abbrev pub page : List Entry → ℕ → List Entry
 page before from = take 64 (drop from before)
 
--- the answer to the request of the caller with that uid after the entries `before`, and the state that it leaves
-unfoldable pub act : State → List Entry → ℕ → Request → Reply × State
-act state before caller (asks.Query kind intent default_only) =
+-- what the request of the caller with that uid comes to after the entries `before`: the answer, and the state that it leaves
+abbrev pub comes_to : State → List Entry → ℕ → Request → Reply × State
+comes_to state before caller (asks.Query kind intent default_only) =
     (replies.Components (components_of (hits state.board.packages kind intent default_only)), state)
-act state before caller (asks.Explain kind intent name permission shown) =
+comes_to state before caller (asks.Explain kind intent name permission shown) =
     (explain state.board (record { caller = caller; kind = kind; intent = intent; required = permission }) name shown, state)
-act state before caller (asks.Start intent source) = start state caller intent source
-act state before caller (asks.FinishActivity instance) = finish_activity state caller instance
-act state before caller asks.Back = for_admin state caller (back state)
-act state before caller asks.ListTasks = (replies.Tasks (views state.tasks caller), state)
-act state before caller (asks.StartService intent) = start_service state caller intent
-act state before caller (asks.StopService component) = stop_service state caller component
-act state before caller asks.Services = (replies.Services (services_of state.services caller), state)
-act state before caller (asks.Send intent permission ordered) = send state caller intent permission ordered
-act state before caller (asks.Register filter permission) = register state caller filter permission
-act state before caller (asks.Unregister number) = unregister state caller number
-act state before caller asks.Inbox = (replies.Items (inbox state.broadcasts caller), state)
-act state before caller (asks.Finish delivery answer) = finish state caller delivery answer
-act state before caller (asks.PendingGet kind code intent flags) = pending_get state caller kind code intent flags
-act state before caller (asks.PendingSend token fill) = pending_send state caller token fill
-act state before caller (asks.PendingCancel token) = pending_cancel state caller token
-act state before caller (asks.PendingGive token name) = pending_give state caller token name
-act state before caller (asks.Install text key) = install state caller text key
-act state before caller (asks.Uninstall name) = uninstall state caller name
-act state before caller (asks.Grant name permission held) = grant state caller name permission held
-act state before caller (asks.Link name host approved) = link state caller name host approved
-act state before caller (asks.ForceStop name) = force_stop state caller name
-act state before caller asks.Tick = for_admin state caller (done state)
-act state before caller (asks.History from) = for_admin state caller (replies.Entries from (page before from), state)
-act state before caller asks.Status =
+comes_to state before caller (asks.Start intent source) = start state caller intent source
+comes_to state before caller (asks.FinishActivity instance) = finish_activity state caller instance
+comes_to state before caller asks.Back = for_admin state caller (back state)
+comes_to state before caller asks.ListTasks = (replies.Tasks (views state.tasks caller), state)
+comes_to state before caller (asks.StartService intent) = start_service state caller intent
+comes_to state before caller (asks.StopService component) = stop_service state caller component
+comes_to state before caller asks.Services = (replies.Services (services_of state.services caller), state)
+comes_to state before caller (asks.Send intent permission ordered) = send state caller intent permission ordered
+comes_to state before caller (asks.Register filter permission) = register state caller filter permission
+comes_to state before caller (asks.Unregister number) = unregister state caller number
+comes_to state before caller asks.Inbox = (replies.Items (inbox state.broadcasts caller), state)
+comes_to state before caller (asks.Finish delivery answer) = finish state caller delivery answer
+comes_to state before caller (asks.PendingGet kind code intent flags) = pending_get state caller kind code intent flags
+comes_to state before caller (asks.PendingSend token fill) = pending_send state caller token fill
+comes_to state before caller (asks.PendingCancel token) = pending_cancel state caller token
+comes_to state before caller (asks.PendingGive token name) = pending_give state caller token name
+comes_to state before caller (asks.Install text key) = install state caller text key
+comes_to state before caller (asks.Uninstall name) = uninstall state caller name
+comes_to state before caller (asks.Grant name permission held) = grant state caller name permission held
+comes_to state before caller (asks.Link name host approved) = link state caller name host approved
+comes_to state before caller (asks.ForceStop name) = force_stop state caller name
+comes_to state before caller asks.Tick = for_admin state caller (done state)
+comes_to state before caller (asks.History from) = for_admin state caller (replies.Entries from (page before from), state)
+comes_to state before caller asks.Status =
     for_admin state caller (replies.Status (length before) state.moment (length state.board.packages), state)
+
+-- the same, for proofs to open only where they need it
+unfoldable pub act : State → List Entry → ℕ → Request → Reply × State
+act state before caller request = comes_to state before caller request
 
 -- what a request may do: only read, change the state, or change it and have a row kept
 pub data Class : Type 0 where

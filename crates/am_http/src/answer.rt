@@ -7,7 +7,7 @@ ghost use Rattle.am_http.specs.Answering.{AnswersAt, AnswersFrame};
 ghost use Rattle.am_http.specs.Links.{GoesOn};
 
 use crate::frame::WholeFrame;
-use am_desk::Desk;
+use am_desk::{Desk, DeskCall};
 use am_outside::Clock;
 use am_types::{NoMemory, Request, Shown, Text, Unmade};
 use am_wire::read_request;
@@ -97,7 +97,12 @@ fn call<D: Desk>(
         drop(request);
         return Answer::Want;
     };
-    match desk.call(&key, now, frame.body.len() as u32, request) {
+    match desk.call(DeskCall {
+        key: &key,
+        now,
+        weight: frame.body.len() as u32,
+        request,
+    }) {
         Ok(shown) => Answer::Shown(shown),
         Err(NoMemory) => Answer::Want,
     }

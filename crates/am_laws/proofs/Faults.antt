@@ -63,7 +63,7 @@ use Rattle.am_history.specs.Services as services
 use Rattle.am_history.specs.Services.{running, is_too_many, started, gate_rule, start_first, start_service, stopped_rule, stop_maybe, stop_service}
 use Rattle.am_history.specs.BroadcastCalls.{sending_of, send_rule, after_send, send, count_of, register, unregister_found, unregister, finish_rule, after_finish, finish}
 use Rattle.am_history.specs.PendingCalls.{pending_rule, after_get, pending_get, after_change, pending_cancel, pending_give, in_new_task, lend, after_use, used_up, pending_send}
-use Rattle.am_history.specs.Packages.{is_name_used, is_key_used, is_full, install_read, install, without, uninstall, force_stop, too_many_grants, grant_to, grant, too_many_links, link_to, link}
+use Rattle.am_history.specs.Packages.{is_name_used, is_key_used, is_full, install_read, install, without, uninstall, force_stop, too_many_grants, grant, too_many_links, link}
 use Rattle.am_history.specs.Explaining.{told_at, told, told_as, explain}
 use Rattle.am_history.specs.Steps.{act}
 
@@ -127,9 +127,6 @@ gate_other (NeedsPermission permission) = refl
 -- the rule of a placement
 place_other : (fault : PlaceFault) → is_fault (place_rule fault) ≡ false
 place_other places.NoSource = refl
-place_other places.NotYours = refl
-place_other places.NeedsNewTask = refl
-place_other places.TasksFull = refl
 place_other _ = refl
 
 -- the rule of a sending
@@ -140,12 +137,6 @@ send_other _ = refl
 -- the rule of a pending intent
 pending_other : (fault : PendingFault) → is_fault (pending_rule fault) ≡ false
 pending_other pends.Mutability = refl
-pending_other pends.Full = refl
-pending_other pends.NoToken = refl
-pending_other pends.NotCreator = refl
-pending_other pends.NotHolder = refl
-pending_other pends.Canceled = refl
-pending_other pends.ExtrasFull = refl
 pending_other _ = refl
 
 -- the rule of a source
@@ -377,15 +368,13 @@ force_stop_answers state caller name = by_admin state caller _ (of_package state
 grant_answers : (state : State) (caller : ℕ) (name permission : List ℕ) (held : Bool) → Answers (grant state caller name permission held)
 unfolding grant
 grant_answers state caller name permission held =
-    by_admin state caller _ (of_package state name (λ (owner : Package). grant_to state owner.uid permission held)
-    (λ owner. either (too_many_grants state.board.grants owner.uid permission held) (refused state (rules.OverLimit limits.Grants)) _ refl refl))
+    by_admin state caller _ (of_package state name _ (λ owner. either (too_many_grants state.board.grants owner.uid permission held) (refused state (rules.OverLimit limits.Grants)) _ refl refl))
 
 -- a host that is approved or not
 link_answers : (state : State) (caller : ℕ) (name host : List ℕ) (approved : Bool) → Answers (link state caller name host approved)
 unfolding link
 link_answers state caller name host approved =
-    by_admin state caller _ (of_package state name (λ (owner : Package). link_to state owner.uid host approved)
-    (λ owner. either (too_many_links state.board.links owner.uid host approved) (refused state (rules.OverLimit limits.Links)) _ refl refl))
+    by_admin state caller _ (of_package state name _ (λ owner. either (too_many_links state.board.links owner.uid host approved) (refused state (rules.OverLimit limits.Links)) _ refl refl))
 
 -- either of two replies
 either_reply : (state : State) (test : Bool) (first second : Reply) → Answers (first, state) → Answers (second, state) → Answers (cond test first second, state)

@@ -2,13 +2,14 @@
 use Rattle.std.proofs.Common.{ℕ, ◌≤◌, List, arith}
 use Rattle.am_types.specs.declared.history.Entry.{Entry}
 use Rattle.am_types.specs.declared.request.Request.{Request}
+use Rattle.am_model.specs.Tasks.{Tasks}
 use Rattle.am_history.specs.State.{State}
 use Rattle.am_history.specs.Steps.{moment_after, step}
 use Rattle.am_history.specs.History.{replay}
 use Rattle.am_history.specs.Desks.{Origin, opening_of}
 use Rattle.am_laws.proofs.Histories.{by_history}
 use Rattle.am_laws.proofs.Openings.{opening_leaves}
-use Rattle.am_laws.proofs.Requests.{Steps, step_leaves}
+use Rattle.am_laws.proofs.Requests.{Steps, step_leaves, task_steps}
 
 -- the last moment of a state is at most 2^62
 abbrev HasMoment : State → Type 0
@@ -16,24 +17,9 @@ HasMoment state = state.moment ≤ 4611686018427387904
 
 -- no step of a request changes it
 moment_stays : (state : State) (caller : ℕ) (request : Request) → HasMoment state → Steps HasMoment state caller request
-moment_stays state caller request here = record {
-  here = here;
-  started = λ uid intent source component found landed did is admits placed. here;
-  served = λ uid intent component found did is admits. here;
-  sent = λ sender intent permission ordered did unprotected. here;
-  ended = λ keeps. here;
-  unserved = λ keeps. here;
-  registered = λ filter permission. here;
-  taken_back = λ found. here;
-  finished = λ number answer holder asked is own. here;
-  got = λ left few. here;
-  changed = λ after left same one. one;
-  installed = λ text key manifest is name_unused key_unused room. here;
-  gone = λ uid. here;
-  stopped = λ uid. here;
-  granted = λ uid permission held live room. here;
-  linked = λ uid host approved live room. here;
-}
+moment_stays state caller request here =
+    task_steps (λ (tasks : Tasks) (moment : ℕ). moment ≤ 4611686018427387904) state caller request here
+    (λ uid intent source component found landed did is admits placed. here) (λ keeps. here)
 
 -- an entry leaves it within its bound
 moment_more : (opening : State) (before : List Entry) (entry : Entry) → HasMoment (replay opening before) → HasMoment (step (replay opening before) before entry).1

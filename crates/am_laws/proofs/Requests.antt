@@ -96,6 +96,33 @@ pub record Steps (P : State → Type 0) (state : State) (caller : ℕ) (request 
       → too_many_links state.board.links uid host approved ≡ false
       → P (record state { board = record (state.board) { links = with_link state.board.links uid host approved } })
 
+-- the steps of what is said of the tasks and the moment alone
+pub task_steps : (Q : Tasks → ℕ → Type 0) (state : State) (caller : ℕ) (request : Request) → Q state.tasks state.moment
+    → ((uid : ℕ) (intent : Intent) (source : Option ℕ) (component : Component) (found : ℕ × Decl) (landed : Landed × Tasks)
+    → deed_of state caller request ≡ Some (Starts uid intent) → declared state.board.packages kinds.Activity component ≡ Some found
+    → verdict state.board.grants uid found.0 found.1.exported found.1.permission ≡ Admit
+    → place state.tasks (start_call uid intent source component found) ≡ Ok landed → Q landed.1 state.moment)
+    → ((keeps : Instance → Bool) → Q (record (state.tasks) { tasks = tasks_keeping keeps state.tasks.tasks }) state.moment)
+    → Steps (λ (s : State). Q s.tasks s.moment) state caller request
+task_steps Q state caller request here starts keeping = record {
+  here = here;
+  started = starts;
+  served = λ uid intent component found did is admits. here;
+  sent = λ sender intent permission ordered did unprotected. here;
+  ended = keeping;
+  unserved = λ keeps. here;
+  registered = λ filter permission. here;
+  taken_back = λ found. here;
+  finished = λ number answer holder asked is own. here;
+  got = λ left few. here;
+  changed = λ after left same one. one;
+  installed = λ text key manifest is name_unused key_unused room. here;
+  gone = λ uid. keeping (λ (i : Instance). not (i.owner == uid));
+  stopped = λ uid. keeping (λ (i : Instance). not (i.owner == uid));
+  granted = λ uid permission held live room. here;
+  linked = λ uid host approved live room. here;
+}
+
 module _ (P : State → Type 0) (state : State) (caller : ℕ) where
   -- the end of an instance
   ended_leaves : (request : Request) (uid number : ℕ) (owned : Option ℕ) → Steps P state caller request → P (after_end state (ended state.tasks number uid owned)).1

@@ -1,6 +1,6 @@
 -- Each instance that an entry makes, and each intent that it gives to one, is by a start that the gate admitted.
-use Rattle.std.proofs.Common.{◌≡◌, ℕ, Bool, true, not, List, [], ◌∷◌, ◌++◌, refl, sym, ◌∙◌, subst, ◌⊎◌, inl, inr}
-use Rattle.std.specs.Prelude.{Option, Some, Ok, ◌==◌}
+use Rattle.std.proofs.Common.{◌≡◌, ℕ, Bool, true, List, [], ◌∷◌, ◌++◌, refl, sym, ◌∙◌, subst, ◌⊎◌, inl, inr}
+use Rattle.std.specs.Prelude.{Option, Some, Ok}
 use Rattle.std.proofs.lemmas.List.Elements.{Contains-get_or}
 use Rattle.am_types.specs.declared.intent.Intent.{Intent}
 use Rattle.am_types.specs.declared.intent.Component.{Component}
@@ -22,7 +22,7 @@ use Rattle.am_history.specs.Desks.{Origin, opening_of}
 use Rattle.am_history.proofs.Places.{replay_more}
 use Rattle.am_laws.specs.Access.{Starts, deed_of, IsStarted, OfInstances}
 use Rattle.am_laws_access.specs.Intents.{IsAmong, IsGivenBy}
-use Rattle.am_laws.proofs.Requests.{Steps, step_leaves}
+use Rattle.am_laws.proofs.Requests.{Steps, step_leaves, task_steps}
 use Rattle.am_laws_access.proofs.Owners.{uid_named, declared_named}
 use Rattle.am_laws_access.proofs.Placed.{tasks_kept, placed_of}
 use Rattle.am_laws_access.proofs.KnownComponents.{KnownInstance, Known}
@@ -85,24 +85,9 @@ module _ (opening : State) (h : List Entry) (entry : Entry) (known : Known openi
           inr (by i.component i.owner same own)
 
   steps : entry.kept ≡ true → Steps Holds due entry.uid entry.request
-  steps kept = record {
-    here = here;
-    started = λ uid intent source component found landed did is admits placed. started_on uid intent source component found landed kept did is admits placed;
-    served = λ uid intent component found did is admits. here;
-    sent = λ sender intent permission ordered did unprotected. here;
-    ended = λ keeps. kept_on keeps;
-    unserved = λ keeps. here;
-    registered = λ filter permission. here;
-    taken_back = λ found. here;
-    finished = λ number answer holder asked is own. here;
-    got = λ left few. here;
-    changed = λ after left same one. one;
-    installed = λ text key manifest is name_unused key_unused room. here;
-    gone = λ uid. kept_on (λ (i : Instance). not (i.owner == uid));
-    stopped = λ uid. kept_on (λ (i : Instance). not (i.owner == uid));
-    granted = λ uid permission held live room. here;
-    linked = λ uid host approved live room. here;
-  }
+  steps kept =
+      task_steps (λ (tasks : Tasks) (moment : ℕ). OfInstances N tasks.tasks) due entry.uid entry.request here
+      (λ uid intent source component found landed did is admits placed. started_on uid intent source component found landed kept did is admits placed) kept_on
 
   given : Holds (step (replay opening h) h entry).1
   given = step_leaves Holds (replay opening h) h entry here steps

@@ -33,7 +33,7 @@ use Rattle.am_model.specs.Sending.{forget_uid as forget_broadcasts}
 use Rattle.am_model.specs.Tasks.{Tasks, forget_uid as forget_tasks}
 use Rattle.am_model.specs.Texts.{is_same}
 use Rattle.am_installed.specs.Installed.{AreInstalled}
-use Rattle.am_history.proofs.Acts.{act_grant, act_install, act_link, act_uninstall}
+use Rattle.am_history.proofs.Acts.{act_is}
 use Rattle.am_history.specs.Answers.{done, for_admin, for_found, for_package, refused}
 use Rattle.am_history.specs.Kept.{gone_row, installed_row, row_of}
 use Rattle.am_history.specs.Packages.{force_stop, forget, grant, install, install_read, installed, is_full, is_key_used, is_name_used, link, no_uid, uninstall, without}
@@ -68,13 +68,13 @@ pub not_admin : (state : State) (caller : ℕ) (request : Request) → is_privil
     → IsPlanOf (plans.Refused rules.AdminOnly) state caller request
 unfolding install uninstall grant link
 not_admin state caller (asks.Install text key) other keeps = λ (moment : ℕ) (before : List Entry).
-    act_install (at_moment state moment) before caller text key ∙ others_stop (at_moment state moment) caller _ other
+    act_is (at_moment state moment) before caller (asks.Install text key) ∙ others_stop (at_moment state moment) caller _ other
 not_admin state caller (asks.Uninstall name) other keeps = λ (moment : ℕ) (before : List Entry).
-    act_uninstall (at_moment state moment) before caller name ∙ others_stop (at_moment state moment) caller _ other
+    act_is (at_moment state moment) before caller (asks.Uninstall name) ∙ others_stop (at_moment state moment) caller _ other
 not_admin state caller (asks.Grant name permission held) other keeps = λ (moment : ℕ) (before : List Entry).
-    act_grant (at_moment state moment) before caller name permission held ∙ others_stop (at_moment state moment) caller _ other
+    act_is (at_moment state moment) before caller (asks.Grant name permission held) ∙ others_stop (at_moment state moment) caller _ other
 not_admin state caller (asks.Link name host approved) other keeps = λ (moment : ℕ) (before : List Entry).
-    act_link (at_moment state moment) before caller name host approved ∙ others_stop (at_moment state moment) caller _ other
+    act_is (at_moment state moment) before caller (asks.Link name host approved) ∙ others_stop (at_moment state moment) caller _ other
 not_admin state caller _ other keeps = absurd cc
 
 -- the packages of a sound state are installed as they have to be
@@ -96,8 +96,8 @@ act_right : (kind : RightKind) (state : State) (before : List Entry) (caller : �
     → act state before caller (right_request kind name text held)
     ≡ for_admin state caller (for_package state name (λ (owner : Package). right_to state kind owner.uid text held))
 unfolding grant link
-act_right Permission state before caller name text held = act_grant state before caller name text held
-act_right Host state before caller name text held = act_link state before caller name text held
+act_right Permission state before caller name text held = act_is state before caller (asks.Grant name text held)
+act_right Host state before caller name text held = act_is state before caller (asks.Link name text held)
 
 -- the row that is kept of it
 row_of_right : (kind : RightKind) (state : State) (name text : List ℕ) (held : Bool)
@@ -112,7 +112,7 @@ module _ (state : State) (caller : ℕ) (admin : is_privileged caller ≡ true) 
       → act (at_moment state moment) before caller (asks.Install text key) ≡ install_read (at_moment state moment) key read
   unfolding install
   install_goes text key read moment before is =
-      act_install (at_moment state moment) before caller text key
+      act_is (at_moment state moment) before caller (asks.Install text key)
       ∙ admin_goes (at_moment state moment) caller (install_read (at_moment state moment) key (manifest_of text)) admin
       ∙ ap (install_read (at_moment state moment) key) is
 
@@ -183,7 +183,7 @@ module _ (state : State) (caller : ℕ) (admin : is_privileged caller ≡ true) 
         ≡ for_found (at_moment state moment) found (λ (owner : Package). done (without (at_moment state moment) owner.uid))
     unfolding uninstall
     uninstall_goes found moment before is =
-        act_uninstall (at_moment state moment) before caller name
+        act_is (at_moment state moment) before caller (asks.Uninstall name)
         ∙ admin_goes (at_moment state moment) caller _ admin
         ∙ found_goes (at_moment state moment) name _ found is
 

@@ -15,8 +15,9 @@ use Rattle.am_keeper.specs.declared.rows.Row.{Row}
 use Rattle.am_keeper.specs.declared.rows.Rows.{Rows}
 use Rattle.am_keeper.specs.Rows.{with_row}
 use Rattle.am_history.specs.State.{State}
-use Rattle.am_history.specs.Steps.{act, after_due, asks_keeper, at_moment, class_of, has_row, is_changing, is_refusal, keeps_row, may_change_by, moment_after, step, Class}
+use Rattle.am_history.specs.Steps.{act, after_due, asks_keeper, at_moment, class_of, due, has_row, is_changing, is_refusal, keeps_row, may_change_by, moment_after, step, Class}
 use Rattle.am_history.specs.Steps.Class.{Reads, Changes, Keeps}
+use Rattle.am_history.specs.History.{may_change}
 use Rattle.am_history.specs.Kept.{row_of}
 use Rattle.am_live.specs.declared.change.Change.{Change}
 use Rattle.am_live.specs.declared.change.Change.TheVariants as changes
@@ -44,6 +45,14 @@ reads_keep_nothing request = by (class_of request)
     by Reads reads = refl
     by Changes reads = refl
     by Keeps reads = absurd (true≢false reads)
+
+-- a call that may not change the state at its moment only reads
+pub only_reads : (state : State) (now : ℕ) (request : Request) → may_change state now request ≡ false → is_changing request ≡ false
+only_reads state now request none = by (is_changing request) (due state now) none
+  where
+    by : (changing is_due : Bool) → (changing || is_due) ≡ false → changing ≡ false
+    by false is_due none = refl
+    by true is_due none = none
 
 -- without a row all is told as before
 same_rows : (told : Option Rows) → told ≡ option_map (with_any None) told

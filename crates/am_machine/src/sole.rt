@@ -4,9 +4,9 @@ ghost use Rattle.am_history.specs.Desks.{opening_of};
 ghost use Rattle.am_history.specs.History.{IsLegal};
 
 use crate::Manager;
-use am_desk::Desk;
+use am_desk::{Desk, DeskCall};
 use am_keeper::Keeper;
-use am_types::{NoMemory, Request, Shown, Text};
+use am_types::{NoMemory, Shown};
 use std::marker::Model;
 
 /// The only desk of a manager. Its number is 0, and it has seen the manager's whole history.
@@ -56,13 +56,8 @@ impl<K: Keeper> Desk for SoleDesk<K> {
       seen = d.managed.history;
     } };
 
-    fn call(
-        &mut self,
-        key: &Text,
-        now: u64,
-        weight: u32,
-        request: Request,
-    ) -> Result<Shown, NoMemory> {
-        self.manager.step(0, key, now, weight, request)
+    fn call(&mut self, asked: DeskCall<'_>) -> Result<Shown, NoMemory> {
+        self.manager
+            .step(0, asked.key, asked.now, asked.weight, asked.request)
     }
 }

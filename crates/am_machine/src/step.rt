@@ -1,5 +1,5 @@
 //! One call of the manager.
-ghost use Rattle.std.specs.Prelude.{◌≡◌, ◌≤◌, ◌<◌, ◌+◌, ◌++◌, ◌||◌, [], ◌∷◌, Bool, Some, false, true, if◌then◌else◌, length, IfOk, OnOk, OnErr, IsOk, IsTrue};
+ghost use Rattle.std.specs.Prelude.{◌≡◌, ◌≤◌, ◌<◌, ◌+◌, ◌||◌, Some, false, true, if◌then◌else◌, length, IfOk, OnErr, IsOk, IsTrue};
 ghost use Rattle.am_types.specs.declared.reply.Reply.TheVariants.{Refused};
 ghost use Rattle.am_types.specs.declared.rule.Rule.TheVariants.{KeeperFault};
 ghost use Rattle.am_outside.specs.Counts.{HasRisen};
@@ -84,7 +84,7 @@ impl<K: Keeper> Manager<K> {
     }
 
     // A call of a known caller, by a counter that begins with the blank.
-    fn counted<L: Ledger>(&mut self, entry: Entry, blank: Blank) -> Result<Shown, NoMemory>
+    fn counted<L: Ledger>(&mut self, mut entry: Entry, blank: Blank) -> Result<Shown, NoMemory>
         requires name { blank.name ≡ L.name }
         requires parts { blank.parts ≡ L.parts }
         requires some { 0 < blank.parts }
@@ -108,8 +108,7 @@ impl<K: Keeper> Manager<K> {
         ensures calm { IsTrue (is_calm entry.request) → 1 ≤ self.old.spare → IsOk result }
     {
         let mut steps = Steps::<L>::new(blank);
-        let may_change = is_changing(&entry.request) || self.live.is_due(entry.now, &mut steps);
-        if !may_change {
+        if !self.may_change(&entry, &mut steps) {
             let reply = read(self.alloc, &self.live, &self.history, &entry, &mut steps);
             drop(entry);
             return Ok(self.unstored(reply?));
@@ -118,66 +117,18 @@ impl<K: Keeper> Manager<K> {
             drop(entry);
             return Ok(self.unstored(Reply::Refused(Rule::HistoryFull)));
         }
-        self.store(entry, &mut steps)
-    }
-
-    // What is shown of a call that is not stored.
-    fn unstored(&self, reply: Reply) -> Shown
-        ensures { result ≡ record { at = length self.now.history; stored = false; reply = reply } }
-    {
-        Shown {
-            at: self.history.len() as u64,
-            stored: false,
-            reply,
-        }
-    }
-
-    // Whether the history has room for one more entry of that weight.
-    fn has_room(&self, weight: u32) -> bool
-        ensures { result ≡ has_room self.now.history weight }
-    {
-        self.history.len() < MOST && self.weight + u64::from(weight) <= MOST_WEIGHT
-    }
-
-    // A call that is stored. Nothing between the last change and the push can fail.
-    fn store<L: Ledger>(
-        &mut self,
-        mut entry: Entry,
-        steps: &mut Steps<L>,
-    ) -> Result<Shown, NoMemory>
-        requires caller { IsTrue (has_uid (replay (opening_of self.old.origin) self.old.history) entry.uid) }
-        requires changes { IsTrue
-            (may_change (replay (opening_of self.old.origin) self.old.history) entry.now entry.request) }
-        requires room { IsTrue (has_room self.old.history entry.weight) }
-        requires kept { entry.kept ≡ true }
-        ensures shown { IfOk result (λ shown. (call : Call) → entry ≡ entry_of call entry.uid true
-            → uid_of (replay (opening_of self.old.origin) self.old.history) call.key ≡ Some entry.uid
-            → ShowsAt (opening_of self.old.origin) self.old.history self.new.history call shown) }
-        ensures origin { self.new.origin ≡ self.old.origin }
-        ensures legal { IsLegal (opening_of self.new.origin) self.new.history }
-        ensures refused { OnErr result (self.new.history ≡ self.old.history) }
-        ensures keeper { GoesOn K.Keeper self.old.keeper self.new.keeper }
-        ensures quiet { keeps_row entry.request ≡ false → self.new.keeper ≡ self.old.keeper }
-        ensures put { IfOk result (λ shown. K.is_honest self.new.keeper → K.rows self.new.keeper
-            ≡ told_after (replay (opening_of self.old.origin) self.old.history) entry.request shown.reply
-            (K.rows self.old.keeper)) }
-        ensures refused_rows { OnErr result (TellsSame K.Keeper self.old.keeper self.new.keeper) }
-        ensures fault { IfOk result (λ shown. shown.reply ≡ Refused KeeperFault → IsFault K.Keeper self.old self.new) }
-        ensures spare { IfOk result (λ shown. self.old.spare ≤ self.new.spare + (if shown.stored then 1 else 0)) }
-        ensures room { OnErr result (self.old.spare ≤ self.new.spare) }
-        ensures calm { IsTrue (is_calm entry.request) → 1 ≤ self.old.spare → IsOk result }
-    {
         if let Err(error) = self.history.reserve(1) {
             drop(entry);
             return Err(NoMemory::from(error));
         }
+        // Nothing between the last change and the push can fail.
         let answered = answer(
             self.alloc,
             &mut self.live,
             &mut self.keeper,
             &self.history,
             &entry,
-            steps,
+            &mut steps,
         );
         match answered {
             Ok(answered) => {
@@ -196,6 +147,32 @@ impl<K: Keeper> Manager<K> {
                 Err(error)
             }
         }
+    }
+
+    // Whether a call may change the state, or some deadline is due at its moment.
+    fn may_change<L: Ledger>(&self, call: &Entry, steps: &mut Steps<L>) -> bool
+        ensures { result ≡ may_change (replay (opening_of self.now.origin) self.now.history)
+            call.entry.now.now call.entry.now.request }
+    {
+        is_changing(&call.request) || self.live.is_due(call.now, steps)
+    }
+
+    // What is shown of a call that is not stored.
+    fn unstored(&self, reply: Reply) -> Shown
+        ensures { result ≡ record { at = length self.now.history; stored = false; reply = reply } }
+    {
+        Shown {
+            at: self.history.len() as u64,
+            stored: false,
+            reply,
+        }
+    }
+
+    // Whether the history has room for one more entry of that weight.
+    fn has_room(&self, weight: u32) -> bool
+        ensures { result ≡ has_room self.now.history weight }
+    {
+        self.history.len() < MOST && self.weight + u64::from(weight) <= MOST_WEIGHT
     }
 }
 

@@ -1,4 +1,4 @@
-//! Trials of frames and responses, and of the adapters of the standard streams, the files and the clock.
+//! Trials of frames and responses, and of the adapters of the standard streams, the files, the clock and TCP.
 #![tactic(auto)]
 
 #[cfg(test)]
@@ -7,3 +7,5 @@ mod frames;
 mod host;
 #[cfg(test)]
 mod responses;
+#[cfg(test)]
+mod tcp;

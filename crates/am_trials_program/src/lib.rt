@@ -1,4 +1,5 @@
-//! Trials of the program behind its `main`: whole connections, what they refuse, and what its stores keep.
+//! Trials of the program behind its `main`: whole connections, what they refuse, what its stores keep, how runs end, and
+//! servings over a network, also of two workers at the same time.
 #![tactic(auto)]
 
 #[cfg(test)]
@@ -8,4 +9,10 @@ mod failing;
 #[cfg(test)]
 mod refusals;
 #[cfg(test)]
+mod servings;
+#[cfg(test)]
+mod sessions;
+#[cfg(test)]
 mod stores;
+#[cfg(test)]
+mod waiting;

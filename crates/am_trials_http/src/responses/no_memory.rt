@@ -1,10 +1,10 @@
 //! A desk that has no memory for any call.
-use am_desk::Desk;
+use am_desk::{Desk, DeskCall};
 use am_http::{Buffers, serve_connection};
 use am_manifest::read_device;
 use am_outside::{MemorySink, MemorySource, StepClock};
 use am_trials_spelling::EMPTY;
-use am_types::{Device, List, NoMemory, Request, Shown, Text};
+use am_types::{Device, List, NoMemory, Shown};
 use std::alloc::Global;
 use std::test::Fail;
 
@@ -25,14 +25,8 @@ impl Desk for Exhausted {
       seen = [];
     } };
 
-    fn call(
-        &mut self,
-        _key: &Text,
-        _now: u64,
-        _weight: u32,
-        request: Request,
-    ) -> Result<Shown, NoMemory> {
-        drop(request);
+    fn call(&mut self, asked: DeskCall<'_>) -> Result<Shown, NoMemory> {
+        drop(asked);
         Err(NoMemory)
     }
 }

@@ -7,14 +7,14 @@ use Rattle.am_types.specs.declared.rule.Rule.TheVariants.{AdminOnly}
 use Rattle.am_model.specs.Gates.{is_privileged}
 use Rattle.am_history.specs.State.{State}
 use Rattle.am_history.specs.Steps.{act}
-use Rattle.am_history.proofs.Acts.{act_status}
+use Rattle.am_history.proofs.Acts.{act_is}
 use Rattle.am_machine.proofs.reads.status.Goals as goal
 
 -- the answer, by whether the caller is the system or the root
 answered : (live : State) (history : List Entry) (caller : ℕ) (asked may : Bool) → asked ≡ is_privileged caller → asked ≡ may
     → act live history caller asks.Status ≡ (if may then (Status (length history) live.moment (length live.board.packages), live) else (Refused AdminOnly, live))
 answered live history caller asked may is was =
-    act_status live history caller
+    act_is live history caller asks.Status
     ∙ ap (λ (b : Bool). if b then (Status (length history) live.moment (length live.board.packages), live) else (Refused AdminOnly, live)) (sym is ∙ was)
 
 pub returns-then-is_privileged : goal.returns-then-is_privileged

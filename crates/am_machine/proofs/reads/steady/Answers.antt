@@ -3,6 +3,7 @@ use Rattle.std.specs.Prelude.{IfOk, if◌then◌else◌}
 use Rattle.am_types.specs.declared.failure.NoMemory.{NoMemory}
 use Rattle.am_types.specs.declared.history.Entry.{Entry}
 use Rattle.am_types.specs.declared.request.Request.{Request}
+use Rattle.am_types.specs.declared.request.Request.TheVariants as asks
 use Rattle.am_types.specs.declared.reply.Reply.{Reply}
 use Rattle.am_types.specs.declared.reply.Reply.TheVariants as replies
 use Rattle.am_types.specs.declared.rule.Rule.TheVariants.{AdminOnly}
@@ -10,7 +11,7 @@ use Rattle.am_model.specs.Broadcasts.{Broadcasts}
 use Rattle.am_model.specs.Gates.{is_privileged}
 use Rattle.am_history.specs.State.{State}
 use Rattle.am_history.specs.Steps.{act, page}
-use Rattle.am_history.proofs.Acts.{act_query, act_explain, act_tasks, act_services, act_history}
+use Rattle.am_history.proofs.Acts.{act_is}
 use Rattle.am_machine.proofs.Stored.{one_state}
 use Rattle.am_machine.proofs.reads.steady.Goals as goal
 
@@ -32,22 +33,22 @@ answers live before caller request asked (Ok reply) said is same does = λ (broa
 pub returns-in-Query : goal.returns-in-Query
 returns-in-Query g c =
     answers c.args.live.now c.args.history.now c.args.caller c.args.request.now _ c.query.result _ c.in-Query.is c.query.ensures
-    (λ (broadcasts : Broadcasts) (moment : ℕ). act_query (at_any c.args.live.now broadcasts moment) c.args.history.now c.args.caller _ _ _)
+    (λ (broadcasts : Broadcasts) (moment : ℕ). act_is (at_any c.args.live.now broadcasts moment) c.args.history.now c.args.caller (asks.Query _ _ _))
 
 pub returns-in-Explain : goal.returns-in-Explain
 returns-in-Explain g c =
     answers c.args.live.now c.args.history.now c.args.caller c.args.request.now _ c.explained.result _ c.in-Explain.is c.explained.ensures
-    (λ (broadcasts : Broadcasts) (moment : ℕ). act_explain (at_any c.args.live.now broadcasts moment) c.args.history.now c.args.caller _ _ _ _ _)
+    (λ (broadcasts : Broadcasts) (moment : ℕ). act_is (at_any c.args.live.now broadcasts moment) c.args.history.now c.args.caller (asks.Explain _ _ _ _ _))
 
 pub returns-in-ListTasks : goal.returns-in-ListTasks
 returns-in-ListTasks g c =
     answers c.args.live.now c.args.history.now c.args.caller c.args.request.now _ c.tasks.result _ c.in-ListTasks.is c.tasks.ensures
-    (λ (broadcasts : Broadcasts) (moment : ℕ). act_tasks (at_any c.args.live.now broadcasts moment) c.args.history.now c.args.caller)
+    (λ (broadcasts : Broadcasts) (moment : ℕ). act_is (at_any c.args.live.now broadcasts moment) c.args.history.now c.args.caller asks.ListTasks)
 
 pub returns-in-Services : goal.returns-in-Services
 returns-in-Services g c =
     answers c.args.live.now c.args.history.now c.args.caller c.args.request.now _ c.services.result _ c.in-Services.is c.services.ensures
-    (λ (broadcasts : Broadcasts) (moment : ℕ). act_services (at_any c.args.live.now broadcasts moment) c.args.history.now c.args.caller)
+    (λ (broadcasts : Broadcasts) (moment : ℕ). act_is (at_any c.args.live.now broadcasts moment) c.args.history.now c.args.caller asks.Services)
 
 pub returns-in-History : goal.returns-in-History
 returns-in-History g c =
@@ -55,5 +56,5 @@ returns-in-History g c =
     answers c.args.live.now c.args.history.now c.args.caller c.args.request.now _ c.entries.result
     (if is_privileged c.args.caller then shown else replies.Refused AdminOnly) c.in-History.is c.entries.ensures
     (λ (broadcasts : Broadcasts) (moment : ℕ).
-    act_history (at_any c.args.live.now broadcasts moment) c.args.history.now c.args.caller c.in-History.from
+    act_is (at_any c.args.live.now broadcasts moment) c.args.history.now c.args.caller (asks.History c.in-History.from)
     ∙ one_state (is_privileged c.args.caller) shown (at_any c.args.live.now broadcasts moment))

@@ -1,31 +1,127 @@
-use Rattle.std.proofs.Common.{◌≡◌, ◌∙◌, false, sym, ap}
+use Rattle.std.proofs.Common.{◌≡◌, ◌∙◌, ℕ, ◌+◌, true, false, length, Some, List, [], ◌∷◌, ◌++◌, sym, ap, subst, IsTrue, arith}
+use Rattle.am_types.specs.declared.history.Entry.{Entry}
 use Rattle.am_types.specs.declared.history.Shown.{Shown}
 use Rattle.am_types.specs.declared.reply.Reply.{Reply}
 use Rattle.am_types.specs.declared.reply.Reply.TheVariants.{Refused}
 use Rattle.am_types.specs.declared.rule.Rule.TheVariants.{KeeperFault}
-use Rattle.am_history.specs.Desks.{opening_of}
-use Rattle.am_history.specs.History.{replay}
-use Rattle.am_history.specs.State.{State}
-use Rattle.am_history.specs.Steps.{is_changing}
+use Rattle.am_outside.specs.Counts.{HasRisen}
+use Rattle.am_history.specs.Steps.{Call, step}
+use Rattle.am_history.specs.State.{State, has_uid, uid_of}
+use Rattle.am_history.specs.Numbers.{HasNumbers}
+use Rattle.am_history.specs.History.{replay, may_change, has_room, entry_of}
+use Rattle.am_history.specs.Desks.{Origin, opening_of, ShowsAt}
 use Rattle.am_laws.proofs.Faults.{act_never_faults}
-use Rattle.am_machine.proofs.Kept.{has_no_row, reads_keep_nothing, told_as_before}
+use Rattle.am_laws.proofs.Numbers.{enough_numbers}
+use Rattle.am_laws_state.specs.Sound.{IsSoundState}
+use Rattle.am_laws_state.proofs.Sound.{replay_is_sound}
+use Rattle.am_machine.specs.Keeping.{told_after, with_kept}
+use Rattle.am_machine.specs.Managed.{Holds, HoldsKept, Managed}
+use Rattle.am_machine.proofs.Kept.{has_no_row, only_reads, reads_keep_nothing, told_as_before}
+use Rattle.am_machine.proofs.Stored.{stored_more, fault_is_unkept}
+use Rattle.am_machine.proofs.Shown.{kept_shows}
 use Rattle.am_machine.proofs.manager.Manager.counted.Goals as goal
-use Rattle.am_machine.proofs.manager.Manager.counted.Goals.{then-is_changing, else-is_changing}
 
 -- what only reads has no row
 pub returns-then-not-may_change-clause-put : goal.returns-then-not-may_change-clause-put
 returns-then-not-may_change-clause-put g c = λ (honest : g.K.Keeper.is_honest c.args.self.now.keeper).
     let state : State = replay (opening_of c.args.self.now.origin) c.args.self.now.history in
-    let reads : is_changing c.args.entry.request ≡ false =
-    elim c.if-is_changing.branch [
-      | then-is_changing w ↦ sym c.is_changing.ensures ∙ sym w.may_change-is ∙ c.if-not-may_change.true
-      | else-is_changing w ↦ sym c.is_changing.ensures ∙ w.if-is_changing.false
-    ] in
     told_as_before state c.args.entry.request c.unstored.result.reply (g.K.Keeper.rows c.args.self.now.keeper)
-    (has_no_row state c.args.entry.request (reads_keep_nothing c.args.entry.request reads))
+    (has_no_row state c.args.entry.request (reads_keep_nothing c.args.entry.request
+    (only_reads state c.args.entry.now c.args.entry.request (sym c.may_change.ensures ∙ c.if-not-may_change.true))))
 
 -- and isn't answered by a fault
 pub returns-then-not-may_change-clause-fault : goal.returns-then-not-may_change-clause-fault
 returns-then-not-may_change-clause-fault g c = λ (faults : c.unstored.result.reply ≡ Refused KeeperFault).
     absurd (act_never_faults c.self.inside.live c.deref.result.now c.args.entry.uid c.args.entry.request
     (ap (λ (answer : Reply × State). answer.0) c.in_ok-reply.ensures ∙ sym (ap (λ (shown : Shown). shown.reply) c.unstored.ensures) ∙ faults))
+
+-- the live state is the one that the history leaves, so it has numbers for the call, and it is sound
+pub answer-answered-requires-clause-numbers : goal.answer-answered-requires-clause-numbers
+answer-answered-requires-clause-numbers g c =
+    let origin : Origin = record { device = c.self.inside.opened.device; rows = c.self.inside.opened.rows; place = g.K.Keeper.place c.self.inside.keeper } in
+    subst HasNumbers c.self.invariant.0.replayed (enough_numbers origin c.self.inside.history.items c.self.invariant.0.few)
+
+pub answer-answered-requires-clause-sound : goal.answer-answered-requires-clause-sound
+answer-answered-requires-clause-sound g c =
+    let origin : Origin = record { device = c.self.inside.opened.device; rows = c.self.inside.opened.rows; place = g.K.Keeper.place c.self.inside.keeper } in
+    subst IsSoundState c.self.invariant.0.replayed (replay_is_sound origin c.self.inside.history.items c.self.invariant.0.sound)
+
+-- what the call left is held, and its entry stands behind the others
+pub invariant_of-self-in-Ok : goal.invariant_of-self-in-Ok
+invariant_of-self-in-Ok g c =
+    let live = c.self.inside.live in
+    let before = c.self.inside.history.items in
+    let call : Entry = with_kept c.args.entry c.in-Ok.answered.kept in
+    let new = c.answer-answered.new.keeper in
+    let put : c.push_reserved.new.self.items ≡ before ++ call ∷ [] =
+    c.push_reserved.ensures.items ∙ ap (λ (l : List Entry). l ++ call ∷ []) c.reserve.ensures.items in
+    let read : c.deref-2.result.now ≡ before = c.deref-2.ensures.value ∙ c.reserve.ensures.items in
+    -- what is known of the state and the history as they are seen holds of them inside
+    let known : (P : State → List Entry → Type 0) → P (replay (opening_of c.args.self.now.origin) c.args.self.now.history) c.args.self.now.history → P live before =
+    λ (P : State → List Entry → Type 0) (seen : P (replay (opening_of c.args.self.now.origin) c.args.self.now.history) c.args.self.now.history).
+    subst (λ (s : State). P s before) c.self.invariant.0.replayed
+    (subst (λ (m : Managed g.row.K.Denot). P (replay (opening_of m.origin) m.history) m.history) (sym c.self.view_is) seen) in
+    subst (λ (l : List Entry). Holds (record { device = c.self.inside.opened.device; rows = c.self.inside.opened.rows; place = g.K.Keeper.place new }) c.answer-answered.new.live l (c.self.inside.weight + c.from-in-Ok.result)
+    × HoldsKept g.K.Keeper (record { device = c.self.inside.opened.device; rows = c.self.inside.opened.rows; place = g.K.Keeper.place new }) l new) (sym put)
+    (subst (λ (n : ℕ). Holds (record { device = c.self.inside.opened.device; rows = c.self.inside.opened.rows; place = g.K.Keeper.place new }) c.answer-answered.new.live (before ++ call ∷ []) (c.self.inside.weight + n)
+    × HoldsKept g.K.Keeper (record { device = c.self.inside.opened.device; rows = c.self.inside.opened.rows; place = g.K.Keeper.place new }) (before ++ call ∷ []) new) (sym c.from-in-Ok.ensures)
+    (stored_more g.K.Keeper c.self.inside.opened.device c.self.inside.opened.rows live c.answer-answered.new.live before c.self.inside.weight call c.in-Ok.answered.reply c.self.inside.keeper new
+    c.self.invariant
+    (known (λ (s : State) (h : List Entry). IsTrue (has_uid s c.args.entry.uid)) c.requires.caller)
+    (known (λ (s : State) (h : List Entry). IsTrue (may_change s c.args.entry.now c.args.entry.request)) (sym c.may_change.ensures ∙ c.if-not-may_change.false))
+    (known (λ (s : State) (h : List Entry). IsTrue (has_room h c.args.entry.weight)) (sym c.has_room.ensures ∙ c.if-not-has_room.false))
+    (rw read at c.in-Ok.ensures.asked)
+    (ap (λ (l : List Entry). step live l call) (sym read) ∙ c.in-Ok.ensures.done)
+    c.answer-answered.ensures.keeper
+    c.in-Ok.ensures.put
+    c.in-Ok.ensures.fault))
+
+-- so the history could have been made
+pub returns-in-Ok-clause-legal : goal.returns-in-Ok-clause-legal
+returns-in-Ok-clause-legal g c = (invariant_of-self-in-Ok g c).0.legal
+
+-- the keeper's rows follow the state that the history left
+pub returns-in-Ok-clause-put : goal.returns-in-Ok-clause-put
+returns-in-Ok-clause-put g c =
+    let new = c.answer-answered.new.keeper in
+    let reply = c.in-Ok.answered.reply in
+    subst (λ (m : Managed g.row.K.Denot). g.K.Keeper.is_honest new
+    → g.K.Keeper.rows new ≡ told_after (replay (opening_of m.origin) m.history) c.args.entry.request reply (g.K.Keeper.rows m.keeper)) c.self.view_is
+    (λ (honest : g.K.Keeper.is_honest new).
+    subst (λ (s : State). g.K.Keeper.rows new ≡ told_after s c.args.entry.request reply (g.K.Keeper.rows c.self.inside.keeper)) (sym c.self.invariant.0.replayed)
+    (c.in-Ok.ensures.put honest))
+
+-- no request is itself answered by a fault, so the row wasn't kept
+pub returns-in-Ok-clause-fault : goal.returns-in-Ok-clause-fault
+returns-in-Ok-clause-fault g c = λ (faults : c.in-Ok.answered.reply ≡ Refused KeeperFault).
+    let call : Entry = with_kept c.args.entry c.in-Ok.answered.kept in
+    let unkept : c.in-Ok.answered.kept ≡ false =
+    fault_is_unkept c.self.inside.live c.deref-2.result.now call (ap (λ (answer : Reply × State). answer.0) c.in-Ok.ensures.done ∙ faults) in
+    let history : c.self.inside.history.items ≡ c.args.self.now.history = ap (λ (m : Managed g.row.K.Denot). m.history) c.self.view_is in (
+      subst (λ (m : Managed g.row.K.Denot). HasRisen (g.K.Keeper.faults m.keeper) (g.K.Keeper.faults c.answer-answered.new.keeper)) c.self.view_is (c.in-Ok.ensures.fault unkept),
+      (call, unkept, c.push_reserved.ensures.items ∙ ap (λ (l : List Entry). l ++ call ∷ []) (c.reserve.ensures.items ∙ history)),
+    )
+
+-- what is shown is the reply at the end of the history, whether the row was kept or not
+pub returns-in-Ok-clause-shown : goal.returns-in-Ok-clause-shown
+returns-in-Ok-clause-shown g c = λ (asked : Call) (is : c.args.entry ≡ entry_of asked c.args.entry.uid true) (known : uid_of (replay (opening_of c.args.self.now.origin) c.args.self.now.history) asked.key ≡ Some c.args.entry.uid).
+    let start : State = opening_of c.args.self.now.origin in
+    let before = c.args.self.now.history in
+    let call : Entry = with_kept c.args.entry c.in-Ok.answered.kept in
+    let inside : c.self.inside.history.items ≡ before = ap (λ (m : Managed g.row.K.Denot). m.history) c.self.view_is in
+    let read : c.deref-2.result.now ≡ before = c.deref-2.ensures.value ∙ c.reserve.ensures.items ∙ inside in
+    let put : c.push_reserved.new.self.items ≡ before ++ call ∷ [] =
+    c.push_reserved.ensures.items ∙ ap (λ (l : List Entry). l ++ call ∷ []) (c.reserve.ensures.items ∙ inside) in
+    let live : replay start before ≡ c.self.inside.live =
+    subst (λ (m : Managed g.row.K.Denot). replay (opening_of m.origin) m.history ≡ c.self.inside.live) c.self.view_is c.self.invariant.0.replayed in
+    let says : c.in-Ok.answered.reply ≡ (step (replay start before) before call).0 =
+    sym (ap (λ (s : State). (step s before call).0) live
+    ∙ ap (λ (l : List Entry). (step c.self.inside.live l call).0) (sym read)
+    ∙ ap (λ (answer : Reply × State). answer.0) c.in-Ok.ensures.done) in
+    let at : c.len-at.result ≡ length before =
+    omega (arith, c.len-at.ensures, c.reserve.new.self.ok.0, ap (λ (l : List Entry). length l) (c.reserve.ensures.items ∙ inside)) in
+    subst (λ (l : List Entry). ShowsAt start before l asked (record { at = c.len-at.result; stored = true; reply = c.in-Ok.answered.reply })) (sym put)
+    (subst (λ (n : ℕ). ShowsAt start before (before ++ call ∷ []) asked (record { at = n; stored = true; reply = c.in-Ok.answered.reply })) (sym at)
+    (subst (λ (r : Reply). ShowsAt start before (before ++ call ∷ []) asked (record { at = length before; stored = true; reply = r })) (sym says)
+    (kept_shows start before asked c.args.entry c.in-Ok.answered.kept is known
+    (sym c.may_change.ensures ∙ c.if-not-may_change.false) (sym c.has_room.ensures ∙ c.if-not-has_room.false))))

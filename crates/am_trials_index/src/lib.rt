@@ -1,5 +1,0 @@
-//! Trials of the index: what its clauses leave to be tried.
-#![tactic(auto)]
-
-#[cfg(test)]
-mod index;

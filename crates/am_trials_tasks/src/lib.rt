@@ -1,5 +1,0 @@
-//! Trials of tasks, over their public calls.
-#![tactic(auto)]
-
-#[cfg(test)]
-mod tasks;
