@@ -1,5 +1,5 @@
 //! A keeper, which puts rows, and a store, which hands keepers out and takes them back.
-ghost use Rattle.std.specs.Prelude.{◌≡◌, ◌↔◌, ◌⊎◌, ℕ, ◌≤◌, List as Items, Bool, Option, Some, None, is_some, IsTrue, IfOk, OnErr, Err, OnOk};
+ghost use Rattle.std.specs.Prelude.{◌≡◌, ◌≢◌, ◌↔◌, ◌⊎◌, ℕ, ◌≤◌, List as Items, Bool, Option, Some, None, is_some, IsTrue, IfOk, OnErr, Err, OnOk};
 ghost use Rattle.std.specs.Option.{option_copied};
 ghost use Rattle.am_outside.specs.Counts.{HasRisen};
 ghost use Rattle.am_keeper.specs.declared.rows.Rows.{Rows as Told};
@@ -36,7 +36,8 @@ pub trait Keeper: Drop {
         ensures was_honest { is_honest self.new → is_honest self.old }
         ensures for_good { stays_honest self.new ↔ stays_honest self.old }
         ensures never_falls { faults self.old ≤ faults self.new }
-        ensures failed { result ≡ Err KeepFail.Failed → HasRisen (faults self.old) (faults self.new) };
+        ensures failed { result ≡ Err KeepFail.Failed → HasRisen (faults self.old) (faults self.new) }
+        ensures only_failed { result ≢ Err KeepFail.Failed → faults self.new ≡ faults self.old };
 
     ghost honest_by_nature: { (keeper : Self) → stays_honest keeper → is_honest keeper };
 }
@@ -78,12 +79,13 @@ pub trait Store {
         ensures stored { IsTrue (tells self.old) → IfOk result (λ attached. (at : Items ℕ) → option_copied path.entry ≡ Some at → attached.rows ≡ rows_at self.old at) }
         ensures keeper_tells { IsTrue (tells self.old) → IfOk result (λ attached. Self.Kept.rows attached.keeper ≡ Some attached.rows) }
         ensures keeper_honest { IsTrue (tells self.old) → IfOk result (λ attached. Self.Kept.stays_honest attached.keeper) }
-        ensures keeper_place { IsTrue (tells self.old) → IfOk result (λ attached. Self.Kept.place attached.keeper ≡ option_copied path.entry) }
+        ensures keeper_place { IfOk result (λ attached. Self.Kept.place attached.keeper ≡ option_copied path.entry) }
         ensures no_faults { IfOk result (λ attached. Self.Kept.faults attached.keeper ≡ 0) }
         ensures attached { IsTrue (tells self.old) → OnOk result ((at : Items ℕ) → has_attached self.new at ↔ (has_attached self.old at ⊎ (option_copied path.entry ≡ Some at))) }
         ensures not_attached { IsTrue (tells self.old) → OnErr result ((at : Items ℕ) → has_attached self.new at ↔ has_attached self.old at) }
         ensures never_falls { failed_attaches self.old ≤ failed_attaches self.new }
         ensures failed { result ≡ Err KeepFail.Failed → HasRisen (failed_attaches self.old) (failed_attaches self.new) }
+        ensures only_failed { result ≢ Err KeepFail.Failed → failed_attaches self.new ≡ failed_attaches self.old }
         ensures keepers { keeper_faults self.new ≡ keeper_faults self.old };
 
     /// Takes a keeper back with its rows, without memory.

@@ -1,5 +1,5 @@
 //! A keeper in memory, whose calls fail where it is told to.
-ghost use Rattle.std.specs.Prelude.{◌≡◌, ◌↔◌, ◌≤◌, [], None, Err, IsTrue, IfOk};
+ghost use Rattle.std.specs.Prelude.{◌≡◌, ◌≢◌, ◌↔◌, ◌≤◌, [], None, Err, IsTrue, IfOk};
 ghost use Rattle.am_keeper.specs.Rows.{IsInOrder, with_row};
 ghost use Rattle.am_keeper.specs.Memory.{fails_at, one_more, fresh_keeper, after_put};
 
@@ -85,6 +85,7 @@ impl MemoryKeeper {
         ensures exact { self.new ≡ after_put self.old self.old.told result }
         ensures fails { (result ≡ Err KeepFail.Failed) ↔ IsTrue (fails_at self.old.failing (one_more self.old.calls)) }
         ensures never_falls { self.old.faults ≤ self.new.faults }
+        ensures only_failed { result ≢ Err KeepFail.Failed → self.new.faults ≡ self.old.faults }
     {
         self.calls = self.calls.saturating_add(1);
         if is_failing(&self.failing, self.calls) {
@@ -114,6 +115,7 @@ impl Keeper for MemoryKeeper {
         ensures exact { self.new ≡ after_put self.old (with_row self.old.told row.now) result }
         ensures fails { (result ≡ Err KeepFail.Failed) ↔ IsTrue (fails_at self.old.failing (one_more self.old.calls)) }
         ensures never_falls { self.old.faults ≤ self.new.faults }
+        ensures only_failed { result ≢ Err KeepFail.Failed → self.new.faults ≡ self.old.faults }
     {
         self.count_call()?;
         self.rows.put(row.clone()?)?;

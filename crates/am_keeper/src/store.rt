@@ -1,5 +1,5 @@
 //! A store in memory.
-ghost use Rattle.std.specs.Prelude.{◌≡◌, ◌↔◌, ◌⊎◌, ℕ, ◌≤◌, List as Items, [], Some, None, Err, IsTrue, IfOk, OnOk, OnErr, if◌then◌else◌, unwrap_or};
+ghost use Rattle.std.specs.Prelude.{◌≡◌, ◌≢◌, ◌↔◌, ◌⊎◌, ℕ, ◌≤◌, List as Items, [], Some, None, Err, IsTrue, IfOk, OnOk, OnErr, if◌then◌else◌, unwrap_or};
 ghost use Rattle.std.specs.Option.{option_copied};
 ghost use Rattle.std.specs.List.{position};
 ghost use Rattle.am_keeper.specs.declared.rows.Rows.{Rows as Told};
@@ -148,6 +148,7 @@ impl MemoryStore {
         ensures exact { self.new ≡ after_attach self.old self.old.slots result }
         ensures fails { (result ≡ Err KeepFail.Failed) ↔ IsTrue (fails_at self.old.failing (one_more self.old.attaches)) }
         ensures never_falls { self.old.failed_attaches ≤ self.new.failed_attaches }
+        ensures only_failed { result ≢ Err KeepFail.Failed → self.new.failed_attaches ≡ self.old.failed_attaches }
     {
         self.attaches = self.attaches.saturating_add(1);
         if is_failing(&self.failing, self.attaches) {
@@ -213,6 +214,7 @@ impl Store for MemoryStore {
         ensures not_attached { OnErr result (self.new.slots ≡ self.old.slots) }
         ensures fails { (result ≡ Err KeepFail.Failed) ↔ IsTrue (fails_at self.old.failing (one_more self.old.attaches)) }
         ensures never_falls { self.old.failed_attaches ≤ self.new.failed_attaches }
+        ensures only_failed { result ≢ Err KeepFail.Failed → self.new.failed_attaches ≡ self.old.failed_attaches }
     {
         self.count_attach()?;
         let attached = self.keeper_for(path)?;

@@ -1,9 +1,10 @@
 //! Rows of the database as kept rows, and back.
-ghost use Rattle.std.specs.Prelude.{◌≡◌, Some, None, Err, IfOk, IfErr, OnOk};
+ghost use Rattle.std.specs.Prelude.{◌≡◌, Some, None, IsSome, Err, IfOk, IfErr, OnOk};
 ghost use Rattle.sqlite.specs.Held.{state};
 ghost use Rattle.sqlite.specs.State.{HasCleanDisk, IsUnchanged};
 ghost use Rattle.sqlite.specs.Values.{bound, bound_value};
 ghost use Rattle.sqlite_value.specs.Value.{owned};
+ghost use Rattle.am_rows.specs.Cells.{row_in};
 ghost use Rattle.am_keeper_sql.specs.Told.{cell_in, cells_in, row_said};
 ghost use Rattle.am_keeper_sql.specs.Honest.{IsHonest, IsSettled, StaysSeen};
 ghost use Rattle.am_keeper_sql.specs.Reading.{IsRead, Moves};
@@ -40,7 +41,8 @@ pub(crate) fn values_of(alloc: Global, cells: &[Cell]) -> Result<Vec<ValueRef<'_
 
 /// A value of the database as a cell: a number or a text.
 fn cell_of(alloc: Global, value: ValueRef<'_>) -> Result<Cell, KeepFail>
-    ensures { IsRead (cell_in (owned value.entry)) result }
+    ensures read { IsRead (cell_in (owned value.entry)) result }
+    ensures memory { result ≡ Err KeepFail.NoMemory → IsSome (cell_in (owned value.entry)) }
 {
     match value {
         ValueRef::Int(number) => Ok(Cell::Whole(number)),
@@ -68,6 +70,18 @@ fn cells_of(alloc: Global, row: &sqlite::Row) -> Result<List<Cell>, KeepFail>
     Ok(List::new(cells))
 }
 
+/// The kept row that cells say. It fails exactly where they say none.
+fn row_in(cells: &List<Cell>) -> Result<Row, KeepFail>
+    ensures read { IsRead (row_in cells.now) result }
+    ensures memory { result ≡ Err KeepFail.NoMemory → IsSome (row_in cells.now) }
+{
+    match row_of(cells) {
+        Ok(row) => Ok(row),
+        Err(RowFault::Shape) => Err(KeepFail::Failed),
+        Err(RowFault::NoMemory) => Err(KeepFail::NoMemory),
+    }
+}
+
 /// The kept row that a row of the database says. It fails exactly where that says none.
 fn kept_row(alloc: Global, row: &sqlite::Row) -> Result<Row, KeepFail>
     ensures { IsRead (row_said row.now) result }
@@ -76,11 +90,7 @@ fn kept_row(alloc: Global, row: &sqlite::Row) -> Result<Row, KeepFail>
         Ok(cells) => cells,
         Err(fail) => return Err(fail),
     };
-    match row_of(&cells) {
-        Ok(row) => Ok(row),
-        Err(RowFault::Shape) => Err(KeepFail::Failed),
-        Err(RowFault::NoMemory) => Err(KeepFail::NoMemory),
-    }
+    row_in(&cells)
 }
 
 /// Puts the kept row that the next row of the selection says. It answers false where there is none.

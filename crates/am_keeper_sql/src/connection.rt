@@ -8,6 +8,7 @@ ghost use Rattle.am_keeper.specs.declared.rows.Rows.{Rows as Told};
 ghost use Rattle.am_keeper.specs.Rows.{IsInOrder, with_row};
 ghost use Rattle.am_keeper_sql.specs.Table.{no_schema, kept_schema};
 ghost use Rattle.am_keeper_sql.specs.Honest.{IsHonest, IsSettled, HoldsTable, HasRisingRows, Keeps, StaysSeen, told_by};
+ghost use Rattle.am_keeper_sql.specs.Faults.{told_as};
 ghost use Rattle.am_keeper_sql.specs.Told.{told_in};
 ghost use Rattle.am_keeper_sql.specs.Image.{HasRows};
 ghost use Rattle.am_keeper_sql.specs.Failing.{Lasts, IsReady, Begins, FailsToBegin};
@@ -20,7 +21,8 @@ use std::alloc::Global;
 
 /// Out of memory, or else a fault.
 pub(crate) fn fail(error: Error) -> KeepFail
-    ensures { result ≡ KeepFail.Failed → error ≢ Error.SqliteFailure ErrorCode.OutOfMemory }
+    ensures told { result ≡ told_as error }
+    ensures failed { result ≡ KeepFail.Failed → error ≢ Error.SqliteFailure ErrorCode.OutOfMemory }
 {
     match error {
         Error::SqliteFailure(ErrorCode::OutOfMemory) => KeepFail::NoMemory,

@@ -1,5 +1,5 @@
 //! The keeper.
-ghost use Rattle.std.specs.Prelude.{◌≡◌, ◌↔◌, ◌≤◌, Some, IsOk, IfOk};
+ghost use Rattle.std.specs.Prelude.{◌≡◌, ◌≢◌, ◌↔◌, ◌≤◌, Some, Err, IsOk, IfOk};
 ghost use Rattle.am_keeper.specs.Rows.{IsInOrder, with_row};
 ghost use Rattle.am_keeper.specs.Keeping.{Puts};
 ghost use Rattle.am_keeper_sql.specs.Faults.{faults_after};
@@ -18,6 +18,7 @@ use std::alloc::Global;
 fn count_fault<T>(faults: &mut u64, done: &Result<T, KeepFail>)
     ensures counts { faults.new ≡ faults_after faults.old done.now }
     ensures never_falls { faults.old ≤ faults.new }
+    ensures only_failed { done.now ≢ Err KeepFail.Failed → faults.new ≡ faults.old }
 {
     if let Err(KeepFail::Failed) = done {
         *faults = faults.saturating_add(1);
@@ -77,6 +78,7 @@ impl<F: Alter> SqlKeeper<F> {
         ensures place { self.new.place ≡ self.old.place }
         ensures counts { self.new.faults ≡ faults_after self.old.faults result }
         ensures never_falls { self.old.faults ≤ self.new.faults }
+        ensures only_failed { result ≢ Err KeepFail.Failed → self.new.faults ≡ self.old.faults }
     {
         let done = self.database.put(self.alloc, row);
         count_fault(&mut self.faults, &done);

@@ -1,3 +1,1 @@
-pub mod CastingLemmas
-pub mod PendingLemmas
-pub mod PackageLemmas
+pub mod KnownLemmas

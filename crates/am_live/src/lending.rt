@@ -1,19 +1,14 @@
 //! Pending intents, as callers ask for them.
-ghost use Rattle.std.specs.Prelude.{◌≡◌, ◌≤◌, Ok, IfOk, OnOk, OnErr};
+ghost use Rattle.std.specs.Prelude.{◌≡◌, Ok, IfOk, OnErr};
 ghost use Rattle.std.specs.Option.{option_copied};
-ghost use Rattle.am_types.specs.declared.reply.Reply.{Reply};
-ghost use Rattle.am_types.specs.declared.reply.Reply.TheVariants.{Refused};
 ghost use Rattle.am_history.specs.Numbers.{HasNumbers};
-ghost use Rattle.am_history.specs.PendingCalls.{after_use, in_new_task, lend, pending_cancel, pending_get, pending_give, pending_rule, pending_send, used_up};
-ghost use Rattle.am_history.specs.State.{State};
+ghost use Rattle.am_history.specs.PendingCalls.{after_use, lend, pending_cancel, pending_get, pending_give, pending_send};
 ghost use Rattle.am_history.specs.Steps.{at_moment};
 
-use crate::{Caller, Live};
-use am_pending::Pending;
-use am_resolve::Board;
-use am_types::{
-    Intent, Kind, Limit, NoMemory, PendingFault, PendingFlags, Reply, Rule, Steps, Text, Used,
-};
+use crate::Live;
+use am_live_gate::Caller;
+use am_live_pendings::{in_new_task, refused};
+use am_types::{Intent, Kind, NoMemory, PendingFlags, Reply, Steps, Text, Used};
 use std::sync::ledger::Ledger;
 
 impl Live {
@@ -36,7 +31,15 @@ impl Live {
         ensures same { OnErr result (self.new ≡ self.old) }
     {
         let intent = intent.clone()?;
-        let reply = get(&mut self.pending, by.uid, kind, code, intent, flags, steps)?;
+        let reply = am_live_pendings::get(
+            &mut self.pending,
+            by.uid,
+            kind,
+            code,
+            intent,
+            flags,
+            steps,
+        )?;
         self.settle(by.moment, steps);
         Ok(reply)
     }
@@ -51,7 +54,7 @@ impl Live {
     ) -> Reply
         ensures { pending_cancel (at_moment self.old by.moment) by.uid token ≡ (result, self.new) }
     {
-        let reply = cancel(&mut self.pending, by.uid, token, steps);
+        let reply = am_live_pendings::cancel(&mut self.pending, by.uid, token, steps);
         self.settle(by.moment, steps);
         reply
     }
@@ -70,7 +73,14 @@ impl Live {
             (λ reply. pending_give (at_moment self.old by.moment) by.uid token name.now ≡ (reply, self.new)) }
         ensures same { OnErr result (self.new ≡ self.old) }
     {
-        let reply = give(&self.board, &mut self.pending, by.uid, token, name, steps)?;
+        let reply = am_live_pendings::give(
+            &self.board,
+            &mut self.pending,
+            by.uid,
+            token,
+            name,
+            steps,
+        )?;
         self.settle(by.moment, steps);
         Ok(reply)
     }
@@ -123,7 +133,7 @@ impl Live {
         };
         let reply = self.lend(creator, used.intent, used.kind, steps)?;
         if one_shot {
-            self.use_up(token, creator.uid, steps);
+            am_live_pendings::use_up(&mut self.pending, token, creator.uid, steps);
         }
         Ok(reply)
     }
@@ -159,106 +169,5 @@ impl Live {
                 reply
             }
         }
-    }
-
-    /// Uses a token up after whatever was answered: its creator cancels it. Takes no memory.
-    fn use_up<L: Ledger>(&mut self, token: u64, creator: u32, steps: &mut Steps<L>)
-        ensures { (reply : Reply) → used_up token creator (reply, self.old) ≡ (reply, self.new) }
-    {
-        let _ = self.pending.cancel(token, creator, steps);
-    }
-}
-
-/// The intent with NEW_TASK added. Takes no memory.
-fn in_new_task(mut intent: Intent) -> Intent
-    ensures { result ≡ in_new_task intent }
-{
-    intent.flags.new_task = true;
-    intent
-}
-
-/// The rule by which a call on a pending intent is refused.
-fn rule_of(fault: PendingFault) -> Rule
-    ensures { result ≡ pending_rule fault }
-{
-    match fault {
-        PendingFault::Mutability => Rule::Mutability,
-        PendingFault::Full => Rule::OverLimit(Limit::Pending),
-        PendingFault::NoToken => Rule::NoToken,
-        PendingFault::NotCreator => Rule::NotCreator,
-        PendingFault::NotHolder => Rule::NotHolder,
-        PendingFault::Canceled => Rule::Canceled,
-        PendingFault::ExtrasFull => Rule::OverLimit(Limit::Extras),
-        PendingFault::HoldersFull | PendingFault::NoMemory => Rule::OverLimit(Limit::Holders),
-    }
-}
-
-/// The answer to a call that is refused.
-fn refused(fault: PendingFault) -> Result<Reply, NoMemory>
-    ensures rule { IfOk result (λ reply. reply ≡ Refused (pending_rule fault)) }
-    ensures known { OnOk result (fault ≡ PendingFault.NoMemory → ⊥) }
-    ensures memory { OnErr result (fault ≡ PendingFault.NoMemory) }
-{
-    if fault == PendingFault::NoMemory {
-        Err(NoMemory)
-    } else {
-        Ok(Reply::Refused(rule_of(fault)))
-    }
-}
-
-/// Gives the caller the token of its pending intent. After `NoMemory` all is as before.
-fn get<L: Ledger>(
-    pending: &mut Pending,
-    caller: u32,
-    kind: Kind,
-    code: i64,
-    intent: Intent,
-    flags: PendingFlags,
-    steps: &mut Steps<L>,
-) -> Result<Reply, NoMemory>
-    requires { pending.old.next ≤ 1125899906842624 }
-    ensures done { IfOk result (λ reply. (state : State) →
-        pending_get (record state { pendings = pending.old }) caller kind code intent flags
-        ≡ (reply, record state { pendings = pending.new })) }
-    ensures same { OnErr result (pending.new ≡ pending.old) }
-{
-    match pending.get(caller, kind, code, intent, flags, steps) {
-        Ok(token) => Ok(Reply::Token(token)),
-        Err(fault) => refused(fault),
-    }
-}
-
-/// Cancels a token for its creator. Takes no memory.
-fn cancel<L: Ledger>(pending: &mut Pending, caller: u32, token: u64, steps: &mut Steps<L>) -> Reply
-    ensures { (state : State) → pending_cancel (record state { pendings = pending.old }) caller token
-        ≡ (result, record state { pendings = pending.new }) }
-{
-    match pending.cancel(token, caller, steps) {
-        Ok(()) => Reply::Plain,
-        Err(fault) => Reply::Refused(rule_of(fault)),
-    }
-}
-
-/// Gives a token to the installed package of that name for the token's creator. After `NoMemory` all is as
-/// before.
-fn give<L: Ledger>(
-    board: &Board,
-    pending: &mut Pending,
-    caller: u32,
-    token: u64,
-    name: &Text,
-    steps: &mut Steps<L>,
-) -> Result<Reply, NoMemory>
-    ensures done { IfOk result (λ reply. (state : State) →
-        pending_give (record state { board = board.now; pendings = pending.old }) caller token name.now
-        ≡ (reply, record state { board = board.now; pendings = pending.new })) }
-    ensures same { OnErr result (pending.new ≡ pending.old) }
-{
-    let Some(to) = board.package_named(name) else {
-        return Ok(Reply::Refused(Rule::NoPackage));
-    };
-    match pending.give(token, caller, to.uid, steps) {
-        Ok(()) => Ok(Reply::Plain),
-        Err(fault) => refused(fault),
     }
 }

@@ -2,18 +2,13 @@
 #![tactic(auto)]
 
 mod activities;
-mod callers;
 mod casting;
-mod change;
-mod gate;
 mod lending;
 mod live;
 mod packages;
-mod plans;
 mod reads;
-mod sending;
 mod services;
 
-pub use callers::Caller;
-pub use change::{Change, Plan, RightChange};
+pub use am_live_gate::Caller;
+pub use am_live_packages::{Change, Plan, RightChange};
 pub use live::Live;

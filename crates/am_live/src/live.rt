@@ -4,7 +4,7 @@ ghost use Rattle.am_model.specs.Sound.{IsSound};
 ghost use Rattle.am_history.specs.State.{opening, uid_of};
 ghost use Rattle.am_history.specs.Steps.{at_moment, due, moment_after};
 
-use crate::callers;
+use am_live_gate::uid_of;
 use am_pending::Pending;
 use am_queue::{LAST_MOMENT, Queues};
 use am_resolve::Board;
@@ -88,7 +88,7 @@ impl Live {
     pub fn uid_of(&self, key: &Text) -> Option<u32>
         ensures { result ≡ uid_of self.now key.now }
     {
-        callers::uid_of(&self.system_key, &self.root_key, self.board.packages(), key)
+        uid_of(&self.system_key, &self.root_key, self.board.packages(), key)
     }
 
     /// The moment of a call at `now`, in milliseconds: never before the last one, and 2^62 at most. Takes

@@ -1,18 +1,40 @@
 //! Packages that come, go and stop, and rights that are given and taken.
-ghost use Rattle.std.specs.Prelude.{◌≡◌, ◌≤◌, true, false, length, if◌then◌else◌, IsOk, OnOk, OnErr};
+ghost use Rattle.std.specs.Prelude.{◌≡◌, ◌≤◌, true, IfOk, IsTrue, OnOk, OnErr};
 ghost use Rattle.am_model.specs.Boards.{with_stopped};
 ghost use Rattle.am_history.specs.Packages.{force_stop, forget, without};
 ghost use Rattle.am_history.specs.State.{State, with_packages};
-ghost use Rattle.am_history.specs.Steps.{at_moment};
-ghost use Rattle.am_live.specs.Changes.{changed, prepared, with_held, with_package, Fits, IsInstallable, IsPrepared};
+ghost use Rattle.am_history.specs.Steps.{at_moment, keeps_row};
+ghost use Rattle.am_laws_state.specs.Sound.{IsSoundState};
+ghost use Rattle.am_live_packages.specs.Changes.{changed, prepared, with_package, Fits, IsInstallable, IsPlanOf, IsPrepared};
 
-use crate::{Caller, Change, Live, RightChange};
+use crate::Live;
 use am_gates::is_privileged;
-use am_resolve::Board;
-use am_types::{NoMemory, Package, Reply, RightKind, Rule, Steps, Text};
+use am_live_gate::Caller;
+use am_live_packages::{Change, Known, Plan, set_right, take_right, take_unless_held};
+use am_types::{NoMemory, Package, Reply, Request, Rule, Steps, Text};
 use std::sync::ledger::Ledger;
 
 impl Live {
+    /// Plans what a call comes to that has a row kept, and what its row is. It only reads the state. Refusals
+    /// in the order of the definitions: `AdminOnly` for other callers than the system and the root; then for
+    /// an installation `BadManifest`, `Installed` if the name or the key is in use, and `OverLimit` of
+    /// `Packages` at 256 or if no uid is left; for the others `NoPackage`, and `OverLimit` of `Grants` or
+    /// `Links` for one more than 256 of a package.
+    pub fn plan(&self, caller: u32, request: &Request) -> Result<Plan, NoMemory>
+        requires keeps { IsTrue (keeps_row request.now) }
+        requires sound { IsSoundState self.now }
+        ensures { IfOk result (λ plan. IsPlanOf plan self.now caller request.now) }
+    {
+        let known = Known {
+            alloc: self.alloc,
+            system_key: &self.system_key,
+            root_key: &self.root_key,
+            board: &self.board,
+            next_uid: self.next_uid,
+        };
+        known.plan(caller, request)
+    }
+
     /// Takes all memory that a change needs: a new package or a new right is there from now on.
     /// After `NoMemory` the state is as before.
     pub fn prepare(&mut self, change: &Change) -> Result<(), NoMemory>
@@ -137,37 +159,5 @@ impl Live {
         self.pending.forget_uid(uid);
         self.tasks.forget_uid(uid);
         self.services.forget_uid(uid);
-    }
-}
-
-/// The uid has the right, or doesn't any more; taking it away takes no memory. Without memory all is as before.
-fn set_right(board: &mut Board, right: &RightChange, held: bool) -> Result<(), NoMemory>
-    ensures set { OnOk result (board.new ≡ with_held board.old right.now.kind right.now.uid right.now.text held) }
-    ensures same { OnErr result (board.new ≡ board.old) }
-    ensures taken { held ≡ false → IsOk result }
-    ensures count { length board.new.packages ≡ length board.old.packages }
-{
-    match right.kind {
-        RightKind::Permission => board.set_grant(right.uid, &right.text, held),
-        RightKind::Host => board.set_link(right.uid, &right.text, held),
-    }
-}
-
-/// The uid doesn't have the right any more. Takes no memory.
-fn take_right(board: &mut Board, right: &RightChange)
-    ensures taken { board.new ≡ with_held board.old right.now.kind right.now.uid right.now.text false }
-    ensures count { length board.new.packages ≡ length board.old.packages }
-{
-    let _taken = set_right(board, right, false);
-}
-
-/// The uid doesn't have the right any more, unless it is to be held. Takes no memory.
-fn take_unless_held(board: &mut Board, right: &RightChange)
-    ensures taken { board.new ≡ (if right.now.held then board.old
-        else with_held board.old right.now.kind right.now.uid right.now.text false) }
-    ensures count { length board.new.packages ≡ length board.old.packages }
-{
-    if !right.held {
-        take_right(board, right);
     }
 }

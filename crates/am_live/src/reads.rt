@@ -11,13 +11,13 @@ ghost use Rattle.am_history.specs.Services.{services_of};
 ghost use Rattle.am_history.specs.Steps.{at_moment};
 ghost use Rattle.am_explain.specs.Asking.{question_of};
 
-use crate::{Caller, Live};
+use crate::Live;
 use am_explain::{Question, accounts};
 use am_gates::is_privileged;
 use am_installed::{caller_named, uid_named};
-use am_types::{Component, Hit, Intent, Kind, List, NoMemory, Reply, Rule, Steps, Text};
-use std::alloc::Global;
-use std::mem;
+use am_live_activities::components_of;
+use am_live_gate::Caller;
+use am_types::{Intent, Kind, NoMemory, Reply, Rule, Steps, Text};
 use std::sync::ledger::Ledger;
 
 impl Live {
@@ -123,19 +123,9 @@ impl Live {
         ensures items { IfOk result (λ reply. reply ≡ Items (inbox self.new.broadcasts by.uid)) }
         ensures same { OnErr result (self.new ≡ self.old) }
     {
-        let mut queues = self.queues.copy()?;
-        queues.expire(by.moment, steps);
-        match queues.inbox(by.uid) {
-            Ok(items) => {
-                drop(mem::replace(&mut self.queues, queues));
-                self.moment = by.moment;
-                Ok(Reply::Items(items))
-            }
-            Err(error) => {
-                drop(queues);
-                Err(error)
-            }
-        }
+        let reply = am_live_broadcasts::inbox_at(&mut self.queues, by, steps)?;
+        self.moment = by.moment;
+        Ok(reply)
     }
 
     /// How many packages are installed. Takes no memory.
@@ -151,13 +141,4 @@ impl Live {
     {
         is_privileged(caller)
     }
-}
-
-/// The names of the components that were found.
-pub(crate) fn components_of(alloc: Global, found: List<Hit>) -> Result<List<Component>, NoMemory>
-    ensures { IfOk result (λ names. names ≡ components_of found) }
-{
-    let found = found.into_items().into_iter();
-    let names = found.map(|hit| hit.component).collect(alloc)?;
-    Ok(List::new(names))
 }

@@ -1,17 +1,12 @@
 //! Starting and stopping services.
-ghost use Rattle.std.specs.Prelude.{◌≡◌, ◌≤◌, length, All, IfOk, OnErr};
-ghost use Rattle.am_model.specs.Receivers.{declared};
+ghost use Rattle.std.specs.Prelude.{◌≡◌, IfOk, OnErr};
 ghost use Rattle.am_history.specs.Numbers.{HasNumbers};
-ghost use Rattle.am_history.specs.Services.{start_maybe, start_service, stop_service};
-ghost use Rattle.am_history.specs.State.{Service, State};
+ghost use Rattle.am_history.specs.Services.{start_service, stop_service};
 ghost use Rattle.am_history.specs.Steps.{at_moment};
 
-use crate::gate::gate;
-use crate::{Caller, Live};
-use am_resolve::Board;
-use am_services::Services;
-use am_types::{Component, Intent, Kind, Limit, NoMemory, Reply, Rule, Steps};
-use std::alloc::Global;
+use crate::Live;
+use am_live_gate::Caller;
+use am_types::{Component, Intent, NoMemory, Reply, Steps};
 use std::sync::ledger::Ledger;
 
 impl Live {
@@ -31,7 +26,7 @@ impl Live {
             start_service (at_moment self.old by.moment) by.uid intent.now ≡ (reply, self.new)) }
         ensures same { OnErr result (self.new ≡ self.old) }
     {
-        let reply = start_service(
+        let reply = am_live_services::start_service(
             self.alloc,
             &mut self.board,
             &mut self.services,
@@ -56,116 +51,13 @@ impl Live {
             stop_service (at_moment self.old by.moment) by.uid component.now ≡ (reply, self.new)) }
         ensures same { OnErr result (self.new ≡ self.old) }
     {
-        let reply = stop_service(&self.board, &mut self.services, by.uid, component)?;
+        let reply = am_live_services::stop_service(
+            &self.board,
+            &mut self.services,
+            by.uid,
+            component,
+        )?;
         self.settle(by.moment, steps);
         Ok(reply)
-    }
-}
-
-/// Starts the component that the intent names, or the first that it finds in the package that it names.
-#[tactic(auto, unfolding(am_history::specs::Services::start_service))]
-fn start_service<L: Ledger>(
-    alloc: Global,
-    board: &mut Board,
-    services: &mut Services,
-    caller: u32,
-    intent: &Intent,
-    steps: &mut Steps<L>,
-) -> Result<Reply, NoMemory>
-    requires { All (λ (service : Service). service.starts ≤ 1125899906842624) services.old }
-    ensures done { IfOk result (λ reply. (s : State) →
-        start_service (record s { board = board.old; services = services.old }) caller intent.now
-        ≡ (reply, record s { board = board.new; services = services.new })) }
-    ensures count { length board.new.packages ≡ length board.old.packages }
-    ensures same { OnErr result ((board.new ≡ board.old) × (services.new ≡ services.old)) }
-{
-    match (&intent.component, &intent.package) {
-        (Some(component), _) => start_component(
-            board,
-            services,
-            caller,
-            intent,
-            component,
-            Rule::NoComponent,
-        ),
-        (None, Some(_)) => {
-            let found = board.query(alloc, Kind::Service, intent, false, steps)?;
-            match found.as_slice().first() {
-                None => Ok(Reply::Refused(Rule::NoService)),
-                Some(hit) => start_component(
-                    board,
-                    services,
-                    caller,
-                    intent,
-                    &hit.component,
-                    Rule::NoService,
-                ),
-            }
-        }
-        (None, None) => Ok(Reply::Refused(Rule::ImplicitService)),
-    }
-}
-
-/// Starts the service, whose package isn't stopped any more, or refuses by the rule `missing` if it isn't declared.
-fn start_component(
-    board: &mut Board,
-    services: &mut Services,
-    caller: u32,
-    intent: &Intent,
-    component: &Component,
-    missing: Rule,
-) -> Result<Reply, NoMemory>
-    requires { All (λ (service : Service). service.starts ≤ 1125899906842624) services.old }
-    ensures done { IfOk result (λ reply. (s : State) →
-        start_maybe (record s { board = board.old; services = services.old }) caller intent.now component.now missing
-        (declared board.old.packages Kind.Service component.now)
-        ≡ (reply, record s { board = board.new; services = services.new })) }
-    ensures count { length board.new.packages ≡ length board.old.packages }
-    ensures same { OnErr result ((board.new ≡ board.old) × (services.new ≡ services.old)) }
-{
-    let Some((uid, decl)) = board.declared(Kind::Service, component) else {
-        return Ok(Reply::Refused(missing));
-    };
-    drop(missing);
-    if let Some(rule) = gate(board, caller, uid, decl)? {
-        return Ok(Reply::Refused(rule));
-    }
-    if services.is_full_for(component) {
-        return Ok(Reply::Refused(Rule::OverLimit(Limit::Services)));
-    }
-    let name = component.clone()?;
-    let starts = services.start(component, uid, intent)?;
-    board.set_stopped(uid, false);
-    Ok(Reply::Started {
-        component: name,
-        starts,
-    })
-}
-
-/// Stops a service that runs.
-#[tactic(auto, unfolding(am_history::specs::Services::stop_service))]
-fn stop_service(
-    board: &Board,
-    services: &mut Services,
-    caller: u32,
-    component: &Component,
-) -> Result<Reply, NoMemory>
-    ensures done { IfOk result (λ reply. (s : State) →
-        stop_service (record s { board = board.now; services = services.old }) caller component.now
-        ≡ (reply, record s { board = board.now; services = services.new })) }
-    ensures same { OnErr result (services.new ≡ services.old) }
-{
-    let Some((uid, decl)) = board.declared(Kind::Service, component) else {
-        return Ok(Reply::Refused(Rule::NoComponent));
-    };
-    if !services.runs(component) {
-        return Ok(Reply::Refused(Rule::NoService));
-    }
-    match gate(board, caller, uid, decl)? {
-        Some(rule) => Ok(Reply::Refused(rule)),
-        None => {
-            services.stop(component);
-            Ok(Reply::Plain)
-        }
     }
 }

@@ -19,9 +19,9 @@ use Rattle.am_history.specs.Steps.{act, after_due, asks_keeper, at_moment, class
 use Rattle.am_history.specs.Steps.Class.{Reads, Changes, Keeps}
 use Rattle.am_history.specs.History.{may_change}
 use Rattle.am_history.specs.Kept.{row_of}
-use Rattle.am_live.specs.declared.change.Change.{Change}
-use Rattle.am_live.specs.declared.change.Change.TheVariants as changes
-use Rattle.am_live.specs.Changes.{changed, IsAccepted, IsRefusedBy}
+use Rattle.am_live_packages.specs.declared.change.Change.{Change}
+use Rattle.am_live_packages.specs.declared.change.Change.TheVariants as changes
+use Rattle.am_live_packages.specs.Changes.{changed, IsAccepted, IsRefusedBy}
 use Rattle.am_machine.specs.declared.keeping.Answered.{Answered}
 use Rattle.am_machine.specs.Keeping.{GoesOn, told_after, with_any, with_kept}
 

@@ -10,7 +10,7 @@ ghost use Rattle.am_keeper.specs.Rows.{with_row};
 ghost use Rattle.std.specs.Option.{option_map};
 ghost use Rattle.am_history.specs.Steps.{asks_keeper, after_due, at_moment, keeps_row, step};
 ghost use Rattle.am_laws_state.specs.Sound.{IsSoundState};
-ghost use Rattle.am_live.specs.Changes.{Fits, changed};
+ghost use Rattle.am_live_packages.specs.Changes.{Fits, changed};
 ghost use Rattle.am_machine.specs.Keeping.{GoesOn, TellsSame, told_after, with_kept};
 
 use am_keeper::{KeepFail, Keeper, Row};

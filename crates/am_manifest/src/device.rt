@@ -1,5 +1,5 @@
 //! The device that a file describes.
-ghost use Rattle.std.specs.Prelude.{◌≡◌, ◌≤◌, IfOk, codes, length, map, [], ◌∷◌};
+ghost use Rattle.std.specs.Prelude.{◌≡◌, ◌≢◌, ◌≤◌, Err, IfOk, codes, length, map, [], ◌∷◌};
 ghost use Rattle.toml.specs.View.{view};
 ghost use Rattle.am_types.specs.Reading.{Gives, GivesBy};
 ghost use Rattle.am_manifest_filters.specs.Tables.{each};
@@ -273,7 +273,8 @@ fn device_in(alloc: Global, table: &Value) -> Result<Device, ReadFault>
 /// Where they are no UTF-8.
 #[tactic(auto, unfolding(crate::specs::Devices::text_of))]
 pub fn text_of(bytes: &[u8]) -> Result<&str, ReadFault>
-    ensures { GivesBy (λ text. text.now) result (text_of bytes.now) }
+    ensures reads { GivesBy (λ text. text.now) result (text_of bytes.now) }
+    ensures memory { result ≢ Err Unmade.NoMemory }
 {
     match std::str::from_utf8(bytes) {
         Ok(text) => Ok(text),

@@ -1,5 +1,6 @@
 //! The manifest of a package.
 ghost use Rattle.std.specs.Prelude.{◌≡◌, ℕ, List as Items, IfOk, Some, if◌then◌else◌, ◌++◌};
+ghost use Rattle.toml.specs.Errors.{IsMemory};
 ghost use Rattle.toml.specs.Parse.{parse_document};
 ghost use Rattle.toml.specs.View.{view};
 ghost use Rattle.am_types.specs.declared.manifest.ManifestFault.TheVariants.{Duplicate};
@@ -145,6 +146,18 @@ fn manifest_alone(alloc: Global, table: &Value) -> Result<Manifest, ReadFault>
     Ok(manifest)
 }
 
+/// The fault of a text at which `toml` met this error: it is no TOML, unless memory ran out.
+fn fault_of(error: &toml::de::Error) -> ReadFault
+    ensures memory { IsMemory error.now → result ≡ Unmade.NoMemory }
+    ensures refused { ¬ IsMemory error.now → result ≡ Unmade.Fault ManifestFault.NotToml }
+{
+    if error.is_memory() {
+        Unmade::NoMemory
+    } else {
+        Unmade::Fault(ManifestFault::NotToml)
+    }
+}
+
 /// The table that a text is, as a TOML document.
 ///
 /// # Errors
@@ -156,8 +169,7 @@ pub fn root_of(alloc: Global, text: &str) -> Result<Value, ReadFault>
 {
     match toml::table_from_str(alloc, text) {
         Ok(table) => Ok(Value::Table(table)),
-        Err(error) if error.is_memory() => Err(Unmade::NoMemory),
-        Err(_) => Err(Unmade::Fault(ManifestFault::NotToml)),
+        Err(error) => Err(fault_of(&error)),
     }
 }
 

@@ -99,11 +99,11 @@ works {K} asked device before after now end place manager out made last law soun
 -- the store has attached the place of the keeper that comes back
 pub attached_back : {K : Type 0} (old now : StoreView) (place : Option (List ℕ)) (Attached : List ℕ → Type 0) (manager out : machine.Managed K)
     (made last : machine.Served K) → (IsTrue old.tells → (at : List ℕ) → place ≡ Some at → Attached at) → IsUnchanged old now
-    → (IsTrue old.tells → manager.origin.place ≡ place) → made ≡ record { managed = manager; handed = manager.history }
+    → manager.origin.place ≡ place → made ≡ record { managed = manager; handed = manager.history }
     → last.managed.origin ≡ made.managed.origin → out ≡ last.managed
     → IsTrue now.tells → (at : List ℕ) → out.origin.place ≡ Some at → Attached at
 attached_back {K} old now place Attached manager out made last attached same at_place is one handed tells at stands =
     let told : IsTrue old.tells = sym same.tells ∙ tells in
     let back : out.origin.place ≡ manager.origin.place =
     ap (λ (m : machine.Managed K). m.origin.place) handed ∙ (ap (λ (o : Origin). o.place) one ∙ ap (λ (s : machine.Served K). s.managed.origin.place) is) in
-    attached told at (sym (at_place told) ∙ (sym back ∙ stands))
+    attached told at (sym at_place ∙ (sym back ∙ stands))

@@ -73,11 +73,11 @@ works_serving {K} asked device before after now mid done place count manager out
 
 -- the store has attached the place of the keeper that comes back
 pub attached_again : {K : Type 0} (old now : StoreView) (place : Option (List ℕ)) (Attached : List ℕ → Type 0) (manager out : machine.Managed K)
-    → (IsTrue old.tells → (at : List ℕ) → place ≡ Some at → Attached at) → IsUnchanged old now → (IsTrue old.tells → manager.origin.place ≡ place)
+    → (IsTrue old.tells → (at : List ℕ) → place ≡ Some at → Attached at) → IsUnchanged old now → manager.origin.place ≡ place
     → out.origin ≡ manager.origin → IsTrue now.tells → (at : List ℕ) → out.origin.place ≡ Some at → Attached at
 attached_again {K} old now place Attached manager out attached same at_place one tells at stands =
     let told : IsTrue old.tells = sym same.tells ∙ tells in
-    attached told at (sym (at_place told) ∙ (sym (ap (λ (o : Origin). o.place) one) ∙ stands))
+    attached told at (sym at_place ∙ (sym (ap (λ (o : Origin). o.place) one) ∙ stands))
 
 -- a keeper that comes back without a call leaves the rows
 pub left_again : {K : Type 0} (asked : ServingWords) (device : Device) (before now after : StoreView) (place : Option (List ℕ)) (manager : machine.Managed K)

@@ -64,15 +64,15 @@ leaves origin history old new Honest place rows faults tells same honest found b
 
 -- where nothing else changed before, and the place is the one that was asked for
 pub leaves_asked : (origin : Origin) (place : Option (List ℕ)) (history : List Entry) (old now new : StoreView)
-    → IsUnchanged old now → (IsTrue old.tells → origin.place ≡ place) → Leaves origin origin.place history now new
+    → IsUnchanged old now → origin.place ≡ place → Leaves origin origin.place history now new
     → Leaves origin place history old new
 leaves_asked origin place history old now new same at_place left = record {
   tells = left.tells ∙ same.tells;
   others = λ t at apart.
       let now_tells : IsTrue now.tells = same.tells ∙ t in
-      left.others now_tells at (subst (λ (p : Option (List ℕ)). p ≢ Some at) (sym (at_place t)) apart) ∙ same.rows t at;
+      left.others now_tells at (subst (λ (p : Option (List ℕ)). p ≢ Some at) (sym at_place) apart) ∙ same.rows t at;
   kept = λ t at is.
       let now_tells : IsTrue now.tells = same.tells ∙ t in
-      left.kept now_tells at (at_place t ∙ is);
+      left.kept now_tells at (at_place ∙ is);
   unkept = subst (λ (n : ℕ). raised_by (count_by is_unkept history) n ≤ new.faults) same.faults left.unkept;
 }

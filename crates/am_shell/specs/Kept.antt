@@ -23,13 +23,13 @@ abbrev pub AreKept : StoreView → Option (List ℕ) → Rows → Type 0
 AreKept store None rows = rows ≡ no_rows
 AreKept store (Some path) rows = IsTrue store.tells → rows ≡ store.rows path
 
--- a manager of that origin begins with the device and the rows that were kept at the place
+-- a manager of that origin begins with the device and the rows that were kept at the place, and its keeper is at the place
 pub record IsOrigin (origin : Origin) (device : Device) (place : Option (List ℕ)) (store : StoreView) : Type 0 where
   pub of_device : origin.device ≡ device
   pub kept : AreKept store place origin.rows
   pub in_order : IsInOrder origin.rows
   pub opens : opening_with device origin.rows ≡ Ok (opening_of origin)
-  pub at_place : IsTrue store.tells → origin.place ≡ place
+  pub at_place : origin.place ≡ place
 
 -- the line names a package whose row, among those kept at the place, is refused
 pub record RefusesRows (device : Device) (place : Option (List ℕ)) (store : StoreView) (line : List ℕ) : Type 0 where

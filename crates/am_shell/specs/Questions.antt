@@ -83,6 +83,13 @@ pub record Replies (asked : QuestionWords) (before after : Desk) (reply : Result
   pub input : IsRead before.input after.input bytes
   pub answers : answer_to known caller bytes ≡ reply
 
+-- the input failed, for a caller that the device has
+pub record InputFails (asked : QuestionWords) (before after : Desk) : Type 0 where
+  pub known : Described
+  pub caller : ℕ
+  pub asks : IsAsked asked before.files known caller
+  pub risen : HasRisen before.input.faults after.input.faults
+
 -- why a question isn't answered: the device file, the name, the input, or what was asked; else memory ran out
 abbrev pub FailsToAnswer : Undone → QuestionWords → Desk → Desk → Type 0
 FailsToAnswer (undone.Setback setback) asked before after =
@@ -91,7 +98,7 @@ FailsToAnswer (undone.Setback setback) asked before after =
 FailsToAnswer undone.NoPackage asked before after =
     ((known : Described) × ReadsAs described before.files.files asked.device (Ok known)
     × (caller_of known.device.packages asked.«package» ≡ None)) × (after.input ≡ before.input)
-FailsToAnswer undone.InputFault asked before after = HasRisen before.input.faults after.input.faults
+FailsToAnswer undone.InputFault asked before after = InputFails asked before after
 FailsToAnswer (undone.QueryRefused line) asked before after =
     (fault : WireFault) × Replies asked before after (Err fault) × (line ≡ query_line fault)
 FailsToAnswer _ asked before after = ⊥

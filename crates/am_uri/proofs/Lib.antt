@@ -1,7 +1,11 @@
 pub mod Cuts
 pub mod Ends
 pub mod Order
+pub mod PathBits
+pub mod PathPlain
 pub mod PathReading
+pub mod PathRows
 pub mod PathSteps
+pub mod PathWords
 pub mod Ports
 pub mod Wholes

@@ -6,8 +6,8 @@ use Rattle.std.specs.Prelude.{encode_utf8, encode_utf8_all as encodes}
 use Rattle.std.specs.Str.Iter.{chars_rest, chars_steps}
 use Rattle.std.specs.declared.str.Chars.{Chars}
 use Rattle.am_model.specs.Paths.{Mark, Element, marks_of, elements_of}
-use Rattle.am_uri.specs.declared.path.Element.{Element as KeptElement}
-use Rattle.am_uri.specs.PathPlaces.{element_of, marks_left, elements_left}
+use Rattle.am_uri.specs.declared.pattern.Element.{Element as KeptElement}
+use Rattle.am_uri.specs.PathElements.{element_of, marks_left, elements_left}
 
 -- a test has one answer
 pub one_answer : (b : Bool) → b ≡ true → b ≡ false → ⊥

@@ -1,26 +1,6 @@
--- A pattern as the code keeps it, and the places in it that a path has reached.
-use Rattle.std.specs.Prelude.{ℕ, Bool, false, ◌&&◌, ◌||◌, List, [], ◌∷◌, chars}
-use Rattle.std.specs.declared.str.Chars.{Chars}
-use Rattle.std.specs.Str.Iter.{chars_rest}
-use Rattle.am_model.specs.Paths.{Mark, Element, matches, marks_of, elements_of, is_end}
-use Rattle.am_uri.specs.declared.path.Mark.{Mark as KeptMark}
-use Rattle.am_uri.specs.declared.path.Element.{Element as KeptElement}
-
--- a mark that the code keeps
-abbrev pub mark_of : KeptMark → Mark
-mark_of kept = record { character = kept.character; plain = kept.plain }
-
--- an element that the code keeps
-abbrev pub element_of : KeptElement → Element
-element_of kept = record { mark = mark_of kept.mark; many = kept.many }
-
--- the marks of the characters that are left
-abbrev pub marks_left : Chars → List Mark
-marks_left rest = marks_of (chars (chars_rest rest))
-
--- the elements of the characters that are left
-abbrev pub elements_left : Chars → List Element
-elements_left rest = elements_of (marks_left rest)
+-- The places in a pattern that a path has reached, and what they lead on to.
+use Rattle.std.specs.Prelude.{ℕ, Bool, false, ◌+◌, ◌*◌, ◌/◌, ◌^◌, ◌&&◌, ◌||◌, List, [], ◌∷◌, bit_and, bit_or, bit_xor}
+use Rattle.am_model.specs.Paths.{Element, matches, is_end}
 
 -- from some place that is reached, the elements behind it match the characters
 abbrev pub some_matches : List Element → List Bool → List ℕ → Bool
@@ -28,3 +8,20 @@ some_matches elements [] characters = false
 some_matches [] (flag ∷ flags) characters = flag && is_end characters
 some_matches (element ∷ others) (flag ∷ flags) characters =
     (flag && matches (element ∷ others) characters) || some_matches others flags characters
+
+-- the words of the places that are reached, with those that repeated elements lead on to, and with a carry from the
+-- word before
+abbrev pub skipped : ℕ → ℕ → List ℕ → List ℕ → List ℕ
+skipped width carry repeated [] = []
+skipped width carry [] (word ∷ words) = word ∷ words
+skipped width carry (m ∷ repeated) (word ∷ words) =
+    bit_or word (bit_xor ((bit_and word m + m) + carry) m) ∷ skipped width (((bit_and word m + m) + carry) / 2 ^ width) repeated words
+
+-- the words of the places that a character leads to, with a carry from the word before
+abbrev pub advanced : ℕ → ℕ → List ℕ → List ℕ → List ℕ → List ℕ
+advanced width carry allowed repeated [] = []
+advanced width carry [] repeated (word ∷ words) = word ∷ words
+advanced width carry (a ∷ allowed) [] (word ∷ words) = word ∷ words
+advanced width carry (a ∷ allowed) (m ∷ repeated) (word ∷ words) =
+    bit_or (bit_and (bit_and word a) m) (bit_xor (bit_and word a) (bit_and (bit_and word a) m) * 2 + carry)
+    ∷ advanced width ((bit_xor (bit_and word a) (bit_and (bit_and word a) m) * 2 + carry) / 2 ^ width) allowed repeated words

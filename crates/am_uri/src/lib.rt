@@ -1,11 +1,16 @@
 //! URIs and MIME types, taken apart, rules on paths, and the forms of texts and names.
 #![tactic(auto)]
 
+mod matching;
 mod mime;
 mod path;
+mod pattern;
+mod places;
+mod rows;
 mod scheme;
 mod text;
 mod uri;
+mod words;
 
 pub use mime::parse_mime;
 pub use path::passes_path;

@@ -1,9 +1,9 @@
 //! What a question about a device is answered.
-ghost use Rattle.std.specs.Prelude.{◌≡◌, IfOk, IsTrue};
-ghost use Rattle.am_model.specs.Boards.{board_of};
+ghost use Rattle.std.specs.Prelude.{◌≡◌, IfOk, IsSome, IsTrue, Err};
+ghost use Rattle.am_model.specs.Boards.{board_of, caller_of};
 ghost use Rattle.am_model.specs.Sound.{IsSound};
 ghost use Rattle.am_types.specs.Reading.{Gives};
-ghost use Rattle.am_visible.specs.Answers.{answer_to, file_answer, is_query, line_of, reply_to};
+ghost use Rattle.am_visible.specs.Answers.{answer_to, file_answer, is_query, known_answer, line_of, reply_to};
 ghost use Rattle.am_visible.specs.Faults.{Answers};
 
 use crate::fault::VisibleFault;
@@ -54,13 +54,35 @@ pub fn answer(alloc: Global, known: Described, caller: u32, text: &[u8]) -> Resu
     }
 }
 
+/// Answers what the package of that name asks about a device that is known, as [`answer`] does.
+#[tactic(auto, unfolding(crate::specs::Answers::known_answer, crate::specs::Answers::answer_of))]
+fn answer_known(
+    alloc: Global,
+    known: Described,
+    name: &Text,
+    text: &[u8],
+) -> Result<Text, VisibleFault>
+    requires sound { IsSound known.device }
+    ensures answers { Answers result (known_answer known (caller_of known.device.packages name.now) text.now) }
+    ensures memory { result ≡ Err VisibleFault.NoMemory → IsSome (caller_of known.device.packages name.now) }
+{
+    let Some(caller) = caller_named(&known.device.packages, name) else {
+        return Err(VisibleFault::NoPackage);
+    };
+    match answer(alloc, known, caller, text) {
+        Ok(line) => Ok(line),
+        Err(Unmade::Fault(fault)) => Err(VisibleFault::Query(fault)),
+        Err(Unmade::NoMemory) => Err(VisibleFault::NoMemory),
+    }
+}
+
 /// Answers what the package of that name asks about the device of a file, as [`answer`] does.
 ///
 /// # Errors
 ///
 /// In this order: `Device` with the first fault of the file, `NoPackage` where the device has no package of the name
 /// and it isn't `android`, and `Query` as [`answer`]. `NoMemory` if memory runs out.
-#[tactic(auto, unfolding(crate::specs::Answers::file_answer, crate::specs::Answers::described_answer, crate::specs::Answers::known_answer, crate::specs::Answers::answer_of))]
+#[tactic(auto, unfolding(crate::specs::Answers::file_answer, crate::specs::Answers::described_answer))]
 pub fn answer_file(
     alloc: Global,
     file: &[u8],
@@ -69,17 +91,9 @@ pub fn answer_file(
 ) -> Result<Text, VisibleFault>
     ensures { Answers result (file_answer file.now name.now text.now) }
 {
-    let known = match read_described(alloc, file) {
-        Ok(known) => known,
-        Err(Unmade::Fault(fault)) => return Err(VisibleFault::Device(fault)),
-        Err(Unmade::NoMemory) => return Err(VisibleFault::NoMemory),
-    };
-    let Some(caller) = caller_named(&known.device.packages, name) else {
-        return Err(VisibleFault::NoPackage);
-    };
-    match answer(alloc, known, caller, text) {
-        Ok(line) => Ok(line),
-        Err(Unmade::Fault(fault)) => Err(VisibleFault::Query(fault)),
+    match read_described(alloc, file) {
+        Ok(known) => answer_known(alloc, known, name, text),
+        Err(Unmade::Fault(fault)) => Err(VisibleFault::Device(fault)),
         Err(Unmade::NoMemory) => Err(VisibleFault::NoMemory),
     }
 }

@@ -1,4 +1,6 @@
 //! The JSON value of a body.
+ghost use Rattle.std.specs.Prelude.{◌≡◌};
+ghost use Rattle.serde_json.specs.Errors.{IsMemory};
 ghost use Rattle.serde_json.specs.View.{view};
 ghost use Rattle.am_types.specs.Reading.{GivesBy};
 ghost use Rattle.am_wire_fields.specs.Bodies.{value_of};
@@ -7,6 +9,18 @@ use crate::{Unread, WireFault};
 use am_types::Unmade;
 use serde_json::Value;
 use std::alloc::Global;
+
+/// The fault of bytes at which `serde_json` met this error: they are no JSON, unless memory ran out.
+fn fault_of(error: &serde_json::Error) -> Unread
+    ensures memory { IsMemory error.now → result ≡ Unmade.NoMemory }
+    ensures refused { ¬ IsMemory error.now → result ≡ Unmade.Fault WireFault.NotJson }
+{
+    if error.is_memory() {
+        Unmade::NoMemory
+    } else {
+        Unmade::Fault(WireFault::NotJson)
+    }
+}
 
 /// The JSON value that the bytes are. Of a key that stands twice in an object, the last value counts.
 ///
@@ -20,7 +34,6 @@ pub fn json_value(alloc: Global, bytes: &[u8]) -> Result<Value, Unread>
 {
     match Value::from_slice(alloc, bytes) {
         Ok(value) => Ok(value),
-        Err(error) if error.is_memory() => Err(Unmade::NoMemory),
-        Err(_) => Err(Unmade::Fault(WireFault::NotJson)),
+        Err(error) => Err(fault_of(&error)),
     }
 }

@@ -1,6 +1,8 @@
 -- What a function that reads words answers.
-use Rattle.std.specs.Prelude.{◌≡◌, Option, Some, None, Result, Ok, Err}
+use Rattle.std.specs.Prelude.{◌≡◌, Option, Some, None, IsSome, Result, Ok, Err}
 use Rattle.clap.specs.Words.{first_value, found_of}
+use Rattle.clap.specs.declared.error.kind.ErrorKind.{ErrorKind}
+use Rattle.clap.specs.declared.error.kind.ErrorKind.TheVariants.{OutOfMemory}
 use Rattle.clap.specs.declared.parser.matches.ArgMatches.{ArgMatches}
 use Rattle.am_words.specs.Options.{Text, Options, value_of}
 use Rattle.am_words.specs.declared.command.WordsFault.{WordsFault}
@@ -15,6 +17,23 @@ Fails fault.Usage read = read ≡ None
 abbrev pub Reads : {X : Type 0} → Result X WordsFault → Option X → Type 0
 Reads (Ok x) read = read ≡ Some x
 Reads (Err met) read = Fails met read
+
+-- a function that reads in place answers with what is read, and takes no memory
+abbrev pub ReadsInPlace : {X : Type 0} → Result X WordsFault → Option X → Type 0
+ReadsInPlace (Ok x) read = read ≡ Some x
+ReadsInPlace (Err fault.Usage) read = read ≡ None
+ReadsInPlace (Err fault.NoMemory) read = ⊥
+
+-- a function that copies what is read answers with the copy, unless there is something to copy and memory ran out
+abbrev pub ReadsCopy : {X : Type 0} → Result X WordsFault → Option X → Type 0
+ReadsCopy (Ok x) read = read ≡ Some x
+ReadsCopy (Err fault.Usage) read = read ≡ None
+ReadsCopy (Err fault.NoMemory) read = IsSome read
+
+-- the fault that an error of `clap` of this kind is: memory ran out, or else the words aren't in the grammar
+abbrev pub fault_of : ErrorKind → WordsFault
+fault_of OutOfMemory = fault.NoMemory
+fault_of _ = fault.Usage
 
 -- these matches have the values of the options that are read, unless memory ran out
 abbrev pub Matches : Result ArgMatches WordsFault → Option Options → Type 0

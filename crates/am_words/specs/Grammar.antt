@@ -1,5 +1,5 @@
 -- The words behind the program's name: a command, then its options in any order.
-use Rattle.std.specs.Prelude.{if◌then◌else◌, List, [], ◌∷◌, Option, Some, None, option_and_then, bytes_eq, codes}
+use Rattle.std.specs.Prelude.{Bool, false, ◌||◌, if◌then◌else◌, List, [], ◌∷◌, Option, Some, None, option_and_then, bytes_eq, codes}
 use Rattle.am_words.specs.Options.{Text, options_of, value_of}
 use Rattle.am_words.specs.Values.{◌>>=◌, number_in, optional_number_in, path_of, optional_path_of, clock_of}
 use Rattle.am_words.specs.declared.command.Command.{Command}
@@ -70,6 +70,12 @@ named name words =
     else (if bytes_eq name (codes "drill") then command_of drill_names drill_of words
     else (if bytes_eq name (codes "visible") then command_of visible_names visible_of words
     else None)))
+
+-- the words begin with the name of a command
+abbrev pub begins_with_command : List Text → Bool
+begins_with_command [] = false
+begins_with_command (name ∷ words) =
+    bytes_eq name (codes "session") || (bytes_eq name (codes "serve") || (bytes_eq name (codes "drill") || bytes_eq name (codes "visible")))
 
 -- the command that the words say, if they say one
 unfoldable pub read_command : List Text → Option Command

@@ -1,8 +1,9 @@
 //! The commands.
-ghost use Rattle.std.specs.Prelude.{IfOk};
+ghost use Rattle.std.specs.Prelude.{◌≡◌, Err, IfOk, IsSome, IsTrue, codes};
 ghost use Rattle.clap.specs.Words.{first_value, found_of};
-ghost use Rattle.am_words.specs.Grammar.{command_of, drill_names, drill_of, read_command, serve_names, serve_of, session_names, session_of, visible_names, visible_of};
-ghost use Rattle.am_words.specs.Answers.{Reads};
+ghost use Rattle.am_words.specs.Grammar.{begins_with_command, command_of, drill_names, drill_of, read_command, serve_names, serve_of, session_names, session_of, visible_names, visible_of};
+ghost use Rattle.am_words.specs.Answers.{Reads, ReadsInPlace};
+ghost use Rattle.am_words.specs.Values.{path_of};
 ghost use Rattle.am_words.specs.Ranges.{IsInRange, ReadsCommand};
 
 use crate::options::{borrowed, read_options};
@@ -23,7 +24,9 @@ static VISIBLE: [&str; 2] = ["device", "as"];
 /// The session that its options make.
 #[tactic(auto, unfolding(crate::specs::Grammar::session_of))]
 fn session_of(alloc: Global, matches: &ArgMatches<'_>) -> Result<Command, WordsFault>
-    ensures { ReadsCommand result (session_of (first_value (found_of matches.now))) }
+    ensures read { ReadsCommand result (session_of (first_value (found_of matches.now))) }
+    ensures memory { result ≡ Err WordsFault.NoMemory
+        → IsSome (path_of (first_value (found_of matches.now) (codes "device"))) }
 {
     let device = path_of(alloc, matches.get_str("device"))?;
     let store = optional_path_of(alloc, matches.get_str("store"))?;
@@ -38,7 +41,9 @@ fn session_of(alloc: Global, matches: &ArgMatches<'_>) -> Result<Command, WordsF
 /// The service that its options make.
 #[tactic(auto, unfolding(crate::specs::Grammar::serve_of))]
 fn serve_of(alloc: Global, matches: &ArgMatches<'_>) -> Result<Command, WordsFault>
-    ensures { ReadsCommand result (serve_of (first_value (found_of matches.now))) }
+    ensures read { ReadsCommand result (serve_of (first_value (found_of matches.now))) }
+    ensures memory { result ≡ Err WordsFault.NoMemory
+        → IsSome (path_of (first_value (found_of matches.now) (codes "device"))) }
 {
     let device = path_of(alloc, matches.get_str("device"))?;
     let port = number_in(1, 65535, matches.get_str("port"))?;
@@ -57,7 +62,8 @@ fn serve_of(alloc: Global, matches: &ArgMatches<'_>) -> Result<Command, WordsFau
 /// The drill that its options make.
 #[tactic(auto, unfolding(crate::specs::Grammar::drill_of))]
 fn drill_of(matches: &ArgMatches<'_>) -> Result<Command, WordsFault>
-    ensures { ReadsCommand result (drill_of (first_value (found_of matches.now))) }
+    ensures read { ReadsInPlace result (drill_of (first_value (found_of matches.now))) }
+    ensures range { IfOk result IsInRange }
 {
     let from = number_in(0, 18446744073709551615, matches.get_str("from"))?;
     let packages = number_in(1, 256, matches.get_str("packages"))?;
@@ -72,7 +78,9 @@ fn drill_of(matches: &ArgMatches<'_>) -> Result<Command, WordsFault>
 /// The question that its options make.
 #[tactic(auto, unfolding(crate::specs::Grammar::visible_of))]
 fn visible_of(alloc: Global, matches: &ArgMatches<'_>) -> Result<Command, WordsFault>
-    ensures { ReadsCommand result (visible_of (first_value (found_of matches.now))) }
+    ensures read { ReadsCommand result (visible_of (first_value (found_of matches.now))) }
+    ensures memory { result ≡ Err WordsFault.NoMemory
+        → IsSome (path_of (first_value (found_of matches.now) (codes "device"))) }
 {
     let device = path_of(alloc, matches.get_str("device"))?;
     let Some(package) = matches.get_str("as") else {
@@ -122,11 +130,12 @@ fn visible(alloc: Global, words: &[Text]) -> Result<Command, WordsFault>
 ///
 /// # Errors
 ///
-/// `Usage` if the grammar has no such words, `NoMemory` if memory runs out.
+/// `Usage` if the grammar has no such words, `NoMemory` if memory runs out, as it can only behind a command's name.
 #[tactic(auto, unfolding(crate::specs::Grammar::read_command, crate::specs::Grammar::named))]
 pub fn read_command(alloc: Global, words: &[Text]) -> Result<Command, WordsFault>
     ensures read { Reads result (read_command words.now) }
     ensures range { IfOk result IsInRange }
+    ensures memory { result ≡ Err WordsFault.NoMemory → IsTrue (begins_with_command words.now) }
 {
     let [name, options @ ..] = words else {
         return Err(WordsFault::Usage);

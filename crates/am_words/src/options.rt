@@ -1,11 +1,10 @@
 //! The options of a command, which `clap` reads.
-ghost use Rattle.std.specs.Prelude.{◌≡◌, IfOk, false, map};
-ghost use Rattle.std.specs.List.{list_all};
+ghost use Rattle.std.specs.Prelude.{◌≡◌, Err, IfOk, IsTrue, false, map};
 ghost use Rattle.std.specs.List.{list_all};
 ghost use Rattle.clap.specs.Words.{app_of, rule_of};
 ghost use Rattle.am_words.specs.Options.{options_of};
 ghost use Rattle.am_words.specs.Parsed.{app_named, is_fit, named_rule};
-ghost use Rattle.am_words.specs.Answers.{Matches};
+ghost use Rattle.am_words.specs.Answers.{Matches, fault_of};
 
 use crate::WordsFault;
 use am_types::Text;
@@ -63,14 +62,25 @@ fn command<'a>(alloc: Global, names: &'a [&'a str]) -> Result<Command<'a>, Alloc
     Ok(command)
 }
 
+/// The fault of words with which `clap` met an error of this kind.
+fn fault_of(kind: ErrorKind) -> WordsFault
+    ensures { result ≡ fault_of kind }
+{
+    match kind {
+        ErrorKind::OutOfMemory => WordsFault::NoMemory,
+        _ => WordsFault::Usage,
+    }
+}
+
 /// What the words say of the options with these names.
 pub(crate) fn read_options<'a>(
     alloc: Global,
     names: &'a [&'a str],
     words: &'a [&'a str],
 ) -> Result<ArgMatches<'a>, WordsFault>
-    ensures { Matches result (options_of (map (λ name. name.now) names.entry.now)
+    ensures read { Matches result (options_of (map (λ name. name.now) names.entry.now)
         (map (λ word. word.now) words.entry.now)) }
+    ensures memory { result ≡ Err WordsFault.NoMemory → IsTrue (list_all (λ word. is_fit word.now) words.entry.now) }
 {
     if !are_fit(words) {
         return Err(WordsFault::Usage);
@@ -78,9 +88,6 @@ pub(crate) fn read_options<'a>(
     let command = command(alloc, names)?;
     match command.try_get_matches_from(words) {
         Ok(matches) => Ok(matches),
-        Err(error) => match error.kind() {
-            ErrorKind::OutOfMemory => Err(WordsFault::NoMemory),
-            _ => Err(WordsFault::Usage),
-        },
+        Err(error) => Err(fault_of(error.kind())),
     }
 }

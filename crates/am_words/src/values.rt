@@ -3,7 +3,7 @@ ghost use Rattle.std.specs.Prelude.{◌≡◌, ◌≤◌, IfOk, IfSome, option_m
 ghost use Rattle.std.specs.Char.{is_ascii_digit};
 ghost use Rattle.std.specs.List.{list_all};
 ghost use Rattle.am_words.specs.Values.{clock_of, number_in, number_of, optional_number_in, optional_path_of, path_of};
-ghost use Rattle.am_words.specs.Answers.{Reads};
+ghost use Rattle.am_words.specs.Answers.{ReadsCopy, ReadsInPlace};
 
 use crate::{StepWords, WordsFault};
 use am_types::Text;
@@ -29,7 +29,7 @@ fn number_of(text: &str) -> Option<u64>
 /// The number between `least` and `most` that a value says, which must be given.
 #[tactic(auto, unfolding(crate::specs::Values::number_in))]
 pub(crate) fn number_in(least: u64, most: u64, value: Option<&str>) -> Result<u64, WordsFault>
-    ensures read { Reads result (number_in least most (option_map (λ text. text.now) value.entry)) }
+    ensures read { ReadsInPlace result (number_in least most (option_map (λ text. text.now) value.entry)) }
     ensures least { IfOk result (λ number. least ≤ number) }
     ensures most { IfOk result (λ number. number ≤ most) }
 {
@@ -53,7 +53,7 @@ pub(crate) fn optional_number_in(
     most: u32,
     value: Option<&str>,
 ) -> Result<Option<u32>, WordsFault>
-    ensures read { Reads result (optional_number_in least most (option_map (λ text. text.now) value.entry)) }
+    ensures read { ReadsInPlace result (optional_number_in least most (option_map (λ text. text.now) value.entry)) }
     ensures least { IfOk result (λ number. IfSome number (λ n. least ≤ n)) }
 {
     if value.is_none() {
@@ -66,7 +66,7 @@ pub(crate) fn optional_number_in(
 /// The name of a file that a value is, which must be given.
 #[tactic(auto, unfolding(crate::specs::Values::path_of))]
 pub(crate) fn path_of(alloc: Global, value: Option<&str>) -> Result<Text, WordsFault>
-    ensures { Reads result (path_of (option_map (λ text. text.now) value.entry)) }
+    ensures { ReadsCopy result (path_of (option_map (λ text. text.now) value.entry)) }
 {
     match value {
         None => Err(WordsFault::Usage),
@@ -81,7 +81,7 @@ pub(crate) fn optional_path_of(
     alloc: Global,
     value: Option<&str>,
 ) -> Result<Option<Text>, WordsFault>
-    ensures { Reads result (optional_path_of (option_map (λ text. text.now) value.entry)) }
+    ensures { ReadsCopy result (optional_path_of (option_map (λ text. text.now) value.entry)) }
 {
     if value.is_none() {
         return Ok(None);
@@ -96,7 +96,7 @@ pub(crate) fn clock_of(
     at: Option<&str>,
     step: Option<&str>,
 ) -> Result<Option<StepWords>, WordsFault>
-    ensures { Reads result (clock_of (option_map (λ text. text.now) at.entry)
+    ensures { ReadsInPlace result (clock_of (option_map (λ text. text.now) at.entry)
         (option_map (λ text. text.now) step.entry)) }
 {
     match (at, step) {
@@ -109,7 +109,7 @@ pub(crate) fn clock_of(
 /// The clock of these two numbers.
 #[tactic(auto, unfolding(crate::specs::Values::clock_of))]
 fn clock_between(at: &str, step: &str) -> Result<Option<StepWords>, WordsFault>
-    ensures { Reads result (clock_of (Some at.now) (Some step.now)) }
+    ensures { ReadsInPlace result (clock_of (Some at.now) (Some step.now)) }
 {
     let (Some(at), Some(step)) = (number_of(at), number_of(step)) else {
         return Err(WordsFault::Usage);

@@ -46,7 +46,7 @@ returns-in-Err-begin-clause-refused g c is whole =
 
 pub returns-in-Err-clause-refused : goal.returns-in-Err-clause-refused
 returns-in-Err-clause-refused g c is =
-    let other = c.fail.ensures is in
+    let other = c.fail.ensures.failed is in
     IfSome_then c.in-Err.left c.in-Err.ensures.cause (λ left cause clean.
     let same = ap₂ image (ap₂ (seen g.S.Start.log g.S.Start.db) cause.1.0 cause.1.1) (ap₂ (seen g.S.Start.log g.S.Start.db) cause.2.0 cause.2.1) in
     open_refused (image_at g.S.Start) cause.0 left c.in-Err.error same other (cause.3 clean).0)

@@ -49,7 +49,7 @@ returns-in-Err-clause-failed g c clean live none holds is =
     let new = state g.S.Store c.query.follows.lender-at-none in
     let held = c.query.follows.holds-at-none in
     let failed : FailsToQuery select_text [] old new c.in-Err.error = (rw c.in-Err.is at held).err clean in
-    let other = c.fail.ensures (let same : c.fail.result ≡ Failed = cc in same) in
+    let other = c.fail.ensures.failed (let same : c.fail.result ≡ Failed = cc in same) in
     elim (select_fails old new c.in-Err.error holds.schema live none failed) [ inl memory ↦ absurd (other memory) | inr more ↦ inl more ]
 
 pub returns-then-not-more-clause-told : goal.returns-then-not-more-clause-told

@@ -1,7 +1,7 @@
 use Rattle.std.proofs.Common.{List, subst}
 use Rattle.am_types.specs.declared.history.Entry.{Entry}
-use Rattle.am_live.specs.declared.change.Plan.{Plan}
-use Rattle.am_live.specs.Changes.{IsPlanOf, IsAccepted, IsRefusedBy}
+use Rattle.am_live_packages.specs.declared.change.Plan.{Plan}
+use Rattle.am_live_packages.specs.Changes.{IsPlanOf, IsAccepted, IsRefusedBy}
 use Rattle.am_machine.proofs.Kept.{refused_step, made_done, made_asked, made_put}
 use Rattle.am_machine.proofs.keeping.keep.Goals as goal
 

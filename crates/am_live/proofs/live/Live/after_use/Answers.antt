@@ -4,6 +4,7 @@ use Rattle.am_types.specs.declared.reply.Reply.{Reply}
 use Rattle.am_history.specs.PendingCalls.{lend, used_up}
 use Rattle.am_history.specs.State.{State}
 use Rattle.am_history.specs.Steps.{at_moment}
+use Rattle.am_live.specs.contracts.live.Live.{the_view}
 use Rattle.am_live.proofs.live.Live.after_use.Goals as goal
 use Rattle.am_live.proofs.live.Live.after_use.Goals.{then-one_shot, else-one_shot}
 
@@ -16,7 +17,8 @@ returns-clause-done g c =
       | then-one_shot w ↦
           ap chosen w.if-one_shot.true
           ∙ ap (used_up c.args.token used.creator) c.in_ok-reply.ensures.done
-          ∙ w.use_up.ensures c.in_ok-reply.reply
+          ∙ ap (λ (left : State). used_up c.args.token used.creator (c.in_ok-reply.reply, left)) (sym c.self.view_is)
+          ∙ w.use_up.ensures (the_view c.self.inside) c.in_ok-reply.reply
           ∙ ap (λ (left : State). (c.in_ok-reply.reply, left)) (sym w.self-is)
       | else-one_shot w ↦
           ap chosen w.if-one_shot.false

@@ -1,4 +1,4 @@
-use Rattle.am_live.proofs.PackageLemmas.{right_carried}
+use Rattle.am_live_packages.proofs.PackageLemmas.{right_carried}
 use Rattle.am_live.proofs.live.Live.carry_out.Goals as goal
 
 pub returns-in-Right : goal.returns-in-Right

@@ -2,7 +2,7 @@ use Rattle.std.proofs.Common.{◌∙◌, ap, sym}
 use Rattle.std.specs.Option.{option_copied}
 use Rattle.am_model.specs.Boards.{package_named}
 use Rattle.am_history.specs.State.{State}
-use Rattle.am_live.proofs.PackageLemmas.{none_stopped, stop_refused, stops}
+use Rattle.am_live_packages.proofs.PackageLemmas.{none_stopped, stop_refused, stops}
 use Rattle.am_live.proofs.live.Live.force_stop.Goals as goal
 
 pub returns-then-not-is_privileged : goal.returns-then-not-is_privileged

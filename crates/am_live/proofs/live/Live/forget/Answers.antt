@@ -1,4 +1,4 @@
-use Rattle.am_live.proofs.PackageLemmas.{forgotten}
+use Rattle.am_live_packages.proofs.PackageLemmas.{forgotten}
 use Rattle.am_live.proofs.live.Live.forget.Goals as goal
 
 pub returns : goal.returns

@@ -9,7 +9,7 @@ use Rattle.am_history.specs.PendingCalls.{after_use, pending_send}
 use Rattle.am_history.specs.State.{State}
 use Rattle.am_history.specs.Steps.{at_moment}
 use Rattle.am_pending.specs.Answers.{IsRefusal}
-use Rattle.am_live.proofs.PendingLemmas.{fault_is, sent_as}
+use Rattle.am_live_pendings.proofs.PendingLemmas.{fault_is, sent_as}
 use Rattle.am_live.proofs.live.Live.pending_send.Goals as goal
 
 pub returns-in-Ok-clause-done : goal.returns-in-Ok-clause-done

@@ -1,7 +1,11 @@
-use Rattle.std.proofs.Common.{◌∙◌, sym}
-use Rattle.am_live.proofs.PackageLemmas.{not_admin}
+use Rattle.std.proofs.Common.{refl}
+use Rattle.std.proofs.lemmas.Result.{IfOk-weaker}
+use Rattle.am_live_packages.specs.declared.change.Plan.{Plan}
+use Rattle.am_live.proofs.KnownLemmas.{planned_for}
 use Rattle.am_live.proofs.live.Live.plan.Goals as goal
 
-pub returns-then-not-is_privileged : goal.returns-then-not-is_privileged
-returns-then-not-is_privileged c =
-    not_admin c.args.self.now c.args.caller c.args.request.now (sym c.is_privileged.ensures ∙ c.if-not-is_privileged.true) c.requires.keeps
+pub returns : goal.returns
+returns c =
+    IfOk-weaker c.plan.result _ _
+    (λ (plan : Plan) planned. planned_for _ _ c.args.self.now plan c.args.caller c.args.request.now c.self.view_is refl c.requires.sound planned)
+    c.plan.ensures

@@ -1,4 +1,4 @@
-use Rattle.am_live.proofs.PackageLemmas.{few_left, install_undone, right_undone}
+use Rattle.am_live_packages.proofs.PackageLemmas.{few_left, install_undone, right_undone}
 use Rattle.am_live.proofs.live.Live.take_back.Goals as goal
 
 pub invariant_of-self : goal.invariant_of-self
