@@ -1,9 +1,7 @@
-//! What the program takes from the system: readers, writers, files and the clock.
-use am_host::{Counted, SystemClock, SystemFiles};
-use am_outside::{Clock, Failed, FileFail, Files, Sink, Source};
-use am_types::Text;
+//! What the program takes from the system: readers, writers and the clock.
+use am_host::{Counted, SystemClock};
+use am_outside::{Clock, Failed, Sink, Source};
 use std::io::{self, ErrorKind, Read};
-use std::test::Fail;
 
 /// A reader that a signal interrupts, that then gives a byte, and then fails.
 #[derive(Drop)]
@@ -44,14 +42,8 @@ fn writes_some(rt: HostRuntime) {
 }
 
 #[test]
-fn reads_files_and_the_clock(rt: HostRuntime) -> Result<(), Fail> {
-    let mut files = SystemFiles::new(rt);
-    let absent = Text::of(rt.alloc(), "no/such/file")?;
-    assert!(rt; matches!(files.read_file(&absent), Err(FileFail::Failed)));
-    let nothing = Text::of(rt.alloc(), "/dev/null")?;
-    assert!(rt; matches!(files.read_file(&nothing), Ok(_)));
+fn reads_the_clock(rt: HostRuntime) {
     let mut clock = SystemClock::new(rt);
     assert!(rt; 1_700_000_000_000 < clock.another().now());
     assert!(rt; clock.now() <= clock.now());
-    Ok(())
 }

@@ -1,12 +1,9 @@
-//! Whole connections over a device whose packages declare nothing.
+//! Connections over a device whose packages declare nothing: in pieces, cut off anywhere, and with a fault at each read or
+//! write.
 ghost use Rattle.std.specs.Prelude.{◌<◌};
 
-mod inputs;
-
-use self::inputs::{CLIENTS, CONNECTIONS};
 use am_trials_runs::{Left, Outside, QUIET, Runtime, session_over};
-use am_trials_spelling::{EMPTY, spelled_out};
-use am_trials_words::try_each;
+use am_trials_spelling::EMPTY;
 use am_types::NoMemory;
 use std::alloc::Global;
 use std::process::Abort;
@@ -62,46 +59,10 @@ fn end(errors: &[u8]) -> &'static str {
     match errors {
         b"" => "ended",
         b"am: session ended: cut\n" => "cut",
-        b"am: session ended: refused\n" => "refused",
-        b"am: session ended: limit\n" => "limit",
         b"am: read fault\n" => "read fault",
         b"am: write fault\n" => "write fault",
         _ => "another end",
     }
-}
-
-/// The responses, by status and body, and the end.
-fn outcome(rt: &impl Runtime, alloc: Global, input: &[u8]) -> Result<String, Fail> {
-    let left = serve(rt, alloc, input, &WHOLE)?;
-    let mut words = String::new(alloc);
-    for response in left.text()?.split("HTTP/1.1 ").skip(1) {
-        push_response(&mut words, response)?;
-    }
-    words.push_str(end(left.errors.taken()))?;
-    Ok(words)
-}
-
-/// Adds the status and the body of a response.
-fn push_response(words: &mut String, response: &str) -> Result<(), Fail> {
-    let (status, _) = response.split_once(' ').ok_or("a status")?;
-    let (_, body) = response.split_once("\r\n\r\n").ok_or("a body")?;
-    write!(words, "{status} {body}, ")?;
-    Ok(())
-}
-
-fn try_row(rt: &(impl Runtime + Abort), alloc: Global, row: &str) -> Result<(), Fail> {
-    let (name, behind) = row.split_once(" | ").ok_or("a name")?;
-    let (input, wanted) = behind.split_once(" -> ").ok_or("an outcome")?;
-    let bytes = spelled_out(alloc, input)?;
-    let found = outcome(rt, alloc, bytes.as_slice())?;
-    assert_eq!(rt; found.as_str(), wanted, "{name}");
-    Ok(())
-}
-
-#[test]
-fn answers_clients_and_ends(rt: HostRuntime) -> Result<(), Fail> {
-    try_each(CLIENTS, 10, |row| try_row(&rt, rt.alloc(), row))?;
-    try_each(CONNECTIONS, 20, |row| try_row(&rt, rt.alloc(), row))
 }
 
 /// A session with that input ends so after these bytes.
@@ -187,24 +148,5 @@ fn each_write_fails(rt: HostRuntime) -> Result<(), Fail> {
         number = number.wrapping_add(1);
         try_fault(&rt, rt.alloc(), "output", number, ("write fault", written))?;
     }
-    Ok(())
-}
-
-/// So many frames to a path without a route.
-fn many(alloc: Global, count: u32) -> Result<Vec<u8>, NoMemory> {
-    let mut frames = Vec::new(alloc);
-    for _ in 0..count {
-        frames.extend_from_slice(b"GET / HTTP/1.1\r\n\r\n")?;
-    }
-    Ok(frames)
-}
-
-#[test]
-fn answers_65536_frames(rt: HostRuntime) -> Result<(), Fail> {
-    let alloc = rt.alloc();
-    let left = serve(&rt, alloc, many(alloc, 65_537)?.as_slice(), &WHOLE)?;
-    assert_eq!(rt; end(left.errors.taken()), "limit");
-    let answers = left.text()?.split("HTTP/1.1 404 Not Found").count();
-    assert_eq!(rt; answers, 65_537);
     Ok(())
 }

@@ -1,5 +1,5 @@
 //! Sessions whose keeper fails at one of its calls, and what is found again of them.
-ghost use Rattle.std.specs.Prelude.{◌≡◌, ◌≤◌, Err, IfOk};
+ghost use Rattle.std.specs.Prelude.{◌≡◌, ◌≢◌, ◌≤◌, Err, IfOk};
 ghost use Rattle.am_outside.specs.Counts.{HasRisen};
 ghost use Rattle.am_keeper.specs.Rows.{IsInOrder};
 
@@ -19,6 +19,7 @@ use std::test::Fail;
 #[derive(Drop)]
 struct SilentKeeper {
     keeper: MemoryKeeper,
+    place: Option<Text>,
     faults: u64,
 }
 
@@ -26,8 +27,10 @@ impl SilentKeeper {
     /// Counts a fault, if there was one.
     fn counted(&mut self, done: Result<(), KeepFail>) -> Result<(), KeepFail>
         ensures same { result ≡ done }
+        ensures place { self.new.place ≡ self.old.place }
         ensures never_falls { self.old.faults ≤ self.new.faults }
         ensures failed { done ≡ Err KeepFail.Failed → HasRisen self.old.faults self.new.faults }
+        ensures only_failed { done ≢ Err KeepFail.Failed → self.new.faults ≡ self.old.faults }
     {
         if let Err(KeepFail::Failed) = done {
             self.faults = self.faults.saturating_add(1);
@@ -41,7 +44,7 @@ impl Keeper for SilentKeeper {
 
     ghost rows = { λ k. None };
 
-    ghost place = { λ k. None };
+    ghost place = { λ k. k.place };
 
     ghost is_honest = { λ k. ⊥ };
 
@@ -83,12 +86,17 @@ impl Store for FailingStore {
 
     ghost keeper_faults = { λ s. s.faults };
 
-    fn attach(&mut self, _path: Option<&Text>) -> Result<Attached<SilentKeeper>, KeepFail> {
+    fn attach(&mut self, path: Option<&Text>) -> Result<Attached<SilentKeeper>, KeepFail> {
         let mut failing = Vec::new(self.alloc);
         failing.push(self.call)?;
+        let place = match path {
+            Some(path) => Some(path.clone()?),
+            None => None,
+        };
         let none = RowsBuilder::new(self.alloc).finish();
         let keeper = SilentKeeper {
             keeper: MemoryKeeper::new(self.alloc, none, List::new(failing)),
+            place,
             faults: 0,
         };
         let rows = RowsBuilder::new(self.alloc).finish();
@@ -96,7 +104,11 @@ impl Store for FailingStore {
     }
 
     fn detach(&mut self, keeper: SilentKeeper) {
-        let SilentKeeper { keeper, faults } = keeper;
+        let SilentKeeper {
+            keeper,
+            place: _,
+            faults,
+        } = keeper;
         self.faults = self.faults.saturating_add(faults);
         self.left = Some(keeper);
     }

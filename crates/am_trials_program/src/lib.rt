@@ -1,5 +1,5 @@
-//! Trials of the program behind its `main`: whole connections, what they refuse, what its stores keep, how runs end, and
-//! servings over a network, also of two workers at the same time.
+//! Trials of the program behind its `main`, where something fails or comes in pieces: connections, keepers, how runs end,
+//! and servings over a network, also of two workers at the same time.
 #![tactic(auto)]
 
 #[cfg(test)]
@@ -7,12 +7,8 @@ mod connections;
 #[cfg(test)]
 mod failing;
 #[cfg(test)]
-mod refusals;
-#[cfg(test)]
 mod servings;
 #[cfg(test)]
 mod sessions;
-#[cfg(test)]
-mod stores;
 #[cfg(test)]
 mod waiting;

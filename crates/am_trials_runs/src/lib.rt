@@ -235,7 +235,7 @@ where
     T::Kept: Send,
     requires { 0 < outside.now.most }
 {
-    let words = texts(alloc, asked.words, "")?;
+    let words = texts(alloc, asked.words)?;
     let mut files = shelf(alloc, asked.device, outside)?;
     let room = asked.input.len().saturating_mul(8).saturating_add(65_536);
     let mut output = sink(alloc, "output", room, outside)?;

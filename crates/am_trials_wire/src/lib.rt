@@ -1,13 +1,14 @@
-//! Trials of how the wire is read: routes, fields, requests, and requests that are written and read again.
+//! Trials of what no session shows: bodies, targets and manifests that no frame holds, replies that no call brings about,
+//! and what the root sees.
 #![tactic(auto)]
 
 #[cfg(test)]
-mod endpoints;
+mod bodies;
 #[cfg(test)]
-mod fields;
+mod manifests;
 #[cfg(test)]
-mod read_back;
+mod replies;
 #[cfg(test)]
-mod requests;
+mod root;
 #[cfg(test)]
-mod routes;
+mod targets;

@@ -1,6 +1,6 @@
 //! Tables of rows, sections and documents that are tried one after the other.
 use crate::spelled_out;
-use std::alloc::{AllocError, Global};
+use std::alloc::Global;
 use std::test::Fail;
 
 /// Tries each row of a table, of which there are as many as wanted. A line that begins with `#` is a remark, and no
@@ -93,33 +93,6 @@ pub fn try_documents<F: FnMut(&str) -> Result<String, Fail>>(
         }
     }
     Ok(())
-}
-
-/// Adds the row, or a row for each choice that it has.
-fn push_choices(rows: &mut String, row: &str) -> Result<(), AllocError> {
-    let Some((front, rest)) = row.split_once("<any ") else {
-        write!(rows, "{row}\n")?;
-        return Ok(());
-    };
-    let (choices, behind) = rest.split_once('>').unwrap_or((rest, ""));
-    for choice in choices.split(" or ") {
-        write!(rows, "{front}{choice}")?;
-        match behind.split_once("<it>") {
-            Some((middle, end)) => write!(rows, "{middle}{choice}{end}\n")?,
-            None => write!(rows, "{behind}\n")?,
-        }
-    }
-    Ok(())
-}
-
-/// The table with a row for each choice of a row: `<any 1 or 2>` in a row stands for either, and `<it>` behind that for
-/// the same again.
-pub fn with_choices(alloc: Global, table: &str) -> Result<String, AllocError> {
-    let mut rows = String::new(alloc);
-    for row in table.lines() {
-        push_choices(&mut rows, row)?;
-    }
-    Ok(rows)
 }
 
 fn same_count(found: usize, wanted: u32) -> Result<(), Fail> {

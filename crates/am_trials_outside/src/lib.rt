@@ -1,0 +1,5 @@
+//! Trials of the outside in memory.
+#![tactic(auto)]
+
+#[cfg(test)]
+mod outside;

@@ -1,0 +1,5 @@
+//! Trials of URIs and paths whose values no request shows.
+#![tactic(auto)]
+
+#[cfg(test)]
+mod uris;
