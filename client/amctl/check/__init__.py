@@ -1,0 +1,140 @@
+"""Before an app is published: what it takes from a device's apps, what it opens to them, and what they catch of it.
+
+    app         the app, and where its parts stand
+    facts       what the converter writes beside a device file
+    intents     the intents to ask with, by the witnesses of `witness`
+    asking      the device without the app, with it, and with its links approved
+    resolution  what other intents open now
+    links       the app's web links
+    exposed     what any app reaches
+    caught      what others get of the app's calls, by `history` or its `queries`
+    names       names that collide
+    report      the findings as a table and as JSON; `sarif` and `junit` write the other forms
+"""
+import sys
+from collections.abc import Iterator, Sequence
+from dataclasses import dataclass
+from pathlib import Path
+from typing import TextIO, get_args
+
+from amctl import words_check
+from amctl.check import caught, exposed, history, junit, links, names, resolution, sarif
+from amctl.check.app import App, Unreadable, read
+from amctl.check.asking import Copies, caller_name
+from amctl.check.assetlinks import Statements, read_statements
+from amctl.check.baseline import read_ids
+from amctl.check.facts import read_facts
+from amctl.check.finding import SEVERITIES, Finding, Severity
+from amctl.check.history import Call
+from amctl.check.intents import questions
+from amctl.check.report import Report, ordered, write_json, write_text
+from amctl.device import Refusal
+from amctl.devicefile import DeviceFile
+from amctl.errors import BadWords
+from amctl.transport import body_of
+
+__all__ = ["Asked", "Finding", "Report", "Severity", "check", "main"]
+
+FORMATS = ("text", "json", "sarif", "junit")
+MOST_PACKAGES = 256
+# an installation is one request, and its body has at most so many bytes
+MOST_BODY = 65_536
+FOUND, UNUSABLE = 1, 2
+# how `am` refuses an app that is too large, or that it can't read
+UNFIT = ("bad_manifest", "bad_request", "over_limit")
+
+
+@dataclass(frozen=True)
+class Asked:
+    """What is checked on which device, and what else is known."""
+
+    app: Path
+    device: Path
+    facts: Path | None = None
+    assetlinks: Path | None = None
+    history: Path | None = None
+    am: Path | None = None
+
+
+def check(asked: Asked) -> Report:
+    """What is found. An app that can't be read is a finding of its own."""
+    device = DeviceFile.read(asked.device)
+    facts, statements = read_facts(asked.facts), None if asked.assetlinks is None else read_statements(asked.assetlinks)
+    try:
+        app = read(asked.app, facts)
+        _refuse(app, device)
+        calls = None if asked.history is None else history.calls_of(asked.history, app.package, asked.device, asked.am)
+        found = ordered(_findings(asked, app, device, statements, calls))
+    except Unreadable as fault:
+        found = (Finding("unreadable", asked.app.name, str(fault), fault.place),)
+    return Report(asked.app, asked.device, found)
+
+
+def _refuse(app: App, device: DeviceFile) -> None:
+    """What would come to nothing is said before anything runs."""
+    size = len(body_of({"key": device.key_for_new(app.package), "manifest": app.text}))
+    if size > MOST_BODY:
+        raise Unreadable(words_check.too_large(size, MOST_BODY))
+    if device.package(app.package):
+        raise BadWords(words_check.installed_already(app.package, device.path))
+    if len(device.packages) + 2 > MOST_PACKAGES:
+        raise BadWords(words_check.too_many(len(device.packages), device.path, MOST_PACKAGES))
+
+
+def _findings(asked: Asked, app: App, device: DeviceFile, statements: Statements | None, calls: Sequence[Call] | None) -> Iterator[Finding]:
+    yield from names.check(app, device)
+    with Copies(asked.device, asked.am, caller_name(device, app.package)) as copies:
+        _install(copies, app)
+        others = [it for package in device.packages for it in package.components]
+        touched = resolution.concerned(copies, app, questions([*app.components, *others]))
+        yield from resolution.check(copies, app, touched)
+        yield from links.check(copies, app, links.web_links(app, touched), statements)
+        yield from exposed.check(copies, app)
+        if calls is None:
+            yield from caught.of_queries(copies, app)
+        else:
+            yield from caught.of_calls(copies, app, calls)
+            yield from caught.pending(app, calls)
+
+
+def _install(copies: Copies, app: App) -> None:
+    try:
+        copies.install(app.text)
+    except Refusal as refused:
+        if refused.rule == "bad_manifest" and refused.name:
+            raise app.refused(refused.name) from None
+        if refused.rule in UNFIT:
+            raise Unreadable(words_check.refused(refused.sentence)) from None
+        raise
+
+
+def main(asked: Asked, *, severity: str = "error", form: str = "text", baseline: Path | None = None, out: TextIO | None = None) -> int:
+    """Prints the findings, and gives the exit status: 1 from the chosen severity on, and 2 for an app that can't be used."""
+    least = _severity(severity)
+    if form not in FORMATS:
+        raise BadWords(words_check.no_format(form, FORMATS))
+    known = frozenset[str]() if baseline is None else read_ids(baseline)
+    whole = check(asked)
+    report = whole.without(known)
+    _write(report, form, least, out or sys.stdout)
+    if any(it.rule == "unreadable" for it in whole.findings):
+        return UNUSABLE
+    return FOUND if report.has(least) else 0
+
+
+def _severity(word: str) -> Severity:
+    found = next((it for it in SEVERITIES if it == word), None)
+    if found is None:
+        raise BadWords(words_check.no_severity(word, get_args(Severity)))
+    return found
+
+
+def _write(report: Report, form: str, least: Severity, out: TextIO) -> None:
+    if form == "json":
+        write_json(report, out)
+    elif form == "sarif":
+        sarif.write(report, out)
+    elif form == "junit":
+        junit.write(report, least, out)
+    else:
+        write_text(report, out)

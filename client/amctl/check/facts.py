@@ -1,0 +1,64 @@
+"""What a device file can't say of its packages and the converter writes beside it: permissions, verified hosts and the like."""
+import json
+from collections.abc import Mapping
+from dataclasses import dataclass, field
+from pathlib import Path
+from typing import Any
+
+from amctl import words_check
+from amctl.errors import BadWords
+
+
+@dataclass(frozen=True)
+class PackageFacts:
+    """What is known of a package: the permissions that it defines, each with its level, and the hosts that it wants verified."""
+
+    permissions: Mapping[str, str] = field(default_factory=dict)
+    auto_verify: tuple[str, ...] = ()
+
+
+@dataclass(frozen=True)
+class Facts:
+    packages: Mapping[str, PackageFacts] = field(default_factory=dict)
+
+    def of(self, package: str) -> PackageFacts | None:
+        return self.packages.get(package)
+
+    def level(self, permission: str) -> str | None:
+        """The level of a permission, where some package is known to define it."""
+        return next((it.permissions[permission] for it in self.packages.values() if permission in it.permissions), None)
+
+    def with_package(self, name: str, facts: PackageFacts) -> "Facts":
+        return Facts({**self.packages, name: facts})
+
+
+def read_facts(path: Path | None) -> Facts:
+    if path is None:
+        return Facts()
+    document = read_json(path, "facts", FORM)
+    packages = document.get("packages") if isinstance(document, dict) else None
+    if not isinstance(packages, dict):
+        raise BadWords(words_check.bad_file(path, "facts", "no object `packages`", FORM))
+    try:
+        return Facts({name: package_facts(it) for name, it in packages.items()})
+    except (AttributeError, KeyError, TypeError, ValueError) as fault:
+        raise BadWords(words_check.bad_file(path, "facts", f"{type(fault).__name__} {fault}", FORM)) from None
+
+
+FORM = "take the file NAME.facts.json that tools/device_from_apks writes"
+
+
+def package_facts(fields: Mapping[str, Any]) -> PackageFacts:
+    # Android takes a level that isn't stated as normal; one that is null isn't known
+    permissions = {str(it["name"]): str(it.get("protectionLevel", "normal") or "") for it in fields.get("permissions") or ()}
+    return PackageFacts(permissions, tuple(str(it) for it in fields.get("autoVerify") or ()))
+
+
+def read_json(path: Path, what: str, wanted: str) -> Any:
+    """A file's JSON, or why it can't be used."""
+    try:
+        return json.loads(path.read_bytes())
+    except OSError as fault:
+        raise BadWords(words_check.bad_file(path, what, fault.strerror or str(fault), wanted)) from None
+    except ValueError as fault:
+        raise BadWords(words_check.bad_file(path, what, str(fault), wanted)) from None

@@ -1,0 +1,88 @@
+"""The app's web links: whom they open as it is, and once its hosts are approved."""
+from collections.abc import Iterator, Sequence
+
+from amctl import words, words_check
+from amctl.check.app import App
+from amctl.check.assetlinks import Statements
+from amctl.check.asking import Copies, Outcome
+from amctl.check.finding import Finding
+from amctl.check.intents import WEB, Question
+from amctl.check.made import at
+from amctl.check.resolution import why_not
+from amctl.check.witness import takes_host
+from amctl.intents import VIEW
+from amctl.words import host_and_path
+
+
+def hosts_of(questions: Sequence[Question]) -> tuple[str, ...]:
+    """The hosts of web links, each once."""
+    return tuple(dict.fromkeys(host for it in questions if (host := _host(it))))
+
+
+def web_links(app: App, questions: Sequence[Question]) -> list[Question]:
+    """The app's own web links, of the questions that its filters were made into."""
+    return [it for it in questions if it.component.package == app.package and _names_hosts(it) and _host(it) and not it.intent.categories]
+
+
+def _host(question: Question) -> str:
+    """The host of a web link, or nothing."""
+    data = question.intent.data or ""
+    is_web = question.intent.action == VIEW and data.partition(":")[0] in WEB and question.intent.type is None
+    return host_and_path(data)[0] if is_web else ""
+
+
+def _names_hosts(question: Question) -> bool:
+    """Whether the filter names a host: what takes any link has none to be approved for."""
+    return any(isinstance(row.get("host"), str) for row in question.filter.data)
+
+
+def unverified(app: App, links: Sequence[Question]) -> set[str]:
+    """The hosts that the app doesn't ask to have verified, where its facts are known."""
+    facts = app.facts.of(app.package)
+    return set() if facts is None else {it for it in hosts_of(links) if not any(takes_host(asked, it) for asked in facts.auto_verify)}
+
+
+def unstated(app: App, links: Sequence[Question], statements: Statements | None) -> set[str]:
+    """The hosts whose statements don't name the app."""
+    if statements is None:
+        return set()
+    return {host for host in hosts_of(links) if not any(statements.name(it, app.package) for it in (host, *_wildcards(links, host)))}
+
+
+def _wildcards(links: Sequence[Question], host: str) -> Iterator[str]:
+    """The wildcards that a host is a witness of: their statements stand at the host below."""
+    rows = (row for it in links if _host(it) == host for row in it.filter.data)
+    yield from (it for row in rows if isinstance(it := row.get("host"), str) and it.startswith("*.") and host.endswith(it[1:].lower()))
+
+
+def check(copies: Copies, app: App, links: Sequence[Question], statements: Statements | None) -> Iterator[Finding]:
+    unsaid, unasked = unstated(app, links, statements), unverified(app, links)
+    # with statements it is known which hosts would be approved; without them all are taken to be
+    unapproved = unsaid | unasked if statements else set()
+    for host in hosts_of(links):
+        copies.approve(app.package, host, approved=host not in unapproved)
+        for question in (it for it in links if _host(it) == host):
+            about, path = words.intent(question.intent), question.filter.at
+            if host in unsaid:
+                yield at(app, path, "link-unstated", about, words_check.link_unstated(host, app.package))
+            if host in unasked:
+                yield at(app, path, "link-unverified", about, words_check.link_unverified(host))
+            yield _compared(copies, app, question)
+        copies.approve(app.package, host, approved=False)
+
+
+def _compared(copies: Copies, app: App, question: Question) -> Finding:
+    """Whom the link opens as it is, and once the app is approved for its host."""
+    now, approved = copies.ask("after", "activity", question.intent), copies.ask("approved", "activity", question.intent)
+    soon, later = Outcome.of(now), Outcome.of(approved)
+    first, last = (words_check.says_outcome(it.way, it.components) for it in (soon, later))
+    why = why_not(approved, soon.components[0]) if soon.way == "opens" and soon != later else ""
+    message = words_check.link(first, last, why)
+    return at(app, question.filter.at, _rule(app, later), words.intent(question.intent), message, now, approved)
+
+
+def _rule(app: App, later: Outcome) -> str:
+    if later.way == "asks":
+        return "link-asks"
+    is_own = all(it.startswith(f"{app.package}/") for it in later.components)
+    return "link" if later.way == "opens" and is_own else "link-lost"

@@ -1,0 +1,413 @@
+"""The commands, in adb's words where adb has them."""
+import difflib
+import os
+import re
+import sys
+from collections.abc import Sequence
+from enum import Enum
+from pathlib import Path
+from typing import List, Optional
+
+import click
+import typer
+
+from amctl import results, show, words
+from amctl.device import Device, Refusal
+from amctl.devicefile import Kind, text_of
+from amctl.errors import AmctlError, BadWords
+from amctl.options import Asking, IntentWords, option, with_groups
+from amctl.results import Choose
+
+NO_COMMAND = re.compile(r"No such command '(.*)'")
+REFUSED = 1
+WRONG_WORDS = 2
+
+app = typer.Typer(
+    add_completion=False,
+    no_args_is_help=True,
+    pretty_exceptions_enable=False,
+    context_settings={"max_content_width": 120},
+    help="Asks `am` which app of a simulated Android device gets an intent.",
+)
+
+
+class Kinds(str, Enum):
+    activity = "activity"
+    service = "service"
+    receiver = "receiver"
+
+    @property
+    def kind(self) -> Kind:
+        return self.value
+
+
+KIND = option(Kinds.activity, "--kind", help="What is meant: activity (if left out), service, or receiver of a broadcast.")
+OF = option(None, "--of", metavar="PACKAGE", help="Shows the components of this package alone.")
+RECEIVER_PERMISSION = option(None, "--receiver-permission", metavar="PERMISSION", help="Receivers must hold it.")
+
+
+@app.command(epilog="Example: amctl why --device device.toml --as com.browser https://www.photos.example/album/cats")
+@with_groups
+def why(
+    intent: IntentWords, asking: Asking, kind: Kinds = KIND, of: Optional[str] = OF, receiver_permission: Optional[str] = RECEIVER_PERMISSION
+) -> None:
+    """Says of each component whether an intent would reach it, and if not, why, and what would change it."""
+    asked = intent.intent()
+    with asking.open() as device:
+        caller = asking.caller(device)
+        found = caller.explain(kind.kind, asked, permission=receiver_permission, of=of)
+    if asking.json:
+        show.show_json({"accounts": results.to_json(found)})
+    elif not found:
+        print(words.none_of_kind(kind.kind, of))
+    else:
+        show.show_accounts(show.account_rows(found, words.About(caller.package, kind.kind, asked, device.file)))
+
+
+@app.command(epilog="Example: amctl start --as com.browser https://www.photos.example/album/cats")
+@with_groups
+def start(
+    intent: IntentWords, asking: Asking, source: Optional[int] = option(None, "--source", help="The activity instance that starts it.")
+) -> None:
+    """Starts an activity, in a task of its own (NEW_TASK) if no instance starts it."""
+    asked = intent.intent()
+    if source is None:
+        asked = asked.with_flag("NEW_TASK")
+    with asking.open() as device:
+        found = asking.caller(device).start(asked, source=source)
+        if asking.json:
+            show.show_json(results.to_json(found))
+        elif isinstance(found, Choose):
+            print(words.choice(found))
+        else:
+            print(words.placed(found, device.component_of(found)))
+
+
+@app.command("start-service", epilog="Example: amctl start-service --as com.browser -n com.photos/.Sync")
+@with_groups
+def start_service(intent: IntentWords, asking: Asking) -> None:
+    """Starts a service, or again one that runs."""
+    with asking.open() as device:
+        found = asking.caller(device).start_service(intent.intent())
+    if asking.json:
+        show.show_json(results.to_json(found))
+    else:
+        print(words.started(found))
+
+
+@app.command(epilog="Example: amctl broadcast --as com.shop -a org.example.ORDER --ordered")
+@with_groups
+def broadcast(
+    intent: IntentWords,
+    asking: Asking,
+    ordered: bool = option(False, "--ordered", help="To one receiver after the other."),
+    receiver_permission: Optional[str] = RECEIVER_PERMISSION,
+) -> None:
+    """Broadcasts an intent, and says of each receiver whether it gets it, and if not, why."""
+    asked = intent.intent()
+    with asking.open() as device:
+        caller = asking.caller(device)
+        sent = caller.send(asked, permission=receiver_permission, ordered=ordered)
+    if asking.json:
+        show.show_json(results.to_json(sent))
+        return
+    about = words.About(caller.package, "receiver", asked, device.file)
+    said = [(words.shown(it.to), words.receiver(it, about)) for it in sent.receivers]
+    if said:
+        show.show_accounts([(name, it.says, it.change) for name, it in said])
+    else:
+        print(words.NO_RECEIVER.text)
+
+
+@app.command(epilog="Example: amctl inbox --url http://127.0.0.1:8080 --device device.toml --as com.guard")
+@with_groups
+def inbox(asking: Asking) -> None:
+    """The deliveries and results that wait for an app."""
+    with asking.open() as device:
+        found = asking.caller(device).inbox()
+    if asking.json:
+        show.show_json({"items": results.to_json(found)})
+    else:
+        _table(asking, ("number", "to", "what"), [words.item(it) for it in found])
+
+
+@app.command(epilog="Example: amctl tasks --url http://127.0.0.1:8080 --device device.toml")
+@with_groups
+def tasks(asking: Asking) -> None:
+    """The tasks from front to back, each with its activities from root to top."""
+    with asking.open() as device:
+        found = asking.caller(device).tasks()
+    if asking.json:
+        show.show_json({"tasks": results.to_json(found)})
+    else:
+        rows = [words.instance(task.task, it) for task in found for it in task.instances]
+        _table(asking, ("task", "instance", "component", "intent"), rows)
+
+
+@app.command(epilog="Example: amctl services --url http://127.0.0.1:8080 --device device.toml")
+@with_groups
+def services(asking: Asking) -> None:
+    """The services that run."""
+    with asking.open() as device:
+        found = asking.caller(device).services()
+    if asking.json:
+        show.show_json({"services": results.to_json(found)})
+    else:
+        _table(asking, ("component", "starts", "intent"), [words.service(it) for it in found])
+
+
+@app.command(epilog="Example: amctl history --url http://127.0.0.1:8080 --device device.toml --from 64")
+@with_groups
+def history(asking: Asking, from_: int = option(0, "--from", min=0, help="The number of the first call; 0 if left out.")) -> None:
+    """The stored calls from a number on, at most 64."""
+    with asking.open() as device:
+        found = asking.caller(device).history(from_)
+    if asking.json:
+        show.show_json({"entries": results.to_json(found), "from": from_})
+    else:
+        _table(asking, ("number", "moment", "caller", "call"), [words.entry(it, device.file) for it in found])
+
+
+@app.command(epilog="Example: amctl install --store rows maps.toml")
+@with_groups
+def install(
+    asking: Asking,
+    manifest: Path = typer.Argument(..., metavar="MANIFEST", help="A manifest as a TOML file."),
+    key: Optional[str] = option(None, "--key", help="The key of its calls; one is made if left out."),
+) -> None:
+    """Installs a package by its manifest."""
+    text = text_of(manifest)
+    with asking.open() as device:
+        uid = asking.caller(device).install(text, key=key)
+    _done(asking, {"uid": uid}, words.installed(uid))
+
+
+@app.command(epilog="Example: amctl uninstall --store rows com.maps")
+@with_groups
+def uninstall(asking: Asking, package: str = typer.Argument(..., metavar="PACKAGE")) -> None:
+    """Removes a package with its grants and links."""
+    with asking.open() as device:
+        asking.caller(device).uninstall(package)
+    _done(asking, {}, words.uninstalled(package))
+
+
+@app.command(epilog="Example: amctl grant --store rows com.news com.mail.permission.SYNC")
+@with_groups
+def grant(asking: Asking, package: str = typer.Argument(..., metavar="PACKAGE"), permission: str = typer.Argument(..., metavar="PERMISSION")) -> None:
+    """Gives a package a permission."""
+    with asking.open() as device:
+        asking.caller(device).grant(package, permission)
+    _done(asking, {}, words.granted(package, permission, True))
+
+
+@app.command(epilog="Example: amctl revoke --store rows com.news com.mail.permission.SYNC")
+@with_groups
+def revoke(asking: Asking, package: str = typer.Argument(..., metavar="PACKAGE"), permission: str = typer.Argument(..., metavar="PERMISSION")) -> None:
+    """Takes a permission from a package."""
+    with asking.open() as device:
+        asking.caller(device).grant(package, permission, held=False)
+    _done(asking, {}, words.granted(package, permission, False))
+
+
+@app.command(epilog="Example: amctl link --store rows com.photos www.photos.example")
+@with_groups
+def link(
+    asking: Asking,
+    package: str = typer.Argument(..., metavar="PACKAGE"),
+    host: str = typer.Argument(..., metavar="HOST"),
+    denied: bool = option(False, "--denied", help="Takes the approval back."),
+) -> None:
+    """Approves a package for the web links of a host."""
+    _check_host(host)
+    with asking.open() as device:
+        asking.caller(device).link(package, host, approved=not denied)
+    _done(asking, {}, words.linked(package, host, not denied))
+
+
+@app.command("force-stop", epilog="Example: amctl force-stop --url http://127.0.0.1:8080 --device device.toml com.photos")
+@with_groups
+def force_stop(asking: Asking, package: str = typer.Argument(..., metavar="PACKAGE")) -> None:
+    """Stops a package and all that it has."""
+    with asking.open() as device:
+        asking.caller(device).force_stop(package)
+    _done(asking, {}, words.stopped(package), is_kept_in_store=False)
+
+
+@app.command(epilog="Example: amctl visible --device examples/queries.toml --as com.notes geo:1,2")
+@with_groups
+def visible(intent: IntentWords, asking: Asking, kind: Kinds = KIND) -> None:
+    """The components that an intent finds and that a package may see, by the `queries` of its manifest."""
+    where = asking.where()
+    if where.url is not None:
+        raise BadWords(words.VISIBLE_URL)
+    with Device.open(where.file(), am=where.am) as device:
+        found = device.visible(asking.caller(device).package, kind.kind, intent.intent())
+    if asking.json:
+        show.show_json({"components": list(found)})
+    else:
+        print("\n".join(words.shown(it) for it in found) or words.NOTHING_VISIBLE.text)
+
+
+@app.command(epilog="Example: amctl lint device.toml")
+def lint(
+    device: Path = typer.Argument(..., metavar="DEVICE", help="The device file."),
+    store: Optional[Path] = option(None, "--store", metavar="FILE", help="Looks at what is kept there too."),
+    json: bool = option(False, "--json", help="The findings as JSON."),
+    am: Optional[Path] = option(None, "--am", metavar="PROGRAM", help="The program `am`. Else AM, PATH, or the repository's."),
+) -> int:
+    """Finds in a device file what its writer surely didn't mean. Status 1 if there is something."""
+    from amctl import lint as linter
+
+    return linter.main(device, store=store, json=json, am=am)
+
+
+@app.command(epilog="Example: amctl check gallery.toml --on device.toml")
+def check(
+    app: Path = typer.Argument(..., metavar="APP", help="The app: a manifest as a TOML file, an APK or an XML manifest."),
+    on: Path = option(..., "--on", metavar="DEVICE", help="The device file; the app is installed on a copy of that device."),
+    facts: Optional[Path] = option(None, "--facts", metavar="FILE", help="What the converter wrote beside the device file."),
+    assetlinks: Optional[Path] = option(None, "--assetlinks", metavar="FILE", help="Statements of Digital Asset Links: which hosts would be approved."),
+    history: Optional[Path] = option(None, "--history", metavar="FILE", help="Stored calls, one a line: those of the app are looked at."),
+    baseline: Optional[Path] = option(None, "--baseline", metavar="FILE", help="The JSON of an earlier run: only what is new is told."),
+    severity: str = option("error", "--severity", metavar="SEVERITY", help="Status 1 from this one on: note, warning or error; error if left out."),
+    format: str = option("text", "--format", metavar="FORMAT", help="text, json, sarif or junit; text if left out."),
+    am: Optional[Path] = option(None, "--am", metavar="PROGRAM", help="The program `am`. Else AM, PATH, or the repository's."),
+) -> int:
+    """Says before an app is published what it takes, opens and gives away on a device."""
+    from amctl import check as checker
+
+    asked = checker.Asked(app, on, facts, assetlinks, history, am)
+    return checker.main(asked, severity=severity, form=format, baseline=baseline)
+
+
+@app.command(epilog="Example: amctl survey apps --on device.toml --each --jobs 4")
+def survey(
+    folder: Path = typer.Argument(..., metavar="DIR", help="The folder of the apps: APKs, and manifests in XML or TOML."),
+    on: Optional[Path] = option(None, "--on", metavar="DEVICE", help="The device file to whose packages the apps are added; none if left out."),
+    each: bool = option(False, "--each", help="Each app on a copy of the device of --on, and not all on one."),
+    into: Path = option(Path("survey"), "--into", metavar="FOLDER", help="Gets the results; an interrupted survey goes on there. ./survey if left out."),
+    jobs: Optional[int] = option(None, "--jobs", min=1, max=256, help="How many jobs run at once; one for each processor if left out."),
+    dask: Optional[str] = option(None, "--dask", metavar="ADDRESS", help="A scheduler of Dask, whose workers do the jobs, such as tcp://127.0.0.1:8786."),
+    am: Optional[Path] = option(None, "--am", metavar="PROGRAM", help="The program `am`. Else AM, PATH, or the repository's."),
+) -> int:
+    """Says of all apps of a folder who reaches whom. Status 1 if an app can't be read."""
+    from amctl import survey as surveyor
+
+    return surveyor.main(surveyor.Asked(folder, on, each, into, jobs or os.cpu_count() or 1, dask, am))
+
+
+@app.command(epilog="Example: amctl serve device.toml --port 8080 --workers 8")
+def serve(
+    device: Path = typer.Argument(..., metavar="DEVICE", help="The device file."),
+    port: Optional[int] = option(None, "--port", min=1, max=65535, help="A free one is taken if left out."),
+    workers: int = option(4, "--workers", min=1, max=64, help="How many connections are served at once; 4 if left out."),
+    store: Optional[Path] = option(None, "--store", metavar="FILE", help="Keeps what is installed, granted and linked."),
+    connections: Optional[int] = option(None, "--connections", min=1, max=1_000_000, help="Each worker ends once it has served so many."),
+    am: Optional[Path] = option(None, "--am", metavar="PROGRAM", help="The program `am`. Else AM, PATH, or the repository's."),
+) -> int:
+    """Serves a device on 127.0.0.1 until it is stopped."""
+    from amctl.serve import Serving, run
+
+    return run(Serving(device, port, workers, store, connections, am))
+
+
+@app.command(epilog="Example: amctl ui --device examples/device.toml")
+def ui(
+    device: Optional[Path] = option(None, "--device", metavar="FILE", help="The device file: a session of its own, or with --url the server's."),
+    url: Optional[str] = option(None, "--url", metavar="URL", help="A server, such as http://127.0.0.1:8080."),
+    port: Optional[int] = option(None, "--port", min=1, max=65535, help="The page's port; a free one is taken if left out."),
+    open_: bool = option(False, "--open", help="Opens the page in a browser."),
+    am: Optional[Path] = option(None, "--am", metavar="PROGRAM", help="The program `am`. Else AM, PATH, or the repository's."),
+) -> int:
+    """Shows a device on a page of 127.0.0.1, until it is stopped."""
+    from amctl.ui.run import run
+    from amctl.where import Where
+
+    return run(Where(device, url, am=am).or_environment(), port, open_)
+
+
+@app.command(
+    epilog="Example: alias adb='amctl adb'; adb shell am start -a android.intent.action.VIEW -d https://www.photos.example/",
+    add_help_option=False,
+    context_settings={"allow_extra_args": True, "ignore_unknown_options": True, "allow_interspersed_args": False},
+)
+def adb(words_of_adb: Optional[List[str]] = typer.Argument(None, metavar="WORDS..")) -> int:
+    """Takes adb's words, and answers in adb's lines."""
+    from amctl import adb as bridge
+
+    return bridge.main(words_of_adb or [])
+
+
+def main(argv: Sequence[str] | None = None) -> int:
+    """Runs a command. The status is 0, 1 for a refusal, and 2 for words or files that can't be used."""
+    try:
+        _check_words(sys.argv[1:] if argv is None else argv)
+        # a command that has a status of its own returns it
+        status = app(args=argv, prog_name="amctl", standalone_mode=False)
+        sys.stdout.flush()
+        return status if isinstance(status, int) else 0
+    except Refusal as refused:
+        return _failed(str(refused), REFUSED)
+    except AmctlError as wrong:
+        return _failed(str(wrong), WRONG_WORDS)
+    except click.UsageError as usage:
+        return _failed(_usage(usage), WRONG_WORDS)
+    except click.Abort:
+        return _failed("stopped.", WRONG_WORDS)
+    except (BrokenPipeError, SystemExit):
+        # who reads no further has what it wanted; click exits where it finds that out itself
+        _drop_output()
+        return 0
+    except OSError as fault:
+        if fault.filename is None:
+            _drop_output()
+        return _failed(words.os_fault(fault.strerror or str(fault), fault.filename), WRONG_WORDS)
+
+
+def _check_words(given: Sequence[str]) -> None:
+    for word in given:
+        try:
+            word.encode()
+        except UnicodeEncodeError:
+            raise BadWords(words.no_text(ascii(word))) from None
+
+
+def _drop_output() -> None:
+    """What is still to be written would fail again at the end."""
+    os.dup2(os.open(os.devnull, os.O_WRONLY), sys.__stdout__.fileno())
+
+
+def _usage(usage: click.UsageError) -> str:
+    """What is wrong with the words, with the command that may have been meant."""
+    command = usage.ctx.command_path if usage.ctx else "amctl"
+    names = usage.ctx.command.list_commands(usage.ctx) if usage.ctx and isinstance(usage.ctx.command, click.MultiCommand) else []
+    unknown = NO_COMMAND.search(usage.format_message())
+    near = difflib.get_close_matches(unknown[1], names, 1, 0.5) if unknown else []
+    return words.usage(usage.format_message(), command, near[0] if near else None)
+
+
+def _failed(sentence: str, status: int) -> int:
+    print(f"amctl: {sentence}", file=sys.stderr)
+    return status
+
+
+def _table(asking: Asking, columns: Sequence[str], rows: Sequence[Sequence[str]]) -> None:
+    if rows:
+        show.show_table(columns, rows)
+    else:
+        print(words.NOTHING_YET if asking.where().url is None else words.NOTHING)
+
+
+def _done(asking: Asking, reply: dict[str, int], sentence: str, *, is_kept_in_store: bool = True) -> None:
+    where = asking.where()
+    if asking.json:
+        show.show_json(reply)
+    else:
+        print(sentence)
+    if where.url is None and not (is_kept_in_store and where.store is not None):
+        print(f"amctl: {words.NOT_KEPT if is_kept_in_store else words.NOT_KEPT_IN_STORE}", file=sys.stderr)
+
+
+def _check_host(host: str) -> None:
+    if not host or "/" in host or ":" in host:
+        raise BadWords(words.no_host(host))

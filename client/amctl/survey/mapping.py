@@ -1,0 +1,145 @@
+"""Jobs in any order: one after the other, on processors of this machine, or over Dask."""
+import concurrent.futures
+import importlib
+import itertools
+import multiprocessing
+import os
+import signal
+import sys
+import threading
+from collections.abc import Callable, Iterator, Mapping
+from concurrent.futures.process import BrokenProcessPool
+from contextlib import contextmanager
+from functools import partial
+from typing import Any
+
+from amctl import words_survey
+from amctl.errors import AmctlError, BadWords
+from amctl.survey.jobs import Job, run_job
+
+Done = Iterator[tuple[str, dict[str, Any]]]
+Run = Callable[[Mapping[str, Job], str, int], Done]
+# so many jobs for each thread of a Dask worker are under way, and no more: each carries what it reads
+AHEAD = 4
+PATIENCE = "20s"
+
+
+class JobFault(AmctlError):
+    """A job's fault. Unlike some others it goes from one process to another as it is."""
+
+
+@contextmanager
+def runner(jobs: int, dask: str | None) -> Iterator[Run]:
+    """What runs jobs, for as long as it is open."""
+    if dask is not None:
+        client = _client(dask)
+        try:
+            yield partial(_shown, partial(_over_dask, client))
+        finally:
+            client.close()
+    elif jobs == 1:
+        yield partial(_shown, _here)
+    else:
+        # a fork would copy the thread that shows the progress, and not what it holds
+        pool = concurrent.futures.ProcessPoolExecutor(jobs, multiprocessing.get_context("spawn"), _begin_worker)
+        try:
+            yield partial(_shown, partial(_on_processors, pool))
+        finally:
+            pool.shutdown(cancel_futures=True)
+
+
+def carried_out(job: Job) -> dict[str, Any]:
+    """Runs a job in another process."""
+    try:
+        return run_job(job)
+    except AmctlError as fault:
+        raise JobFault(str(fault)) from None
+
+
+def _here(jobs: Mapping[str, Job]) -> Done:
+    for key, job in jobs.items():
+        yield key, run_job(job)
+
+
+def _on_processors(pool: concurrent.futures.Executor, jobs: Mapping[str, Job]) -> Done:
+    keys = {pool.submit(carried_out, job): key for key, job in jobs.items()}
+    try:
+        for future in concurrent.futures.as_completed(keys):
+            yield keys[future], future.result()
+    except BrokenProcessPool:
+        raise JobFault(words_survey.JOB_ENDED) from None
+
+
+def _begin_worker() -> None:
+    # the first process says that it was stopped, and ends the others
+    signal.signal(signal.SIGINT, signal.SIG_IGN)
+    parent = multiprocessing.parent_process()
+    if parent is not None:
+        threading.Thread(target=_end_with, args=(parent,), daemon=True).start()
+
+
+def _end_with(parent: Any) -> None:
+    """Nobody waits for a job whose parent was killed."""
+    parent.join()
+    os._exit(1)
+
+
+def _client(address: str) -> Any:
+    """A client of the scheduler at an address; Debian's package is needed for that alone."""
+    try:
+        distributed = importlib.import_module("distributed")
+    except ModuleNotFoundError:
+        raise BadWords(words_survey.NO_DASK) from None
+    try:
+        client = distributed.Client(address, timeout=PATIENCE)
+    except (OSError, ValueError) as fault:
+        raise BadWords(words_survey.no_scheduler(address, str(fault))) from None
+    if not client.ncores():
+        client.close()
+        raise BadWords(words_survey.no_workers(address))
+    return client
+
+
+def _over_dask(client: Any, jobs: Mapping[str, Job]) -> Done:
+    distributed = importlib.import_module("distributed")
+    waiting = iter(jobs.items())
+    keys: dict[str, str] = {}
+
+    def submit(job: tuple[str, Job]) -> Any:
+        future = client.submit(carried_out, job[1], pure=False)
+        keys[future.key] = job[0]
+        return future
+
+    ahead = AHEAD * max(1, sum(client.ncores().values()))
+    under_way = distributed.as_completed([submit(it) for it in itertools.islice(waiting, ahead)])
+    for future in under_way:
+        yield keys.pop(future.key), _result(future)
+        for job in itertools.islice(waiting, 1):
+            under_way.add(submit(job))
+
+
+def _result(future: Any) -> dict[str, Any]:
+    try:
+        found: dict[str, Any] = future.result()
+        return found
+    except AmctlError:
+        raise
+    except Exception as fault:
+        # a worker that was killed, or has another version of this package or none
+        raise JobFault(words_survey.worker_fault(f"{type(fault).__name__}: {fault}")) from None
+
+
+def _shown(run: Callable[[Mapping[str, Job]], Done], jobs: Mapping[str, Job], what: str, before: int) -> Done:
+    """Shows on a terminal how much was done, with what was kept before."""
+    if not jobs or not sys.stderr.isatty():
+        yield from run(jobs)
+        return
+    from rich.console import Console
+    from rich.progress import BarColumn, MofNCompleteColumn, Progress, TextColumn, TimeRemainingColumn
+
+    columns = (TextColumn("{task.description}"), BarColumn(), MofNCompleteColumn(), TimeRemainingColumn())
+    with Progress(*columns, console=Console(stderr=True), transient=True) as progress:
+        task = progress.add_task(what, total=before + len(jobs), completed=before)
+        for done in run(jobs):
+            yield done
+            progress.advance(task)

@@ -1,0 +1,218 @@
+"""What the page asks: one method a view, each of them over a device. Nothing in an answer is a key."""
+import threading
+import time
+from collections.abc import Mapping
+from contextlib import closing
+from pathlib import Path
+from typing import Any
+
+from amctl import words, words_ui
+from amctl.device import ROOT, Device
+from amctl.devicefile import KINDS, SYSTEM, Component, components_of
+from amctl.intents import Intent, IntentFilter
+from amctl.kept import manifest_of
+from amctl.results import Entry
+from amctl.ui import ask, now, past
+from amctl.ui.copies import copies
+from amctl.ui.past import INSTALL, MOST_REPLAYED, Replay, Reply, entries, entry_at, public
+
+PAGE_LENGTH = 64
+# a look at a replay asks for its tasks twice and its services once, beside the inboxes
+LOOKS = 3
+
+
+class Desk:
+    """The page's device. One question is answered after the other: a session has one pair of pipes."""
+
+    def __init__(self, device: Device, *, url: str | None = None, am: Path | None = None) -> None:
+        self.device = device
+        self._url = url
+        self._am = am
+        self._lock = threading.Lock()
+        # one replay follows the history, the other steps back and forth in it
+        self._following: Replay | None = None
+        self._stepping: Replay | None = None
+        self._seen: dict[int, float] = {}
+
+    @property
+    def _note(self) -> str:
+        """Why there is nothing to be seen where nobody else can make a call."""
+        return words_ui.OWN_SESSION if self._url is None else ""
+
+    def close(self) -> None:
+        self._close_replays()
+        self.device.close()
+
+    def about(self) -> dict[str, Any]:
+        """Whom the form can name, and the device's name."""
+        with self._lock:
+            names = self._names()
+            root = [ROOT] if "root_key" in self.device.file.document else []
+            return {"callers": [SYSTEM, *root, *names], "file": self.device.file.path.name, "url": self._url, "note": self._note}
+
+    def alive(self) -> dict[str, Any]:
+        """Answers as long as the device does. A session of its own isn't asked: it answers 65,536 requests and no more."""
+        if self._url is None:
+            return {"history": None}
+        with self._lock:
+            return {"history": self.device.system.status().history}
+
+    def ask(self, fields: Mapping[str, Any]) -> dict[str, Any]:
+        question = ask.Question.of(fields)
+        with self._lock:
+            if not question.changes:
+                return ask.answer(self.device, question)
+            with closing(self._copy()) as copy:
+                for change in question.changes:
+                    change.make(copy.device)
+                return ask.answer(copy.device, question)
+
+    def now(self) -> dict[str, Any]:
+        with self._lock:
+            status = self.device.system.status()
+            replay = self._followed(status.history)
+            found = now.waiting(self.device, replay.keys)
+            self._see([it.item.delivery for it in found])
+            return {
+                "moment": words_ui.moment(status.moment),
+                "tasks": now.tasks(self.device),
+                "broadcasts": now.broadcasts(found, _admitted(replay), self._seconds, self._url is None),
+                "results": now.outcomes(found),
+                "services": now.services(self.device),
+                "registered": now.registered(self.device, _registered(replay)),
+                "note": words_ui.LONG_HISTORY if status.history > MOST_REPLAYED else "",
+            }
+
+    def history(self, start: int) -> dict[str, Any]:
+        with self._lock:
+            status = self.device.system.status()
+            keys = self._followed(min(status.history, start + PAGE_LENGTH)).keys
+            rows = [past.row(it, keys) for it in entries(self.device, start, min(start + PAGE_LENGTH, status.history))]
+            return {"total": status.history, "count": words_ui.stored(status.history), "from": start, "rows": rows}
+
+    def entry(self, number: int) -> dict[str, Any]:
+        """A call, made again: its reply, and what is otherwise after it."""
+        with self._lock:
+            entry = entry_at(self.device, number)
+            replay = self._stepped(number)
+            before = self._lines(replay)
+            reply = replay.play(entry) if number < MOST_REPLAYED else None
+            after = self._lines(replay)
+            return {
+                **past.row(entry, replay.keys),
+                "request": public(entry),
+                "reply": None if reply is None else {"status": reply.status, "body": dict(reply.body)},
+                "note": note_on(entry, reply),
+                "changed": [*past.effect(entry, reply), *now.changed(before, after)],
+                "tasks": now.tasks(replay.device),
+                "copies": copies(entry, replay.keys.name(entry.uid), reply, self._url),
+            }
+
+    def packages(self) -> dict[str, Any]:
+        """The packages that are on the device now, with what the file says of them."""
+        with self._lock:
+            live = {str(it.to) for kind in KINDS for it in self.device.system.explain(kind, Intent()) if isinstance(it.to, str)}
+            known = self._components()
+            file = self.device.file
+            return {
+                "packages": [
+                    {
+                        "name": name,
+                        "components": [_component(known.get(it), it) for it in sorted(live, key=str) if it.startswith(f"{name}/")],
+                        "grants": [it.permission for it in file.grants if it.package == name],
+                        "links": [it.host for it in file.links if it.package == name],
+                    }
+                    for name in self._names()
+                ]
+            }
+
+    def _names(self) -> list[str]:
+        """The packages of the file and those that the history installed, as far as they are there."""
+        replay = self._followed(self.device.system.status().history)
+        named = [name for uid, name in replay.keys.names.items() if uid >= past.FIRST_UID]
+        return [it for it in dict.fromkeys(named) if self.device.is_installed(it)]
+
+    def _components(self) -> dict[str, Component]:
+        of_file = {it.component: it for package in self.device.file.packages for it in package.components}
+        installed = () if self._following is None else self._following.kept
+        manifests = (str(it.request.get("manifest")) for it in installed if it.route == INSTALL)
+        return {**of_file, **{it.component: it for text in manifests for it in components_of(manifest_of(text))}}
+
+    def _followed(self, until: int) -> Replay:
+        if self._following is None or not self._following.is_of(self.device):
+            # a server that began anew has another history
+            self._close_replays()
+            self._following = Replay(self.device.file.path, self._am)
+        self._following.follow(self.device, until)
+        return self._following
+
+    def _close_replays(self) -> None:
+        for replay in (self._following, self._stepping):
+            if replay is not None:
+                replay.close()
+        self._following = self._stepping = None
+
+    def _stepped(self, number: int) -> Replay:
+        """The replay before this call."""
+        if self._stepping is not None and (self._stepping.position > number or self._stepping.requests > MOST_REPLAYED):
+            self._stepping.close()
+            self._stepping = None
+        if self._stepping is None:
+            self._stepping = Replay(self.device.file.path, self._am)
+        self._stepping.follow(self.device, number)
+        return self._stepping
+
+    def _lines(self, replay: Replay) -> list[str]:
+        found = now.lines(replay.device, replay.keys)
+        replay.requests += len(replay.keys.of_uid) + LOOKS
+        return found
+
+    def _copy(self) -> Replay:
+        """A device on which all calls of the history were made again."""
+        copy = Replay(self.device.file.path, self._am)
+        copy.follow(self.device, self.device.system.status().history)
+        return copy
+
+    def _see(self, deliveries: list[int]) -> None:
+        seen = time.monotonic()
+        self._seen = {it: self._seen.get(it, seen) for it in deliveries}
+
+    def _seconds(self, delivery: int) -> float:
+        return time.monotonic() - self._seen.get(delivery, time.monotonic())
+
+
+def _admitted(replay: Replay) -> dict[int, list[str]]:
+    """Who gets each broadcast, in the order of their turns, as the replay answered."""
+    found = {}
+    for _, reply in replay.kept_with("/v1/send", "/v1/pending/send"):
+        if reply.status == 200 and "broadcast" in reply.body:
+            admitted = [words.shown(it["to"]) for it in reply.body["receivers"] if it["verdict"] == "admitted"]
+            found[int(reply.body["broadcast"])] = admitted
+    return found
+
+
+def _registered(replay: Replay) -> dict[int, tuple[str, IntentFilter]]:
+    replies = replay.kept_with("/v1/register")
+    return {int(it.body["number"]): (replay.keys.name(entry.uid), _filter_of(entry)) for entry, it in replies if it.status == 200}
+
+
+def note_on(entry: Entry, reply: Reply | None) -> str:
+    """Where a reply is from, or why there is none."""
+    if reply is not None:
+        return words_ui.REPLAY_CLOCK
+    if not entry.kept:
+        return words_ui.NOT_KEPT
+    return words_ui.STORED_BEFORE if entry.at < MOST_REPLAYED else words_ui.LONG_HISTORY
+
+
+def _filter_of(entry: Entry) -> IntentFilter:
+    given = entry.request["filter"]
+    lists = {it: tuple(given.get(it, ())) for it in ("actions", "categories", "data")}
+    return IntentFilter(**lists, priority=int(given.get("priority", 0)))
+
+
+def _component(found: Component | None, name: str) -> dict[str, Any]:
+    if found is None:
+        return {"name": words.shown(name), "kind": "", "reach": words_ui.UNKNOWN_REACH, "filters": []}
+    filters = [words_ui.filter_line(it.actions, it.categories, it.data, it.priority) for it in found.filters]
+    return {"name": words.shown(name), "kind": found.kind, "reach": words_ui.reach(found), "filters": filters}

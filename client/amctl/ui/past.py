@@ -1,0 +1,158 @@
+"""The view History: the stored calls, made again one by one in a session of its own."""
+from collections.abc import Iterator, Mapping
+from dataclasses import dataclass, field
+from pathlib import Path
+from typing import Any
+
+from amctl import words, words_ui
+from amctl.device import Device
+from amctl.devicefile import DeviceFile
+from amctl.errors import BadWords
+from amctl.intents import Intent
+from amctl.kept import manifest_of
+from amctl.results import Entry
+from amctl.transport import Ask, body_of
+
+# a session answers 65,536 requests, and those that look at it count too
+MOST_REPLAYED = 60_000
+ROOT_UID, SYSTEM_UID, FIRST_UID = 0, 1000, 10000
+INSTALL = "/v1/install"
+LOOKED_FOR = (INSTALL, "/v1/register", "/v1/send", "/v1/pending/send")
+HIDDEN = "(the package's key)"
+
+
+@dataclass(frozen=True)
+class Reply:
+    """What the replay answered: a status, and its body."""
+
+    status: int
+    body: Mapping[str, Any]
+
+
+@dataclass
+class Keys:
+    """Whose key each uid has, from the device file and the installations of the history. It stays in the gateway."""
+
+    of_uid: dict[int, str] = field(repr=False)
+    names: dict[int, str]
+
+    @classmethod
+    def of(cls, file: DeviceFile) -> "Keys":
+        numbered = list(enumerate(file.packages, FIRST_UID))
+        root = {ROOT_UID: file.root_key} if "root_key" in file.document else {}
+        keys = {SYSTEM_UID: file.system_key, **root, **{uid: it.key for uid, it in numbered}}
+        return cls(keys, {SYSTEM_UID: "android", **({ROOT_UID: "root"} if root else {}), **{uid: it.name for uid, it in numbered}})
+
+    def name(self, uid: int) -> str:
+        return self.names.get(uid, f"uid {uid}")
+
+
+class Replay:
+    """A session of its own in which the calls of a history are made again. Its clock stands still."""
+
+    def __init__(self, file: Path, am: Path | None) -> None:
+        self.device = Device.open(file, am=am)
+        self.keys = Keys.of(self.device.file)
+        self.position = 0
+        self.requests = 0
+        self._last: Entry | None = None
+        # only what a view looks for later is kept
+        self.kept: list[Entry] = []
+        self._replies: list[Reply | None] = []
+
+    def close(self) -> None:
+        self.device.close()
+
+    def play(self, entry: Entry) -> Reply | None:
+        """Makes a call again; None where its caller's key isn't known."""
+        key = self.keys.of_uid.get(entry.uid)
+        reply = None
+        # what couldn't be kept had no effect
+        if key is not None and entry.kept:
+            answer = self.device.carry(Ask("POST", entry.route, key, body_of(entry.request)))
+            reply = Reply(answer.status, answer.body)
+            if entry.route == INSTALL and answer.status == 200:
+                self._installed(entry, int(answer.body["uid"]))
+        self.position += 1
+        self.requests += 1
+        self._last = entry
+        if entry.route in LOOKED_FOR:
+            self.kept.append(entry)
+            self._replies.append(reply)
+        return reply
+
+    def kept_with(self, *routes: str) -> Iterator[tuple[Entry, Reply]]:
+        """The calls of these routes with their replies, where there are any."""
+        yield from ((entry, reply) for entry, reply in zip(self.kept, self._replies) if reply is not None and entry.route in routes)
+
+    def is_of(self, live: Device) -> bool:
+        """Whether the call that was made last is still in the history."""
+        return self._last is None or live.system.history(self._last.at)[:1] == (self._last,)
+
+    def follow(self, live: Device, until: int) -> None:
+        """Plays on until so many calls are made."""
+        for entry in entries(live, self.position, min(until, MOST_REPLAYED)):
+            self.play(entry)
+
+    def _installed(self, entry: Entry, uid: int) -> None:
+        self.keys.of_uid[uid] = str(entry.request.get("key"))
+        self.keys.names[uid] = _package_of(str(entry.request.get("manifest")))
+
+
+def _package_of(manifest: str) -> str:
+    return str(manifest_of(manifest).get("package"))
+
+
+def entries(live: Device, start: int, end: int) -> Iterator[Entry]:
+    """The stored calls from a number on to another, which isn't among them."""
+    while start < end:
+        page = live.system.history(start)
+        if not page:
+            return
+        yield from (it for it in page if it.at < end)
+        start = page[-1].at + 1
+
+
+def entry_at(live: Device, number: int) -> Entry:
+    page = live.system.history(number) if number >= 0 else ()
+    if not page or page[0].at != number:
+        raise BadWords(words_ui.no_entry(number))
+    return page[0]
+
+
+def public(entry: Entry) -> dict[str, Any]:
+    """A call's request without the key that an installation has."""
+    return {**entry.request, "key": HIDDEN} if entry.route == INSTALL else dict(entry.request)
+
+
+def row(entry: Entry, keys: Keys) -> dict[str, Any]:
+    """A line of the timeline."""
+    name = keys.name(entry.uid)
+    call = entry.route.removeprefix("/v1/")
+    return {"at": entry.at, "moment": words_ui.moment(entry.now), "caller": name, "call": call, "what": _what(entry), "kept": entry.kept}
+
+
+def _what(entry: Entry) -> str:
+    request = public(entry)
+    intent = request.get("intent")
+    if isinstance(intent, dict):
+        return words.intent(Intent.from_json(intent))
+    named = (f"{name} {value}" for name, value in request.items() if name not in ("manifest", "key") and not isinstance(value, dict))
+    return ", ".join(named)
+
+
+def effect(entry: Entry, reply: Reply | None) -> list[str]:
+    """What a call did to packages, grants and links, in the client's own sentences."""
+    if reply is None or reply.status != 200:
+        return []
+    given = entry.request
+    package = str(given.get("package"))
+    if entry.route == INSTALL:
+        return [words.installed(int(reply.body["uid"]))]
+    if entry.route == "/v1/grant":
+        return [words.granted(package, str(given.get("permission")), bool(given.get("held")))]
+    if entry.route == "/v1/link":
+        return [words.linked(package, str(given.get("host")), bool(given.get("approved")))]
+    if entry.route == "/v1/uninstall":
+        return [words.uninstalled(package)]
+    return [words.stopped(package)] if entry.route == "/v1/force_stop" else []

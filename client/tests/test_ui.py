@@ -1,0 +1,377 @@
+"""The page's gateway, without a browser: what it answers, whom it refuses, and that no key leaves it."""
+import shlex
+import signal
+import socket
+import subprocess
+import sys
+from collections.abc import Iterator
+from contextlib import closing
+from pathlib import Path
+from typing import Any
+
+import pytest
+
+from amctl import Device, Intent, IntentFilter, Refusal
+from amctl.find import find_am
+from amctl.results import Entry
+from conftest import CLIENT, EXAMPLES, run_python
+
+pytest.importorskip("starlette", reason="Debian's python3-starlette isn't installed")
+pytest.importorskip("uvicorn", reason="Debian's python3-uvicorn isn't installed")
+pytest.importorskip("jinja2", reason="Debian's python3-jinja2 isn't installed")
+
+from starlette.testclient import TestClient
+
+from amctl import words_ui
+from amctl.ui import run
+from amctl.ui.desk import Desk, note_on
+from amctl.ui.gateway import make_app
+from amctl.ui.past import Replay
+
+PORT = 8080
+OWN = f"http://127.0.0.1:{PORT}"
+LINK = "https://www.photos.example/album/cats"
+QUESTION = {"from": "com.browser", "kind": "activity", "action": "android.intent.action.VIEW", "data": LINK}
+APPROVAL = {"change": "link", "package": "com.photos", "what": "www.photos.example"}
+ORDER = Intent(action="org.example.ORDER")
+KEYED = """system_key = "KEY-of-system"
+root_key = "KEY-of-root"
+[[package]]
+key = "KEY-of-one"
+manifest = { package = "com.one" }
+[[package]]
+key = "KEY-of-two"
+[package.manifest]
+package = "com.two"
+[[package.manifest.service]]
+name = ".Sync"
+exported = true
+permission = "two.SYNC"
+"""
+
+
+class Page:
+    """The page's gateway over a device."""
+
+    def __init__(self, device: Device, url: str | None = None) -> None:
+        self.device = device
+        self.desk = Desk(device, url=url)
+        self.client = TestClient(make_app(self.desk, PORT), base_url=OWN)
+
+    def get(self, path: str) -> Any:
+        return self.client.get(f"/api/{path}").json()
+
+    def ask(self, **fields: Any) -> Any:
+        return self.client.post("/api/ask", json={**QUESTION, **fields}).json()
+
+    def close(self) -> None:
+        self.desk.close()
+
+
+@pytest.fixture
+def page() -> Iterator[Page]:
+    with closing(Page(Device.open(EXAMPLES / "device.toml"))) as made:
+        yield made
+
+
+@pytest.fixture
+def shop() -> Iterator[Page]:
+    with closing(Page(Device.open(EXAMPLES / "orders.toml"))) as made:
+        yield made
+
+
+def keyed(folder: Path) -> Device:
+    file = folder / "device.toml"
+    file.write_text(KEYED, encoding="utf-8")
+    return Device.open(file)
+
+
+def test_the_deciding_component_stands_on_top_with_its_reason_in_words(page: Page) -> None:
+    found = page.ask()
+    assert found["line"] == "com.browser/.Page opens."
+    assert [it["to"] for it in found["accounts"]][:2] == ["com.browser/.Page", "com.photos/.Album"]
+    album = found["accounts"][1]
+    assert album["says"] == "not approved for www.photos.example, and no default browser is set"
+    assert [it["label"] for it in album["buttons"]] == ["Approve com.photos for www.photos.example"]
+
+
+def test_an_approval_turns_the_answer_round_on_a_copy_alone(page: Page) -> None:
+    assert page.ask(changes=[APPROVAL])["line"] == "com.photos/.Album opens."
+    assert page.ask()["line"] == "com.browser/.Page opens."
+    assert page.device.system.status().history == 0
+
+
+def test_a_copy_has_what_the_history_did(page: Page) -> None:
+    page.device.system.link("com.browser", "www.photos.example")
+    found = page.ask(changes=[APPROVAL])
+    said = {it["to"]: it["says"] for it in found["accounts"]}
+    # both are approved there, so that priority decides
+    assert said["com.browser/.Page"] == "another one has a greater priority, or comes before it"
+    assert found["line"] == "com.photos/.Album opens."
+    assert page.ask()["line"] == "com.browser/.Page opens."
+
+
+def test_a_grant_is_offered_and_tried(tmp_path: Path) -> None:
+    with closing(Page(keyed(tmp_path))) as page:
+        asked = {"from": "com.one", "kind": "service", "package": "", "component": "com.two/.Sync", "data": "", "action": ""}
+        first = page.ask(**asked)
+        button = first["accounts"][0]["buttons"][0]
+        assert (first["line"], button["label"]) == ("Nobody gets it.", "Grant com.one two.SYNC")
+        assert page.ask(**asked, changes=[button])["line"] == "com.two/.Sync starts."
+
+
+@pytest.mark.parametrize(
+    ("fields", "sentence"),
+    [
+        ({"kind": "window"}, words_ui.no_kind("window")),
+        ({"changes": [{"change": "wipe"}]}, words_ui.no_change("wipe")),
+        ({"data": "cats"}, "the data isn't a URI: it has no scheme"),
+        ({"from": "com.none"}, "no installed package is called com.none"),
+    ],
+)
+def test_a_question_that_is_refused_is_said(page: Page, fields: dict[str, Any], sentence: str) -> None:
+    assert page.ask(**fields)["error"].startswith(sentence)
+
+
+def test_another_host_is_refused(page: Page) -> None:
+    got = page.client.get("/api/now", headers={"Host": f"evil.example:{PORT}"})
+    assert (got.status_code, got.json()) == (403, {"error": words_ui.OTHER_HOST})
+    assert page.client.get("/", headers={"Host": "127.0.0.1:1"}).status_code == 403
+    assert page.client.get("/", headers={"Host": f"localhost:{PORT}"}).status_code == 200
+
+
+def test_another_origin_is_refused(page: Page) -> None:
+    for origin in ("https://evil.example", "null", f"http://127.0.0.1:{PORT + 1}"):
+        got = page.client.post("/api/ask", json=QUESTION, headers={"Origin": origin})
+        assert (got.status_code, got.json()) == (403, {"error": words_ui.OTHER_ORIGIN})
+    assert page.client.post("/api/ask", json=QUESTION, headers={"Origin": OWN}).status_code == 200
+
+
+def test_another_page_that_sends_no_origin_is_refused(page: Page) -> None:
+    assert page.client.get("/api/now", headers={"Sec-Fetch-Site": "cross-site"}).status_code == 403
+    assert page.client.get("/api/now", headers={"Sec-Fetch-Site": "same-origin"}).status_code == 200
+
+
+def test_what_is_no_json_and_no_page_is_said(page: Page) -> None:
+    assert page.client.post("/api/ask", content=b"{", headers={"Content-Type": "application/json"}).json() == {"error": words_ui.NOT_JSON}
+    assert page.client.post("/api/ask", content=b"{}", headers={"Content-Type": "text/plain"}).json() == {"error": words_ui.NOT_JSON}
+    assert page.client.get("/none").json() == {"error": words_ui.NO_PAGE}
+    assert page.get("entry?at=0") == {"error": words_ui.no_entry(0)}
+
+
+def test_nothing_comes_from_outside(page: Page) -> None:
+    texts = [page.client.get(it).text for it in ("/", "/page.js", "/page.css")]
+    assert all("http" not in it.replace("https://www.example.org/", "") for it in texts)
+    assert "default-src 'self'" in page.client.get("/").headers["content-security-policy"]
+
+
+def test_no_response_has_a_key(tmp_path: Path) -> None:
+    with closing(Page(keyed(tmp_path))) as page:
+        page.device.system.install('package = "com.new"\n', key="KEY-of-new")
+        page.device.app("com.one").send(ORDER)
+        paths = ["/", "/page.js", "/page.css", "/none", *(f"/api/{it}" for it in ("about", "alive", "now", "history", "entry?at=0", "entry?at=1", "device"))]
+        answers = [page.client.get(it) for it in paths] + [page.client.post("/api/ask", json={**QUESTION, "from": it}) for it in ("android", "root", "com.one")]
+        answers.append(page.client.post("/api/ask", json={**QUESTION, "changes": [{"change": "grant", "package": "com.one", "what": "two.SYNC"}]}))
+        assert len(answers) == 15
+        for it in answers:
+            assert "KEY-of" not in it.text and "KEY-of" not in str(it.headers)
+        # the call that has a key is among them
+        assert page.get("entry?at=0")["request"] == {"manifest": 'package = "com.new"\n', "key": "(the package's key)"}
+        assert [it["name"] for it in page.get("device")["packages"]] == ["com.one", "com.two", "com.new"]
+
+
+def test_an_ordered_broadcast_is_shown_turn_by_turn(shop: Page) -> None:
+    shop.device.app("com.shop").send(ORDER, ordered=True, code=1, result=True)
+    found = shop.get("now")["broadcasts"]
+    assert [(it["to"], it["state"]) for it in found[0]["rows"]] == [("com.guard/.Check", "turn"), ("com.shop/.Ledger", "waits")]
+    assert found[0]["rows"][0]["left"] == f"60 s a turn; {words_ui.CLOCK_STANDS}"
+    shop.device.app("com.guard").finish(1, code=2, data="looked at")
+    rows = shop.get("now")["broadcasts"][0]["rows"]
+    assert [(it["to"], it["state"], it["so_far"]) for it in rows] == [("com.guard/.Check", "done", ""), ("com.shop/.Ledger", "turn", "code 2, data looked at")]
+    shop.device.app("com.shop").finish(2)
+    over = shop.get("now")
+    assert (over["broadcasts"], over["results"]) == ([], ["com.shop: result of broadcast 1: code 2, data looked at"])
+
+
+def test_the_time_that_is_left_is_never_more_than_it_can_be() -> None:
+    assert words_ui.time_left(words_ui.limit_of(("FOREGROUND",)), 3.9, False) == "at most 7 s left of 10 s"
+    assert words_ui.time_left(words_ui.limit_of(()), 60.0, False).startswith("its time is over")
+
+
+def test_tasks_stand_with_their_front_and_top_first(page: Page) -> None:
+    page.device.app("com.browser").start(Intent.view(LINK).with_flag("NEW_TASK"))
+    page.device.app("com.browser").start(Intent(component="com.browser/.Settings"), source=1)
+    page.device.app("com.photos").start(Intent(component="com.photos/.Album").with_flag("NEW_TASK"))
+    tasks = page.get("now")["tasks"]
+    assert [[it["component"] for it in task["instances"]] for task in tasks] == [["com.photos/.Album"], ["com.browser/.Settings", "com.browser/.Page"]]
+
+
+def test_registered_receivers_are_as_the_history_tells_them(shop: Page) -> None:
+    guard = shop.device.app("com.guard")
+    guard.register(IntentFilter(("a.NEWS",), priority=3))
+    second = guard.register(IntentFilter(("a.MAIL",)))
+    guard.unregister(second)
+    assert shop.get("now")["registered"] == [{"number": 1, "owner": "com.guard", "filter": "a.NEWS · priority 3"}]
+
+
+def test_a_call_is_shown_with_its_reply_and_what_it_changed(shop: Page) -> None:
+    shop.device.app("com.shop").send(ORDER, ordered=True, code=1)
+    shop.device.app("com.guard").finish(1, abort=True)
+    with pytest.raises(Refusal):
+        shop.device.app("com.guard").finish(1)
+    assert [(it["caller"], it["call"]) for it in shop.get("history")["rows"]] == [("com.shop", "send"), ("com.guard", "finish"), ("com.guard", "finish")]
+    first = shop.get("entry?at=0")
+    assert first["reply"]["body"]["broadcast"] == 1
+    assert first["changed"] == ["now: delivery 1 for com.guard/.Check, broadcast 1: -a org.example.ORDER, so far code 1"]
+    assert shop.get("entry?at=2")["reply"] == {"status": 404, "body": {"error": "no_delivery"}}
+    assert shop.get("entry?at=1")["changed"] == [words_ui.vanished(first["changed"][0].removeprefix("now: "))]
+    # a step back is the same as before
+    assert shop.get("entry?at=0") == first
+
+
+def test_a_replay_begins_anew_before_its_session_ends(shop: Page, monkeypatch: pytest.MonkeyPatch) -> None:
+    monkeypatch.setattr("amctl.ui.desk.MOST_REPLAYED", 20)
+    for _ in range(10):
+        shop.device.system.tick()
+    assert [shop.get(f"entry?at={it}")["reply"]["status"] for it in range(10)] == [200] * 10
+    stepping = shop.desk._stepping
+    assert stepping is not None and stepping.requests < 40
+
+
+def test_a_server_that_began_anew_has_another_history(shop: Page) -> None:
+    shop.device.app("com.shop").send(ORDER, ordered=True)
+    assert shop.get("now")["broadcasts"][0]["rows"][1]["state"] == "waits"
+    with Device.open(EXAMPLES / "orders.toml", at=5) as other:
+        shop.desk.device = other
+        other.app("com.guard").register(IntentFilter(("a.NEWS",)))
+        other.app("com.shop").register(IntentFilter(("a.MAIL",)))
+        found = shop.get("now")
+    assert [(it["number"], it["owner"]) for it in found["registered"]] == [(1, "com.guard"), (2, "com.shop")]
+    shop.device.close()
+
+
+def test_a_session_of_its_own_says_why_nothing_is_there(page: Page) -> None:
+    assert page.get("about")["note"] == words_ui.OWN_SESSION
+    assert page.get("alive") == {"history": None}
+
+
+def test_history_comes_in_pages(shop: Page) -> None:
+    for _ in range(70):
+        shop.device.system.tick()
+    found = [shop.get(f"history?from={it}") for it in (0, 64, 128)]
+    assert [(it["total"], len(it["rows"])) for it in found] == [(70, 64), (70, 6), (70, 0)]
+    assert [found[0]["count"], words_ui.stored(1), words_ui.stored(0)] == ["70 stored calls", "1 stored call", "No stored calls."]
+
+
+def test_a_call_that_had_no_reply_says_why(tmp_path: Path) -> None:
+    def entry(at: int, uid: int, kept: bool) -> Entry:
+        return Entry(at=at, desk=0, kept=kept, now=0, request={}, route="/v1/tick", uid=uid, weight=2)
+
+    device = keyed(tmp_path)
+    with closing(Replay(device.file.path, None)) as replay:
+        device.close()
+        replies = [replay.play(it) for it in (entry(0, 1000, True), entry(1, 1000, False), entry(2, 10009, True))]
+    assert [None if it is None else it.status for it in replies] == [200, None, None]
+    notes = [note_on(entry(at, 1000, kept), reply) for at, kept, reply in ((0, True, replies[0]), (1, False, None), (2, True, None), (60_000, True, None))]
+    assert notes == [words_ui.REPLAY_CLOCK, words_ui.NOT_KEPT, words_ui.STORED_BEFORE, words_ui.LONG_HISTORY]
+
+
+def test_copies_do_what_the_call_did(page: Page, tmp_path: Path) -> None:
+    page.device.system.link("com.photos", "www.photos.example")
+    page.device.app("com.browser").start(Intent.view(LINK, extras={"a b": "it's", "n": True}).with_flag("NEW_TASK"))
+    copies = [page.get(f"entry?at={it}")["copies"] for it in (0, 1)]
+    assert copies[0]["amctl"] == "amctl link com.photos www.photos.example"
+    test = tmp_path / "test_copied.py"
+    test.write_text(copies[1]["pytest"], encoding="utf-8")
+    (tmp_path / "device.toml").write_bytes((EXAMPLES / "device.toml").read_bytes())
+    ran = run_python("-m", "pytest", "-q", "-p", "amctl.pytest_plugin", str(test), cwd=tmp_path)
+    assert "1 passed" in ran.out, ran.out
+    ran = run_python("-m", *shlex.split(copies[1]["amctl"]), cwd=tmp_path)
+    assert (ran.status, ran.out) == (0, "com.browser/.Page: a new instance (instance 1, task 1)\n")
+    assert shlex.split(copies[0]["curl"])[-1] == '{"approved":true,"host":"www.photos.example","package":"com.photos"}'
+
+
+def test_a_refused_call_is_copied_as_a_refusal(shop: Page, tmp_path: Path) -> None:
+    with pytest.raises(Refusal, match="no delivery or result 7"):
+        shop.device.app("com.guard").finish(7)
+    test = tmp_path / "test_copied.py"
+    test.write_text(shop.get("entry?at=0")["copies"]["pytest"], encoding="utf-8")
+    (tmp_path / "device.toml").write_bytes((EXAMPLES / "orders.toml").read_bytes())
+    assert "1 passed" in run_python("-m", "pytest", "-q", "-p", "amctl.pytest_plugin", str(test), cwd=tmp_path).out
+    assert shop.get("entry?at=0")["copies"]["amctl"] == words_ui.NO_COMMAND
+
+
+def test_who_may_reach_a_component_is_said(tmp_path: Path) -> None:
+    with closing(Page(keyed(tmp_path))) as page:
+        two = page.get("device")["packages"][1]
+        assert [(it["name"], it["reach"]) for it in two["components"]] == [("com.two/.Sync", "any app that holds two.SYNC")]
+
+
+def test_a_server_that_is_gone_is_said() -> None:
+    program = subprocess.Popen(
+        [sys.executable, "-m", "amctl", "serve", str(EXAMPLES / "orders.toml"), "--am", str(find_am())], cwd=CLIENT, stdout=subprocess.PIPE, text=True
+    )
+    assert program.stdout is not None
+    url = f"http://127.0.0.1:{program.stdout.readline().rpartition(':')[2].strip()}"
+    with closing(Page(Device.connect(url, EXAMPLES / "orders.toml"), url)) as page:
+        assert page.get("alive") == {"history": 0}
+        program.terminate()
+        program.communicate()
+        assert page.get("now")["gone"].startswith(f"nothing listens at {url}")
+        assert page.ask()["gone"].startswith(f"nothing listens at {url}")
+
+
+def test_a_port_in_use_and_a_refused_file_are_said(tmp_path: Path) -> None:
+    with socket.socket() as taken:
+        taken.bind(("127.0.0.1", 0))
+        taken.listen()
+        port = taken.getsockname()[1]
+        ran = run_python("-m", "amctl", "ui", "--device", str(EXAMPLES / "device.toml"), "--port", str(port))
+    assert (ran.status, ran.out) == (2, "")
+    assert ran.err.startswith(f"amctl: port {port} of 127.0.0.1 is in use")
+    (tmp_path / "device.toml").write_text("system_key = 1\n", encoding="utf-8")
+    ran = run_python("-m", "amctl", "ui", "--device", str(tmp_path / "device.toml"))
+    assert (ran.status, ran.out) == (2, "") and "`system_key` has a value of another kind" in ran.err
+
+
+def test_a_server_that_was_never_there_and_a_missing_browser_are_said() -> None:
+    with socket.socket() as free:
+        free.bind(("127.0.0.1", 0))
+        url = f"http://127.0.0.1:{free.getsockname()[1]}"
+        ran = run_python("-m", "amctl", "ui", "--device", str(EXAMPLES / "device.toml"), "--url", url)
+    assert (ran.status, ran.out) == (2, "") and ran.err.startswith(f"amctl: nothing listens at {url}")
+    assert words_ui.no_browser("URL") == "no browser is found: open URL in one yourself."
+
+
+def test_missing_packages_are_said() -> None:
+    ran = run_python("-c", "import sys; sys.modules['starlette'] = None; from amctl.cli import main; sys.exit(main(['ui', '--device', 'none']))")
+    assert (ran.status, ran.out, ran.err) == (2, "", f"amctl: {words_ui.NO_LIBRARY}\n")
+
+
+@pytest.mark.parametrize("number", [signal.SIGINT, signal.SIGTERM, signal.SIGHUP])
+def test_nothing_is_left_running(number: signal.Signals) -> None:
+    program = subprocess.Popen(
+        [sys.executable, "-m", "amctl", "ui", "--device", str(EXAMPLES / "device.toml"), "--am", str(find_am())], cwd=CLIENT, stdout=subprocess.PIPE, text=True
+    )
+    assert program.stdout is not None
+    assert program.stdout.readline().startswith("the page is at http://127.0.0.1:")
+    children = [int(it) for it in Path(f"/proc/{program.pid}/task/{program.pid}/children").read_text().split()]
+    assert len(children) == 1
+    program.send_signal(number)
+    program.communicate(timeout=30)
+    # a session ends where its input does
+    for _ in range(100):
+        if not Path(f"/proc/{children[0]}").exists():
+            break
+        subprocess.run(["sleep", "0.05"], check=True)
+    assert not Path(f"/proc/{children[0]}").exists()
+
+
+def test_a_browser_is_opened_if_it_is_asked_for(monkeypatch: pytest.MonkeyPatch, capsys: pytest.CaptureFixture[str]) -> None:
+    from amctl.where import Where
+
+    monkeypatch.setattr("webbrowser.open", lambda url: False)
+    monkeypatch.setattr("uvicorn.Server.run", lambda self, sockets: None)
+    assert run.run(Where(EXAMPLES / "device.toml"), None, True) == 0
+    opened, missing = capsys.readouterr().out.splitlines()
+    assert missing == words_ui.no_browser(opened.split()[4])
