@@ -213,8 +213,8 @@ def test_users() -> None:
 def test_options_end_where_a_bare_word_begins() -> None:
     words = Words(("-a", "x", "-nb", "--", "-c"), "start")
     assert (words.option(), words.value(), words.option(), words.value(), words.option(), words.bare()) == ("-a", "x", "-n", "b", None, "-c")
-    with pytest.raises(Thrown, match='No argument expected after "-W1"'):
-        attached = Words(("-W1", "-n"))
+    with pytest.raises(Thrown, match='No argument expected after "-Wx"'):
+        attached = Words(("-Wx", "-n"))
         attached.option()
         attached.option()
 
