@@ -2,9 +2,10 @@
 #![tactic(auto)]
 
 use am_host::{Counted, SystemClock, SystemFiles, read_words};
-use am_shell::{run, tell_want};
-use am_store_sql::SqlStore;
+use am_keeper_files::SqlStore;
+use am_shell::{run_keyed, tell_want};
 use am_tcp::TcpNetwork;
+use std::hash::RandomState;
 use std::process::ExitCode;
 
 fn main(rt: HostRuntime) -> ExitCode {
@@ -17,7 +18,7 @@ fn main(rt: HostRuntime) -> ExitCode {
     let mut clock = SystemClock::new(rt);
     ExitCode::from(match read_words(&rt) {
         Err(_) => tell_want(&mut errors),
-        Ok(words) => run(
+        Ok(words) => run_keyed(
             &rt,
             rt.alloc(),
             words.as_slice(),
@@ -28,6 +29,8 @@ fn main(rt: HostRuntime) -> ExitCode {
             &mut network,
             &mut store,
             &mut clock,
+            // Without random bytes what clients choose is hashed as everyone can tell.
+            RandomState::new(&rt).ok(),
         ),
     })
 }

@@ -11,7 +11,7 @@ use Rattle.am_wire_routes.specs.Table.{endpoint_of}
 use Rattle.am_wire_fields.specs.declared.fault.WireFault.{WireFault}
 use Rattle.am_wire.specs.Requests.{request_of as request_at}
 use Rattle.am_wire.proofs.Made.{read_is_made}
-use Rattle.am_wire_written.specs.Written.{IsReadable}
+use Rattle.am_wire_read_back.specs.Written.{IsReadable}
 use Rattle.am_http.specs.Head.{Frame}
 use Rattle.am_http.specs.Requests.{asked_at, request_of, request_or}
 use Rattle.am_audit_answers.specs.Matching.{IsItsCall}

@@ -22,8 +22,8 @@ use Rattle.am_history.specs.State.{State}
 use Rattle.am_history.specs.Answers.{done, for_admin, for_found, for_package, refused}
 use Rattle.am_history.specs.Packages.{grant, grant_to, install, install_read, installed, is_full, is_key_used, is_name_used, link, link_to, too_many_grants, too_many_links, uninstall, without}
 use Rattle.am_history.specs.Steps.{act, keeps_row}
-use Rattle.am_found.specs.Found.{Kept, as_stopped, kept_of}
-use Rattle.am_found.proofs.OtherRequests.{other_stays}
+use Rattle.am_laws_kept.specs.Found.{Kept, as_stopped, kept_of}
+use Rattle.am_laws_kept.proofs.OtherRequests.{other_stays}
 use Rattle.am_audit_callers.specs.declared.callers.Owner.{Owner}
 use Rattle.am_audit_callers.specs.declared.change.CallerChange.{CallerChange}
 use Rattle.am_audit_callers.specs.declared.change.CallerChange.TheVariants as changes

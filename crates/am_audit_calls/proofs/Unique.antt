@@ -5,20 +5,19 @@ use Rattle.std.proofs.lemmas.List.{append_cancel_right}
 use Rattle.am_types.specs.declared.history.Entry.{Entry}
 use Rattle.am_types.specs.declared.request.Request.{Request}
 use Rattle.am_history.specs.History.{MayBeNext}
-use Rattle.am_wire_routes.specs.Table.{endpoint_at as endpoint_with}
+use Rattle.am_wire_routes.specs.Table.{endpoint_at as endpoint_with, endpoint_for, path_of}
+use Rattle.am_wire_routes.proofs.Paths.{own_path}
 use Rattle.am_wire_values.specs.Replies.{entry_data}
 use Rattle.am_wire_values.specs.Requests.{request_data}
-use Rattle.am_wire_values.specs.Routes.{route_of}
-use Rattle.am_wire.specs.Requests.{endpoint_at}
 use Rattle.am_audit_lines.specs.Lines.{IsReadAgain, IsWritten, number_in}
-use Rattle.am_audit_lines.proofs.Entries.{request_said, route_asks, route_said, says, some_is}
+use Rattle.am_audit_lines.proofs.Entries.{request_said, route_said, says, some_is}
 use Rattle.am_audit_calls.specs.Reading.{TakesLine}
 use Rattle.am_audit_calls.specs.Replays.{GoesOnWith, Replay, state_of}
 
 -- requests with one route and one value, which are read again of them
-same_request : (one other : Request) → IsReadAgain one → IsReadAgain other → route_of one ≡ route_of other → request_data one ≡ request_data other → one ≡ other
+same_request : (one other : Request) → IsReadAgain one → IsReadAgain other → path_of (endpoint_for one) ≡ path_of (endpoint_for other) → request_data one ≡ request_data other → one ≡ other
 same_request one other first second route value =
-    let at : endpoint_at one ≡ endpoint_at other = some_is (sym (route_asks one) ∙ ap endpoint_with route ∙ route_asks other) in
+    let at : endpoint_for one ≡ endpoint_for other = some_is (sym (own_path (endpoint_for one)) ∙ ap endpoint_with route ∙ own_path (endpoint_for other)) in
     cc (first.again, second.again, at, value)
 
 -- a line is at most one entry
@@ -30,7 +29,7 @@ same_entry at line one other first second =
     let uid : one.uid ≡ other.uid = some_is (sym (says at one).uid ∙ ap (number_in (codes "uid")) same ∙ (says at other).uid) in
     let now : one.now ≡ other.now = some_is (sym (says at one).now ∙ ap (number_in (codes "now")) same ∙ (says at other).now) in
     let weight : one.weight ≡ other.weight = some_is (sym (says at one).weight ∙ ap (number_in (codes "weight")) same ∙ (says at other).weight) in
-    let route : route_of one.request ≡ route_of other.request =
+    let route : path_of (endpoint_for one.request) ≡ path_of (endpoint_for other.request) =
     some_is (sym (route_said (entry_data at one) at one refl) ∙ route_said (entry_data at one) at other same) in
     let value : request_data one.request ≡ request_data other.request =
     some_is (sym (request_said (entry_data at one) at one refl) ∙ request_said (entry_data at one) at other same) in

@@ -11,8 +11,7 @@ ghost use Rattle.am_audit_calls.specs.Replays.{Advances, ShowsKept, call_held, c
 
 use crate::keeper::NoKeeper;
 use am_audit_callers::{CallerChange, Callers, callers_follow, change_of, keys_are_exact};
-use am_fresh::begin_fresh;
-use am_machine::Manager;
+use am_machine::{Manager, begin_fresh};
 use am_types::{Device, Entry, NoMemory, Request, Shown, Text};
 use std::alloc::Global;
 use std::marker::Model;

@@ -9,21 +9,19 @@ use Rattle.serde_json.specs.Read.{max_depth, read}
 use Rattle.serde_json.specs.Written.{compact_text, has_float}
 use Rattle.am_types.specs.declared.history.Entry.{Entry}
 use Rattle.am_types.specs.declared.request.Request.{Request}
-use Rattle.am_types.specs.declared.request.Request.TheVariants as asks
 use Rattle.am_wire_fields.specs.declared.fault.WireFault.{WireFault}
 use Rattle.am_wire_fields.specs.declared.fault.WireFault.TheVariants.{NotJson}
 use Rattle.am_wire_fields.specs.Bodies.{json_of, value_of}
-use Rattle.am_wire_routes.specs.Table.{endpoint_at as endpoint_with}
+use Rattle.am_wire_routes.specs.Table.{endpoint_for, path_of}
 use Rattle.am_wire_values.proofs.Floats.{request_none}
 use Rattle.am_wire_values.specs.Replies.{entry_data}
 use Rattle.am_wire_values.specs.Requests.{request_data}
-use Rattle.am_wire_values.specs.Routes.{route_of}
 use Rattle.am_types.specs.declared.failure.NoMemory.{NoMemory}
-use Rattle.am_wire.specs.Requests.{endpoint_at, request_of}
+use Rattle.am_wire.specs.Requests.{request_of}
 use Rattle.am_wire_routes.specs.declared.endpoint.Endpoint.{Endpoint}
-use Rattle.am_wire_written.specs.Written.{HasFewRows}
+use Rattle.am_wire_read_back.specs.Written.{HasFewRows}
 use Rattle.am_audit_lines.specs.Lines.{IsReadAgain, IsTextOf, number_in}
-use Rattle.am_wire_written.proofs.Depths.{shallow}
+use Rattle.am_wire_read_back.proofs.Depths.{shallow}
 
 -- the value says the fields of the entry
 pub record Says (value : Data) (e : Entry) : Type 0 where
@@ -31,7 +29,7 @@ pub record Says (value : Data) (e : Entry) : Type 0 where
   pub uid : number_in (codes "uid") value ≡ Some e.uid
   pub now : number_in (codes "now") value ≡ Some e.now
   pub weight : number_in (codes "weight") value ≡ Some e.weight
-  pub route : get (codes "route") value ≡ Some (string (route_of e.request))
+  pub route : get (codes "route") value ≡ Some (string (path_of (endpoint_for e.request)))
   pub request : get (codes "request") value ≡ Some (request_data e.request)
 
 pub says : (at : ℕ) (e : Entry) → Says (entry_data at e) e
@@ -67,23 +65,17 @@ written_is text value at e is compact reads =
       compact = compact (ap has_float is ∙ no_float at e) ∙ ap compact_text is;
     }
 
--- the endpoint at the route of a request is the request's, in each case
-pub route_asks : (r : Request) → endpoint_with (route_of r) ≡ Some (endpoint_at r)
-unfolding endpoint_with
-route_asks asks.Status = refl
-route_asks _ = refl
-
 -- a request that is read again is read of the text of its value
-reread : (endpoint : Endpoint) (text : List ℕ) (value : Data) (request : Request) → endpoint ≡ endpoint_at request → value ≡ request_data request
+reread : (endpoint : Endpoint) (text : List ℕ) (value : Data) (request : Request) → endpoint ≡ endpoint_for request → value ≡ request_data request
     → IsReadAgain request → (has_float value ≡ false → text ≡ compact_text value)
     → (request_of endpoint text ≡ Ok request) × (text ≡ compact_text (request_data request))
 reread endpoint text value request at is again compact =
     let own : text ≡ compact_text (request_data request) = compact (ap has_float is ∙ request_none request) ∙ ap compact_text is in
-    (ap (λ e. request_of e text) at ∙ ap (request_of (endpoint_at request)) own ∙ again.again, own)
+    (ap (λ e. request_of e text) at ∙ ap (request_of (endpoint_for request)) own ∙ again.again, own)
 
 -- so what is found where it was read is that request
 pub found_is : (endpoint : Endpoint) (text : List ℕ) (value : Data) (read request : Request) (result : Result (Option Request) NoMemory)
-    → endpoint ≡ endpoint_at request → value ≡ request_data request → IsReadAgain request → (has_float value ≡ false → text ≡ compact_text value)
+    → endpoint ≡ endpoint_for request → value ≡ request_data request → IsReadAgain request → (has_float value ≡ false → text ≡ compact_text value)
     → request_of endpoint text ≡ Ok read
     → (text ≡ compact_text (request_data read) → HasFewRows read → IfOk result (λ found. found ≡ Some read))
     → IfOk result (λ found. found ≡ Some request)
@@ -98,7 +90,7 @@ found_is endpoint text value read request result at is again compact reads finds
 
 -- and it is read
 pub not_refused : (endpoint : Endpoint) (text : List ℕ) (value : Data) (request : Request) (fault : WireFault)
-    → endpoint ≡ endpoint_at request → value ≡ request_data request → IsReadAgain request → (has_float value ≡ false → text ≡ compact_text value)
+    → endpoint ≡ endpoint_for request → value ≡ request_data request → IsReadAgain request → (has_float value ≡ false → text ≡ compact_text value)
     → request_of endpoint text ≡ Err fault → ⊥
 not_refused endpoint text value request fault at is again compact fails =
     let both = reread endpoint text value request at is again compact in
@@ -106,7 +98,7 @@ not_refused endpoint text value request fault at is again compact fails =
     cc
 
 -- the route that the value of an entry says, and its request
-pub route_said : (value : Data) (at : ℕ) (e : Entry) → value ≡ entry_data at e → option_and_then as_str (get (codes "route") value) ≡ Some (route_of e.request)
+pub route_said : (value : Data) (at : ℕ) (e : Entry) → value ≡ entry_data at e → option_and_then as_str (get (codes "route") value) ≡ Some (path_of (endpoint_for e.request))
 route_said value at e is = ap (λ v. option_and_then as_str (get (codes "route") v)) is ∙ ap (option_and_then as_str) (says at e).route
 
 pub request_said : (value : Data) (at : ℕ) (e : Entry) → value ≡ entry_data at e → get (codes "request") value ≡ Some (request_data e.request)

@@ -5,11 +5,12 @@ use Rattle.serde_json.specs.Find.{get, as_number, as_u64}
 use Rattle.serde_json.specs.Written.{compact_text}
 use Rattle.am_types.specs.declared.history.Entry.{Entry}
 use Rattle.am_types.specs.declared.request.Request.{Request}
-use Rattle.am_wire.specs.Requests.{endpoint_at, request_of}
+use Rattle.am_wire_routes.specs.Table.{endpoint_for}
+use Rattle.am_wire.specs.Requests.{request_of}
 use Rattle.am_wire_fields.specs.Bodies.{value_of}
 use Rattle.am_wire_values.specs.Replies.{entry_data}
 use Rattle.am_wire_values.specs.Requests.{request_data}
-use Rattle.am_wire_written.specs.Written.{HasFewRows}
+use Rattle.am_wire_read_back.specs.Written.{HasFewRows}
 
 -- the numbers of an entry lie in their ranges
 pub record HasRanges (entry : Entry) : Type 0 where
@@ -21,7 +22,7 @@ pub record HasRanges (entry : Entry) : Type 0 where
 -- the endpoint of the request reads it again of the text that is written for it; the filter of a receiver to be registered
 -- lists at most 64 schemes, authorities, paths and types together
 pub record IsReadAgain (request : Request) : Type 0 where
-  pub again : request_of (endpoint_at request) (compact_text (request_data request)) ≡ Ok request
+  pub again : request_of (endpoint_for request) (compact_text (request_data request)) ≡ Ok request
   pub few : HasFewRows request
 
 -- the entry was kept, its numbers lie in their ranges, and its request is read again

@@ -6,17 +6,17 @@ ghost use Rattle.serde_json.specs.Find.{as_str, get};
 ghost use Rattle.serde_json.specs.View.{view};
 ghost use Rattle.serde_json.specs.Written.{compact_text, has_float};
 ghost use Rattle.am_types.specs.declared.history.Entry.{Entry};
-ghost use Rattle.am_wire.specs.Requests.{endpoint_at, request_of};
-ghost use Rattle.am_wire_routes.specs.Table.{endpoint_at as endpoint_with, is_at};
+ghost use Rattle.am_wire.specs.Requests.{request_of};
+ghost use Rattle.am_wire_routes.specs.Table.{endpoint_at as endpoint_with, endpoint_for, is_at};
 ghost use Rattle.am_wire_values.specs.Replies.{entry_data};
 ghost use Rattle.am_wire_values.specs.Requests.{request_data};
-ghost use Rattle.am_wire_written.specs.Written.{HasFewRows, IsReadable};
+ghost use Rattle.am_wire_read_back.specs.Written.{HasFewRows, IsReadable};
 ghost use Rattle.am_audit_lines.specs.Lines.{IsReadAgain};
 
 use am_types::{NoMemory, Request, Unmade};
 use am_wire::read_request;
-use am_wire_routes::Endpoint;
-use am_wire_written::{endpoint_of, request_text};
+use am_wire_read_back::request_text;
+use am_wire_routes::{Endpoint, endpoint_of};
 use serde_json::Value;
 use std::alloc::Global;
 
@@ -69,7 +69,7 @@ pub fn has_few_rows(request: &Request) -> bool
 
 // The request that was read of a body, if that is the text that is written for it.
 fn if_written(alloc: Global, request: Request, body: &str) -> Result<Option<Request>, NoMemory>
-    requires { request_of (endpoint_at request) body.now ≡ Ok request }
+    requires { request_of (endpoint_for request) body.now ≡ Ok request }
     ensures again { IfOk result (λ found. IfSome found IsReadAgain) }
     ensures finds { body.now ≡ compact_text (request_data request) → HasFewRows request
         → IfOk result (λ found. found ≡ Some request) }
@@ -94,7 +94,7 @@ fn if_written(alloc: Global, request: Request, body: &str) -> Result<Option<Requ
 // The request that the value of a body says at an endpoint, if it is its own value.
 fn request_at(alloc: Global, endpoint: Endpoint, said: &Value) -> Result<Option<Request>, NoMemory>
     ensures again { IfOk result (λ found. IfSome found IsReadAgain) }
-    ensures finds { (request : Request) → endpoint ≡ endpoint_at request → view said.now ≡ request_data request
+    ensures finds { (request : Request) → endpoint ≡ endpoint_for request → view said.now ≡ request_data request
         → IsReadAgain request → IfOk result (λ found. found ≡ Some request) }
 {
     let body = said.to_string(alloc)?;

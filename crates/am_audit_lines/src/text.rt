@@ -6,7 +6,8 @@ ghost use Rattle.am_wire_values.specs.Replies.{entry_data};
 ghost use Rattle.am_audit_lines.specs.Lines.{IsTextOf};
 
 use am_types::{Entry, NoMemory};
-use am_wire_values::{request_value, route_of};
+use am_wire_routes::endpoint_of;
+use am_wire_values::request_value;
 use serde_json::{Value, json};
 use std::alloc::{AllocError, Global};
 
@@ -22,7 +23,7 @@ fn entry_value(alloc: Global, at: u64, entry: &Entry) -> Result<Value, AllocErro
         "kept": entry.kept,
         "now": entry.now,
         "request": request,
-        "route": route_of(&entry.request),
+        "route": endpoint_of(&entry.request).path(),
         "uid": entry.uid,
         "weight": entry.weight,
     })

@@ -9,9 +9,9 @@ use Rattle.am_history.specs.State.{State, opening}
 use Rattle.am_manifest.specs.Devices.{device_of}
 use Rattle.am_audit_calls.specs.Histories.{IsHistory, IsReadAs}
 use Rattle.am_audit_answers.specs.Matching.{IsRecord}
-use Rattle.am_setback.specs.declared.setback.Setback.{Setback}
-use Rattle.am_setback.specs.declared.setback.Setback.TheVariants as setbacks
-use Rattle.am_setback.specs.Files.{Holds, Shelf}
+use Rattle.am_console.specs.declared.setback.Setback.{Setback}
+use Rattle.am_console.specs.declared.setback.Setback.TheVariants as setbacks
+use Rattle.am_console.specs.Files.{Holds, Shelf}
 use Rattle.am_audit_shell.specs.declared.finding.Finding.{Finding}
 use Rattle.am_audit_shell.specs.declared.finding.Finding.TheVariants as findings
 use Rattle.am_audit_shell.specs.Audits.{Happens}

@@ -1,15 +1,15 @@
 -- A run of an audit, as its status, its files, its output and its errors show it.
 use Rattle.std.specs.Prelude.{◌≡◌, ℕ, ◌⊎◌, codes, List, Option, Some, None, Result, Ok, Err, ⊤}
 use Rattle.am_types.specs.declared.manifest.ManifestFault.{ManifestFault}
-use Rattle.am_setback.specs.declared.setback.Setback.{Setback}
-use Rattle.am_setback.specs.declared.setback.Setback.TheVariants as setbacks
-use Rattle.am_setback.specs.Devices.{Describes, refusal_line}
-use Rattle.am_setback.specs.Files.{Shelf}
-use Rattle.am_setback.specs.Setbacks.{setback_status}
+use Rattle.am_console.specs.declared.setback.Setback.{Setback}
+use Rattle.am_console.specs.declared.setback.Setback.TheVariants as setbacks
+use Rattle.am_console.specs.Devices.{Describes, refusal_line}
+use Rattle.am_console.specs.Files.{Shelf}
+use Rattle.am_console.specs.Setbacks.{setback_status}
 use Rattle.am_audit_shell.specs.declared.finding.Finding.{Finding}
 use Rattle.am_audit_shell.specs.declared.finding.Finding.TheVariants as findings
 use Rattle.am_audit_shell.specs.Contents.{IsHistoryRefused, IsJudged, IsOverLimit, IsUnread}
-use Rattle.am_setback.specs.Telling.{OnlyTold, Prints, Voices}
+use Rattle.am_console.specs.Telling.{OnlyTold, Prints, Voices}
 use Rattle.am_audit_shell.specs.Lines.{history_line, limit_line, setback_line, usage_line, verdict_line, verdict_status, want_line, write_line}
 use Rattle.am_audit_shell.specs.Words.{Named, named_by}
 

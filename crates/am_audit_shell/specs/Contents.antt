@@ -9,8 +9,8 @@ use Rattle.am_audit_calls.specs.Histories.{IsHistory, IsRefusedAt, lines_in}
 use Rattle.am_audit_frames.specs.declared.audit.Verdict.{Verdict}
 use Rattle.am_audit_answers.specs.Audits.{Ground}
 use Rattle.am_audit_frames.specs.Verdicts.{IsVerdict, Transcript}
-use Rattle.am_setback.specs.Devices.{Describes}
-use Rattle.am_setback.specs.Files.{Holds, IsMissing, Shelf}
+use Rattle.am_console.specs.Devices.{Describes}
+use Rattle.am_console.specs.Files.{Holds, IsMissing, Shelf}
 use Rattle.am_audit_shell.specs.declared.finding.Part.{Part}
 use Rattle.am_audit_shell.specs.declared.finding.Part.TheVariants as parts
 use Rattle.am_audit_shell.specs.Words.{Named}

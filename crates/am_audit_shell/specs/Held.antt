@@ -5,9 +5,9 @@ use Rattle.am_types.specs.declared.history.Entry.{Entry}
 use Rattle.am_outside.specs.Counts.{HasRisen}
 use Rattle.am_outside.specs.declared.files.FileBytes.{FileBytes}
 use Rattle.am_audit_frames.specs.Verdicts.{IsVerdict}
-use Rattle.am_setback.specs.declared.setback.Setback.{Setback}
-use Rattle.am_setback.specs.declared.setback.Setback.TheVariants as setbacks
-use Rattle.am_setback.specs.Files.{IsMissing, Shelf}
+use Rattle.am_console.specs.declared.setback.Setback.{Setback}
+use Rattle.am_console.specs.declared.setback.Setback.TheVariants as setbacks
+use Rattle.am_console.specs.Files.{IsMissing, Shelf}
 use Rattle.am_audit_shell.specs.declared.contents.Held.{Held}
 use Rattle.am_audit_shell.specs.declared.finding.Finding.{Finding}
 use Rattle.am_audit_shell.specs.declared.finding.Finding.TheVariants as findings

@@ -2,8 +2,8 @@
 use Rattle.std.specs.Prelude.{ℕ, codes, decimal, List, ◌++◌}
 use Rattle.am_audit_frames.specs.declared.audit.Verdict.{Verdict}
 use Rattle.am_audit_frames.specs.declared.audit.Verdict.TheVariants as verdicts
-use Rattle.am_setback.specs.declared.setback.Setback.{Setback}
-use Rattle.am_setback.specs.declared.setback.Setback.TheVariants as setbacks
+use Rattle.am_console.specs.declared.setback.Setback.{Setback}
+use Rattle.am_console.specs.declared.setback.Setback.TheVariants as setbacks
 use Rattle.am_audit_shell.specs.declared.finding.Part.{Part}
 use Rattle.am_audit_shell.specs.declared.finding.Part.TheVariants as parts
 

@@ -1,6 +1,6 @@
 //! What the files hold besides the device, and whether it is within its limits.
 ghost use Rattle.std.specs.Prelude.{◌≡◌, ◌≤◌, IfOk, IfErr};
-ghost use Rattle.am_setback.specs.Files.{shelf_of};
+ghost use Rattle.am_console.specs.Files.{shelf_of};
 ghost use Rattle.am_audit_shell.specs.Contents.{over_limit};
 ghost use Rattle.am_audit_shell.specs.Held.{FailsToRead, ReadsAll, contents_of};
 ghost use Rattle.am_audit_shell.specs.Naming.{named_at};
@@ -8,8 +8,8 @@ ghost use Rattle.am_audit_shell.specs.Naming.{named_at};
 use crate::finding::Part;
 use crate::words::NamedFiles;
 use am_audit_calls::lines_in;
+use am_console::Setback;
 use am_outside::Files;
-use am_setback::Setback;
 
 /// The most bytes that a file may have.
 const MOST_BYTES: usize = 16_777_216;

@@ -1,11 +1,11 @@
 //! What is told on the errors.
 ghost use Rattle.std.specs.Prelude.{◌≡◌};
 ghost use Rattle.am_http.specs.Links.{sink_of};
-ghost use Rattle.am_setback.specs.Telling.{Tells};
+ghost use Rattle.am_console.specs.Telling.{Tells};
 ghost use Rattle.am_audit_shell.specs.Lines.{setback_line, want_line};
 
+use am_console::{Setback, tell};
 use am_outside::Sink;
-use am_setback::{Setback, tell};
 
 /// Writes on the errors that memory ran out, and answers the status: 8, or 6 where the line couldn't be written.
 pub fn tell_want<E: Sink>(errors: &mut E) -> u8

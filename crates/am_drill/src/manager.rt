@@ -1,11 +1,10 @@
 //! The manager of a drill.
 ghost use Rattle.std.specs.Prelude.{◌≡◌, IfOk};
 ghost use Rattle.am_model.specs.Sound.{IsSound};
-ghost use Rattle.am_fresh.specs.Beginnings.{BeginsWith};
+ghost use Rattle.am_machine.specs.Beginnings.{BeginsWith};
 
-use am_fresh::begin_fresh;
 use am_keeper::{MemoryKeeper, RowsBuilder};
-use am_machine::Manager;
+use am_machine::{Manager, begin_fresh};
 use am_types::{Device, List, NoMemory};
 use std::alloc::Global;
 

@@ -8,6 +8,7 @@ mod fill;
 mod filter;
 mod rows;
 
+pub use am_types::{FillFault, Why};
 pub use data::{has_host, is_any_type, passes_type};
 pub use equal::filter_equals;
 pub use fill::fill_in;

@@ -13,6 +13,7 @@ use Rattle.am_types.specs.declared.broadcast.Ordered.{Ordered}
 use Rattle.am_types.specs.declared.pending.PendingFlags.{PendingFlags}
 use Rattle.am_types.specs.declared.request.Request.TheVariants as asks
 use Rattle.am_types.specs.declared.reply.Reply.TheVariants as replies
+use Rattle.am_types.specs.declared.rule.Limit.TheVariants as limits
 use Rattle.am_types.specs.declared.rule.Rule.TheVariants as rules
 use Rattle.am_types.specs.declared.task.Placed.TheVariants.{Fresh}
 use Rattle.am_types.specs.Intents.{no_flags}
@@ -26,7 +27,7 @@ use Rattle.am_history.specs.BroadcastCalls.{send, register, unregister, finish}
 use Rattle.am_history.specs.PendingCalls.{pending_get, pending_send, pending_give}
 use Rattle.am_history.specs.Packages.{grant, force_stop}
 use Rattle.am_history.specs.Explaining.{explain}
-use Rattle.am_history.specs.Steps.{act}
+use Rattle.am_history.specs.Steps.{act, advance}
 use Rattle.am_history.proofs.Samples.{listing, component, app, device, act_on, entry, replies_of, outcome, plainly}
 
 -- two apps with an activity each for the same action, of priorities 0 and -5
@@ -366,3 +367,31 @@ pub the_history_is_shown :
     ∷ replies.Status 2 7 0 ∷ []
 unfolding act
 the_history_is_shown = refl
+
+-- the moment moves to the deadline of a delivery, which is passed over, and later calls keep it; by 0 it only asks
+pub the_moment_moves :
+    replies_of one_receiver
+    (entry 10000 0 (asks.Send in_foreground None in_order)
+    ∷ entry 1000 5 (asks.Advance 0)
+    ∷ entry 1000 5 (asks.Advance 9995)
+    ∷ entry 10000 6 asks.Inbox
+    ∷ entry 1000 7 asks.Status ∷ [])
+    ≡ replies.Sent 1 only_one
+    ∷ replies.Advanced (Some 10000) 5
+    ∷ replies.Advanced None 10000
+    ∷ replies.Items (record { delivery = 2; broadcast = 1; what = items.Final (outcome (pos 1)) } ∷ [])
+    ∷ replies.Status 4 10000 2 ∷ []
+unfolding act advance send sending.send
+the_moment_moves = refl
+
+-- an app can't move it, and nobody moves it past the greatest moment
+pub the_moment_stays :
+    replies_of one_receiver
+    (entry 10000 1 (asks.Advance 5)
+    ∷ entry 1000 1 (asks.Advance 4611686018427387904)
+    ∷ entry 0 1 (asks.Advance 4611686018427387903) ∷ [])
+    ≡ replies.Refused rules.AdminOnly
+    ∷ replies.Refused (rules.OverLimit limits.Moment)
+    ∷ replies.Advanced None 4611686018427387904 ∷ []
+unfolding act advance
+the_moment_stays = refl

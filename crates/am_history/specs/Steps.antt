@@ -1,12 +1,13 @@
 -- What one call does to the state, and what it is answered.
-use Rattle.std.specs.Prelude.{ℕ, Bool, true, false, List, length, max, min, drop, take, is_none, if◌then◌else◌}
+use Rattle.std.specs.Prelude.{ℕ, ◌+◌, Bool, true, false, List, length, max, min, nat_le, drop, take, is_none, if◌then◌else◌}
 use Rattle.am_types.specs.declared.broadcast.Answer.{Answer}
 use Rattle.am_types.specs.declared.history.Entry.{Entry}
 use Rattle.am_types.specs.declared.request.Request.{Request}
 use Rattle.am_types.specs.declared.request.Request.TheVariants as asks
 use Rattle.am_types.specs.declared.reply.Reply.{Reply}
 use Rattle.am_types.specs.declared.reply.Reply.TheVariants as replies
-use Rattle.am_types.specs.declared.rule.Rule.TheVariants.{KeeperFault}
+use Rattle.am_types.specs.declared.rule.Rule.TheVariants.{KeeperFault, OverLimit}
+use Rattle.am_types.specs.declared.rule.Limit.TheVariants as limits
 use Rattle.am_model.specs.Texts.{is_same, lowered}
 use Rattle.am_model.specs.Sound.{is_access_key}
 use Rattle.am_model.specs.Candidates.{hits}
@@ -14,7 +15,7 @@ use Rattle.am_model.specs.Tasks.{views}
 use Rattle.am_model.specs.Broadcasts as broadcasts
 use Rattle.am_model.specs.Sending.{inbox}
 use Rattle.am_history.specs.State.{State}
-use Rattle.am_history.specs.Answers.{for_admin, done}
+use Rattle.am_history.specs.Answers.{for_admin, refused, done}
 use Rattle.am_history.specs.Activities.{components_of, start, finish_activity, back}
 use Rattle.am_history.specs.Services.{start_service, stop_service, services_of}
 use Rattle.am_history.specs.BroadcastCalls.{send, register, unregister, finish}
@@ -48,6 +49,17 @@ at_moment state moment =
 abbrev pub after_due : State → ℕ → State
 after_due state now = at_moment state (moment_after state now)
 
+-- what a move of the moment is answered in the state that it leaves: the earliest deadline that is left, and the moment
+abbrev pub advanced : State → Reply × State
+advanced state = (replies.Advanced (broadcasts.earliest_deadline state.broadcasts) state.moment, state)
+
+-- the moment moves so many milliseconds ahead, to 2^62 at most, and the deadlines that are due then are handled
+unfoldable pub advance : State → ℕ → Reply × State
+advance state by =
+    if nat_le (state.moment + by) 4611686018427387904
+    then advanced (at_moment state (state.moment + by))
+    else refused state (OverLimit limits.Moment)
+
 -- at most 64 of the entries, from a number on
 abbrev pub page : List Entry → ℕ → List Entry
 page before from = take 64 (drop from before)
@@ -80,6 +92,7 @@ comes_to state before caller (asks.Grant name permission held) = grant state cal
 comes_to state before caller (asks.Link name host approved) = link state caller name host approved
 comes_to state before caller (asks.ForceStop name) = force_stop state caller name
 comes_to state before caller asks.Tick = for_admin state caller (done state)
+comes_to state before caller (asks.Advance by) = for_admin state caller (advance state by)
 comes_to state before caller (asks.History from) = for_admin state caller (replies.Entries from (page before from), state)
 comes_to state before caller asks.Status =
     for_admin state caller (replies.Status (length before) state.moment (length state.board.packages), state)
@@ -161,6 +174,7 @@ sets_nothing answer = is_none answer.set
 -- with room for its entry the request takes no memory that can be refused
 abbrev pub is_calm : Request → Bool
 is_calm asks.Tick = true
+is_calm (asks.Advance by) = true
 is_calm asks.Back = true
 is_calm (asks.FinishActivity instance) = true
 is_calm (asks.Finish delivery answer) = sets_nothing answer

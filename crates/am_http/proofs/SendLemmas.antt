@@ -5,7 +5,7 @@ use Rattle.std.specs.Io.KnownBytes.{Appends, Keeps}
 use Rattle.std.proofs.Math.Seq.{take-add}
 use Rattle.std.proofs.lemmas.List.{take-append-drop}
 use Rattle.am_outside.specs.declared.failure.Failed.{Failed}
-use Rattle.am_http.specs.Sending.{WritesPart, Sends}
+use Rattle.am_http.specs.Sending.{StopsInside, WritesPart, Sends}
 
 pub appends_trans : (a b c : Option (List ℕ)) (xs ys : List ℕ) → Appends a b xs → Appends b c ys → Appends a c (xs ++ ys)
 appends_trans None b c xs ys h k = tt
@@ -40,6 +40,11 @@ part_more old half now bs text so_far part = (
   part.3,
   appends_trans old half now bs part.0 so_far part.4,
 )
+
+-- the same, with the place at which the next text begins
+pub inside_more : (old half now : Option (List ℕ)) (bs text : List ℕ) → Appends old half bs → WritesPart half now text → StopsInside old now bs text
+inside_more old half now bs text so_far part =
+    (part.0, part.1, part.2, part.3, appends_trans old half now bs part.0 so_far part.4)
 
 -- the sink failed behind the front of a text
 pub sent_part : (old mid new : Option (List ℕ)) (text : List ℕ) (at : ℕ) → at < length text

@@ -1,9 +1,11 @@
 -- How a connection starts, goes on and ends.
-use Rattle.std.proofs.Common.{◌≡◌, ℕ, suc, ◌+◌, ◌<◌, true, false, List, [], ◌∷◌, ◌++◌, length, drop, Option, Some, None, refl, sym, ap, ◌∙◌, subst, inl, inr, arith, length-append, append-nil}
+use Rattle.std.proofs.Common.{◌≡◌, ℕ, suc, ◌+◌, ◌-◌, ◌<◌, ◌≤◌, true, false, List, [], ◌∷◌, ◌++◌, length, take, drop, Option, Some, None, refl, sym, ap, ◌∙◌, subst, inl, inr, arith, length-append, append-nil}
 use Rattle.std.specs.Prelude.{IfSome}
 use Rattle.std.specs.Option.{option_map, option_to_list}
-use Rattle.std.specs.Io.KnownBytes.{Appends, Keeps}
+use Rattle.std.specs.Io.KnownBytes.{Appends, Keeps, prepend_known}
+use Rattle.std.proofs.Math.Seq.{take-append_seam, drop-append_seam}
 use Rattle.std.proofs.lemmas.Grind.{flat_map-append}
+use Rattle.std.proofs.lemmas.List.{take_all, drop_all, drop-append-le, length-drop}
 use Rattle.am_types.specs.declared.history.Entry.{Entry}
 use Rattle.am_outside.specs.Clock.{IsTold}
 use Rattle.am_history.specs.Desks.{DeskView, Origin, opening_of, IsSameDesk}
@@ -15,9 +17,10 @@ use Rattle.am_http.specs.Framing.{IsFraming}
 use Rattle.am_http.specs.Frames.{Splits, Leaves, Drops}
 use Rattle.am_http.specs.Exchanges.{Exchange, AreAnswered, frames_of, bytes_of, moments_of}
 use Rattle.am_http.specs.Links.{Link, Midway, Server, Moments, Gives, rest_of, GoesOn, IsSameLink}
-use Rattle.am_http.specs.Sessions.{most_frames, most_bytes, GivesAtMost, MayGoOn, defect_text, EndsBy, Writes, Session, Going, Serves, IsUnasked, Replies, Stops}
-use Rattle.am_http.specs.Sending.{WritesPart}
-use Rattle.am_http.proofs.SendLemmas.{appends_trans, appends_none, appends_self, part_more}
+use Rattle.am_http.specs.Sessions.{most_frames, most_held, most_bytes, GivesAtMost, MayGoOn, defect_text, EndsBy, Writes, Session, Going, Serves, IsUnasked, Replies, Stops}
+use Rattle.am_http.specs.Sending.{StopsInside}
+use Rattle.am_http.proofs.FramingLemmas.{whole_fits}
+use Rattle.am_http.proofs.SendLemmas.{appends_trans, appends_none, appends_self, inside_more}
 use Rattle.am_http.proofs.ExchangeLemmas.{stands, one_more, none_yet, all_more}
 
 -- one more frame of an input
@@ -200,7 +203,7 @@ ended : (first : Link) (mid new : Midway) (count : ℕ) (end : End) (last : List
     → GivesAtMost most_bytes first.source.left new.link.source.left
     → (so_far : Going first mid count) → IsUnasked mid.link.server new.link.server
     → EndsBy end count so_far.exchanges (record { rest = rest_of mid; left = new.link.source.left; last = last })
-    → Writes end first.sink.taken new.link.sink.taken (bytes_of so_far.exchanges ++ last)
+    → Writes (record { end = end; answered = count }) first.sink.taken new.link.sink.taken so_far.exchanges last
     → Session first new.link (record { end = end; answered = count })
 ended first mid new count end last below gives so_far unasked ends output =
     let es = so_far.exchanges in
@@ -216,6 +219,41 @@ ended first mid new count end last below gives so_far unasked ends output =
       end = ends;
       output = output;
     }
+
+-- what the source gave behind a frame that still stands in the window
+ahead : (rest : Option (List ℕ)) (w : List ℕ) (left : Option (List ℕ)) (f : Frame) → Keeps rest (prepend_known w left)
+    → IsFraming w (whole f) → length w ≤ most_held → GivesAtMost (most_held - f.length) (rest_after rest f) left
+unfolding rest_after
+ahead None w left f kept here fits = ([], tt, omega arith)
+ahead (Some input) w None f kept here fits = absurd kept
+ahead (Some input) w (Some left) f kept here fits = (
+  drop f.length w,
+  ap (drop f.length) (sym kept) ∙ drop-append-le f.length w left (whole_fits w f here).1,
+  omega (arith, fits, length-drop f.length w),
+)
+
+-- the sink failed at the response behind so many that were written whole
+inside_response : (old new : Option (List ℕ)) (es : List Exchange) (e : Exchange) (count : ℕ) → length es ≡ count
+    → StopsInside old new (bytes_of es) e.bytes
+    → StopsInside old new (bytes_of (take count (es ++ e ∷ []))) (bytes_of (drop count (es ++ e ∷ [])) ++ [])
+inside_response old new es e count counted inside =
+    let first : take count (es ++ e ∷ []) ≡ es =
+    ap (λ n. take n (es ++ e ∷ [])) (sym counted) ∙ take-append_seam es (e ∷ []) in
+    let behind : drop count (es ++ e ∷ []) ≡ e ∷ [] =
+    ap (λ n. drop n (es ++ e ∷ [])) (sym counted) ∙ drop-append_seam es (e ∷ []) in
+    let next : bytes_of (drop count (es ++ e ∷ [])) ++ [] ≡ e.bytes =
+    append-nil (bytes_of (drop count (es ++ e ∷ []))) ∙ ap (λ xs. bytes_of xs) behind ∙ append-nil e.bytes in
+    subst (λ (text : List ℕ). StopsInside old new (bytes_of (take count (es ++ e ∷ []))) text) (sym next)
+    (subst (λ (xs : List Exchange). StopsInside old new (bytes_of xs) e.bytes) (sym first) inside)
+
+-- the sink failed at a text behind all responses
+inside_behind : (old new : Option (List ℕ)) (es : List Exchange) (text : List ℕ) (count : ℕ) → length es ≡ count
+    → StopsInside old new (bytes_of es) text
+    → StopsInside old new (bytes_of (take count es)) (bytes_of (drop count es) ++ text)
+inside_behind old new es text count counted inside =
+    let within : length es ≤ count = omega (arith, counted) in
+    subst (λ (xs : List Exchange). StopsInside old new (bytes_of (take count es)) (bytes_of xs ++ text)) (sym (drop_all count es within))
+    (subst (λ (xs : List Exchange). StopsInside old new (bytes_of xs) text) (sym (take_all count es within)) inside)
 
 -- a connection that goes on, whose sink took no more
 kept : (first : Link) (mid new : Midway) (count : ℕ) (so_far : Going first mid count)
@@ -238,7 +276,7 @@ stopped first mid new count Input below gives same so_far stop =
 stopped first mid new count Close below gives same so_far stop = absurd stop
 stopped first mid new count Refused below gives same so_far stop =
     ended first mid new count Refused (defect_text stop.0) below gives so_far stop.2.unasked
-    (sym so_far.counted, (may_more first mid count so_far below, (stop.0, stop.1, refl)))
+    (sym so_far.counted, (may_more first mid count so_far below, (stop.0, stop.1, refl), stop.3))
     (appends_trans first.sink.taken mid.link.sink.taken new.link.sink.taken (bytes_of so_far.exchanges) (defect_text stop.0) so_far.output stop.2.output)
 stopped first mid new count Cut below gives same so_far stop =
     ended first mid new count Cut [] below gives so_far stop.1.unasked
@@ -251,8 +289,6 @@ stopped first mid new count WriteFault below gives same so_far (inl next) =
     let es = so_far.exchanges in
     let e = next.exchange in
     let more = more_count es e count so_far.counted in
-    let text : WritesPart first.sink.taken new.link.sink.taken (bytes_of es ++ e.bytes) =
-    part_more first.sink.taken mid.link.sink.taken new.link.sink.taken (bytes_of es) e.bytes so_far.output next.output in
     record {
       exchanges = es ++ e ∷ [];
       rest = rest_after (rest_of mid) e.frame;
@@ -263,14 +299,25 @@ stopped first mid new count WriteFault below gives same so_far (inl next) =
           (drops_after (rest_of mid) e.frame next.frame);
       most = omega (arith, below, more);
       taken = gives;
-      end = inl (sym more, (es, e, refl, so_far.stays), refl);
-      output = subst (λ bs. WritesPart first.sink.taken new.link.sink.taken bs)
-          (sym (append-nil (bytes_of (es ++ e ∷ [])) ∙ bytes_more es e)) text;
+      end = inl (
+        sym more,
+        (
+          es,
+          e,
+          refl,
+          so_far.stays,
+          ahead (rest_of mid) new.window new.link.source.left e.frame next.kept next.here next.fits,
+          refl,
+        ),
+      );
+      output = inside_response first.sink.taken new.link.sink.taken es e count so_far.counted
+          (inside_more first.sink.taken mid.link.sink.taken new.link.sink.taken (bytes_of es) e.bytes so_far.output next.output);
     }
 stopped first mid new count WriteFault below gives same so_far (inr stop) =
     ended first mid new count WriteFault (defect_text stop.0) below gives so_far stop.2.unasked
-    (inr (sym so_far.counted, (may_more first mid count so_far below, (stop.0, stop.1, refl))))
-    (part_more first.sink.taken mid.link.sink.taken new.link.sink.taken (bytes_of so_far.exchanges) (defect_text stop.0) so_far.output stop.2.output)
+    (inr (sym so_far.counted, (may_more first mid count so_far below, (stop.0, stop.1, refl), stop.3)))
+    (inside_behind first.sink.taken new.link.sink.taken so_far.exchanges (defect_text stop.0) count so_far.counted
+    (inside_more first.sink.taken mid.link.sink.taken new.link.sink.taken (bytes_of so_far.exchanges) (defect_text stop.0) so_far.output stop.2.output))
 
 pub session_stop : (first : Link) (mid : Midway) (link : Link) (window : List ℕ) (count : ℕ) (end : End) → count < most_frames
     → GivesAtMost most_bytes first.source.left link.source.left → IsSameDesk first.server.desk mid.link.server.desk

@@ -1,5 +1,5 @@
 -- One turn of a connection.
-use Rattle.std.proofs.Common.{◌≡◌, ℕ, suc, Bool, true, false, List, [], ◌++◌, drop, Option, Some, None, refl, sym, ap, ◌∙◌, subst, inl, inr, append-nil}
+use Rattle.std.proofs.Common.{◌≡◌, ℕ, suc, ◌≤◌, Bool, true, false, List, [], ◌++◌, length, drop, Option, Some, None, refl, sym, ap, ◌∙◌, subst, inl, inr, arith, append-nil}
 use Rattle.std.specs.Prelude.{IfSome, Result, Ok, Err, is_err}
 use Rattle.std.specs.Io.KnownBytes.{Appends, Keeps, prepend_known}
 use Rattle.std.proofs.lemmas.List.{drop-append-le}
@@ -21,7 +21,7 @@ use Rattle.am_http.specs.Framing.{IsFraming}
 use Rattle.am_http.specs.Head.{Frame, empty, whole, refused, cut}
 use Rattle.am_http.specs.Sending.{WritesPart, Sends}
 use Rattle.am_http.specs.Links.{Midway, Server, rest_of}
-use Rattle.am_http.specs.Sessions.{Serves, Replies, FailsAtAnswer, HasDefect}
+use Rattle.am_http.specs.Sessions.{Serves, Replies, FailsAtAnswer, GivesAtMost, HasDefect}
 use Rattle.am_http.specs.Windows.{Finds}
 use Rattle.am_http.proofs.FramingLemmas.{empty_only, whole_stays, whole_fits}
 
@@ -62,6 +62,13 @@ pub found_frame : (w : List ℕ) (left : Option (List ℕ)) (found : Found) (spa
     → IsFraming w (whole (frame_at w spans))
 found_frame w left found spans finds is =
     subst (λ (f : Found). IsFraming w (outcome_at w f)) is finds.here
+
+-- what the source gave of a rest that still stands in the window
+pub gave_window : (rest : Option (List ℕ)) (w : List ℕ) (left : Option (List ℕ)) → Keeps rest (prepend_known w left)
+    → length w ≤ 73728 → GivesAtMost 73728 rest left
+gave_window None w left keeps fits = ([], tt, omega arith)
+gave_window (Some input) w None keeps fits = absurd keeps
+gave_window (Some input) w (Some left) keeps fits = (w, sym keeps, fits)
 
 -- behind a frame of the window the rest goes on
 drops_of : (rest : Option (List ℕ)) (w : List ℕ) (left : Option (List ℕ)) (f : Frame) → Keeps rest (prepend_known w left)
@@ -161,17 +168,20 @@ turn_replied close old new w f answer bytes keeps framed used answers said sent 
     }
 
 -- the response wasn't written whole
-pub turn_failed : (old new : Midway) (w : List ℕ) (f : Frame) (answer : Answer) (bytes : List ℕ)
-    → Keeps (rest_of old) (prepend_known w new.link.source.left) → IsFraming w (whole f)
+pub turn_failed : (old new : Midway) (f : Frame) (answer : Answer) (bytes : List ℕ)
+    → Keeps (rest_of old) (rest_of new) → IsFraming new.window (whole f) → length new.window ≤ 73728
     → AnswersFrame old.link.server new.link.server f answer → Says answer bytes
     → WritesPart old.link.sink.taken new.link.sink.taken bytes → FailsAtAnswer old new
-turn_failed old new w f answer bytes keeps framed answers said part =
+turn_failed old new f answer bytes keeps framed fits answers said part =
     let made = exchange_of old.link.server new.link.server f answer bytes answers said in
     record {
       exchange = made.0;
       served = made.1;
       frame = subst (λ (x : Frame). IfSome (rest_of old) (λ input. IsFraming input (whole x))) (sym made.2)
-          (told_frame (rest_of old) w new.link.source.left f keeps framed);
+          (told_frame (rest_of old) new.window new.link.source.left f keeps framed);
+      kept = keeps;
+      here = subst (λ (x : Frame). IsFraming new.window (whole x)) (sym made.2) framed;
+      fits = fits;
       output = subst (λ (bs : List ℕ). WritesPart old.link.sink.taken new.link.sink.taken bs) (sym made.3) part;
     }
 

@@ -9,6 +9,12 @@ WritesPart old new text =
     (written : List ℕ) × (missing : List ℕ)
     × (text ≡ written ++ missing) × (0 < length missing) × Appends old new written
 
+-- the first text was written whole, and of the next one a part, but not all of it
+abbrev pub StopsInside : Option (List ℕ) → Option (List ℕ) → List ℕ → List ℕ → Type 0
+StopsInside old new whole next =
+    (written : List ℕ) × (missing : List ℕ)
+    × (next ≡ written ++ missing) × (0 < length missing) × Appends old new (whole ++ written)
+
 -- the text was written whole, or, where the sink failed, a part of it
 abbrev pub Sends : Option (List ℕ) → Option (List ℕ) → List ℕ → Result (Unit {0}) Failed → Type 0
 Sends old new text (Ok done) = Appends old new text

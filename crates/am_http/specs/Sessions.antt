@@ -1,5 +1,5 @@
 -- A whole connection: its frames, their responses, and how it ends.
-use Rattle.std.specs.Prelude.{◌≡◌, ℕ, ◌+◌, ◌*◌, ◌<◌, ◌≤◌, ◌⊎◌, Bool, true, false, List, [], ◌∷◌, ◌++◌, length, Option, None, IfSome, ⊤, codes}
+use Rattle.std.specs.Prelude.{◌≡◌, ℕ, ◌+◌, ◌-◌, ◌*◌, ◌<◌, ◌≤◌, ◌⊎◌, Bool, true, false, List, [], ◌∷◌, ◌++◌, length, take, drop, Option, None, IfSome, ⊤, codes}
 use Rattle.std.specs.List.{AllByRecursion}
 use Rattle.std.specs.Option.{option_to_list}
 use Rattle.std.specs.Io.KnownBytes.{Appends, Consumes, Keeps, prepend_known}
@@ -15,15 +15,19 @@ use Rattle.am_http.specs.Frames.{Leaves, Drops}
 use Rattle.am_http.specs.Exchanges.{Exchange, AreAnswered, Answered, frames_of, bytes_of, moments_of}
 use Rattle.am_http.specs.Links.{Link, Midway, Server, rest_of, Gives}
 use Rattle.am_http.specs.Responses.{refusal}
-use Rattle.am_http.specs.Sending.{WritesPart}
+use Rattle.am_http.specs.Sending.{StopsInside, WritesPart}
 
 -- how many frames a connection may have
 abbrev pub most_frames : ℕ
 most_frames = 65536
 
+-- how many bytes a window holds: a head and a body of the greatest length
+abbrev pub most_held : ℕ
+most_held = 73728
+
 -- how many bytes it takes from its source at most: what a window holds, for each of its frames and once more
 abbrev pub most_bytes : ℕ
-most_bytes = 65537 * 73728
+most_bytes = 65537 * most_held
 
 -- a source that tells what is left gave at most n bytes
 abbrev pub GivesAtMost : ℕ → Option (List ℕ) → Option (List ℕ) → Type 0
@@ -60,10 +64,6 @@ CloseAtLast es =
     (before : List Exchange) × (closing : Exchange)
     × (es ≡ before ++ closing ∷ []) × StayOpen before × (closing.frame.close ≡ true)
 
--- the exchanges end with one whose response wasn't written whole
-abbrev pub FailAtLast : List Exchange → Type 0
-FailAtLast es = (before : List Exchange) × (failed : Exchange) × (es ≡ before ++ failed ∷ []) × StayOpen before
-
 -- the end of a connection, behind the frames that were answered: what is told to be left of the input, the part of it
 -- that the source still has, and the text that is written last
 pub record Tail : Type 0 where
@@ -71,16 +71,26 @@ pub record Tail : Type 0 where
   pub left : Option (List ℕ)
   pub last : List ℕ
 
--- the rest has a defect, whose text is written last
+-- the exchanges end with one whose response wasn't written whole, and nothing else is written. From the first byte of
+-- its frame on, the source gave no more than what a window holds
+abbrev pub EndsInResponse : List Exchange → Tail → Type 0
+EndsInResponse es tail =
+    (before : List Exchange) × (failed : Exchange) × (es ≡ before ++ failed ∷ []) × StayOpen before
+    × GivesAtMost (most_held - failed.frame.length) tail.rest tail.left × (tail.last ≡ [])
+
+-- the rest has a defect, whose text is written last. The source gave no more of it than what a window holds
 abbrev pub EndsInDefect : List Exchange → Tail → Type 0
-EndsInDefect es tail = MayGoOn es × ((defect : Defect) × HasDefect tail.rest defect × (tail.last ≡ defect_text defect))
+EndsInDefect es tail =
+    MayGoOn es × ((defect : Defect) × HasDefect tail.rest defect × (tail.last ≡ defect_text defect))
+    × GivesAtMost most_held tail.rest tail.left
 
 -- the source failed behind bytes that hold no whole frame
 abbrev pub EndsInFault : Tail → Type 0
 EndsInFault tail = (taken : List ℕ) × IsPartial taken × Keeps tail.rest (prepend_known taken tail.left)
 
 -- what each end means: of the responses that were written whole, of the exchanges, and of what is behind them. The
--- sink fails at the response of the last exchange, or at the text for a defect
+-- sink fails at the response of the last exchange, so that all but this one were written whole, or at the text for a
+-- defect, behind all responses
 abbrev pub EndsBy : End → ℕ → List Exchange → Tail → Type 0
 EndsBy Input answered es tail =
     (answered ≡ length es) × MayGoOn es × IfSome tail.rest (λ bytes. bytes ≡ []) × (tail.last ≡ [])
@@ -92,12 +102,20 @@ EndsBy Limit answered es tail =
     (answered ≡ length es) × StayOpen es × (length es ≡ most_frames) × (tail.last ≡ [])
 EndsBy ReadFault answered es tail = (answered ≡ length es) × MayGoOn es × EndsInFault tail × (tail.last ≡ [])
 EndsBy WriteFault answered es tail =
-    ((answered + 1 ≡ length es) × FailAtLast es × (tail.last ≡ [])) ⊎ ((answered ≡ length es) × EndsInDefect es tail)
+    ((answered + 1 ≡ length es) × EndsInResponse es tail) ⊎ ((answered ≡ length es) × EndsInDefect es tail)
 
--- the text was written whole, unless the sink failed
-abbrev pub Writes : End → Option (List ℕ) → Option (List ℕ) → List ℕ → Type 0
-Writes WriteFault old new text = WritesPart old new text
-Writes _ old new text = Appends old new text
+-- the first of the two where the sink failed, else the other
+abbrev pub IfSinkFailed : End → Type 0 → Type 0 → Type 0
+IfSinkFailed WriteFault stopped finished = stopped
+IfSinkFailed _ stopped finished = finished
+
+-- what the sink took: the responses and the text behind them; or, where it failed, the first `answered` responses whole
+-- and a part of what is behind them, but not all of that
+abbrev pub Writes : Served → Option (List ℕ) → Option (List ℕ) → List Exchange → List ℕ → Type 0
+Writes served old new es last =
+    IfSinkFailed served.end
+    (StopsInside old new (bytes_of (take served.answered es)) (bytes_of (drop served.answered es) ++ last))
+    (Appends old new (bytes_of es ++ last))
 
 -- the cause of an end by a fault: the count of the source, or of the sink, rose
 abbrev pub HasFault : End → Link → Link → Type 0
@@ -116,7 +134,7 @@ pub record Session (old new : Link) (served : Served) : Type 0 where
   pub most : length exchanges ≤ most_frames
   pub taken : GivesAtMost most_bytes old.source.left new.source.left
   pub end : EndsBy served.end served.answered exchanges (record { rest = rest; left = new.source.left; last = last })
-  pub output : Writes served.end old.sink.taken new.sink.taken (bytes_of exchanges ++ last)
+  pub output : Writes served old.sink.taken new.sink.taken exchanges last
 
 -- a connection that goes on, so far
 pub record Going (old : Link) (now : Midway) (count : ℕ) : Type 0 where
@@ -141,11 +159,14 @@ pub record Replies (close : Bool) (old new : Midway) : Type 0 where
   pub closes : exchange.frame.close ≡ close
   pub output : Appends old.link.sink.taken new.link.sink.taken exchange.bytes
 
--- the next frame was answered, and its response wasn't written whole
+-- the next frame was answered, its response wasn't written whole, and the frame still stands in the window
 pub record FailsAtAnswer (old new : Midway) : Type 0 where
   pub exchange : Exchange
   pub served : Serves old.link.server new.link.server exchange
   pub frame : IfSome (rest_of old) (λ input. IsFraming input (whole exchange.frame))
+  pub kept : Keeps (rest_of old) (rest_of new)
+  pub here : IsFraming new.window (whole exchange.frame)
+  pub fits : length new.window ≤ most_held
   pub output : WritesPart old.link.sink.taken new.link.sink.taken exchange.bytes
 
 -- nothing was asked of the desk and of the clock
@@ -163,6 +184,7 @@ abbrev pub StopsAtDefect : Midway → Midway → (Option (List ℕ) → Option (
 StopsAtDefect old new Takes =
     (defect : Defect) × HasDefect (rest_of old) defect
     × IsLast old new (λ taken taken'. Takes taken taken' (defect_text defect))
+    × GivesAtMost most_held (rest_of old) new.link.source.left
 
 -- the connection ended before a further frame was answered whole
 abbrev pub Stops : End → Midway → Midway → Type 0

@@ -15,7 +15,8 @@ pub enum End {
     Limit,
     /// The source failed.
     ReadFault,
-    /// The sink failed.
+    /// The sink failed, at the response to the last frame that was answered, or at the text for a
+    /// defect. Nothing was read, asked or called after that.
     WriteFault,
 }
 

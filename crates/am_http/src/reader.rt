@@ -45,6 +45,7 @@ pub fn next_frame<S: Source>(source: &mut S, window: &mut Window) -> Result<Foun
     ensures kept { Keeps (prepend_known window.old (S.left source.old)) (prepend_known window.new (S.left source.new)) }
     ensures gives { GivesAtMost 73728 (S.left source.old) (S.left source.new) }
     ensures found { IfOk result (Finds window.new (S.left source.new)) }
+    ensures fits { length window.new ≤ 73728 }
     ensures partial { OnErr result (IsPartial window.new) }
     ensures never_falls { S.faults source.old ≤ S.faults source.new }
     ensures failed { OnErr result (HasRisen (S.faults source.old) (S.faults source.new)) }

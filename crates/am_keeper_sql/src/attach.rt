@@ -118,7 +118,8 @@ pub fn attach_from<S: Start>(
     }
 }
 
-/// The same, with nothing known of what the file held.
+/// The same at a start of which nothing is known: what its clauses say of the file's rows they say of a file that was
+/// new, or empty.
 pub fn attach_sql(
     rt: &HostRuntime,
     alloc: Global,
@@ -126,6 +127,12 @@ pub fn attach_sql(
 ) -> Result<Attached<SqlKeeper>, KeepFail>
     ensures told { IfOk result (λ attached. IsHonest (state_of over_files attached.keeper.database)
         → told_in (state_of over_files attached.keeper.database).now.trees ≡ Some attached.rows) }
+    ensures found { option_copied path.entry ≢ None
+        → IfOk result (λ attached. IsHonest (state_of over_files attached.keeper.database)
+        → FindsRows (image_at ⟦<Unknown as Start>⟧) attached.rows) }
+    ensures held { option_copied path.entry ≢ None
+        → IfOk result (λ attached. IsHonest (state_of over_files attached.keeper.database)
+        → (rows : Told) → HoldsRows (image_at ⟦<Unknown as Start>⟧) rows → attached.rows ≡ rows) }
     ensures stored { option_copied path.entry ≢ None → IfOk result (λ attached. ¬ IsInMemory attached.keeper.database) }
     ensures pathless { option_copied path.entry ≡ None
         → IfOk result (λ attached. (attached.rows ≡ no_rows) × IsHonestForGood over_files attached.keeper.database) }

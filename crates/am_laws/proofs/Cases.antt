@@ -49,13 +49,13 @@ use Rattle.am_laws.proofs.Answered.{either_leaves, unless_leaves}
 use Rattle.am_laws.proofs.NextTokens.{cancel_keeps, used_up_keeps}
 
 -- a gate without a rule admits
-admitted_by : (found : Verdict) → rule_of found ≡ None → found ≡ Admit
+pub admitted_by : (found : Verdict) → rule_of found ≡ None → found ≡ Admit
 admitted_by Admit none = refl
 admitted_by NotExported none = absurd cc
 admitted_by (NeedsPermission permission) none = absurd cc
 
 -- where neither of two rules is there, the second isn't
-second_none : (first second : Option Rule) → or_rule first second ≡ None → second ≡ None
+pub second_none : (first second : Option Rule) → or_rule first second ≡ None → second ≡ None
 second_none None second none = none
 second_none (Some rule) second none = absurd cc
 

@@ -11,4 +11,6 @@ pub mod NumberParts
 pub mod NumberSteps
 pub mod Numbers
 pub mod Moments
+pub mod Outcomes
 pub mod Faults
+pub mod Refusals

@@ -22,9 +22,10 @@ use Rattle.am_history.specs.Activities.{start_call}
 use Rattle.am_history.specs.Services.{is_service, running, restarted, with_start}
 use Rattle.am_history.specs.BroadcastCalls.{sending_of, with_registered}
 use Rattle.am_history.specs.Packages.{forget, installed}
+use Rattle.am_history.specs.Steps.{at_moment}
 use Rattle.am_history.specs.Numbers.{HasNumbersTo}
-use Rattle.am_laws.proofs.NextBroadcasts.{forget_keeps, forget_uid_keeps, finished_keeps, sent_gives_one}
-use Rattle.am_laws.proofs.NumberParts.{next_bound, with_installed, with_other_packages, with_tasks, with_broadcasts, with_pendings, with_services, with_receivers}
+use Rattle.am_laws.proofs.NextBroadcasts.{expired_keeps, forget_keeps, forget_uid_keeps, finished_keeps, sent_gives_one}
+use Rattle.am_laws.proofs.NumberParts.{bounded, next_bound, with_installed, with_other_packages, with_tasks, with_broadcasts, with_pendings, with_services, with_receivers}
 use Rattle.am_laws.proofs.Requests.{Steps}
 
 -- the next numbers of tasks and of instances are at most that
@@ -87,6 +88,13 @@ forget_numbers n state uid has = record {
   starts = All-filter (λ (service : Service). not (service.owner == uid)) (StartsTo n) state.services has.starts;
   registered = All-filter (λ (r : Registration). not (r.uid == uid)) (λ (r : Registration). r.number < state.next_registration) state.board.registered has.registered;
 }
+
+-- the passing of time raises none
+pub moment_keeps_numbers : (n : ℕ) (state : State) (moment : ℕ) → HasNumbersTo n state → HasNumbersTo n (at_moment state moment)
+moment_keeps_numbers n state moment has =
+    bounded n (at_moment state moment)
+    has.tasks has.instances (subst (λ m. m ≤ n) (sym (expired_keeps state.broadcasts moment)) has.broadcasts)
+    has.tokens has.registrations has.starts has.registered
 
 module _ (n : ℕ) (state : State) (has : HasNumbersTo n state) where
   -- nothing changed
@@ -170,4 +178,5 @@ module _ (n : ℕ) (state : State) (has : HasNumbersTo n state) where
         with_installed (n + 1) state state.board.packages (with_grant state.board.grants uid permission held) state.board.links state.next_uid same;
     linked = λ uid host approved live room.
         with_installed (n + 1) state state.board.packages state.board.grants (with_link state.board.links uid host approved) state.next_uid same;
+    advanced = λ by fits. moment_keeps_numbers (n + 1) state (state.moment + by) same;
   }

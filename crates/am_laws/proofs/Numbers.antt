@@ -8,13 +8,12 @@ use Rattle.am_types.specs.declared.history.Entry.{Entry}
 use Rattle.am_types.specs.declared.request.Request.{Request}
 use Rattle.am_model.specs.Boards.{Board}
 use Rattle.am_history.specs.State.{State, Service, opening}
-use Rattle.am_history.specs.Steps.{act, at_moment, after_due, moment_after, step}
+use Rattle.am_history.specs.Steps.{act, after_due, moment_after, step}
 use Rattle.am_history.specs.History.{replay, replay_from}
 use Rattle.am_history.specs.Desks.{Origin, opening_of}
 use Rattle.am_history.specs.Numbers.{HasNumbersTo, HasNumbers}
-use Rattle.am_laws.proofs.NextBroadcasts.{expired_keeps}
 use Rattle.am_laws.proofs.NumberParts.{bounded, raised, next_bound}
-use Rattle.am_laws.proofs.NumberSteps.{numbers_after}
+use Rattle.am_laws.proofs.NumberSteps.{moment_keeps_numbers, numbers_after}
 use Rattle.am_laws.proofs.Openings.{opening_leaves}
 use Rattle.am_laws.proofs.Requests.{act_leaves, step_leaves}
 
@@ -45,13 +44,6 @@ opening_has_numbers origin = opening_leaves (HasNumbersTo 1) stays origin (openi
 pub act_keeps_numbers : (n : ℕ) (state : State) (before : List Entry) (caller : ℕ) (request : Request) → HasNumbersTo n state
     → HasNumbersTo (n + 1) (act state before caller request).1
 act_keeps_numbers n state before caller request has = act_leaves (HasNumbersTo (n + 1)) state caller before request (numbers_after n state has caller request)
-
--- the passing of time raises none
-pub moment_keeps_numbers : (n : ℕ) (state : State) (moment : ℕ) → HasNumbersTo n state → HasNumbersTo n (at_moment state moment)
-moment_keeps_numbers n state moment has =
-    bounded n (at_moment state moment)
-    has.tasks has.instances (subst (λ m. m ≤ n) (sym (expired_keeps state.broadcasts moment)) has.broadcasts)
-    has.tokens has.registrations has.starts has.registered
 
 -- one step raises each by one at most
 pub step_keeps_numbers : (n : ℕ) (state : State) (before : List Entry) (entry : Entry) → HasNumbersTo n state → HasNumbersTo (n + 1) (step state before entry).1

@@ -2,6 +2,7 @@
 use Rattle.std.proofs.Common.{◌≡◌, ℕ, ◌+◌, ◌≤◌, Bool, true, false, not, ◌&&◌, ◌||◌, cond, List, [], ◌∷◌, ◌++◌, refl, ap, arith}
 use Rattle.std.specs.Prelude.{Option, Some, None, Result, Ok, Err, ◌==◌, nat_le, filter}
 use Rattle.std.specs.List.{find}
+use Rattle.std.proofs.lemmas.Bool.{leb-true}
 use Rattle.am_types.specs.declared.intent.Intent.{Intent}
 use Rattle.am_types.specs.declared.intent.Component.{Component}
 use Rattle.am_types.specs.declared.device.Package.{Package}
@@ -43,7 +44,7 @@ use Rattle.am_history.specs.Services.{is_service, running, with_start, stopped_r
 use Rattle.am_history.specs.BroadcastCalls.{sending_of, with_registered, count_of, register, taken_back, unregister_found, unregister, finish}
 use Rattle.am_history.specs.PendingCalls.{after_get, pending_get, after_change, pending_cancel, pending_give, in_new_task, lend, pending_send}
 use Rattle.am_history.specs.Packages.{forget, installed, is_name_used, is_key_used, is_full, install_read, install, without, uninstall, force_stop, too_many_grants, grant_to, grant, too_many_links, link_to, link}
-use Rattle.am_history.specs.Steps.{act, after_due, step}
+use Rattle.am_history.specs.Steps.{act, at_moment, after_due, advanced, advance, step}
 use Rattle.am_laws.specs.Access.{Starts, Serves, Sends, lent_deed, deed_of, used_deed}
 use Rattle.am_laws.proofs.Answered.{either_leaves, unless_leaves, admin_leaves, package_leaves}
 use Rattle.am_laws.proofs.Cases.{start_cases, service_cases, send_cases, use_cases, finish_cases}
@@ -95,6 +96,7 @@ pub record Steps (P : State → Type 0) (state : State) (caller : ℕ) (request 
   pub linked : (uid : ℕ) (host : List ℕ) (approved : Bool) → is_package_uid state.board.packages uid ≡ true
       → too_many_links state.board.links uid host approved ≡ false
       → P (record state { board = record (state.board) { links = with_link state.board.links uid host approved } })
+  pub advanced : (by : ℕ) → state.moment + by ≤ 4611686018427387904 → P (at_moment state (state.moment + by))
 
 -- the steps of what is said of the tasks and the moment alone
 pub task_steps : (Q : Tasks → ℕ → Type 0) (state : State) (caller : ℕ) (request : Request) → Q state.tasks state.moment
@@ -103,8 +105,9 @@ pub task_steps : (Q : Tasks → ℕ → Type 0) (state : State) (caller : ℕ) (
     → verdict state.board.grants uid found.0 found.1.exported found.1.permission ≡ Admit
     → place state.tasks (start_call uid intent source component found) ≡ Ok landed → Q landed.1 state.moment)
     → ((keeps : Instance → Bool) → Q (record (state.tasks) { tasks = tasks_keeping keeps state.tasks.tasks }) state.moment)
+    → ((by : ℕ) → state.moment + by ≤ 4611686018427387904 → Q state.tasks (state.moment + by))
     → Steps (λ (s : State). Q s.tasks s.moment) state caller request
-task_steps Q state caller request here starts keeping = record {
+task_steps Q state caller request here starts keeping moves = record {
   here = here;
   started = starts;
   served = λ uid intent component found did is admits. here;
@@ -121,6 +124,7 @@ task_steps Q state caller request here starts keeping = record {
   stopped = λ uid. keeping (λ (i : Instance). not (i.owner == uid));
   granted = λ uid permission held live room. here;
   linked = λ uid host approved live room. here;
+  advanced = moves;
 }
 
 module _ (P : State → Type 0) (state : State) (caller : ℕ) where
@@ -194,6 +198,16 @@ module _ (P : State → Type 0) (state : State) (caller : ℕ) where
   right_leaves limit after true here more = here
   right_leaves limit after false here more = more refl
 
+  -- the moment that is moved
+  advance_leaves : (request : Request) (by : ℕ) → Steps P state caller request → P (advance state by).1
+  unfolding advance
+  advance_leaves request by steps = fits (nat_le (state.moment + by) 4611686018427387904) refl
+    where
+      fits : (b : Bool) → nat_le (state.moment + by) 4611686018427387904 ≡ b
+          → P (cond b (advanced (at_moment state (state.moment + by))) (refused state (rules.OverLimit limits.Moment))).1
+      fits true is = steps.advanced by (leb-true (state.moment + by) 4611686018427387904 is)
+      fits false is = steps.here
+
   -- each request
   pub act_leaves : (before : List Entry) (request : Request) → Steps P state caller request → P (act state before caller request).1
   unfolding act finish_activity tasks.finish back stop_service register unregister pending_get pending_cancel pending_give install uninstall grant link force_stop
@@ -249,6 +263,7 @@ module _ (P : State → Type 0) (state : State) (caller : ℕ) where
       (too_many_links state.board.links owner.uid host approved) steps.here (steps.linked owner.uid host approved (named_is_live state.board.packages name owner is))))
   act_leaves before (asks.ForceStop name) steps = admin_leaves P state caller _ steps.here (package_leaves P state name _ steps.here (λ owner is. steps.stopped owner.uid))
   act_leaves before asks.Tick steps = admin_leaves P state caller (done state) steps.here steps.here
+  act_leaves before (asks.Advance by) steps = admin_leaves P state caller (advance state by) steps.here (advance_leaves _ by steps)
   act_leaves before (asks.History from) steps = admin_leaves P state caller _ steps.here steps.here
   act_leaves before asks.Status steps = admin_leaves P state caller _ steps.here steps.here
 

@@ -1,11 +1,12 @@
 -- What holds in every state, and after every history.
-use Rattle.std.specs.Prelude.{◌≢◌, ℕ, ◌+◌, ◌≤◌, List, length}
+use Rattle.std.specs.Prelude.{◌≢◌, ℕ, ◌+◌, ◌≤◌, List, [], ◌∷◌, ◌++◌, length}
 use Rattle.am_types.specs.declared.history.Entry.{Entry}
 use Rattle.am_types.specs.declared.request.Request.{Request}
+use Rattle.am_types.specs.declared.reply.Reply.{Reply}
 use Rattle.am_types.specs.declared.reply.Reply.TheVariants.{Refused}
 use Rattle.am_types.specs.declared.rule.Rule.TheVariants.{KeeperFault}
 use Rattle.am_history.specs.State.{State}
-use Rattle.am_history.specs.Steps.{act}
+use Rattle.am_history.specs.Steps.{act, step}
 use Rattle.am_history.specs.Desks.{Origin, opening_of}
 use Rattle.am_history.specs.History.{replay}
 use Rattle.am_history.specs.Numbers.{HasNumbersTo, HasNumbers}
@@ -13,6 +14,11 @@ use Rattle.am_history.specs.Numbers.{HasNumbersTo, HasNumbers}
 -- the state of a manager of that origin after a history
 abbrev pub state_after : Origin → List Entry → State
 state_after origin history = replay (opening_of origin) history
+
+-- what an entry behind a history is answered, and the state after it
+abbrev pub answer_after : Origin → List Entry → Entry → Reply × State
+answer_after origin history entry =
+    ((step (state_after origin history) history entry).0, state_after origin (history ++ entry ∷ []))
 
 -- every number that is given out next is at most one more than the number of entries
 abbrev pub NumbersFollow : Type 0
@@ -27,6 +33,12 @@ NumbersSuffice =
 -- the last moment is at most 2^62
 abbrev pub MomentsFit : Type 0
 MomentsFit = (origin : Origin) (history : List Entry) → (state_after origin history).moment ≤ 4611686018427387904
+
+-- an entry takes the last moment no further back than it was
+abbrev pub MomentsRise : Type 0
+MomentsRise =
+    (origin : Origin) (history : List Entry) (next : Entry)
+    → (state_after origin history).moment ≤ (state_after origin (history ++ next ∷ [])).moment
 
 -- no request is itself answered that its row couldn't be kept
 abbrev pub NoRequestFaults : Type 0

@@ -2,7 +2,8 @@
 //! contract is the law.
 #![tactic(auto)]
 
-ghost use Rattle.am_laws.specs.Laws.{NumbersFollow, NumbersSuffice, MomentsFit, NoRequestFaults};
+ghost use Rattle.am_laws.specs.Laws.{NumbersFollow, NumbersSuffice, MomentsFit, MomentsRise, NoRequestFaults};
+ghost use Rattle.am_laws.specs.Refusals.{RefusalsChangeNothing};
 
 /// After every history the numbers that are given out next are at most one more than the history's
 /// length, and so is the number of starts of each running service. Takes no memory.
@@ -20,8 +21,19 @@ pub fn moments_fit()
     ensures { MomentsFit }
 {}
 
+/// The last moment never goes back. Takes no memory.
+pub fn moments_rise()
+    ensures { MomentsRise }
+{}
+
 /// No request is itself answered that its row couldn't be kept: that answer is the keeper's alone.
 /// Takes no memory.
 pub fn no_request_faults()
     ensures { NoRequestFaults }
+{}
+
+/// After every history an entry that is refused leaves the state as it was at its moment, except for a one-shot pending
+/// intent that it used, which is gone. Takes no memory.
+pub fn refusals_change_nothing()
+    ensures { RefusalsChangeNothing }
 {}

@@ -106,6 +106,7 @@ module _ (opening : State) (h : List Entry) (state : State) (known : Known openi
         (λ name other differs named. awake uid true name other named) known;
     granted = λ uid permission held live room. known;
     linked = λ uid host approved live room. known;
+    advanced = λ by fits. known;
   }
 
 module _ (opening : State) where

@@ -61,6 +61,7 @@ module _ (opening : State) where
         finished = λ number answer holder asked is own. finished_of B due.broadcasts number answer due.moment passed;
         forgotten = λ struck. forget_of B due.broadcasts struck due.moment passed;
         uid_forgotten = λ uid. forget_uid_of B due.broadcasts uid due.moment passed;
+        advanced = λ moment. expired_of B due.broadcasts moment passed;
       })
 
 -- after every history each receiver that has or had a broadcast was sent it by an entry, and was admitted

@@ -1,5 +1,5 @@
--- What a request does to broadcasts: it sends one, finishes a delivery, or forgets receivers.
-use Rattle.std.proofs.Common.{◌≡◌, ℕ, Bool, false, not, ◌&&◌, List}
+-- What a request does to broadcasts: it sends one, finishes a delivery, forgets receivers, or lets time pass.
+use Rattle.std.proofs.Common.{◌≡◌, ℕ, ◌+◌, Bool, false, not, ◌&&◌, List}
 use Rattle.std.specs.Prelude.{Option, Some}
 use Rattle.am_types.specs.declared.intent.Intent.{Intent}
 use Rattle.am_types.specs.declared.broadcast.Spot.{Spot}
@@ -9,7 +9,7 @@ use Rattle.am_types.specs.declared.request.Request.{Request}
 use Rattle.am_types.specs.declared.request.Request.TheVariants as asks
 use Rattle.am_model.specs.Gates.{is_privileged}
 use Rattle.am_model.specs.Receivers.{is_protected, receivers}
-use Rattle.am_model.specs.Broadcasts.{Broadcasts}
+use Rattle.am_model.specs.Broadcasts.{Broadcasts, expired}
 use Rattle.am_model.specs.Sending as sending
 use Rattle.am_model.specs.Sending.{Held, with_sent, held, finished, is_registered}
 use Rattle.am_history.specs.State.{State}
@@ -28,6 +28,7 @@ pub record OnBroadcasts (B : Broadcasts → Type 0) (state : State) (caller : �
       → B (finished state.broadcasts number answer state.moment)
   pub forgotten : (struck : Spot → Bool) → B (sending.forget state.broadcasts struck state.moment)
   pub uid_forgotten : (uid : ℕ) → B (sending.forget_uid state.broadcasts uid state.moment)
+  pub advanced : (moment : ℕ) → B (expired state.broadcasts moment)
 
 -- so it holds after each step of the request
 pub broadcast_steps : (B : Broadcasts → Type 0) (state : State) (caller : ℕ) (request : Request) → OnBroadcasts B state caller request
@@ -49,4 +50,5 @@ broadcast_steps B state caller request on = record {
   stopped = on.uid_forgotten;
   granted = λ uid permission held live room. on.here;
   linked = λ uid host approved live room. on.here;
+  advanced = λ by fits. on.advanced (state.moment + by);
 }

@@ -9,7 +9,7 @@ use Rattle.am_types.specs.declared.device.Package.{Package}
 use Rattle.am_types.specs.declared.history.Entry.{Entry}
 use Rattle.am_types.specs.declared.task.StartCall.{StartCall}
 use Rattle.am_types.specs.declared.task.Landed.{Landed}
-use Rattle.am_model.specs.Tasks.{Instance, Task, Tasks, tasks_keeping, without_instance}
+use Rattle.am_model.specs.Tasks.{Instance, Tasks, tasks_keeping}
 use Rattle.am_model.specs.Tasks as tasks
 use Rattle.am_model.specs.Placement.{carried_out, fresh, place}
 use Rattle.am_model.proofs.PlacementLaws.{plan_for, place_carries_out}

@@ -2,7 +2,11 @@ pub mod Owners
 pub mod Placed
 pub mod KnownComponents
 pub mod Receivers
+pub mod Deliveries
 pub mod BroadcastSteps
 pub mod AccessOfComponents
 pub mod AccessOfReceivers
 pub mod Intents
+pub mod Served
+pub mod Adding
+pub mod AddingExamples

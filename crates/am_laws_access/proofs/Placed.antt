@@ -1,10 +1,10 @@
 -- What holds of each instance after a start is placed.
 use Rattle.std.proofs.Common.{◌≡◌, ℕ, ◌<◌, ◌≤◌, Bool, true, false, not, ◌&&◌, ◌||◌, cond, eqb, List, [], ◌∷◌, ◌++◌, map, reverse, refl, sym, ap, ◌∙◌, subst, arith}
 use Rattle.std.specs.Prelude.{All, Option, Some, None, filter, ◌==◌}
-use Rattle.std.specs.List.{find, last_or, list_any}
+use Rattle.std.specs.List.{Contains, find, last_or, list_any}
 use Rattle.std.specs.Cmp.Lexicographic.{bytes_decides}
 use Rattle.std.proofs.lemmas.Bool.{eqb-true}
-use Rattle.std.proofs.lemmas.List.Elements.{All-nil, All-cons, All-head, All-tail, All-push, All-filter, All-map, All-take, All-weaker, filter_passes}
+use Rattle.std.proofs.lemmas.List.Elements.{All-nil, All-cons, All-head, All-tail, All-push, All-filter, All-map, All-take, All-weaker, All-contains_itself, Contains-append_right, filter_passes}
 use Rattle.std.proofs.lemmas.List.Sorted.{All-permutation, IsPermutation-reverse}
 use Rattle.am_types.specs.declared.intent.Component.{Component}
 use Rattle.am_types.specs.declared.task.StartCall.{StartCall}
@@ -35,6 +35,20 @@ found_holds P test (first ∷ others) x all is = by (test first) (found_holds P 
     by : (b : Bool) → (find test others ≡ Some x → P x) → cond b (Some first) (find test others) ≡ Some x → P x
     by true rest is = let same : first ≡ x = cc in subst P same (All-head P first others all)
     by false rest is = rest is
+
+-- and so is the last one, behind one that may come before
+last_holds : {X : Type 0} (P : X → Type 0) (xs : List X) (first : Option X) (x : X) → ((y : X) → first ≡ Some y → P y) → All P xs → last_or first xs ≡ Some x → P x
+last_holds P [] first x before all is = before x is
+last_holds P (next ∷ others) first x before all is =
+    last_holds P others (Some next) x (λ y same. let e : next ≡ y = cc in subst P e (All-head P next others all)) (All-tail P next others all) is
+
+-- an instance of that number is one of these
+abbrev pub HasNumber : List Instance → ℕ → Type 0
+HasNumber instances number = (i : Instance) × Contains instances i × (i.number ≡ number)
+
+-- the root is of that component
+abbrev pub HasRoot : Component → List Instance → Type 0
+HasRoot component instances = (root : Instance) × (root_of instances ≡ Some root) × (root.component ≡ component)
 
 -- those that a test keeps pass it
 pub kept_pass : {X : Type 0} (P Q : X → Type 0) (keeps : X → Bool) (xs : List X) → ((x : X) → P x → keeps x ≡ true → Q x) → All P xs → All Q (filter keeps xs)
@@ -76,12 +90,13 @@ next_makes all start (NewIntentTo task kept number) makes = absurd makes
 next_makes all start (FrontOf task) makes = absurd makes
 
 module _ (Q : Instance → Type 0) (of : ℕ → Component) (named : (i : Instance) → Q i → i.component ≡ of i.number) (start : StartCall) where
-  -- a plan of instances of which this holds, where a new intent is for an instance of the component
+  -- a plan of instances of which this holds, where a new intent is for an instance of the component that is there, and a
+  -- task that comes to the front has the component as its root
   abbrev pub IsPlanOf : Plan → Type 0
   IsPlanOf (NewTask single) = Unit {0}
   IsPlanOf (FreshOn task kept) = All Q kept
-  IsPlanOf (NewIntentTo task kept number) = All Q kept × (of number ≡ start.target)
-  IsPlanOf (FrontOf task) = All Q task.instances
+  IsPlanOf (NewIntentTo task kept number) = All Q kept × (of number ≡ start.target) × HasNumber kept number
+  IsPlanOf (FrontOf task) = All Q task.instances × HasRoot start.target task.instances
 
   -- what may be no plan
   abbrev IfPlan : Option Plan → Type 0
@@ -125,13 +140,30 @@ module _ (Q : Instance → Type 0) (of : ℕ → Component) (named : (i : Instan
       let one = found_holds Q (is_of start.target) (reverse task.instances) i (All-permutation Q task.instances (reverse task.instances) (IsPermutation-reverse task.instances) each) is in
       (one, is_target i one (found_passes (is_of start.target) (reverse task.instances) i is))
 
+  topmost_in : (task : Task) (i : Instance) → topmost start.target task ≡ Some i → HasNumber task.instances i.number
+  topmost_in task i is = (
+    i,
+    found_holds (Contains task.instances) (is_of start.target) (reverse task.instances) i
+        (All-permutation (Contains task.instances) task.instances (reverse task.instances) (IsPermutation-reverse task.instances) (All-contains_itself task.instances)) is,
+    refl,
+  )
+
+  -- an instance behind others
+  last_in : (others : List Instance) (i : Instance) → HasNumber (others ++ i ∷ []) i.number
+  last_in others i = (i, Contains-append_right others (i ∷ []) i (0, omega arith, refl), refl)
+
+  -- the root
+  root_is : (instances : List Instance) → is_maybe_of start.target (root_of instances) ≡ true → HasRoot start.target instances
+  root_is [] is = absurd cc
+  root_is (root ∷ others) is = (root, refl, sym (same_component start.target root.component is))
+
   -- a start in the mode singleInstance
   single_planned : (tasks : List Task) → OfInstances Q tasks → IsPlanOf (placed_single start tasks)
   single_planned tasks all = by (task_with start.target tasks) (found_task (λ (task : Task). list_any (is_of start.target) task.instances) tasks all _ refl)
     where
       to : (task : Task) (found : Option Instance) → All Q task.instances → topmost start.target task ≡ found → IsPlanOf (or_new_task (renewed_in task found) true)
       to task None each is = tt
-      to task (Some i) each is = (each, (topmost_is task i each is).1)
+      to task (Some i) each is = (each, (topmost_is task i each is).1, topmost_in task i is)
 
       by : (found : Option Task) → IfTask found → IsPlanOf (or_new_task (renewed start.target found) true)
       by None each = tt
@@ -148,7 +180,7 @@ module _ (Q : Instance → Type 0) (of : ℕ → Component) (named : (i : Instan
       to task [] each is = tt
       to task (root ∷ others) each is =
           let one = All-head Q root others each in
-          (All-cons Q root [] one (All-nil Q), is_target root one is)
+          (All-cons Q root [] one (All-nil Q), is_target root one is, last_in [] root)
 
       from : (found : Option Task) → task_rooted start.target tasks ≡ found → IsPlanOf (or_new_task (rooted found) false)
       from None is = tt
@@ -170,7 +202,7 @@ module _ (Q : Instance → Type 0) (of : ℕ → Component) (named : (i : Instan
 
       by : (b : Bool) → IsPlanOf (cond b (FreshOn task (below i.number task.instances)) (NewIntentTo task (below i.number task.instances ++ i ∷ []) i.number))
       by true = left
-      by false = let one = topmost_is task i each is in (All-push Q (below i.number task.instances) i left one.0, one.1)
+      by false = let one = topmost_is task i each is in (All-push Q (below i.number task.instances) i left one.0, one.1, last_in (below i.number task.instances) i)
 
   -- moving an instance to the top
   reordered_planned : (wanted : Bool) (task : Task) (found : Option Instance) → All Q task.instances → topmost start.target task ≡ found → IfPlan (reordering start wanted task found)
@@ -178,20 +210,18 @@ module _ (Q : Instance → Type 0) (of : ℕ → Component) (named : (i : Instan
   reordered_planned wanted task (Some i) each is =
       let one = topmost_is task i each is in
       where_planned ((not wanted && start.flags.reorder_to_front) && not start.flags.clear_top) _
-      (λ test. (All-push Q (besides i.number task.instances) i (All-filter (λ (j : Instance). not (j.number == i.number)) Q task.instances each) one.0, one.1))
-
-  -- the last of a list
-  last_is : (instances : List Instance) (first : Option Instance) (i : Instance) → ((j : Instance) → first ≡ Some j → Q j) → All Q instances → last_or first instances ≡ Some i → Q i
-  last_is [] first i before each is = before i is
-  last_is (next ∷ others) first i before each is =
-      last_is others (Some next) i (λ j same. let e : next ≡ j = cc in subst Q e (All-head Q next others each)) (All-tail Q next others each) is
+      (λ test. (All-push Q (besides i.number task.instances) i (All-filter (λ (j : Instance). not (j.number == i.number)) Q task.instances each) one.0, one.1, last_in (besides i.number task.instances) i))
 
   -- a new intent to the top
   on_top_planned : (task : Task) (found : Option Instance) → All Q task.instances → top_of task ≡ found → IfPlan (on_top start task found)
   on_top_planned task None each is = tt
   on_top_planned task (Some top) each is =
       where_planned (is_of start.target top && (is_mode SingleTop start.mode || start.flags.single_top)) (NewIntentTo task task.instances top.number)
-      (λ test. (each, is_target top (last_is task.instances None top (λ j none. absurd cc) each is) (both (is_of start.target top) _ test).0))
+      (λ test. (
+        each,
+        is_target top (last_holds Q task.instances None top (λ j none. absurd cc) each is) (both (is_of start.target top) _ test).0,
+        (top, last_holds (Contains task.instances) task.instances None top (λ j none. absurd cc) (All-contains_itself task.instances) is, refl),
+      ))
 
   -- a start in a task, if there is one
   within_planned : (wanted : Bool) (found : Option Task) → IfTask found → IsPlanOf (placed_in_maybe start wanted found)
@@ -200,7 +230,7 @@ module _ (Q : Instance → Type 0) (of : ℕ → Component) (named : (i : Instan
       fresh_planned _ task each
       (or_planned (clearing_task start wanted task) _ (where_planned _ (FreshOn task []) (λ test. All-nil Q))
       (or_planned (clearing_top start task (topmost start.target task)) _ (cleared_planned task (topmost start.target task) each refl)
-      (or_planned (fronting start wanted task) _ (where_planned _ (FrontOf task) (λ test. each))
+      (or_planned (fronting start wanted task) _ (where_planned _ (FrontOf task) (λ test. (each, root_is task.instances (both wanted _ test).1)))
       (or_planned (reordering start wanted task (topmost start.target task)) _ (reordered_planned wanted task (topmost start.target task) each refl)
       (on_top_planned task (top_of task) each refl)))))
 
@@ -254,7 +284,7 @@ module _ (Q : Instance → Type 0) (of : ℕ → Component) (named : (i : Instan
     carried_of (FreshOn task kept) makes is each =
         front_of task (kept ++ fresh all.next_instance start ∷ []) (All-push R kept (fresh all.next_instance start) (All-weaker Q R keeps kept is) (makes tt)) each
     carried_of (NewIntentTo task kept number) makes is each = front_of task (with_intent number start.intent kept) (intent_of number kept is.1 is.0) each
-    carried_of (FrontOf task) makes is each = front_of task task.instances (All-weaker Q R keeps task.instances is) each
+    carried_of (FrontOf task) makes is each = front_of task task.instances (All-weaker Q R keeps task.instances is.0) each
 
     -- a start that is placed
     pub placed_of : (Makes (plan_for all start) → R (fresh all.next_instance start)) → OfInstances Q all.tasks → OfInstances R (carried_out all start (plan_for all start)).1.tasks

@@ -12,10 +12,14 @@ pub record IsAmong (tasks : List Task) (i : Instance) : Type 0 where
   pub one : Contains tasks task
   pub instance : Contains task.instances i
 
--- the entry started the instance's component, in the package that owns it, by the intent that the instance has, and the
--- gate admitted that in this state
-pub record IsGivenBy (state : State) (entry : Entry) (i : Instance) : Type 0 where
+-- the entry did something of which this holds in that state
+pub record HasDone (state : State) (entry : Entry) (P : State → Deed → Type 0) : Type 0 where
   pub kept : entry.kept ≡ true
   pub deed : Deed
   pub did : deed_of state entry.uid entry.request ≡ Some deed
-  pub started : IsStarted i.component i.owner i.intent state deed
+  pub holds : P state deed
+
+-- the entry started the instance's component, in the package that owns it, by the intent that the instance has, and the
+-- gate admitted that in this state
+abbrev pub IsGivenBy : State → Entry → Instance → Type 0
+IsGivenBy state entry i = HasDone state entry (IsStarted i.component i.owner i.intent)

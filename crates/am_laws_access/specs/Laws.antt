@@ -4,9 +4,10 @@ use Rattle.am_types.specs.declared.history.Entry.{Entry}
 use Rattle.am_history.specs.Desks.{Origin, opening_of}
 use Rattle.am_history.specs.Steps.{after_due}
 use Rattle.am_laws.specs.Access.{AreSentByEntries, IsStartedByEntries, OfInstances}
-use Rattle.am_laws.specs.Laws.{state_after}
+use Rattle.am_laws.specs.Laws.{state_after, answer_after}
 use Rattle.am_laws_access.specs.Starts.{IsStartedEachTime}
 use Rattle.am_laws_access.specs.Intents.{IsAmong, IsGivenBy}
+use Rattle.am_laws_access.specs.Adds.{Adds}
 
 -- each receiver that has or had a broadcast was sent it by an entry, and was admitted then
 abbrev pub ReceiversAreAdmitted : Type 0
@@ -35,3 +36,9 @@ abbrev pub ServicesAreAdmitted : Type 0
 ServicesAreAdmitted =
     (origin : Origin) (history : List Entry)
     → All (IsStartedEachTime (opening_of origin) history) (state_after origin history).services
+
+-- whatever an entry adds, it adds by a deed of its own, which was admitted in the state before it
+abbrev pub EntriesAddTheirDeeds : Type 0
+EntriesAddTheirDeeds =
+    (origin : Origin) (history : List Entry) (entry : Entry)
+    → Adds (state_after origin history) entry (answer_after origin history entry)

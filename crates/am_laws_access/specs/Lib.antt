@@ -1,3 +1,4 @@
 pub mod Starts
 pub mod Intents
+pub mod Adds
 pub mod Laws

@@ -2,7 +2,8 @@
 //! contract is the law.
 #![tactic(auto)]
 
-ghost use Rattle.am_laws_access.specs.Laws.{ReceiversAreAdmitted, InstancesAreAdmitted, IntentsAreAdmitted, ServicesAreAdmitted};
+ghost use Rattle.am_laws_access.specs.Laws.{ReceiversAreAdmitted, InstancesAreAdmitted, IntentsAreAdmitted};
+ghost use Rattle.am_laws_access.specs.Laws.{ServicesAreAdmitted, EntriesAddTheirDeeds};
 
 /// After every history each receiver that has or had a broadcast was sent it by an entry of the
 /// history, and was admitted in the state in which that was done; of a pending intent that was sent
@@ -28,4 +29,12 @@ pub fn intents_are_admitted()
 /// memory.
 pub fn services_are_admitted()
     ensures { ServicesAreAdmitted }
+{}
+
+/// After every history whatever an entry adds is a deed of this entry, which was admitted in the state at its moment: a
+/// delivery of a normal broadcast, whose number it gave; an activity instance, or an intent of one; one more start of a
+/// service. Where it is answered that a start landed, it was its own, also if the instance had that intent already.
+/// Takes no memory.
+pub fn entries_add_their_deeds()
+    ensures { EntriesAddTheirDeeds }
 {}

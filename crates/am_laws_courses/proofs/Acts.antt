@@ -1,6 +1,6 @@
--- What a request is answered and what it does to broadcasts: it finishes a delivery or strikes receivers, and is answered that it
--- is done; it sends a broadcast; or it leaves them as they are.
-use Rattle.std.proofs.Common.{◌≡◌, ℕ, Bool, true, false, not, ◌&&◌, ◌||◌, cond, List, length, refl, sym, ap, subst}
+-- What a request is answered and what it does to broadcasts: it finishes a delivery, strikes receivers or lets deadlines pass, and
+-- is answered that it is done; it sends a broadcast; or it leaves them as they are.
+use Rattle.std.proofs.Common.{◌≡◌, ℕ, ◌+◌, Bool, true, false, not, ◌&&◌, ◌||◌, cond, List, length, refl, sym, ap, subst}
 use Rattle.std.specs.Prelude.{Option, Some, None, Result, Ok, Err, ◌==◌, nat_le}
 use Rattle.std.specs.List.{find}
 use Rattle.std.proofs.lemmas.Bool.{eqb-true}
@@ -29,7 +29,7 @@ use Rattle.am_model.specs.Gates.{is_privileged}
 use Rattle.am_model.specs.Receivers.{declared, is_protected, receivers}
 use Rattle.am_model.specs.Tasks as tasks
 use Rattle.am_model.specs.Tasks.{Tasks}
-use Rattle.am_model.specs.Broadcasts.{Broadcasts}
+use Rattle.am_model.specs.Broadcasts.{Broadcasts, expired}
 use Rattle.am_model.specs.Sending as sending
 use Rattle.am_model.specs.Sending.{Held, held, with_sent, finished}
 use Rattle.am_model.specs.Pendings as pendings
@@ -44,19 +44,20 @@ use Rattle.am_history.specs.BroadcastCalls.{sending_of, count_of, register, take
 use Rattle.am_history.specs.PendingCalls.{after_get, pending_get, after_change, pending_cancel, pending_give, in_new_task, lend, pending_send}
 use Rattle.am_history.specs.Packages.{is_name_used, is_key_used, is_full, install_read, install, without, uninstall, force_stop, too_many_grants, grant_to, grant, too_many_links, link_to, link}
 use Rattle.am_history.specs.Explaining.{explain}
-use Rattle.am_history.specs.Steps.{page, act}
+use Rattle.am_history.specs.Steps.{at_moment, advanced, advance, page, act}
 use Rattle.am_laws.specs.Access.{Sends, lent_deed, deed_of, used_deed}
 use Rattle.am_laws.proofs.Answered.{either_leaves, unless_leaves}
 use Rattle.am_laws.proofs.Requests.{stopped_of}
 use Rattle.am_laws.proofs.Cases.{start_cases, service_cases, send_cases, use_cases, finish_cases}
 use Rattle.am_laws_courses.specs.Course.{is_done}
 
--- the request neither finishes a delivery nor strikes receivers
+-- the request neither finishes a delivery nor strikes receivers nor moves the moment
 abbrev pub is_apart : Request → Bool
 is_apart (asks.Finish number answer) = false
 is_apart (asks.Unregister number) = false
 is_apart (asks.Uninstall name) = false
 is_apart (asks.ForceStop name) = false
+is_apart (asks.Advance more) = false
 is_apart _ = true
 
 -- this holds of whether the request was done, and of the broadcasts, in each case
@@ -74,6 +75,7 @@ pub record Acts (P : Bool → Broadcasts → Type 0) (state : State) (caller : �
       → P true (sending.forget_uid state.broadcasts owner.uid state.moment)
   pub stopped : (name : List ℕ) (owner : Package) → request ≡ asks.ForceStop name → package_named state.board.packages name ≡ Some owner
       → P true (sending.forget_uid state.broadcasts owner.uid state.moment)
+  pub advanced : (more : ℕ) → request ≡ asks.Advance more → P true (expired state.broadcasts (state.moment + more))
 
 module _ (P : Bool → Broadcasts → Type 0) (state : State) (caller : ℕ) where
   -- what holds of an answer and the state that it leaves
@@ -165,7 +167,7 @@ module _ (P : Bool → Broadcasts → Type 0) (state : State) (caller : ℕ) whe
 
   -- each request
   pub acts_do : (before : List Entry) (request : Request) → Acts P state caller request → Does (act state before caller request)
-  unfolding act finish_activity back stop_service register pending_get pending_cancel pending_give install uninstall grant link force_stop
+  unfolding act finish_activity back stop_service register pending_get pending_cancel pending_give install uninstall grant link force_stop advance
   acts_do before (asks.Query kind intent default_only) acts = acts.same
   acts_do before (asks.Explain kind intent name permission shown) acts =
       any_does (explain state.board (record { caller = caller; kind = kind; intent = intent; required = permission }) name shown, state)
@@ -221,5 +223,9 @@ module _ (P : Bool → Broadcasts → Type 0) (state : State) (caller : ℕ) whe
       admin_does (for_package state name (λ (owner : Package). done (stopped_of state owner.uid))) acts.same
       (package_does name (λ (owner : Package). done (stopped_of state owner.uid)) acts.same (λ owner is. acts.stopped name owner refl is))
   acts_do before asks.Tick acts = admin_does (done state) acts.same (acts.apart refl)
+  acts_do before (asks.Advance more) acts =
+      admin_does (advance state more) acts.same
+      (either_does (nat_le (state.moment + more) 4611686018427387904) (advanced (at_moment state (state.moment + more)))
+      (refused state (rules.OverLimit limits.Moment)) (acts.advanced more refl) acts.same)
   acts_do before (asks.History from) acts = admin_does (replies.Entries from (page before from), state) acts.same acts.same
   acts_do before asks.Status acts = admin_does (replies.Status (length before) state.moment (length state.board.packages), state) acts.same acts.same

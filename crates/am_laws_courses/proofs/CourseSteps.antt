@@ -1,6 +1,6 @@
 -- The course of an ordered broadcast, step by step: what is due passes its receiver over, and a request answers it, strikes
 -- receivers, or does nothing to it.
-use Rattle.std.proofs.Common.{◌≡◌, ℕ, Bool, true, false, not, ◌&&◌, cond, eqb, List, [], ◌∷◌, ◌++◌, refl, sym, ap, ◌∙◌, subst, append_assoc}
+use Rattle.std.proofs.Common.{◌≡◌, ℕ, ◌+◌, Bool, true, false, not, ◌&&◌, cond, eqb, List, [], ◌∷◌, ◌++◌, refl, sym, ap, ◌∙◌, subst, append_assoc}
 use Rattle.std.specs.Prelude.{Option, Some, None, filter, ◌==◌, nat_le}
 use Rattle.std.specs.List.{AllZip}
 use Rattle.am_types.specs.declared.intent.Intent.{Intent}
@@ -340,6 +340,27 @@ module _ (opening : State) (h : List Entry) (entry : Entry) where
                 request = asked;
               }))
           test false mine = no_more (answers_of b.past) false refl entries all
+
+  -- the request moved the moment, and the receiver that had its delivery may have been late by then
+  pub late_by : (more : ℕ) (b : InTurn) → is_done (step earlier h entry).0 ≡ true → entry.request ≡ asks.Advance more
+      → IsFound due.broadcasts b → Runs opening h by_then b → IsInCourse opening (h ++ entry ∷ []) (turning (is_late (due.moment + more)) Late b)
+  late_by more b is asked found one =
+      entered true b (turning (is_late moment) Late b) (delivery_to b.current b.rest) is one (turning_stays (is_late moment) Late b).0
+      (λ w. sym (turning_stays (is_late moment) Late b).1 ∙ w) found
+      (late_course moment b ∙ ap (λ (r : Request). requested due r (delivery_to b.current b.rest) (course_of b)) (sym asked))
+      (λ entries all. subst (λ (l : List (Spot × Answer)). AllZip IsAnswerBy l (entries ++ cond (is_finish_of entry.request (delivery_to b.current b.rest)) (entry ∷ []) []))
+      (sym (late_answers moment b))
+      (no_more (answers_of b.past) (is_finish_of entry.request (delivery_to b.current b.rest)) (finish (delivery_to b.current b.rest)) entries all))
+    where
+      moment : ℕ
+      moment = due.moment + more
+
+      none : (delivery : Option Delivery) → is_finish_of (asks.Advance more) delivery ≡ false
+      none None = refl
+      none (Some delivery) = refl
+
+      finish : (delivery : Option Delivery) → is_finish_of entry.request delivery ≡ false
+      finish delivery = ap (λ (r : Request). is_finish_of r delivery) asked ∙ none delivery
 
   -- the request struck some of its receivers
   pub struck_runs : (struck : Spot → Bool) (b : InTurn) → is_done (step earlier h entry).0 ≡ true

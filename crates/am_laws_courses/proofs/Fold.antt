@@ -16,7 +16,7 @@ use Rattle.am_types.specs.declared.rule.Rule.TheVariants as rules
 use Rattle.am_model.specs.Boards.{package_named}
 use Rattle.am_model.specs.Gates.{is_privileged}
 use Rattle.am_model.specs.Receivers.{is_protected, receivers}
-use Rattle.am_model.specs.Broadcasts.{Broadcasts, InTurn, Delivery, Result}
+use Rattle.am_model.specs.Broadcasts.{Broadcasts, InTurn, Delivery, Result, expired}
 use Rattle.am_model.specs.Sending as sending
 use Rattle.am_model.specs.Sending.{in_turn, with_sent, finished, is_current, is_registered, strike, unwanted, Held, held}
 use Rattle.am_history.specs.State.{State}
@@ -36,7 +36,7 @@ use Rattle.am_laws_courses.proofs.Order.{AreInOrder, none_in_order, expired_orde
 use Rattle.am_laws_courses.proofs.Numbers.{expired_next, sent_next, none_delivered}
 use Rattle.am_laws_courses.proofs.Found.{IsFound, IsLost, foreground_found, background_found, results_lost}
 use Rattle.am_laws_courses.proofs.Courses.{courses_follow, expired_courses, finished_courses, forget_courses, forget_uid_courses, sent_courses}
-use Rattle.am_laws_courses.proofs.CourseSteps.{finishing_more, Runs, runs_given, runs_unwanted, course_given, earlier, due, by_then, late_runs, late_left, untouched, answered, struck_runs, struck_left}
+use Rattle.am_laws_courses.proofs.CourseSteps.{finishing_more, Runs, runs_given, runs_unwanted, course_given, earlier, due, by_then, late_runs, late_by, late_left, untouched, answered, struck_runs, struck_left}
 use Rattle.am_laws_courses.proofs.Outcomes.{OutcomeBy, settling, outcome_follows, outcome_struck}
 use Rattle.am_laws_courses.proofs.Acts.{is_apart, Acts, acts_do}
 
@@ -54,6 +54,7 @@ apart_course state (asks.Finish number answer) delivery course is = absurd cc
 apart_course state (asks.Unregister number) delivery course is = absurd cc
 apart_course state (asks.Uninstall name) delivery course is = absurd cc
 apart_course state (asks.ForceStop name) delivery course is = absurd cc
+apart_course state (asks.Advance more) delivery course is = absurd cc
 apart_course state _ delivery course is = refl
 
 -- a request that finishes no delivery
@@ -279,6 +280,16 @@ module _ (opening : State) (before : List Entry) (entry : Entry) where
           forgotten name owner is (λ delivery course. ap (λ (r : Request). requested now r delivery course) asked) (no_finish entry.request (λ n. ap (λ (r : Request). is_finish r n) asked));
       stopped = λ name owner asked is.
           forgotten name owner is (λ delivery course. ap (λ (r : Request). requested now r delivery course) asked) (no_finish entry.request (λ n. ap (λ (r : Request). is_finish r n) asked));
+      advanced = λ more asked done. record {
+        courses = expired_courses F D (OutcomeBy D) (settling D gives) now.broadcasts (now.moment + more) order
+            (λ b one. late_by opening before entry more b done asked one.1 one.0)
+            (with_results (results_stay true done (λ course. ap (λ (r : Request). requested now r None course) asked)));
+        holders = expired_held now.broadcasts (now.moment + more) has;
+        order = expired_order now.broadcasts (now.moment + more) order;
+        unsent = λ number free.
+            let same : (expired now.broadcasts (now.moment + more)).next_broadcast ≡ now.broadcasts.next_broadcast = expired_next now.broadcasts (now.moment + more) in
+            still_unsent true done number (omega arith);
+      };
     }
 
   -- an entry leaves all in their courses

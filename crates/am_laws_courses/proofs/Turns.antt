@@ -11,7 +11,7 @@ use Rattle.am_types.specs.declared.history.Entry.{Entry}
 use Rattle.am_types.specs.declared.reply.Reply.TheVariants as replies
 use Rattle.am_types.specs.declared.rule.Rule.TheVariants as rules
 use Rattle.am_model.specs.Receivers.{receivers}
-use Rattle.am_model.specs.Broadcasts.{Broadcasts, InTurn, Past, Current, Result, Doing, Answered, Late, Gone, no_broadcasts, turned, turn, is_late}
+use Rattle.am_model.specs.Broadcasts.{Broadcasts, InTurn, Past, Current, Result, Doing, Answered, Late, Gone, no_broadcasts, turned, turn, is_late, expired}
 use Rattle.am_model.specs.Sending as sending
 use Rattle.am_model.specs.Sending.{in_turn, with_sent, finished, is_current, is_registered, strike_rest, strike_from, strike, unwanted}
 use Rattle.am_history.specs.State.{State}
@@ -203,24 +203,24 @@ module _ (opening : State) (h : List Entry) where
     fresh = on.fresh;
   }
 
+  on_expired : (all : Broadcasts) (now : ℕ) → GoesOn opening h all → GoesOn opening h (expired all now)
+  on_expired all now on = record {
+    turns = expired_courses G G U settles all now on.order (turns_on (is_late now) Late refl) on.turns;
+    order = expired_order all now on.order;
+    fresh = λ earlier later number splits free.
+        let same : (expired all now).next_broadcast ≡ all.next_broadcast = expired_next all now in
+        on.fresh earlier later number splits (omega arith);
+  }
+
   -- what was due, and what the entry does
   on_entry : (entry : Entry) → GoesOn opening h (replay opening h).broadcasts → GoesOn opening h (step (replay opening h) h entry).1.broadcasts
   on_entry entry on = by entry.kept
     where
-      moment : ℕ
-      moment = moment_after (replay opening h) entry.now
-
       due : State
       due = after_due (replay opening h) entry.now
 
       passed : GoesOn opening h due.broadcasts
-      passed = record {
-        turns = expired_courses G G U settles (replay opening h).broadcasts moment on.order (turns_on (is_late moment) Late refl) on.turns;
-        order = expired_order (replay opening h).broadcasts moment on.order;
-        fresh = λ earlier later number splits free.
-            let same : due.broadcasts.next_broadcast ≡ (replay opening h).broadcasts.next_broadcast = expired_next (replay opening h).broadcasts moment in
-            on.fresh earlier later number splits (omega arith);
-      }
+      passed = on_expired (replay opening h).broadcasts (moment_after (replay opening h) entry.now) on
 
       acts : Acts (λ done all. GoesOn opening h all) due entry.uid entry.request
       acts = record {
@@ -232,6 +232,7 @@ module _ (opening : State) (h : List Entry) where
         taken_back = λ number asked. on_forgotten due.broadcasts (λ (spot : Spot). is_registered number spot.aim) due.moment passed;
         uninstalled = λ name owner asked is. on_uid_forgotten due.broadcasts owner.uid due.moment passed;
         stopped = λ name owner asked is. on_uid_forgotten due.broadcasts owner.uid due.moment passed;
+        advanced = λ more asked. on_expired due.broadcasts (due.moment + more) passed;
       }
 
       by : (kept : Bool) → GoesOn opening h (cond kept (act due h entry.uid entry.request) (replies.Refused rules.KeeperFault, due)).1.broadcasts

@@ -1,5 +1,5 @@
 -- The course of an ordered broadcast, followed through a history: what each entry did to its receivers.
-use Rattle.std.specs.Prelude.{ℕ, Bool, true, false, not, ◌&&◌, ◌==◌, List, [], ◌∷◌, ◌++◌, filter, if◌then◌else◌, Option, Some, None}
+use Rattle.std.specs.Prelude.{ℕ, ◌+◌, Bool, true, false, not, ◌&&◌, ◌==◌, List, [], ◌∷◌, ◌++◌, filter, if◌then◌else◌, Option, Some, None}
 use Rattle.std.specs.List.{find}
 use Rattle.am_types.specs.declared.device.Package.{Package}
 use Rattle.am_types.specs.declared.broadcast.Spot.{Spot}
@@ -86,7 +86,8 @@ is_of_package None spot = false
 is_of_package (Some owner) spot = spot.uid == owner.uid
 
 -- what a request that was done did to a broadcast that had that delivery: a finish answers it; a registered receiver
--- that is taken back is struck, and so are those of a package that is uninstalled or stopped
+-- that is taken back is struck, and so are those of a package that is uninstalled or stopped; where the moment moves ahead,
+-- the receiver that has the delivery may be late by then
 abbrev pub requested : State → Request → Option Delivery → Course → Course
 requested state (asks.Finish number answer) delivery course = passed_answered number answer delivery course
 requested state (asks.Unregister number) delivery course =
@@ -95,11 +96,13 @@ requested state (asks.Uninstall name) delivery course =
     passed_struck (is_of_package (package_named state.board.packages name)) delivery course
 requested state (asks.ForceStop name) delivery course =
     passed_struck (is_of_package (package_named state.board.packages name)) delivery course
+requested state (asks.Advance more) delivery course = passed_late (state.moment + more) delivery course
 requested state _ delivery course = course
 
 -- the reply says that it was done
 abbrev pub is_done : Reply → Bool
 is_done replies.Plain = true
+is_done (replies.Advanced due now) = true
 is_done _ = false
 
 -- the course of the broadcast of a number after an entry: first what was due at its moment, then its request if that

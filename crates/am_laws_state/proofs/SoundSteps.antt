@@ -104,4 +104,5 @@ module _ (state : State) (sound : IsSoundState state) where
       links = links_given state.board.packages state.board.links uid host approved live room sound.links;
       registered = sound.registered;
     };
+    advanced = λ more fits. sound;
   }

@@ -2,10 +2,10 @@
 #![tactic(auto)]
 
 mod activities;
-mod casting;
-mod lending;
+mod broadcasts;
 mod live;
 mod packages;
+mod pendings;
 mod reads;
 mod services;
 

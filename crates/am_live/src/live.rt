@@ -1,17 +1,19 @@
 //! The live state, and time.
-ghost use Rattle.std.specs.Prelude.{◌≡◌, ◌≤◌, IfOk};
+ghost use Rattle.std.specs.Prelude.{◌≡◌, ◌+◌, ◌<◌, ◌≤◌, IfOk, MatchOption};
 ghost use Rattle.am_model.specs.Sound.{IsSound};
+ghost use Rattle.am_history.specs.Answers.{for_admin};
 ghost use Rattle.am_history.specs.State.{opening, uid_of};
-ghost use Rattle.am_history.specs.Steps.{at_moment, due, moment_after};
+ghost use Rattle.am_history.specs.Steps.{advance, advanced, at_moment, due, moment_after};
 
-use am_live_gate::uid_of;
+use am_live_gate::{Caller, uid_of};
 use am_pending::Pending;
 use am_queue::{LAST_MOMENT, Queues};
 use am_resolve::Board;
 use am_services::Services;
 use am_tasks::Tasks;
-use am_types::{Device, NoMemory, Steps, Text, drop_parts};
+use am_types::{Device, Limit, NoMemory, Reply, Rule, Steps, Text, drop_parts};
 use std::alloc::Global;
+use std::hash::RandomState;
 use std::marker::Model;
 use std::sync::ledger::Ledger;
 
@@ -59,10 +61,29 @@ impl Drop for Live {
     }
 }
 
+/// The moment so many milliseconds ahead of another, unless that is past the last one.
+fn moment_ahead(moment: u64, more: u64) -> Option<u64>
+    requires { moment ≤ 4611686018427387904 }
+    ensures { MatchOption result (4611686018427387904 < moment + more)
+        (λ ahead. (ahead ≡ moment + more) × (ahead ≤ 4611686018427387904)) }
+{
+    if more <= LAST_MOMENT - moment {
+        Some(moment + more)
+    } else {
+        None
+    }
+}
+
 impl Live {
     /// The state of a sound device before the first call, where the next package is given that uid. It
-    /// keeps the allocator for its later calls.
-    pub fn from_device(alloc: Global, device: Device, next_uid: u32) -> Result<Live, NoMemory>
+    /// keeps the allocator for its later calls. What callers choose is hashed under the keys that were drawn,
+    /// if some were.
+    pub fn from_device(
+        alloc: Global,
+        drawn: Option<RandomState>,
+        device: Device,
+        next_uid: u32,
+    ) -> Result<Live, NoMemory>
         requires { IsSound device }
         ensures { IfOk result (λ live. live ≡ record (opening device) { next_uid = next_uid }) }
     {
@@ -75,7 +96,7 @@ impl Live {
             root_key,
             board,
             queues: Queues::new(alloc),
-            pending: Pending::new(alloc),
+            pending: Pending::keyed(alloc, drawn),
             tasks: Tasks::new(alloc),
             services: Services::new(alloc),
             next_uid,
@@ -115,6 +136,36 @@ impl Live {
     {
         self.queues.expire(moment, steps);
         self.moment = moment;
+    }
+
+    /// Moves the moment so many milliseconds ahead of the call's own, as only the system and the root may: first the
+    /// deadlines are handled that are due at the call's own moment, then those that are due by the new one. The answer
+    /// tells the earliest deadline that is left, if there is one, and the moment. Refused: `AdminOnly`, and `OverLimit`
+    /// of `Moment` past 2^62 milliseconds. A step is a reading of a deadline. Takes no memory.
+    pub fn advance<L: Ledger>(&mut self, by: Caller, more: u64, steps: &mut Steps<L>) -> Reply
+        ensures { for_admin (at_moment self.old by.moment) by.uid (advance (at_moment self.old by.moment) more)
+            ≡ (result, self.new) }
+    {
+        self.settle(by.moment, steps);
+        if !Live::is_privileged(by.uid) {
+            return Reply::Refused(Rule::AdminOnly);
+        }
+        match moment_ahead(by.moment, more) {
+            None => Reply::Refused(Rule::OverLimit(Limit::Moment)),
+            Some(moment) => self.advance_to(moment, steps),
+        }
+    }
+
+    /// Moves the moment, and answers the earliest deadline that is left then.
+    fn advance_to<L: Ledger>(&mut self, moment: u64, steps: &mut Steps<L>) -> Reply
+        requires { moment ≤ 4611686018427387904 }
+        ensures { advanced (at_moment self.old moment) ≡ (result, self.new) }
+    {
+        self.settle(moment, steps);
+        Reply::Advanced {
+            due: self.queues.earliest_deadline(steps),
+            now: moment,
+        }
     }
 
     /// The last moment, in milliseconds. Takes no memory.

@@ -103,7 +103,7 @@ fn start_component(
     ensures count { length board.new.packages ≡ length board.old.packages }
     ensures same { OnErr result ((board.new ≡ board.old) × (tasks.new ≡ tasks.old)) }
 {
-    let Some((uid, decl)) = board.declared(Kind::Activity, component) else {
+    let Some((uid, decl)) = board.declared(component, Kind::Activity) else {
         return Ok(Reply::Refused(missing));
     };
     drop(missing);

@@ -1,1 +1,1 @@
-pub mod CastingLemmas
+pub mod BroadcastLemmas

@@ -1,9 +1,9 @@
 //! Broadcasts, registered receivers and deliveries, over the board and the broadcasts of a device.
 #![tactic(auto)]
 
-mod casting;
+mod broadcasts;
 mod inbox;
 mod sending;
 
-pub use casting::{Message, finish, register, send, unregister};
+pub use broadcasts::{Message, finish, register, send, unregister};
 pub use inbox::inbox_at;

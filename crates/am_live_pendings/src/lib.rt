@@ -1,6 +1,6 @@
 //! Pending intents as callers ask for them, over the board and the pending intents of a device.
 #![tactic(auto)]
 
-mod lending;
+mod pendings;
 
-pub use lending::{cancel, get, give, in_new_task, refused, use_up};
+pub use pendings::{cancel, get, give, in_new_task, refused, use_up};

@@ -74,7 +74,7 @@ fn start_component(
     ensures count { length board.new.packages ≡ length board.old.packages }
     ensures same { OnErr result ((board.new ≡ board.old) × (services.new ≡ services.old)) }
 {
-    let Some((uid, decl)) = board.declared(Kind::Service, component) else {
+    let Some((uid, decl)) = board.declared(component, Kind::Service) else {
         return Ok(Reply::Refused(missing));
     };
     drop(missing);
@@ -106,7 +106,7 @@ pub fn stop_service(
         ≡ (reply, record s { board = board.now; services = services.new })) }
     ensures same { OnErr result (services.new ≡ services.old) }
 {
-    let Some((uid, decl)) = board.declared(Kind::Service, component) else {
+    let Some((uid, decl)) = board.declared(component, Kind::Service) else {
         return Ok(Reply::Refused(Rule::NoComponent));
     };
     if !services.runs(component) {

@@ -13,9 +13,9 @@ use Rattle.am_history.specs.Steps.{act, after_due, asks_keeper, is_refusal, keep
 use Rattle.am_history.specs.History.{replay}
 use Rattle.am_history.specs.Desks.{Origin, opening_of}
 use Rattle.am_history.specs.Kept.{row_of}
-use Rattle.am_found.specs.Found.{row_kept, rows_after}
-use Rattle.am_found.specs.Found.{with_kept as with_found}
-use Rattle.am_found.proofs.Found.{rows_follow_history}
+use Rattle.am_laws_kept.specs.Found.{row_kept, rows_after}
+use Rattle.am_laws_kept.specs.Found.{with_kept as with_found}
+use Rattle.am_laws_kept.proofs.Found.{rows_follow_history}
 use Rattle.am_machine.specs.Keeping.{told_after, with_any}
 use Rattle.am_machine.proofs.Kept.{has_no_row}
 

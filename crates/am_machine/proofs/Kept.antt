@@ -23,7 +23,7 @@ use Rattle.am_live_packages.specs.declared.change.Change.{Change}
 use Rattle.am_live_packages.specs.declared.change.Change.TheVariants as changes
 use Rattle.am_live_packages.specs.Changes.{changed, IsAccepted, IsRefusedBy}
 use Rattle.am_machine.specs.declared.keeping.Answered.{Answered}
-use Rattle.am_machine.specs.Keeping.{GoesOn, told_after, with_any, with_kept}
+use Rattle.am_machine.specs.Keeping.{CountsNone, GoesOn, IsUnasked, told_after, with_any, with_kept}
 
 -- a keeper that isn't asked goes on
 pub goes_on : {K : Type 0} (g : Ghosts K) (keeper : K) → GoesOn g keeper keeper
@@ -147,3 +147,29 @@ pub made_put : {K : Type 0} (g : Ghosts K) (change : Change) (row : Row) (state 
 made_put g change row state new entry moment (Ok answered) old now accepted made tells =
     λ (honest : g.is_honest now). made_told change row state new entry moment answered.reply answered.kept (g.rows old) (g.rows now) accepted made (tells honest)
 made_put g change row state new entry moment (Err error) old now accepted made tells = tt
+
+-- what was made is answered neither by a refusal nor, if its row was kept, by a fault
+not_refused : (change : Change) (state new : State) (moment : ℕ) (reply : Reply) (kept : Bool) → Made change state new moment reply kept
+    → is_refusal reply ≡ true → (reply ≡ Refused KeeperFault → ⊥) → ⊥
+not_refused change state new moment reply true made refused other =
+    true≢false (sym refused ∙ sym (ap (λ (answer : Reply × State). is_refusal answer.0) made) ∙ changed_is_accepted change (at_moment state moment))
+not_refused change state new moment reply false made refused other = other (sym (ap (λ (answer : Reply × State). answer.0) made))
+
+pub made_unasked : {K : Type 0} (change : Change) (state new : State) (moment : ℕ) (made : Result Answered NoMemory) (old now : K)
+    → IfOk made (λ (answered : Answered). Made change state new moment answered.reply answered.kept)
+    → IfOk made (λ (answered : Answered). IsUnasked answered.reply old now)
+made_unasked change state new moment (Ok answered) old now is =
+    λ refused other. absurd (not_refused change state new moment answered.reply answered.kept is refused other)
+made_unasked change state new moment (Err error) old now is = tt
+
+-- a row that was kept left the count of the faults as it was
+pub made_counts : {K : Type 0} (g : Ghosts K) (change : Change) (state new : State) (moment : ℕ) (made : Result Answered NoMemory) (old now : K)
+    → IfOk made (λ (answered : Answered). Made change state new moment answered.reply answered.kept)
+    → IfOk made (λ (answered : Answered). answered.kept ≡ true → g.faults now ≡ g.faults old)
+    → IfOk made (λ (answered : Answered). CountsNone g answered.reply old now)
+made_counts g change state new moment (Ok answered) old now is counts = λ other. by answered.kept refl is other
+  where
+    by : (b : Bool) → answered.kept ≡ b → Made change state new moment answered.reply b → (answered.reply ≡ Refused KeeperFault → ⊥) → g.faults now ≡ g.faults old
+    by true kept made other = counts kept
+    by false kept made other = absurd (other (sym (ap (λ (answer : Reply × State). answer.0) made)))
+made_counts g change state new moment (Err error) old now is counts = tt

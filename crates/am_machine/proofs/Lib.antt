@@ -1,4 +1,5 @@
 pub mod Stored
+pub mod Beginning
 pub mod Kept
 pub mod FoundRows
 pub mod Shown

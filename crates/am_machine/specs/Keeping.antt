@@ -1,9 +1,11 @@
 -- What a call does to a manager's keeper.
-use Rattle.std.specs.Prelude.{◌≡◌, ◌≤◌, ◌↔◌, Bool, false, List, [], ◌∷◌, ◌++◌, Option, Some, None, if◌then◌else◌}
+use Rattle.std.specs.Prelude.{◌≡◌, ◌≤◌, ◌↔◌, Bool, true, false, List, [], ◌∷◌, ◌++◌, Option, Some, None, if◌then◌else◌}
 use Rattle.std.specs.Option.{option_map}
 use Rattle.am_types.specs.declared.history.Entry.{Entry}
 use Rattle.am_types.specs.declared.request.Request.{Request}
 use Rattle.am_types.specs.declared.reply.Reply.{Reply}
+use Rattle.am_types.specs.declared.reply.Reply.TheVariants.{Refused}
+use Rattle.am_types.specs.declared.rule.Rule.TheVariants.{KeeperFault}
 use Rattle.am_outside.specs.Counts.{HasRisen}
 use Rattle.am_keeper.specs.declared.keeper.Keeper.{Ghosts}
 use Rattle.am_keeper.specs.declared.rows.Row.{Row}
@@ -49,6 +51,14 @@ abbrev pub AddsUnkept : List Entry → List Entry → Type 0
 AddsUnkept before after = (entry : Entry) × (entry.kept ≡ false) × (after ≡ before ++ entry ∷ [])
 
 module _ {K : Type 0} where
+  -- a call that is refused, by another rule than that of the keeper's fault, leaves the whole keeper as it was
+  abbrev pub IsUnasked : Reply → K → K → Type 0
+  IsUnasked reply old new = is_refusal reply ≡ true → (reply ≡ Refused KeeperFault → ⊥) → new ≡ old
+
+  -- a call that isn't answered by the keeper's fault leaves the count of its faults as it was
+  abbrev pub CountsNone : Ghosts K → Reply → K → K → Type 0
+  CountsNone g reply old new = (reply ≡ Refused KeeperFault → ⊥) → g.faults new ≡ g.faults old
+
   -- and the keeper counted a fault for it
   abbrev pub IsFault : Ghosts K → Managed K → Managed K → Type 0
   IsFault g old new = HasRisen (g.faults old.keeper) (g.faults new.keeper) × AddsUnkept old.history new.history

@@ -1,2 +1,3 @@
 pub mod Managed
+pub mod Beginnings
 pub mod Keeping

@@ -7,7 +7,7 @@ use Rattle.am_model.specs.Sound.{IsSound}
 use Rattle.am_history.specs.State.{State}
 use Rattle.am_history.specs.History.{replay, weight_of, IsLegal}
 use Rattle.am_history.specs.Desks.{Origin, opening_of}
-use Rattle.am_found.specs.Found.{rows_after}
+use Rattle.am_laws_kept.specs.Found.{rows_after}
 
 -- a manager: where it comes from, the calls that it stored since, how many more it has room for at once, and its keeper
 pub record Managed (K : Type 0) : Type 0 where

@@ -67,6 +67,7 @@ pub(crate) fn act<L: Ledger>(
             live.settle(moment, steps);
             Ok(tick(call.uid))
         }
+        Request::Advance { by: more } => Ok(live.advance(by, *more, steps)),
         _ => read_at(alloc, live, history, by, &call.request, steps),
     }
 }

@@ -1,17 +1,17 @@
 //! Calls that have a row kept: what they change is prepared, then the keeper is asked.
-ghost use Rattle.std.specs.Prelude.{◌≡◌, ◌≤◌, ◌||◌, List as Items, false, if◌then◌else◌, IfOk, OnErr, IsTrue, Err};
+ghost use Rattle.std.specs.Prelude.{◌≡◌, ◌≢◌, ◌≤◌, ◌||◌, List as Items, true, false, if◌then◌else◌, IfOk, OnErr, IsTrue, Err};
 ghost use Rattle.am_types.specs.declared.history.Entry.{Entry};
 ghost use Rattle.am_types.specs.declared.reply.Reply.TheVariants.{Refused};
 ghost use Rattle.am_types.specs.declared.rule.Rule.TheVariants.{KeeperFault};
 ghost use Rattle.am_outside.specs.Counts.{HasRisen};
-ghost use Rattle.am_keeper.specs.declared.failure.KeepFail.TheVariants.{Failed};
+ghost use Rattle.am_keeper.specs.declared.failure.KeepFail.TheVariants.{Failed, NoMemory as Want};
 ghost use Rattle.am_keeper.specs.Keeping.{Puts};
 ghost use Rattle.am_keeper.specs.Rows.{with_row};
 ghost use Rattle.std.specs.Option.{option_map};
 ghost use Rattle.am_history.specs.Steps.{asks_keeper, after_due, at_moment, keeps_row, step};
 ghost use Rattle.am_laws_state.specs.Sound.{IsSoundState};
 ghost use Rattle.am_live_packages.specs.Changes.{Fits, changed};
-ghost use Rattle.am_machine.specs.Keeping.{GoesOn, TellsSame, told_after, with_kept};
+ghost use Rattle.am_machine.specs.Keeping.{CountsNone, GoesOn, IsUnasked, TellsSame, told_after, with_kept};
 
 use am_keeper::{KeepFail, Keeper, Row};
 use am_live::{Change, Live, Plan};
@@ -47,6 +47,9 @@ pub(crate) fn keep<K: Keeper, L: Ledger>(
     ensures refused { OnErr result (TellsSame K.Keeper keeper.old keeper.new) }
     ensures fault { IfOk result (λ answered. answered.kept ≡ false →
         HasRisen (K.faults keeper.old) (K.faults keeper.new)) }
+    ensures unasked { IfOk result (λ answered. IsUnasked answered.reply keeper.old keeper.new) }
+    ensures counts { IfOk result (λ answered. CountsNone K.Keeper answered.reply keeper.old keeper.new) }
+    ensures uncounted { OnErr result (K.faults keeper.new ≡ K.faults keeper.old) }
 {
     let moment = live.moment_after(call.now);
     let planned = live.plan(call.uid, &call.request)?;
@@ -83,6 +86,8 @@ fn make<K: Keeper, L: Ledger>(
     ensures refused { OnErr result (TellsSame K.Keeper keeper.old keeper.new) }
     ensures fault { IfOk result (λ answered. answered.kept ≡ false →
         HasRisen (K.faults keeper.old) (K.faults keeper.new)) }
+    ensures counts { IfOk result (λ answered. answered.kept ≡ true → K.faults keeper.new ≡ K.faults keeper.old) }
+    ensures uncounted { OnErr result (K.faults keeper.new ≡ K.faults keeper.old) }
 {
     if let Err(error) = live.prepare(&change) {
         drop(change);
@@ -113,6 +118,7 @@ fn unkept<L: Ledger>(
     ensures failed { IfOk result (λ answered. (answered ≡ record { reply = Refused KeeperFault; kept = false })
         × (live.new ≡ at_moment live.old moment) × (fail ≡ Failed)) }
     ensures same { OnErr result (live.new ≡ live.old) }
+    ensures wanting { OnErr result (fail ≡ Want) }
 {
     match fail {
         KeepFail::Failed => {
@@ -132,6 +138,7 @@ fn put<K: Keeper>(keeper: &mut K, row: &Row) -> Result<(), KeepFail>
         Puts (λ told. with_row told row.now) (K.rows keeper.old) (K.rows keeper.new) result }
     ensures keeper { GoesOn K.Keeper keeper.old keeper.new }
     ensures failed { result ≡ Err Failed → HasRisen (K.faults keeper.old) (K.faults keeper.new) }
+    ensures only_failed { result ≢ Err Failed → K.faults keeper.new ≡ K.faults keeper.old }
 {
     keeper.put(row)
 }

@@ -3,6 +3,7 @@
 
 mod acts;
 mod class;
+mod fresh;
 mod history;
 mod keeping;
 mod laws;
@@ -12,5 +13,8 @@ mod reads;
 mod sole;
 mod step;
 
-pub use manager::{Manager, begin};
+pub use am_desk::Desk;
+pub use am_opening::BeginFault;
+pub use fresh::begin_fresh;
+pub use manager::{Manager, begin, begin_keyed};
 pub use sole::SoleDesk;

@@ -6,16 +6,17 @@ ghost use Rattle.am_model.specs.Sound.{IsSound};
 ghost use Rattle.am_history.specs.Desks.{opening_of};
 ghost use Rattle.am_history.specs.History.{IsLegal};
 ghost use Rattle.am_history.specs.Opening.{opening_with};
-ghost use Rattle.am_found.specs.Found.{rows_after};
+ghost use Rattle.am_laws_kept.specs.Found.{rows_after};
 ghost use Rattle.am_opening.specs.Openings.{Refuses};
 ghost use Rattle.am_machine.specs.Managed.{is_unkept};
 
 use crate::opened::Opened;
 use am_keeper::{Attached, Keeper, Rows};
 use am_live::Live;
-use am_opening::{OpenFault, open};
+use am_opening::{BeginFault, open};
 use am_types::{Device, Entry, NoMemory, drop_parts};
 use std::alloc::Global;
+use std::hash::RandomState;
 use std::marker::Model;
 
 /// The activity manager of one device. Contracts see where it comes from, its history, for how many more
@@ -64,7 +65,31 @@ pub fn begin<K: Keeper>(
     alloc: Global,
     device: Device,
     attached: Attached<K>,
-) -> Result<Manager<K>, OpenFault>
+) -> Result<Manager<K>, BeginFault>
+    requires sound { IsSound device }
+    requires order { IsInOrder attached.rows }
+    requires told { K.is_honest attached.keeper → (told : Told) → K.rows attached.keeper ≡ Some told
+        → attached.rows ≡ told }
+    ensures begun { IfOk result (λ manager. manager ≡ record {
+      origin = record { device = device; rows = attached.rows; place = K.place attached.keeper };
+      history = [];
+      spare = 0;
+      keeper = attached.keeper;
+    }) }
+    ensures opens { IfOk result (λ manager. opening_with device attached.rows ≡ Ok (opening_of manager.origin)) }
+    ensures refused { IfErr result (λ fault. Refuses fault (opening_with device attached.rows)) }
+{
+    begin_keyed(alloc, device, attached, None)
+}
+
+/// The same, where what callers choose is hashed under the keys that were drawn, if some were. Draw them where callers
+/// aren't trusted: without them a caller can make its own look-ups, and those of others, slow.
+pub fn begin_keyed<K: Keeper>(
+    alloc: Global,
+    device: Device,
+    attached: Attached<K>,
+    drawn: Option<RandomState>,
+) -> Result<Manager<K>, BeginFault>
     requires sound { IsSound device }
     requires order { IsInOrder attached.rows }
     requires told { K.is_honest attached.keeper → (told : Told) → K.rows attached.keeper ≡ Some told
@@ -80,7 +105,7 @@ pub fn begin<K: Keeper>(
 {
     let Attached { keeper, rows } = attached;
     let opened = Opened::with(&device, &rows);
-    let live = open_live(alloc, device, &rows);
+    let live = open_live(alloc, drawn, device, &rows);
     drop(rows);
     match live {
         Ok(live) => Ok(Manager {
@@ -99,7 +124,12 @@ pub fn begin<K: Keeper>(
 }
 
 /// The live state in which a device is opened with those rows.
-fn open_live(alloc: Global, device: Device, rows: &Rows) -> Result<Live, OpenFault>
+fn open_live(
+    alloc: Global,
+    drawn: Option<RandomState>,
+    device: Device,
+    rows: &Rows,
+) -> Result<Live, BeginFault>
     requires sound { IsSound device }
     requires order { IsInOrder rows.now }
     ensures opens { IfOk result (λ live. opening_with device rows.now ≡ Ok live) }
@@ -107,7 +137,7 @@ fn open_live(alloc: Global, device: Device, rows: &Rows) -> Result<Live, OpenFau
 {
     match open(alloc, device, rows) {
         Ok(opened) => {
-            let live = Live::from_device(alloc, opened.device, opened.next_uid)?;
+            let live = Live::from_device(alloc, drawn, opened.device, opened.next_uid)?;
             Ok(live)
         }
         Err(fault) => Err(fault),

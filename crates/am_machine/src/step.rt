@@ -9,7 +9,7 @@ ghost use Rattle.am_history.specs.State.{uid_of, has_uid};
 ghost use Rattle.am_history.specs.Numbers.{HasNumbers};
 ghost use Rattle.am_history.specs.Steps.{Call, after_due, asks_keeper, is_calm, is_formed, keeps_row, step};
 ghost use Rattle.am_laws_state.specs.Sound.{IsSoundState};
-ghost use Rattle.am_machine.specs.Keeping.{IsFault, GoesOn, TellsSame, told_after, with_kept};
+ghost use Rattle.am_machine.specs.Keeping.{CountsNone, GoesOn, IsFault, IsUnasked, TellsSame, told_after, with_kept};
 
 use crate::acts::act;
 use crate::class::{is_changing, keeps_row};
@@ -35,8 +35,10 @@ impl<K: Keeper> Manager<K> {
     /// that a body is read as. A call that may change the state is stored, and so is a read at a moment at
     /// which some deadline is due. The keeper is asked for the row of an installation, a removal, a grant
     /// or a link that nothing else refuses, and the row is put if the call is accepted. If the keeper
-    /// fails, the call is stored, answered by `KeeperFault`, and changes nothing but the moment. After
-    /// `NoMemory` the state and the history are as before, and so are the rows of an honest keeper.
+    /// fails, the call is stored, answered by `KeeperFault`, and changes nothing but the moment. A call that
+    /// something else refuses leaves the whole keeper as it was, the count of its faults too. After
+    /// `NoMemory` the state and the history are as before, and so are the rows of an honest keeper and its
+    /// count.
     pub fn step(
         &mut self,
         desk: u32,
@@ -59,6 +61,9 @@ impl<K: Keeper> Manager<K> {
             ≡ told_after (replay (opening_of self.old.origin) self.old.history) request shown.reply
             (K.rows self.old.keeper)) }
         ensures refused_rows { OnErr result (TellsSame K.Keeper self.old.keeper self.new.keeper) }
+        ensures unasked { IfOk result (λ shown. IsUnasked shown.reply self.old.keeper self.new.keeper) }
+        ensures counts { IfOk result (λ shown. CountsNone K.Keeper shown.reply self.old.keeper self.new.keeper) }
+        ensures uncounted { OnErr result (K.faults self.new.keeper ≡ K.faults self.old.keeper) }
         ensures fault { IfOk result (λ shown. shown.reply ≡ Refused KeeperFault → IsFault K.Keeper self.old self.new) }
         ensures spare { IfOk result (λ shown. self.old.spare ≤ self.new.spare + (if shown.stored then 1 else 0)) }
         ensures room { OnErr result (self.old.spare ≤ self.new.spare) }
@@ -102,6 +107,9 @@ impl<K: Keeper> Manager<K> {
             ≡ told_after (replay (opening_of self.old.origin) self.old.history) entry.request shown.reply
             (K.rows self.old.keeper)) }
         ensures refused_rows { OnErr result (TellsSame K.Keeper self.old.keeper self.new.keeper) }
+        ensures unasked { IfOk result (λ shown. IsUnasked shown.reply self.old.keeper self.new.keeper) }
+        ensures counts { IfOk result (λ shown. CountsNone K.Keeper shown.reply self.old.keeper self.new.keeper) }
+        ensures uncounted { OnErr result (K.faults self.new.keeper ≡ K.faults self.old.keeper) }
         ensures fault { IfOk result (λ shown. shown.reply ≡ Refused KeeperFault → IsFault K.Keeper self.old self.new) }
         ensures spare { IfOk result (λ shown. self.old.spare ≤ self.new.spare + (if shown.stored then 1 else 0)) }
         ensures room { OnErr result (self.old.spare ≤ self.new.spare) }
@@ -199,6 +207,9 @@ fn answer<K: Keeper, L: Ledger>(
     ensures refused { OnErr result (TellsSame K.Keeper keeper.old keeper.new) }
     ensures fault { IfOk result (λ answered. answered.kept ≡ false →
         HasRisen (K.faults keeper.old) (K.faults keeper.new)) }
+    ensures unasked { IfOk result (λ answered. IsUnasked answered.reply keeper.old keeper.new) }
+    ensures counts { IfOk result (λ answered. CountsNone K.Keeper answered.reply keeper.old keeper.new) }
+    ensures uncounted { OnErr result (K.faults keeper.new ≡ K.faults keeper.old) }
     ensures calm { IsTrue (is_calm call.entry.now.request) → IsOk result }
 {
     if keeps_row(&call.request) {

@@ -1,5 +1,5 @@
 -- Broadcasts: deliveries and their deadlines, the two queues, and the result of an ordered broadcast.
-use Rattle.std.specs.Prelude.{ℕ, ◌+◌, Bool, true, false, not, ◌&&◌, ◌||◌, nat_le, List, [], ◌∷◌, ◌++◌, length, map, filter, if◌then◌else◌, Option, Some, None}
+use Rattle.std.specs.Prelude.{ℕ, ◌+◌, min, Bool, true, false, not, ◌&&◌, ◌||◌, nat_le, List, [], ◌∷◌, ◌++◌, length, map, filter, flat_map, if◌then◌else◌, Option, Some, None}
 use Rattle.std.specs.List.{list_any}
 use Rattle.am_types.specs.declared.intent.Intent.{Intent}
 use Rattle.am_types.specs.declared.broadcast.Spot.{Spot}
@@ -195,6 +195,42 @@ abbrev pub due : Broadcasts → ℕ → Bool
 due all now =
     (is_head_due now all.foreground || is_head_due now all.background)
     || list_any (λ (n : Normal). list_any (is_delivery_due now) n.deliveries) all.normal
+
+-- the deadline of a delivery in turn, if there is one
+abbrev pub current_deadline : Option Current → List ℕ
+current_deadline None = []
+current_deadline (Some current) = current.deadline ∷ []
+
+-- the deadline of the delivery that the head of the queue has, if there is one
+abbrev pub head_deadline : List InTurn → List ℕ
+head_deadline [] = []
+head_deadline (head ∷ others) = current_deadline head.current
+
+-- the deadlines of a normal broadcast's deliveries
+abbrev pub deadlines_of : Normal → List ℕ
+deadlines_of broadcast = map (λ (d : Delivery). d.deadline) broadcast.deliveries
+
+-- the deadlines of some normal broadcasts' deliveries
+abbrev pub normal_deadlines : List Normal → List ℕ
+normal_deadlines normal = flat_map deadlines_of normal
+
+-- all deadlines: those of both heads, and those of the normal deliveries
+abbrev pub deadlines : Broadcasts → List ℕ
+deadlines all = head_deadline all.foreground ++ head_deadline all.background ++ normal_deadlines all.normal
+
+-- the earlier of a moment and another, if there is another
+abbrev pub earlier : ℕ → Option ℕ → ℕ
+earlier moment None = moment
+earlier moment (Some other) = min moment other
+
+-- the earliest of some moments, if there are any
+abbrev pub earliest : List ℕ → Option ℕ
+earliest [] = None
+earliest (first ∷ others) = Some (earlier first (earliest others))
+
+-- the earliest deadline, if there is one
+abbrev pub earliest_deadline : Broadcasts → Option ℕ
+earliest_deadline all = earliest (deadlines all)
 
 -- a normal broadcast with the deliveries that pass the test
 abbrev pub keeping : (Delivery → Bool) → Normal → Normal

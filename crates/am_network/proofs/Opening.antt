@@ -91,5 +91,5 @@ gates_count (suc others) planned = ap suc (gates_count others (drop 1 planned))
 pub gates_new : (gates : ℕ) (planned : List GatePlan) (k : ℕ) (gate : GateInMemory) → slice_get (gates_of gates planned) k ≡ Some gate → IsNewGate (gate_view gate)
 gates_new zero planned k gate at = absurd (let e = at in cc)
 gates_new (suc others) planned zero gate at =
-    subst (λ (g : GateInMemory). IsNewGate (gate_view g)) (ap (λ o. unwrap_or o gate) at) (refl, (refl, refl))
+    subst (λ (g : GateInMemory). IsNewGate (gate_view g)) (ap (λ o. unwrap_or o gate) at) (refl, (refl, refl, refl))
 gates_new (suc others) planned (suc k) gate at = gates_new others (drop 1 planned) k gate at

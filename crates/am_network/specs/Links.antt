@@ -24,11 +24,12 @@ link_of r w reader writer = record {
 }
 
 -- the links of a gate that tells them: the bytes that come over each, how many were handed out, which are the first
--- ones, and those that were taken back
+-- ones, those that were taken back, and how many had been handed out when a call of `accept` failed last, if one did
 pub record Links : Type 0 where
   pub sent : List (List ℕ)
   pub handed : ℕ
   pub ended : List LinkView
+  pub failed_at : Option ℕ
 
 -- a gate: its links, if it tells them, and its count of faults
 pub record GateView : Type 0 where
@@ -66,6 +67,15 @@ HandsOut (Some links) new (Some link) =
     (bytes : List ℕ) × (slice_get links.sent links.handed ≡ Some bytes)
     × (link ≡ new_link links.handed bytes) × (new ≡ Some (record links { handed = links.handed + 1 }))
 
+-- the links of a gate once a call of `accept` failed, which handed out none
+abbrev pub failed : Option Links → Option Links
+failed None = None
+failed (Some links) = Some (record links { failed_at = Some links.handed })
+
+-- no link was handed out after the call of `accept` that failed last
+abbrev pub HasFailedLast : Links → Type 0
+HasFailedLast links = links.failed_at ≡ Some links.handed
+
 -- the reader of a gate that tells its links has given nothing yet
 abbrev pub IsUnread : Option Links → Option (List ℕ) → Type 0
 IsUnread None given = ⊤
@@ -81,9 +91,13 @@ abbrev pub taken_back : Option Links → LinkView → Option Links
 taken_back None link = None
 taken_back (Some links) link = Some (record links { ended = links.ended ++ link ∷ [] })
 
--- a gate as it is made: no fault was counted, no link was handed out, and none was taken back
+-- no link was handed out, none was taken back, and no call of `accept` failed
+abbrev pub AreUntouched : Links → Type 0
+AreUntouched links = (links.handed ≡ 0) × (links.ended ≡ []) × (links.failed_at ≡ None)
+
+-- a gate as it is made: no fault was counted, and its links are untouched
 abbrev pub IsNewGate : GateView → Type 0
-IsNewGate gate = (gate.faults ≡ 0) × IfSome gate.links (λ links. (links.handed ≡ 0) × (links.ended ≡ []))
+IsNewGate gate = (gate.faults ≡ 0) × IfSome gate.links AreUntouched
 
 -- what a network that tells it was asked for last: a port, how many gates it answered, and those that were released
 -- since, in their order

@@ -41,7 +41,8 @@ abbrev pub link_view : MemoryLink → LinkView
 link_view link = ends_view (link.reader, link.writer)
 
 -- what a gate in memory holds: the links that were planned, how many of them were handed out, those that were taken
--- back, the numbers of the calls of `accept` that fail, and how many such calls there were and failed
+-- back, the numbers of the calls of `accept` that fail, how many such calls there were and failed, and how many links
+-- had been handed out at the last failure
 pub record GateInMemory : Type 0 where
   pub plan : List LinkPlan
   pub handed : ℕ
@@ -49,6 +50,7 @@ pub record GateInMemory : Type 0 where
   pub failing : List ℕ
   pub accepts : ℕ
   pub faults : ℕ
+  pub failed_at : Option ℕ
 
 -- the ends of each link of each plan are unused
 abbrev pub ArePlans : List GatePlan → Type 0
@@ -56,8 +58,15 @@ ArePlans = All (λ planned. AreUnused planned.links)
 
 -- the gate of a plan, as it is made
 abbrev pub new_gate : GatePlan → GateInMemory
-new_gate planned =
-    record { plan = planned.links; handed = 0; ended = []; failing = planned.failing; accepts = 0; faults = 0 }
+new_gate planned = record {
+  plan = planned.links;
+  handed = 0;
+  ended = [];
+  failing = planned.failing;
+  accepts = 0;
+  faults = 0;
+  failed_at = None;
+}
 
 -- the links of a gate, as clauses on any gate see them
 abbrev pub links_of : GateInMemory → Links
@@ -65,16 +74,25 @@ links_of gate = record {
   sent = map (λ link. link.reader.left) gate.plan;
   handed = gate.handed;
   ended = map link_view gate.ended;
+  failed_at = gate.failed_at;
 }
 
 -- a gate, as clauses on any network see it
 abbrev pub gate_view : GateInMemory → GateView
 gate_view gate = record { links = Some (links_of gate); faults = gate.faults }
 
+-- the gate once a call of `accept` failed
+abbrev pub failed_once : GateInMemory → GateInMemory
+failed_once gate = record gate {
+  accepts = one_more gate.accepts;
+  faults = one_more gate.faults;
+  failed_at = Some gate.handed;
+}
+
 -- the gate once a call of `accept` was counted, which may have failed
 abbrev pub counted : {X : Type 0} → GateInMemory → Result X Failed → GateInMemory
 counted gate (Ok done) = record gate { accepts = one_more gate.accepts }
-counted gate (Err e) = record gate { accepts = one_more gate.accepts; faults = one_more gate.faults }
+counted gate (Err e) = failed_once gate
 
 -- the gate once a link was handed out, or none
 abbrev pub handed_out : {E : Type 0} → GateInMemory → Option E → GateInMemory
@@ -84,7 +102,7 @@ handed_out gate (Some ends) = record gate { handed = gate.handed + 1 }
 -- the gate after a call of `accept`
 abbrev pub after_accept : {E : Type 0} → GateInMemory → Result (Option E) Failed → GateInMemory
 after_accept gate (Ok handed) = handed_out (record gate { accepts = one_more gate.accepts }) handed
-after_accept gate (Err e) = record gate { accepts = one_more gate.accepts; faults = one_more gate.faults }
+after_accept gate (Err e) = failed_once gate
 
 -- what a network in memory holds: the gates that are to come, what it was asked for last, the gates that were released
 -- since, the numbers of the calls of `listen` that fail, how many such calls there were and failed, and how many faults

@@ -1,7 +1,6 @@
 //! A gate in memory, whose links and failures are given.
-ghost use Rattle.std.specs.Prelude.{◌≡◌, ◌<◌, ◌≤◌, ◌↔◌, ◌++◌, ◌∷◌, [], Some, IsErr, IsTrue, IfOk, IfSome, OnErr, length, slice_get, vec_capacity};
+ghost use Rattle.std.specs.Prelude.{◌≡◌, ◌<◌, ◌≤◌, ◌↔◌, ◌++◌, ◌∷◌, [], Some, IsErr, IsTrue, IfOk, IfSome, OnErr, OnOk, length, slice_get, vec_capacity};
 ghost use Rattle.std.specs.Option.{option_map};
-ghost use Rattle.am_outside.specs.Counts.{HasRisen};
 ghost use Rattle.am_outside.specs.Memory.{fails, one_more};
 ghost use Rattle.am_network.specs.Links.{HandsOut, IsUnread, MayTakeBack, link_of, taken_back};
 ghost use Rattle.am_network.specs.Memory.{AreUnused, IsUnused, after_accept, counted, ends_of, ends_view, handed_out, links_of, new_gate};
@@ -37,6 +36,8 @@ pub struct MemoryGate {
     failing: List<u32>,
     accepts: u64,
     faults: u64,
+    // How many links had been handed out when a call failed last.
+    failed_at: Option<u64>,
 }
 
 impl Model for MemoryGate {
@@ -52,6 +53,7 @@ impl Model for MemoryGate {
       failing = g.failing;
       accepts = g.accepts;
       faults = g.faults;
+      failed_at = g.failed_at;
     } };
 
     ghost invariant = { λ g. (g.coming.items ≡ drop g.handed g.plan.value) × (g.handed ≤ length g.plan.value)
@@ -100,6 +102,7 @@ impl MemoryGate {
             failing: plan.failing,
             accepts: 0,
             faults: 0,
+            failed_at: None,
         }
     }
 
@@ -122,11 +125,11 @@ impl MemoryGate {
         ensures exact { self.new ≡ counted self.old result }
         ensures fails { IsErr result ↔ IsTrue (fails self.old.failing (one_more self.old.accepts)) }
         ensures never_falls { self.old.faults ≤ self.new.faults }
-        ensures failed { OnErr result (HasRisen self.old.faults self.new.faults) }
     {
         self.accepts = self.accepts.saturating_add(1);
         if is_failing(&self.failing, self.accepts) {
             self.faults = self.faults.saturating_add(1);
+            self.failed_at = Some(self.handed);
             return Err(Failed);
         }
         Ok(())
@@ -175,7 +178,8 @@ impl Acceptor for MemoryGate {
             (option_map ends_view handed)) }
         ensures unread { IfOk result (λ handed. IfSome handed (λ ends. ends.0.source.given ≡ [])) }
         ensures never_falls { self.old.faults ≤ self.new.faults }
-        ensures failed { OnErr result (HasRisen self.old.faults self.new.faults) }
+        ensures failed { OnErr result (self.new.faults ≡ one_more self.old.faults) }
+        ensures counted { OnOk result (self.new.faults ≡ self.old.faults) }
     {
         self.count_accept()?;
         Ok(self.hand_out())

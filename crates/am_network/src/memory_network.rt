@@ -198,6 +198,8 @@ impl Network for MemoryNetwork {
 
     ghost listening = { λ n. Some (listening_of n) };
 
+    ghost listens = { λ n. n.listens };
+
     ghost faults = { λ n. n.faults };
 
     ghost gate_faults = { λ n. n.gate_faults };
@@ -220,6 +222,7 @@ impl Network for MemoryNetwork {
         requires { MayRelease (Some (listening_of self.old)) }
         ensures exact { self.new ≡ after_release self.old gate }
         ensures told { Some (listening_of self.new) ≡ released (Some (listening_of self.old)) (gate_view gate) }
+        ensures calm { gate.faults ≡ 0 → self.new.gate_faults ≡ self.old.gate_faults }
     {
         self.gate_faults = self.gate_faults.saturating_add(gate.faults());
         self.released.push_reserved(gate);

@@ -1,8 +1,9 @@
 //! Gates at which links arrive, and the network that they belong to.
-ghost use Rattle.std.specs.Prelude.{◌≡◌, ℕ, ◌≤◌, Option, Some, Err, length, slice_get, IfOk, IfSome, OnErr};
+ghost use Rattle.std.specs.Prelude.{◌≡◌, ℕ, ◌≤◌, Option, Some, Err, length, slice_get, IfOk, IfSome, OnErr, OnOk};
 ghost use Rattle.std.specs.Option.{option_map};
 ghost use Rattle.am_outside.specs.Counts.{HasRisen};
-ghost use Rattle.am_network.specs.Links.{GateView, HandsOut, IsNewGate, IsUnread, Links, Listening, MayRelease, MayTakeBack, link_of, listening_at, raised_by, released, taken_back};
+ghost use Rattle.am_outside.specs.Memory.{one_more};
+ghost use Rattle.am_network.specs.Links.{GateView, HandsOut, IsNewGate, IsUnread, Links, Listening, MayRelease, MayTakeBack, failed, link_of, listening_at, raised_by, released, taken_back};
 
 use am_outside::{Failed, Sink, Source};
 use std::alloc::{AllocError, AllocFailed};
@@ -29,15 +30,17 @@ pub trait Acceptor: Drop + Send {
     /// `None` where no link is to come, and waits until one arrives where it can't tell that.
     ///
     /// # Errors
-    /// `Failed` where the gate failed. Its count of faults rose then, and its links are as they were.
+    /// `Failed` where the gate failed. Its count of faults rose by one then, which stays in a call that doesn't fail. Its
+    /// links are as they were, but for how many had been handed out at the last failure.
     fn accept(&mut self) -> Result<Option<(Self::Reader, Self::Writer)>, Failed>
         ensures next { IfOk result (λ handed. HandsOut (links self.old) (links self.new)
             (option_map (λ link. link_of Self.Reader.Source Self.Writer.Sink link.0 link.1) handed)) }
         ensures unread { IfOk result (λ handed. IfSome handed (λ link.
             IsUnread (links self.old) (Self.Reader.given link.0))) }
-        ensures same { OnErr result (links self.new ≡ links self.old) }
+        ensures none { OnErr result (links self.new ≡ failed (links self.old)) }
         ensures never_falls { faults self.old ≤ faults self.new }
-        ensures failed { OnErr result (HasRisen (faults self.old) (faults self.new)) };
+        ensures failed { OnErr result (faults self.new ≡ one_more (faults self.old)) }
+        ensures counted { OnOk result (faults self.new ≡ faults self.old) };
 
     /// Takes a link back, and ends it. Takes no memory.
     fn finish(&mut self, reader: Self::Reader, writer: Self::Writer)
@@ -97,6 +100,9 @@ pub trait Network {
     /// What it was asked for last, where it tells that.
     ghost listening: { Self → Option Listening };
 
+    /// How many calls of `listen` there were. It stays at the greatest 64-bit number.
+    ghost listens: { Self → ℕ };
+
     /// How many calls of `listen` failed. It stays at the greatest 64-bit number.
     ghost faults: { Self → ℕ };
 
@@ -115,6 +121,7 @@ pub trait Network {
             → IsNewGate (record { links = Self.Gate.links gate; faults = Self.Gate.faults gate })) }
         ensures told { IfOk result (λ made. listening self.new ≡ listening_at (listening self.old) port gates) }
         ensures same { OnErr result (listening self.new ≡ listening self.old) }
+        ensures listens { listens self.new ≡ one_more (listens self.old) }
         ensures never_falls { faults self.old ≤ faults self.new }
         ensures failed { result ≡ Err ListenFail.Failed → HasRisen (faults self.old) (faults self.new) }
         ensures gate_faults { gate_faults self.new ≡ gate_faults self.old };
@@ -124,6 +131,8 @@ pub trait Network {
         requires { MayRelease (listening self.old) }
         ensures told { listening self.new ≡ released (listening self.old)
             (record { links = Self.Gate.links gate; faults = Self.Gate.faults gate }) }
+        ensures listens { listens self.new ≡ listens self.old }
         ensures faults { faults self.new ≡ faults self.old }
-        ensures gate_faults { gate_faults self.new ≡ raised_by (Self.Gate.faults gate) (gate_faults self.old) };
+        ensures gate_faults { gate_faults self.new ≡ raised_by (Self.Gate.faults gate) (gate_faults self.old) }
+        ensures calm { Self.Gate.faults gate ≡ 0 → gate_faults self.new ≡ gate_faults self.old };
 }

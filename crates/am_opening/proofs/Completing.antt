@@ -13,8 +13,8 @@ use Rattle.am_model.specs.Boards.{Board, is_package_uid, with_grant, with_link}
 use Rattle.am_history.specs.State.{State, opening, uids_of}
 use Rattle.am_history.specs.Opening.{after_grant, after_link, after_rows, has_too_many, opened, opening_with, row_uids, unless_too_many, with_rights}
 use Rattle.am_opening.specs.declared.opened.Opened.{Opened}
-use Rattle.am_opening.specs.declared.opened.OpenFault.{OpenFault}
-use Rattle.am_opening.specs.declared.opened.OpenFault.TheVariants as faults
+use Rattle.am_opening.specs.declared.opened.BeginFault.{BeginFault}
+use Rattle.am_opening.specs.declared.opened.BeginFault.TheVariants as faults
 use Rattle.am_opening.specs.Openings.{Opens, Refuses, after_grant_row, after_link_row, completed_from, grants_after, links_after, opened_from, state_of}
 
 -- a field is set to what a test makes or leaves of it
@@ -84,7 +84,7 @@ begins device greatest is = ap (λ n. record (opening device) { next_uid = n + 1
 -- what package rows open is completed
 pub opens_complete : (device : Device) (rows : Rows) (greatest : ℕ) (first : Opened) → greatest ≡ fold max 9999 (uids_of device.packages)
     → after_rows (state_of (record { device = device; next_uid = greatest + 1 })) rows.packages ≡ Ok (state_of first)
-    → (result : Result Opened OpenFault) → Opens result (opened_from greatest rows (state_of first)) → Opens result (opening_with device rows)
+    → (result : Result Opened BeginFault) → Opens result (opened_from greatest rows (state_of first)) → Opens result (opening_with device rows)
 unfolding opening_with
 opens_complete device rows greatest first is opens result gives =
     subst (Opens result)
@@ -94,7 +94,7 @@ opens_complete device rows greatest first is opens result gives =
     gives
 
 -- and what they refuse is refused
-pub opens_refuse : (device : Device) (rows : Rows) (greatest : ℕ) (fault : OpenFault) → greatest ≡ fold max 9999 (uids_of device.packages)
+pub opens_refuse : (device : Device) (rows : Rows) (greatest : ℕ) (fault : BeginFault) → greatest ≡ fold max 9999 (uids_of device.packages)
     → Refuses fault (after_rows (state_of (record { device = device; next_uid = greatest + 1 })) rows.packages) → Refuses fault (opening_with device rows)
 unfolding opening_with
 opens_refuse device rows greatest faults.NoMemory is refuses = tt

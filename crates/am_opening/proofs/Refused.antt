@@ -6,13 +6,13 @@ use Rattle.std.proofs.lemmas.List.Sums.{fold_more}
 use Rattle.am_keeper.specs.declared.rows.PackageRow.{PackageRow}
 use Rattle.am_history.specs.State.{State}
 use Rattle.am_history.specs.Opening.{after_row, after_rows, and_then_row}
-use Rattle.am_opening.specs.declared.opened.OpenFault.{OpenFault}
-use Rattle.am_opening.specs.declared.opened.OpenFault.TheVariants as faults
+use Rattle.am_opening.specs.declared.opened.BeginFault.{BeginFault}
+use Rattle.am_opening.specs.declared.opened.BeginFault.TheVariants as faults
 use Rattle.am_opening.specs.Openings.{Refuses}
 
 -- the row at a place is refused
 pub refused_at : (state before : State) (rows : List PackageRow) (i : ℕ) (row : PackageRow) → i < length rows → row ≡ get_or rows i row
-    → after_rows state (take i rows) ≡ Ok before → (fault : OpenFault) → Refuses fault (after_row before row) → Refuses fault (after_rows state rows)
+    → after_rows state (take i rows) ≡ Ok before → (fault : BeginFault) → Refuses fault (after_row before row) → Refuses fault (after_rows state rows)
 refused_at state before rows i row within is opens faults.NoMemory refuses = tt
 refused_at state before rows i row within is opens (faults.Rows name) refuses =
     sym (fold_stuck and_then_row (Err name) (λ r. refl) (Ok state) rows i row within

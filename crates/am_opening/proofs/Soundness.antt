@@ -19,7 +19,7 @@ use Rattle.am_laws.proofs.Openings.{opening_leaves}
 use Rattle.am_laws_state.specs.Sound.{IsSoundApp, IsSoundState}
 use Rattle.am_laws_state.proofs.SoundOpenings.{opening_is_sound}
 use Rattle.am_opening.specs.declared.opened.Opened.{Opened}
-use Rattle.am_opening.specs.declared.opened.OpenFault.{OpenFault}
+use Rattle.am_opening.specs.declared.opened.BeginFault.{BeginFault}
 use Rattle.am_opening.specs.Openings.{Opens, state_of}
 use Rattle.am_opening.proofs.Completing.{rights_are}
 
@@ -111,7 +111,7 @@ opened_is_sound device rows first sound fits is = record {
     keys = All-from_recursion HasKey first.device.packages (subst HaveKeys is (device_keys device rows sound))
 
 -- and so is what a function answers
-pub answered_is_sound : (device : Device) (rows : Rows) (result : Result Opened OpenFault) → IsSound device → Opens result (opening_with device rows)
+pub answered_is_sound : (device : Device) (rows : Rows) (result : Result Opened BeginFault) → IsSound device → Opens result (opening_with device rows)
     → IfOk result (λ first. first.next_uid ≤ no_uid) → IfOk result (λ first. IsSound first.device)
 answered_is_sound device rows (Ok first) sound opens fits = opened_is_sound device rows first sound fits opens
 answered_is_sound device rows (Err fault) sound opens fits = tt

@@ -12,20 +12,20 @@ use Rattle.am_history.specs.State.{State, opening}
 use Rattle.am_history.specs.Packages.{no_uid}
 use Rattle.am_history.specs.Opening.{row_uids, has_too_many, unless_too_many, with_rights}
 use Rattle.am_opening.specs.declared.opened.Opened.{Opened}
-use Rattle.am_opening.specs.declared.opened.OpenFault.{OpenFault}
-use Rattle.am_opening.specs.declared.opened.OpenFault.TheVariants as faults
+use Rattle.am_opening.specs.declared.opened.BeginFault.{BeginFault}
+use Rattle.am_opening.specs.declared.opened.BeginFault.TheVariants as faults
 
 -- the state of an opened device before the first call
 abbrev pub state_of : Opened → State
 state_of opened = record (opening opened.device) { next_uid = opened.next_uid }
 
 -- the fault names the row that is refused, unless memory ran out
-abbrev pub Refuses : OpenFault → Result State (List ℕ) → Type 0
+abbrev pub Refuses : BeginFault → Result State (List ℕ) → Type 0
 Refuses (faults.Rows name) state = state ≡ Err name
 Refuses faults.NoMemory state = Unit {0}
 
 -- what opened is the state, and what is refused is so too, unless memory ran out
-abbrev pub Opens : Result Opened OpenFault → Result State (List ℕ) → Type 0
+abbrev pub Opens : Result Opened BeginFault → Result State (List ℕ) → Type 0
 Opens (Ok opened) state = state ≡ Ok (state_of opened)
 Opens (Err fault) state = Refuses fault state
 

@@ -10,7 +10,7 @@ ghost use Rattle.am_history.specs.Packages.{no_uid};
 ghost use Rattle.am_opening.specs.Openings.{Opens, completed_from, grants_after, links_after, opened_from, state_of};
 
 use crate::merging::{grants_after, links_after};
-use crate::opened::{OpenFault, Opened};
+use crate::opened::{BeginFault, Opened};
 use crate::packages::refused;
 use crate::uids;
 use am_installed::{Right, take};
@@ -116,7 +116,7 @@ fn first_over(device: &Device) -> Option<&Package>
 }
 
 /// What is opened, unless some package has too many grants or links.
-fn unless_too_many(opened: Opened) -> Result<Opened, OpenFault>
+fn unless_too_many(opened: Opened) -> Result<Opened, BeginFault>
     ensures { Opens result (unless_too_many (state_of opened)
         (find (has_too_many (board_of opened.device)) opened.device.packages)) }
 {
@@ -137,7 +137,7 @@ pub(crate) fn opened_from(
     opened: Opened,
     greatest: u32,
     rows: &Rows,
-) -> Result<Opened, OpenFault>
+) -> Result<Opened, BeginFault>
     requires greatest { greatest < no_uid }
     requires grants { AreGrantsInOrder opened.device.grants }
     requires links { AreLinksInOrder opened.device.links }

@@ -10,5 +10,5 @@ mod rights;
 mod rows;
 mod uids;
 
-pub use opened::{OpenFault, Opened};
+pub use opened::{BeginFault, Opened};
 pub use opening::open;

@@ -14,7 +14,7 @@ pub struct Opened {
 
 /// Why a device isn't opened with its rows.
 #[derive(Drop)]
-pub enum OpenFault {
+pub enum BeginFault {
     /// The row of the package of this name is refused, or its package has more than 256 grants or
     /// more than 256 links.
     Rows(Text),
@@ -22,32 +22,32 @@ pub enum OpenFault {
     NoMemory,
 }
 
-impl From<AllocError> for OpenFault {
-    ghost use Rattle.am_opening.specs.declared.opened.OpenFault.TheVariants.{NoMemory};
+impl From<AllocError> for BeginFault {
+    ghost use Rattle.am_opening.specs.declared.opened.BeginFault.TheVariants.{NoMemory};
 
     ghost from_gives = { λ _ e. e ≡ NoMemory };
 
-    fn from(_error: AllocError) -> OpenFault {
-        OpenFault::NoMemory
+    fn from(_error: AllocError) -> BeginFault {
+        BeginFault::NoMemory
     }
 }
 
-impl From<NoMemory> for OpenFault {
-    ghost use Rattle.am_opening.specs.declared.opened.OpenFault.TheVariants.{NoMemory};
+impl From<NoMemory> for BeginFault {
+    ghost use Rattle.am_opening.specs.declared.opened.BeginFault.TheVariants.{NoMemory};
 
     ghost from_gives = { λ _ e. e ≡ NoMemory };
 
-    fn from(_error: NoMemory) -> OpenFault {
-        OpenFault::NoMemory
+    fn from(_error: NoMemory) -> BeginFault {
+        BeginFault::NoMemory
     }
 }
 
-impl<T: Drop> From<AllocFailed<T>> for OpenFault {
-    ghost use Rattle.am_opening.specs.declared.opened.OpenFault.TheVariants.{NoMemory};
+impl<T: Drop> From<AllocFailed<T>> for BeginFault {
+    ghost use Rattle.am_opening.specs.declared.opened.BeginFault.TheVariants.{NoMemory};
 
     ghost from_gives = { λ _ e. e ≡ NoMemory };
 
-    fn from(_error: AllocFailed<T>) -> OpenFault {
-        OpenFault::NoMemory
+    fn from(_error: AllocFailed<T>) -> BeginFault {
+        BeginFault::NoMemory
     }
 }

@@ -7,7 +7,7 @@ ghost use Rattle.am_history.specs.Packages.{no_uid};
 ghost use Rattle.am_opening.specs.Openings.{Opens};
 
 use crate::completed::opened_from;
-use crate::opened::{OpenFault, Opened};
+use crate::opened::{BeginFault, Opened};
 use crate::packages::after_rows;
 use crate::uids;
 use am_keeper::Rows;
@@ -15,7 +15,7 @@ use am_types::Device;
 use std::alloc::Global;
 
 /// What the device opens as.
-fn opened_with(alloc: Global, device: Device, rows: &Rows) -> Result<Opened, OpenFault>
+fn opened_with(alloc: Global, device: Device, rows: &Rows) -> Result<Opened, BeginFault>
     requires sound { IsSound device }
     requires order { IsInOrder rows.now }
     ensures opens { Opens result (opening_with device rows.now) }
@@ -41,12 +41,12 @@ fn opened_with(alloc: Global, device: Device, rows: &Rows) -> Result<Opened, Ope
 ///
 /// # Errors
 ///
-/// `OpenFault::Rows` names the first package row that is refused: one of the greatest uid, or one
+/// `BeginFault::Rows` names the first package row that is refused: one of the greatest uid, or one
 /// whose text is no manifest of its name, whose uid is below 10,000, whose key is none, whose uid,
 /// name or key is in use, or that would add the 257th package. If none is, it names the package of
-/// the least uid that has more than 256 grants or more than 256 links. `OpenFault::NoMemory` may come
+/// the least uid that has more than 256 grants or more than 256 links. `BeginFault::NoMemory` may come
 /// at any place.
-pub fn open(alloc: Global, device: Device, rows: &Rows) -> Result<Opened, OpenFault>
+pub fn open(alloc: Global, device: Device, rows: &Rows) -> Result<Opened, BeginFault>
     requires sound { IsSound device }
     requires order { IsInOrder rows.now }
     ensures opens { Opens result (opening_with device rows.now) }

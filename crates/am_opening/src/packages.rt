@@ -11,7 +11,7 @@ ghost use Rattle.am_history.specs.Opening.{after_row, after_rows, before_package
 ghost use Rattle.am_history.specs.Packages.{is_key_used, is_name_used, is_root_key, no_uid};
 ghost use Rattle.am_opening.specs.Openings.{Opens, Refuses, state_of};
 
-use crate::opened::{OpenFault, Opened};
+use crate::opened::{BeginFault, Opened};
 use crate::rights::drop_rights;
 use am_installed::take;
 use am_keeper::PackageRow;
@@ -126,12 +126,12 @@ fn is_row_good(opened: &Opened, row: &PackageRow, manifest: &Manifest) -> bool
 }
 
 /// The fault that names a row, unless memory runs out.
-pub(crate) fn refused(name: &Text) -> OpenFault
+pub(crate) fn refused(name: &Text) -> BeginFault
     ensures { Refuses result (Err name.now) }
 {
     match name.clone() {
-        Ok(name) => OpenFault::Rows(name),
-        Err(_) => OpenFault::NoMemory,
+        Ok(name) => BeginFault::Rows(name),
+        Err(_) => BeginFault::NoMemory,
     }
 }
 
@@ -173,7 +173,7 @@ fn with_manifest(
     opened: Opened,
     row: &PackageRow,
     manifest: Manifest,
-) -> Result<Opened, OpenFault>
+) -> Result<Opened, BeginFault>
     ensures { Opens result (with_read (state_of opened) row.now (Ok manifest)) }
 {
     if !is_row_good(&opened, row, &manifest) {
@@ -184,7 +184,7 @@ fn with_manifest(
 }
 
 /// Adds the package of a row whose manifest is yet to be read.
-fn with_text(alloc: Global, opened: Opened, row: &PackageRow) -> Result<Opened, OpenFault>
+fn with_text(alloc: Global, opened: Opened, row: &PackageRow) -> Result<Opened, BeginFault>
     ensures { Opens result (with_read (state_of opened) row.now (manifest_of row.now.text)) }
 {
     match read_package(alloc, &row.text) {
@@ -193,12 +193,12 @@ fn with_text(alloc: Global, opened: Opened, row: &PackageRow) -> Result<Opened, 
             drop(fault);
             Err(refused(&row.name))
         }
-        Err(Unmade::NoMemory) => Err(OpenFault::NoMemory),
+        Err(Unmade::NoMemory) => Err(BeginFault::NoMemory),
     }
 }
 
 /// What is opened after a package row.
-fn after_row(alloc: Global, opened: Opened, row: &PackageRow) -> Result<Opened, OpenFault>
+fn after_row(alloc: Global, opened: Opened, row: &PackageRow) -> Result<Opened, BeginFault>
     ensures opens { Opens result (after_row (state_of opened) row.now) }
     ensures given { IfOk result (λ _. row.now.uid < no_uid) }
 {
@@ -216,7 +216,7 @@ pub(crate) fn after_rows(
     alloc: Global,
     opened: Opened,
     rows: &[PackageRow],
-) -> Result<Opened, OpenFault>
+) -> Result<Opened, BeginFault>
     ensures opens { Opens result (after_rows (state_of opened) rows.now) }
     ensures given { IfOk result (λ _. All (λ (row : PackageRow). row.uid < no_uid) rows.now) }
 {

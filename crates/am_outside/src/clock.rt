@@ -14,8 +14,9 @@ pub trait Clock: Drop + Send {
         ensures moment { IsTold (moments self.old 0) result }
         ensures next { (calls : ℕ) → moments self.new calls ≡ moments self.old (suc calls) };
 
-    /// A clock for another worker.
-    fn another(&self) -> Self;
+    /// A clock for another worker. It will answer the same moments as this one from now on, where this one tells them.
+    fn another(&self) -> Self
+        ensures same { (calls : ℕ) → moments result calls ≡ moments self.now calls };
 }
 
 /// A clock that answers a first moment, then one a step later each time. It stays where the next

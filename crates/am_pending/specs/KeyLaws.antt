@@ -21,7 +21,7 @@ use Rattle.am_model.specs.Intents.{is_same_mime, is_same_uri, is_same_component,
 use Rattle.am_model.specs.Pendings.{is_same_truth}
 use Rattle.am_pending.specs.declared.key.Key.{Key}
 use Rattle.am_pending.specs.Keys.{is_same_key}
-use Rattle.am_pending.specs.Digests.{SameMembers, digest_on, one-listed, same_digest, same_members, same_text}
+use Rattle.am_pending.specs.Orders.{SameMembers, fed_in_order, one-listed, same_fed, same_members, same_text}
 
 kind-own : (x : Kind) → is_kind x x ≡ true
 kind-own Activity = refl
@@ -129,9 +129,9 @@ kind_fed Service = fed.isize (pos 1)
 kind_fed Receiver = fed.isize (pos 2)
 
 abbrev set_fed : List (List ℕ) → fed.HashWrites
-set_fed texts = fed.u64 (digest_on 0 texts)
+set_fed texts = fed_in_order 64 texts
 
--- what a hasher is fed of an intent: all that tells keys apart, the categories as a set
+-- what a hasher is fed of an intent: all that tells keys apart, of the categories the first 64 in their order, each once
 abbrev pub fed_by_intent : Intent → fed.HashWrites
 fed_by_intent intent =
     (((((fed.option fed.str intent.action
@@ -160,7 +160,7 @@ option_alike : {X : Type 0} {E : X → X → Bool} {F : X → fed.HashWrites} �
 option_alike {E = E} {F = F} alike = record { fed = option_fed E F alike.fed }
 
 set_alike : fed.Alike are_same_set set_fed
-set_alike = record { fed = λ x y h. ap fed.u64 (same_digest x y (same_members x y h)) }
+set_alike = record { fed = λ x y h. same_fed x y (same_members x y h) 64 }
 
 intent_alike : fed.Alike filter_equals fed_by_intent
 intent_alike =

@@ -1,6 +1,7 @@
 pub mod Answers
-pub mod Digests
 pub mod Keys
+pub mod Hashings
 pub mod KeyLaws
 pub mod Once
+pub mod Orders
 pub mod Records

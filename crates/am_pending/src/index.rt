@@ -3,15 +3,16 @@ ghost use Rattle.std.specs.Prelude.{◌≡◌, ℕ, ◌≤◌, ◌<◌, None, So
 ghost use Rattle.indexmap.specs.IndexMap.{spare};
 ghost use Rattle.am_pending.specs.Records.{AreUnsetOf, IsSetAt, count_at, forgotten, lowered, raised, token_at};
 
+use crate::hashing::Hashing;
 use crate::key::Key;
 use indexmap::IndexMap;
 use std::alloc::AllocError;
 
+/// The token of each key.
+pub type Tokens = IndexMap<Key, u64, Hashing>;
+
 /// Makes room for one more key and for one more creator.
-pub fn make_room(
-    tokens: &mut IndexMap<Key, u64>,
-    counts: &mut IndexMap<u32, u32>,
-) -> Result<(), AllocError>
+pub fn make_room(tokens: &mut Tokens, counts: &mut IndexMap<u32, u32>) -> Result<(), AllocError>
     ensures tokens { tokens.new.entries ≡ tokens.old.entries }
     ensures counts { counts.new.entries ≡ counts.old.entries }
     ensures room { OnOk result ((1 ≤ spare tokens.new) × (1 ≤ spare counts.new)) }
@@ -21,7 +22,7 @@ pub fn make_room(
 }
 
 /// Gives the key a token, where there is room for it.
-pub fn put_token(tokens: &mut IndexMap<Key, u64>, key: Key, token: u64)
+pub fn put_token(tokens: &mut Tokens, key: Key, token: u64)
     requires { 1 ≤ spare tokens.old }
     ensures { IsSetAt tokens.old.entries tokens.new.entries key (Some token) }
 {
@@ -32,7 +33,7 @@ pub fn put_token(tokens: &mut IndexMap<Key, u64>, key: Key, token: u64)
 }
 
 /// Gives the key, which has one, another token. Takes no memory.
-pub fn set_token(tokens: &mut IndexMap<Key, u64>, key: &Key, token: u64)
+pub fn set_token(tokens: &mut Tokens, key: &Key, token: u64)
     requires { token_at tokens.old.entries key.now ≡ None → ⊥ }
     ensures { IsSetAt tokens.old.entries tokens.new.entries key.now (Some token) }
 {
@@ -42,14 +43,14 @@ pub fn set_token(tokens: &mut IndexMap<Key, u64>, key: &Key, token: u64)
 }
 
 /// Takes the key's token away. Takes no memory.
-fn unset_token(tokens: &mut IndexMap<Key, u64>, key: &Key)
+fn unset_token(tokens: &mut Tokens, key: &Key)
     ensures { IsSetAt tokens.old.entries tokens.new.entries key.now None }
 {
     tokens.swap_remove(key);
 }
 
 /// Takes the token of a key away, whose record is gone, and counts one less for its creator. Takes no memory.
-pub fn unlist(tokens: &mut IndexMap<Key, u64>, counts: &mut IndexMap<u32, u32>, key: &Key)
+pub fn unlist(tokens: &mut Tokens, counts: &mut IndexMap<u32, u32>, key: &Key)
     ensures tokens { IsSetAt tokens.old.entries tokens.new.entries key.now None }
     ensures counts { (uid : ℕ) → count_at counts.new.entries uid ≡ lowered counts.old.entries key.now.creator uid }
 {
@@ -58,7 +59,7 @@ pub fn unlist(tokens: &mut IndexMap<Key, u64>, counts: &mut IndexMap<u32, u32>, 
 }
 
 /// Takes the tokens of a creator's keys away. Takes no memory.
-pub fn forget_tokens(tokens: &mut IndexMap<Key, u64>, uid: u32)
+pub fn forget_tokens(tokens: &mut Tokens, uid: u32)
     ensures { AreUnsetOf tokens.old.entries tokens.new.entries uid }
 {
     tokens.retain(|key, _| key.creator != uid);

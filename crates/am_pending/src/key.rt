@@ -1,19 +1,21 @@
 //! What tells one pending intent from another.
-ghost use Rattle.std.specs.Prelude.{◌≡◌, bit_xor, cond, fold, option_map};
+ghost use Rattle.std.specs.Prelude.{◌≡◌, fold, option_map};
 ghost use Rattle.std.specs.Option.{option_copied};
 ghost use Rattle.std.specs.Cmp.{partial_equiv_from_equiv};
 ghost use Rattle.am_types.specs.declared.uri.Uri.{Uri};
 ghost use Rattle.am_model.specs.Candidates.{is_kind};
 ghost use Rattle.am_model.specs.Pendings.{is_same_truth};
-ghost use Rattle.am_model.specs.Texts.{lists};
-ghost use Rattle.am_pending.specs.Digests.{digest, digest_on};
 ghost use Rattle.am_pending.specs.KeyLaws.{fed_by_intent};
 ghost use Rattle.am_pending.specs.Keys.{key_with};
+ghost use Rattle.am_pending.specs.Orders.{fed_in_order, is_behind, is_nearer, next_text};
 
 use am_filter::filter_equals;
 use am_types::{Intent, Kind, List, Named, PendingFlags, Text, Uri, copy_parts};
 use std::alloc::AllocError;
-use std::hash::{DefaultHasher, Hash, Hasher};
+use std::hash::{Hash, Hasher};
+
+/// As many categories of an intent as its hash depends on. What is read of a request has no more.
+const MOST_CATEGORIES: usize = 64;
 
 /// Who made a pending intent and what for: the key of its record. Extras and flags of the intent don't count.
 #[derive(Drop)]
@@ -49,43 +51,50 @@ fn uri_text(uri: &Option<Uri>) -> Option<&Text>
     }
 }
 
-/// The text is listed.
-fn lists(texts: &[Text], text: &Text) -> bool
-    ensures { result ≡ lists texts.now text.now }
+/// The text comes behind the last one, if there was one.
+fn is_behind(last: Option<&Text>, text: &Text) -> bool
+    ensures { result ≡ is_behind (option_copied last.entry) text.now }
 {
-    texts.iter().any(|listed| *listed == *text)
-}
-
-/// The hash of a text.
-#[tactic(auto, unfolding(crate::specs::Digests::digest))]
-fn digest(text: &Text) -> u64
-    ensures { result ≡ digest text.now }
-{
-    let mut hasher = DefaultHasher::new();
-    text.hash(&mut hasher);
-    hasher.finish()
-}
-
-/// The number, with the text's hash joined unless the text is listed behind it.
-fn joined(sum: u64, text: &Text, behind: &[Text]) -> u64
-    ensures { result ≡ cond (lists behind.now text.now) sum (bit_xor sum (digest text.now)) }
-{
-    if lists(behind, text) {
-        sum
-    } else {
-        sum ^ digest(text)
+    match last {
+        Some(last) => *last < *text,
+        None => true,
     }
 }
 
-/// The hashes of the texts, each text once, joined by "exclusive or": the same for the same set of texts in any order.
-fn digest_of_set(texts: &[Text]) -> u64
-    ensures { result ≡ digest_on 0 texts.now }
+/// The text comes before the one found, if one was found.
+fn is_nearer(found: Option<&Text>, text: &Text) -> bool
+    ensures { result ≡ is_nearer (option_copied found.entry) text.now }
 {
-    let mut sum = 0u64;
-    for place in 0..texts.len() {
-        sum = joined(sum, &texts[place], &texts[place + 1..]);
+    match found {
+        Some(found) => *text < *found,
+        None => true,
     }
-    sum
+}
+
+/// The first of the texts, by bytes, or the first behind the last one.
+fn next_text<'a>(last: Option<&Text>, texts: &'a [Text]) -> Option<&'a Text>
+    ensures { option_copied result ≡ next_text (option_copied last.entry) texts.now }
+{
+    let mut found = None;
+    for text in texts {
+        if is_nearer(found, text) && is_behind(last, text) {
+            found = Some(text);
+        }
+    }
+    found
+}
+
+/// Feeds the first texts of a set in their order, each once, and a mark where there are no more.
+#[tactic(auto, unfolding(crate::specs::Orders::fed_in_order, crate::specs::Orders::last_after))]
+fn hash_in_order<H: Hasher>(texts: &[Text], rounds: usize, state: &mut H)
+    ensures { state.new ≡ fold H.write state.old (fed_in_order rounds texts.now) }
+{
+    let mut last = None;
+    for _ in 0..rounds {
+        let next = next_text(last, texts);
+        next.hash(state);
+        last = next.or(last);
+    }
 }
 
 /// Feeds all of the intent that tells keys apart.
@@ -98,7 +107,7 @@ fn hash_intent<H: Hasher>(intent: &Intent, state: &mut H)
     intent.identifier.hash(state);
     intent.package.hash(state);
     intent.component.hash(state);
-    digest_of_set(intent.categories.as_slice()).hash(state);
+    hash_in_order(intent.categories.as_slice(), MOST_CATEGORIES, state);
 }
 
 impl Key {

@@ -5,7 +5,9 @@ ghost use Rattle.am_model.specs.Pendings.{cancel, count_of, forget_uid, get, giv
 ghost use Rattle.am_pending.specs.Answers.{IsAnswer, IsChange, IsUse};
 ghost use Rattle.am_pending.specs.Records.{kept_at, lent_by, made_for, renewed_for, token_in, with_fresh, without};
 
+use crate::hashing::Hashing;
 use crate::index;
+use crate::index::Tokens;
 use crate::key::Key;
 use crate::record::Record;
 use crate::records::Records;
@@ -13,6 +15,7 @@ use am_filter::fill_in;
 use am_types::{FillFault, Intent, Kind, PendingFault, PendingFlags, Steps, Used, drop_parts};
 use indexmap::IndexMap;
 use std::alloc::{AllocError, Global};
+use std::hash::RandomState;
 use std::marker::Model;
 use std::sync::ledger::Ledger;
 
@@ -28,7 +31,7 @@ const MOST_RECORDS: u32 = 1024;
 pub struct Pending {
     alloc: Global,
     records: Records,
-    tokens: IndexMap<Key, u64>,
+    tokens: Tokens,
     /// How many records each creator has.
     counts: IndexMap<u32, u32>,
     next: u64,
@@ -79,10 +82,18 @@ impl Pending {
     pub fn new(alloc: Global) -> Pending
         ensures { result ≡ no_pendings }
     {
+        Pending::keyed(alloc, None)
+    }
+
+    /// The same, where records are looked up by hashes under those keys, if some were drawn. Draw them where callers
+    /// aren't trusted: without them a caller can make keys of one hash, and a look-up compares with each of these.
+    pub fn keyed(alloc: Global, drawn: Option<RandomState>) -> Pending
+        ensures { result ≡ no_pendings }
+    {
         Pending {
             alloc,
             records: Records::new(alloc),
-            tokens: IndexMap::new(alloc),
+            tokens: IndexMap::with_hasher(alloc, Hashing::under(drawn)),
             counts: IndexMap::new(alloc),
             next: 1,
         }

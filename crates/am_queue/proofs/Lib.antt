@@ -2,5 +2,6 @@ pub mod Finishing
 pub mod Keeping
 pub mod Ordering
 pub mod Rising
-pub mod Sending
+pub mod SendLaws
+pub mod Soonest
 pub mod Soundness

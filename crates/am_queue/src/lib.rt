@@ -6,4 +6,5 @@ mod puts;
 mod queues;
 mod results;
 
+pub use am_types::{FinishFault, SendFault, Sending, Spot};
 pub use queues::{LAST_BROADCAST, LAST_MOMENT, Queues};

@@ -2,12 +2,13 @@
 ghost use Rattle.std.specs.Prelude.{◌≡◌, ℕ, ◌+◌, ◌≤◌, not, ◌==◌, ◌<◌, ◌≢◌, [], ◌∷◌, ◌++◌, false, filter, map, length, Ok, Err, IsOk, IsSome, IsTrue, ◌↔◌, IfSome, IfOk, IfErr, OnOk, OnErr};
 ghost use Rattle.std.specs.Option.{option_map};
 ghost use Rattle.am_model.specs.Broadcasts as broadcasts;
-ghost use Rattle.am_model.specs.Broadcasts.{no_broadcasts, queue_of, with_queue, settle, settle_both, is_head_due, expired_queue, normals_keeping, due, expired, span};
+ghost use Rattle.am_model.specs.Broadcasts.{no_broadcasts, queue_of, with_queue, settle, settle_both, is_head_due, expired_queue, normals_keeping, due, earliest_deadline, expired, span};
 ghost use Rattle.am_model.specs.Filters.{is_empty};
 ghost use Rattle.am_model.specs.Sending.{live, in_turn, with_normal, with_last, with_ordered, with_sent, send, held, answered_head, finish, forget, forget_uid, forget_registered, inbox, result_items, strike, unwanted};
 ghost use Rattle.am_queue_ordered.specs.Doings.{doing_of};
 ghost use Rattle.am_queue_ordered.specs.Struck.{strikes};
 ghost use Rattle.am_queue_ordered.specs.Heads.{head_turned};
+ghost use Rattle.am_queue.specs.Sooner.{sooner};
 ghost use Rattle.am_queue.specs.Taken.{fault_of, held_as, is_taken, refusal_of};
 ghost use Rattle.am_queue_normal.specs.Kept.{deliveries_in, is_early, is_other};
 
@@ -74,6 +75,17 @@ impl Model for Queues {
         (all_of q.normals.normal q.foreground q.background q.results.list q.next_broadcast q.next_delivery) };
 }
 
+/// The sooner of two moments, if there are any.
+fn sooner(one: Option<u64>, other: Option<u64>) -> Option<u64>
+    ensures { result ≡ sooner one other }
+{
+    match (one, other) {
+        (None, other) => other,
+        (one, None) => one,
+        (Some(one), Some(other)) => Some(one.min(other)),
+    }
+}
+
 impl Queues {
     /// No broadcast yet. Takes no memory.
     pub fn new(alloc: Global) -> Self
@@ -108,6 +120,17 @@ impl Queues {
         self.is_head_due(true, now, steps)
             || self.is_head_due(false, now, steps)
             || self.normals.is_due(now, steps)
+    }
+
+    /// The earliest deadline, if there is one. A step is a reading of a deadline. Takes no memory.
+    pub fn earliest_deadline<L: Ledger>(&self, steps: &mut Steps<L>) -> Option<u64>
+        ensures earliest { result ≡ earliest_deadline self.now }
+        ensures cost { steps.new ≤ steps.old + 3 }
+    {
+        let foreground = self.foreground.deadline(steps);
+        let background = self.background.deadline(steps);
+        let normal = self.normals.earliest_deadline(steps);
+        sooner(sooner(foreground, background), normal)
     }
 
     /// Why a broadcast of the sender to so many receivers isn't sent.

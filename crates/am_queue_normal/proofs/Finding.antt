@@ -11,7 +11,7 @@ use Rattle.std.specs.BTreeMap.Range.{range_contains}
 use Rattle.std.specs.declared.ops.Bound.TheVariants.{Included, Unbounded}
 use Rattle.am_types.specs.declared.broadcast.Item.{Item}
 use Rattle.am_queue_normal.specs.Pairs.{has, IsBare, IsLeast, IsNext, NoneFrom}
-use Rattle.am_queue_normal.specs.Posted.{AreInOrder, AreIndexed, Posted, has_deadline, is_between, is_late, is_to, item_of, passes, posted_at}
+use Rattle.am_queue_normal.specs.Posted.{AreInOrder, AreIndexed, IsSoonest, Posted, has_deadline, is_between, is_late, is_to, item_of, passes, posted_at}
 use Rattle.am_queue_normal.proofs.Keys.{is_same_as_itself, not_later, same_number}
 use Rattle.am_queue_normal.proofs.Ordered.{Entry, agree, all_so, any_fails, at_each, found_within, not_found, only, parted}
 
@@ -40,6 +40,13 @@ none_late_yet deadlines uids es now deadline number index least after n = by (po
     by (Some posted) is =
         later deadline posted.deadline now
         (not_later deadline number posted.deadline n (least.1 posted.deadline n (listed deadlines uids es index n posted is))) after
+
+-- a delivery has the soonest deadline, and none is late before it
+pub soonest_of : (deadlines uids : List (ℕ × ℕ)) (es : List Entry) (deadline number : ℕ) → AreIndexed deadlines uids es → IsLeast deadlines (deadline, number) → IsSoonest es deadline
+soonest_of deadlines uids es deadline number index least = (
+  (number, sym (index.deadlines deadline number) ∙ least.0),
+  λ now n after. none_late_yet deadlines uids es now deadline number index least after n,
+)
 
 -- each number is below those behind it
 abbrev pub Ascend : List Entry → Type 0

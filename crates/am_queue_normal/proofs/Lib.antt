@@ -4,3 +4,4 @@ pub mod Grouping
 pub mod Keys
 pub mod Ordered
 pub mod Removing
+pub mod Soonest

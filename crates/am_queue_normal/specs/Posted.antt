@@ -83,6 +83,16 @@ has_deadline deadline posted = posted.deadline == deadline
 abbrev pub is_late : ℕ → Posted → Bool
 is_late now posted = nat_le posted.deadline now
 
+-- no delivery is ever late
+abbrev pub NoneLate : List (ℕ × Posted) → Type 0
+NoneLate entries = (now number : ℕ) → passes_at (is_late now) entries number ≡ false
+
+-- a delivery is late from that moment on, and none is before it
+abbrev pub IsSoonest : List (ℕ × Posted) → ℕ → Type 0
+IsSoonest entries deadline =
+    ((number : ℕ) × (passes_at (has_deadline deadline) entries number ≡ true))
+    × ((now number : ℕ) → now < deadline → passes_at (is_late now) entries number ≡ false)
+
 -- the delivery is to that uid
 abbrev pub is_to : ℕ → Posted → Bool
 is_to uid posted = posted.spot.uid == uid

@@ -7,7 +7,7 @@ ghost use Rattle.std.specs.Ordering.{nat_cmp};
 ghost use Rattle.std.specs.BTreeMap.{insert_entry, is_at};
 ghost use Rattle.am_queue_ordered.specs.Struck.{strikes};
 ghost use Rattle.am_queue_normal.specs.Pairs.{IsNext, NoneFrom, has, is_same};
-ghost use Rattle.am_queue_normal.specs.Posted.{AreInOrder, is_between, is_late, is_struck, is_to, item_of, items_at, passes_at, posted_as, posted_at, posted_to, without};
+ghost use Rattle.am_queue_normal.specs.Posted.{AreInOrder, IsSoonest, NoneLate, is_between, is_late, is_struck, is_to, item_of, items_at, passes_at, posted_as, posted_at, posted_to, without};
 
 use crate::delivery::{Delivery, Sent};
 use crate::pairs::Pairs;
@@ -127,6 +127,21 @@ impl Deliveries {
             Some((deadline, number)) => {
                 steps.tick();
                 if deadline <= now { Some(number) } else { None }
+            }
+        }
+    }
+
+    /// The soonest deadline of a delivery. A step is a reading of that deadline, and there is no other. Takes no
+    /// memory.
+    pub(crate) fn soonest<L: Ledger>(&self, steps: &mut Steps<L>) -> Option<u64>
+        ensures soonest { MatchOption result (NoneLate self.now) (IsSoonest self.now) }
+        ensures cost { steps.new ≤ steps.old + 1 }
+    {
+        match self.by_deadline.first() {
+            None => None,
+            Some((deadline, _)) => {
+                steps.tick();
+                Some(deadline)
             }
         }
     }

@@ -1,7 +1,7 @@
 //! All normal broadcasts.
 ghost use Rattle.std.specs.Prelude.{◌≡◌, ℕ, ◌+◌, ◌^◌, ◌<◌, ◌≤◌, not, ◌==◌, false, if◌then◌else◌, [], ◌∷◌, ◌++◌, length, take, IfOk, IfSome, IsSome, MatchOption, OnOk, OnErr};
 ghost use Rattle.std.specs.Option.{option_map};
-ghost use Rattle.am_model.specs.Broadcasts.{normals_keeping, span};
+ghost use Rattle.am_model.specs.Broadcasts.{earliest, normal_deadlines, normals_keeping, span};
 ghost use Rattle.am_model.specs.Filters.{is_empty};
 ghost use Rattle.am_model.specs.Sending.{at_once, held_in_normals};
 ghost use Rattle.am_queue_ordered.specs.Counts.{Covers, Follows, count_of, one_for};
@@ -84,6 +84,14 @@ impl Normals {
         ensures cost { steps.new ≤ steps.old + 1 }
     {
         self.deliveries.first_late(now, steps).is_some()
+    }
+
+    /// The earliest deadline of a delivery, if there is one. A step is a reading of a deadline. Takes no memory.
+    pub fn earliest_deadline<L: Ledger>(&self, steps: &mut Steps<L>) -> Option<u64>
+        ensures earliest { result ≡ earliest (normal_deadlines self.now.normal) }
+        ensures cost { steps.new ≤ steps.old + 1 }
+    {
+        self.deliveries.soonest(steps)
     }
 
     /// Finishes the delivery of that number. Takes no memory.

@@ -1,4 +1,5 @@
 pub mod Counting
+pub mod Deadlines
 pub mod Outcomes
 pub mod Waiting
 pub mod Settling

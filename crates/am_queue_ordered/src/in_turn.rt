@@ -1,7 +1,7 @@
 //! One ordered broadcast.
 ghost use Rattle.std.specs.Prelude.{◌≡◌, ◌+◌, ◌≤◌, ◌<◌, [], ◌∷◌, IsSome, IfSome, IfOk, IsTrue, Some, true, vec_len, if◌then◌else◌, is_some, slice_get};
 ghost use Rattle.std.specs.Option.{option_to_list, option_map};
-ghost use Rattle.am_model.specs.Broadcasts.{outcome_of, outcome_after, is_over, is_late, result_of, turn};
+ghost use Rattle.am_model.specs.Broadcasts.{outcome_of, outcome_after, is_over, is_late, current_deadline, earliest, result_of, turn};
 ghost use Rattle.am_model.specs.Sending.{in_turn, is_current, held_by, strike, strike_rest, turn_items, unwanted};
 ghost use Rattle.am_queue_ordered.specs.Turns.{set_by_past, strikes_current, in_order};
 ghost use Rattle.am_queue_ordered.specs.Doings.{doing_of};
@@ -235,6 +235,17 @@ impl InTurn {
         match &self.current {
             None => false,
             Some(current) => current.is_late(now, steps),
+        }
+    }
+
+    /// The deadline of its delivery, if it has one. A step is a reading of it. Takes no memory.
+    pub fn deadline<L: Ledger>(&self, steps: &mut Steps<L>) -> Option<u64>
+        ensures deadline { result ≡ earliest (current_deadline self.now.current) }
+        ensures cost { steps.new ≤ steps.old + 1 }
+    {
+        match &self.current {
+            None => None,
+            Some(current) => Some(current.deadline(steps)),
         }
     }
 

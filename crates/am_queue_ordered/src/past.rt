@@ -152,6 +152,15 @@ impl Current {
         self.number
     }
 
+    /// The moment from which on it is late. A step is a reading of it, and there is no other. Takes no memory.
+    pub fn deadline<L: Ledger>(&self, steps: &mut Steps<L>) -> u64
+        ensures deadline { result ≡ self.now.deadline }
+        ensures cost { steps.new ≤ steps.old + 1 }
+    {
+        steps.tick();
+        self.deadline
+    }
+
     /// Whether it is late. A step is a reading of its deadline, and there is no other. Takes no memory.
     pub fn is_late<L: Ledger>(&self, now: u64, steps: &mut Steps<L>) -> bool
         ensures late { result ≡ is_late now (Some self.now) }

@@ -2,7 +2,7 @@
 ghost use Rattle.std.specs.Prelude.{◌≡◌, ℕ, ◌+◌, ◌^◌, ◌≤◌, ◌<◌, [], ◌∷◌, ◌++◌, true, false, is_none, length, map, vec_len, vec_capacity, IfOk, OnOk, OnErr, Option};
 ghost use Rattle.std.specs.Option.{option_to_list, option_map};
 ghost use Rattle.std.specs.List.{flat_map};
-ghost use Rattle.am_model.specs.Broadcasts.{settled, is_head_due};
+ghost use Rattle.am_model.specs.Broadcasts.{settled, is_head_due, head_deadline, earliest};
 ghost use Rattle.am_model.specs.Sending.{held_at_head, strike, turn_items, unwanted};
 ghost use Rattle.am_queue_ordered.specs.Turns.{in_order};
 ghost use Rattle.am_queue_ordered.specs.Doings.{doing_of};
@@ -71,6 +71,18 @@ impl Queue {
         match self.turns.front() {
             None => false,
             Some(head) => head.is_late(now, steps),
+        }
+    }
+
+    /// The deadline of the delivery that the head has, if there is one. A step is a reading of it. Takes no
+    /// memory.
+    pub fn deadline<L: Ledger>(&self, steps: &mut Steps<L>) -> Option<u64>
+        ensures deadline { result ≡ earliest (head_deadline self.now) }
+        ensures cost { steps.new ≤ steps.old + 1 }
+    {
+        match self.turns.front() {
+            None => None,
+            Some(head) => head.deadline(steps),
         }
     }
 

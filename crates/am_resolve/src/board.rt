@@ -13,7 +13,7 @@ ghost use Rattle.am_installed.specs.Places.{AreByNumber, place_registered};
 ghost use Rattle.am_index.specs.Groups.{group_size};
 
 use crate::narrow::narrowed;
-use crate::offered::receivers;
+use crate::receivers::receivers;
 use crate::top::choose;
 use am_index::FilterIndex;
 use am_installed::Installed;
@@ -134,7 +134,7 @@ impl Board {
     }
 
     /// An enabled component of a kind with the uid of its package, if there is one. Takes no memory.
-    pub fn declared(&self, kind: Kind, component: &Component) -> Option<(u32, &Decl)>
+    pub fn declared(&self, component: &Component, kind: Kind) -> Option<(u32, &Decl)>
         ensures { option_map (λ found. (found.0, found.1.now)) result ≡ declared self.now.packages kind component.now }
     {
         self.installed.declared(kind, component)

@@ -4,9 +4,9 @@
 mod board;
 mod names;
 mod narrow;
-mod offered;
 mod offers;
 mod order;
+mod receivers;
 mod skips;
 mod top;
 

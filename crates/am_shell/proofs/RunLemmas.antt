@@ -11,14 +11,14 @@ use Rattle.am_manifest.specs.Devices.{device_of}
 use Rattle.am_http.specs.declared.end.End.{End}
 use Rattle.am_http.specs.declared.end.End.TheVariants.{Input, Close, Refused, Cut, Limit, ReadFault, WriteFault}
 use Rattle.am_http.specs.Links.{SinkView}
-use Rattle.am_setback.specs.declared.setback.Setback.TheVariants as setbacks
-use Rattle.am_setback.specs.Devices.{Describes}
-use Rattle.am_setback.specs.Files.{IsMissing}
+use Rattle.am_console.specs.declared.setback.Setback.TheVariants as setbacks
+use Rattle.am_console.specs.Devices.{Describes}
+use Rattle.am_console.specs.Files.{IsMissing}
 use Rattle.am_shell.specs.declared.undone.Undone.{Undone}
 use Rattle.am_shell.specs.declared.undone.Undone.TheVariants as undone
 use Rattle.am_shell.specs.Devices.{IsRefused, IsUnread}
 use Rattle.am_shell.specs.Kept.{RefusesRows}
-use Rattle.am_setback.specs.Telling.{Tells}
+use Rattle.am_console.specs.Telling.{Tells}
 use Rattle.am_shell.specs.Lines.{end_status, session_line, session_status, status_of, want_line}
 use Rattle.am_words.specs.declared.command.SessionWords.{SessionWords}
 use Rattle.am_shell.specs.Sessions.{Happens, Worked, Works, Unattached, Unopened}

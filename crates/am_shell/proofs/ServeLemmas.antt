@@ -7,8 +7,8 @@ use Rattle.am_keeper.specs.declared.rows.Rows.{Rows}
 use Rattle.am_model.specs.Sound.{IsSound}
 use Rattle.am_history.specs.History.{replay}
 use Rattle.am_history.specs.Desks.{DeskView, Origin, opening_of}
-use Rattle.am_found.specs.Found.{OpensAs}
-use Rattle.am_found.specs.Laws.{KeptIsFound}
+use Rattle.am_laws_kept.specs.Found.{OpensAs}
+use Rattle.am_laws_kept.specs.Laws.{KeptIsFound}
 use Rattle.am_http.specs.declared.end.End.{End}
 use Rattle.am_http.specs.Links.{Streams, link_of}
 use Rattle.am_machine.specs.Managed as machine

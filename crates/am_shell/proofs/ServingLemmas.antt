@@ -1,23 +1,30 @@
 -- What a serving is, and how it is told.
-use Rattle.std.proofs.Common.{◌≡◌, ℕ, List, [], ◌++◌, length, Option, Some, None, Result, Ok, Err, IsTrue, refl, sym, ap, ◌∙◌, subst, arith, append_assoc, length-append}
+use Rattle.std.proofs.Common.{◌≡◌, ℕ, List, [], ◌++◌, length, Option, Some, None, Result, Ok, Err, IsTrue, refl, sym, ap, ◌∙◌, subst, inr, arith, append_assoc, length-append}
 use Rattle.std.specs.Prelude.{All}
 use Rattle.am_types.specs.declared.device.Device.{Device}
 use Rattle.am_types.specs.declared.history.Entry.{Entry}
 use Rattle.am_model.specs.Sound.{IsSound}
 use Rattle.std.specs.Io.KnownBytes.{Appends}
 use Rattle.am_outside.specs.declared.failure.Failed.{Failed}
+use Rattle.am_outside.specs.Memory.{one_more}
 use Rattle.am_network.specs.Links.{Listening, listening_at}
 use Rattle.am_history.specs.Desks.{Origin}
-use Rattle.am_found.specs.Laws.{KeptIsFound}
+use Rattle.am_laws_kept.specs.Laws.{KeptIsFound}
 use Rattle.am_machine.specs.Managed as machine
-use Rattle.am_workers.specs.Serving.{Ended, IsFormed, MayReleaseAll, NetworkView, ServesAll}
+use Rattle.am_workers.specs.Serving.{Ended, IsFormed, IsUnserved, MayReleaseAll, NetworkView, ServesAll}
 use Rattle.am_shell.specs.declared.serving.Done.{Done}
 use Rattle.am_words.specs.declared.command.ServingWords.{ServingWords}
+use Rattle.am_http.specs.Links.{Moments}
 use Rattle.am_http.specs.Sending.{Sends, WritesPart}
 use Rattle.am_http.proofs.SendLemmas.{appends_trans, part_more}
+use Rattle.am_shell.specs.Clocks.{serving_moments}
 use Rattle.am_shell.specs.Kept.{IsOrigin, IsUnchanged, Leaves}
 use Rattle.am_shell.specs.Outside.{StoreView}
-use Rattle.am_shell.specs.Servings.{IsLeft, Site, Works, listened}
+use Rattle.am_console.specs.declared.setback.Setback.TheVariants as setbacks
+use Rattle.am_shell.specs.declared.undone.Undone.TheVariants as undone
+use Rattle.am_shell.specs.Servings.{IsLeft, ServesOr, Site, Works, listened, unheard}
+use Rattle.am_shell.specs.declared.undone.Undone.{Undone}
+use Rattle.am_workers.proofs.ServingLemmas.{serves_timed}
 use Rattle.am_shell.proofs.ServeLemmas.{found}
 use Rattle.am_shell.proofs.StoreLemmas.{leaves_asked}
 
@@ -31,31 +38,57 @@ may_release (Some before) now port gates count is all =
     subst P (sym is) (omega (arith, all))
 
 -- the network as it listened
-listened_so : (before mid after : NetworkView) (port gates : ℕ) → mid.listening ≡ listening_at before.listening port gates → mid.gate_faults ≡ before.gate_faults
-    → after.faults ≡ mid.faults → mid ≡ listened before port gates after.faults
-listened_so before mid after port gates told gate_faults faults =
-    ap (λ l. record { listening = l; faults = mid.faults; gate_faults = mid.gate_faults }) told
-    ∙ ap (λ n. record { listening = listening_at before.listening port gates; faults = n; gate_faults = mid.gate_faults }) (sym faults)
-    ∙ ap (λ n. record { listening = listening_at before.listening port gates; faults = after.faults; gate_faults = n }) gate_faults
+pub listened_so : (before mid after : NetworkView) (port gates : ℕ) → mid.listening ≡ listening_at before.listening port gates → mid.listens ≡ one_more before.listens
+    → mid.gate_faults ≡ before.gate_faults → after.faults ≡ mid.faults → mid ≡ listened before port gates after.faults
+listened_so before mid after port gates told listens gate_faults faults =
+    ap (λ l. record { listening = l; listens = mid.listens; faults = mid.faults; gate_faults = mid.gate_faults }) told
+    ∙ ap (λ n. record { listening = listening_at before.listening port gates; listens = n; faults = mid.faults; gate_faults = mid.gate_faults }) listens
+    ∙ ap (λ n. record { listening = listening_at before.listening port gates; listens = one_more before.listens; faults = n; gate_faults = mid.gate_faults }) (sym faults)
+    ∙ ap (λ n. record { listening = listening_at before.listening port gates; listens = one_more before.listens; faults = after.faults; gate_faults = n }) gate_faults
+
+-- and as it didn't
+pub unheard_so : (before after : NetworkView) → after.listening ≡ before.listening → after.listens ≡ one_more before.listens → after.gate_faults ≡ before.gate_faults
+    → after ≡ unheard before after.faults
+unheard_so before after told listens gate_faults =
+    ap (λ l. record { listening = l; listens = after.listens; faults = after.faults; gate_faults = after.gate_faults }) told
+    ∙ ap (λ n. record { listening = before.listening; listens = n; faults = after.faults; gate_faults = after.gate_faults }) listens
+    ∙ ap (λ n. record { listening = before.listening; listens = one_more before.listens; faults = after.faults; gate_faults = n }) gate_faults
+
+-- memory ran out once the network had listened
+pub lacks_workers : (asked : ServingWords) (device : Device) (before after : Site) (mid : NetworkView) (count : ℕ) (why : Undone) → why ≡ undone.Setback setbacks.NoMemory
+    → count ≡ asked.workers → IsUnchanged before.store after.store
+    → mid.listening ≡ listening_at before.network.listening asked.port asked.workers → mid.listens ≡ one_more before.network.listens
+    → mid.gate_faults ≡ before.network.gate_faults → IsUnserved count mid after.network → ServesOr (Err why) asked device before after
+lacks_workers asked device before after mid count why is many same told listens gate_faults unserved =
+    let there = listened_so before.network mid after.network asked.port asked.workers told listens gate_faults unserved.faults in
+    inr (inr (record {
+      is = is;
+      network = subst (λ (n : NetworkView). IsUnserved asked.workers n after.network) there (subst (λ (n : ℕ). IsUnserved n mid after.network) many unserved);
+      store = same;
+    }))
 
 -- a serving that ended
 pub works_serving : {K : Type 0} (asked : ServingWords) (device : Device) (before after : Site) (now : StoreView) (mid : NetworkView) (done : Done) (place : Option (List ℕ))
-    (count : ℕ) (manager out : machine.Managed K) → KeptIsFound → IsSound device → place ≡ asked.store → count ≡ asked.workers
+    (count : ℕ) (clock : Moments) (manager out : machine.Managed K) → KeptIsFound → IsSound device → place ≡ asked.store → count ≡ asked.workers
     → IsOrigin manager.origin device place before.store → manager.history ≡ [] → IsUnchanged before.store now
-    → mid.listening ≡ listening_at before.network.listening asked.port asked.workers → mid.gate_faults ≡ before.network.gate_faults
-    → ServesAll asked.connections count (record { origin = manager.origin; history = manager.history }) (record { history = out.history; totals = done.totals }) mid after.network
+    → mid.listening ≡ listening_at before.network.listening asked.port asked.workers → mid.listens ≡ one_more before.network.listens
+    → mid.gate_faults ≡ before.network.gate_faults → ((calls : ℕ) → clock calls ≡ serving_moments asked.at before.clock calls)
+    → ServesAll asked.connections count (record { origin = manager.origin; history = manager.history; clock = clock }) (record { history = out.history; totals = done.totals }) mid after.network
     → out.origin ≡ manager.origin → Leaves out.origin out.origin.place out.history now after.store → done.history ≡ length out.history → Works asked device before after done
-works_serving {K} asked device before after now mid done place count manager out law sound asks many begun fresh same told gate_faults served one left counted =
+works_serving {K} asked device before after now mid done place count clock manager out law sound asks many begun fresh same told listens gate_faults timed served one left counted =
     let begins : IsOrigin manager.origin device asked.store before.store =
     subst (λ (p : Option (List ℕ)). IsOrigin manager.origin device p before.store) asks begun in
     let ended : Ended = record { history = out.history; totals = done.totals } in
-    let whole : ServesAll asked.connections asked.workers (record { origin = manager.origin; history = [] }) ended mid after.network =
-    subst (λ (n : ℕ). ServesAll asked.connections n (record { origin = manager.origin; history = [] }) ended mid after.network) many
-    (subst (λ (h : List Entry). ServesAll asked.connections count (record { origin = manager.origin; history = h }) ended mid after.network) fresh served) in
-    let there : ServesAll asked.connections asked.workers (record { origin = manager.origin; history = [] }) ended
+    let moments = serving_moments asked.at before.clock in
+    let by : ServesAll asked.connections count (record { origin = manager.origin; history = manager.history; clock = moments }) ended mid after.network =
+    serves_timed asked.connections count (record { origin = manager.origin; history = manager.history; clock = clock }) moments ended mid after.network timed served in
+    let whole : ServesAll asked.connections asked.workers (record { origin = manager.origin; history = []; clock = moments }) ended mid after.network =
+    subst (λ (n : ℕ). ServesAll asked.connections n (record { origin = manager.origin; history = []; clock = moments }) ended mid after.network) many
+    (subst (λ (h : List Entry). ServesAll asked.connections count (record { origin = manager.origin; history = h; clock = moments }) ended mid after.network) fresh by) in
+    let there : ServesAll asked.connections asked.workers (record { origin = manager.origin; history = []; clock = moments }) ended
     (listened before.network asked.port asked.workers after.network.faults) after.network =
-    subst (λ (n : NetworkView). ServesAll asked.connections asked.workers (record { origin = manager.origin; history = [] }) ended n after.network)
-    (listened_so before.network mid after.network asked.port asked.workers told gate_faults whole.faults) whole in
+    subst (λ (n : NetworkView). ServesAll asked.connections asked.workers (record { origin = manager.origin; history = []; clock = moments }) ended n after.network)
+    (listened_so before.network mid after.network asked.port asked.workers told listens gate_faults whole.faults) whole in
     let kept : Leaves manager.origin asked.store out.history before.store after.store =
     leaves_asked manager.origin asked.store out.history before.store now after.store same begins.at_place
     (subst (λ (o : Origin). Leaves o o.place out.history now after.store) one left) in

@@ -7,7 +7,7 @@ use Rattle.am_types.specs.declared.history.Entry.{Entry}
 use Rattle.am_keeper.specs.declared.rows.Rows.{Rows}
 use Rattle.am_keeper.specs.Keeping.{same_text, raised_by, rows_after as rows_back}
 use Rattle.am_history.specs.Desks.{Origin, opening_of}
-use Rattle.am_found.specs.Found.{rows_after}
+use Rattle.am_laws_kept.specs.Found.{rows_after}
 use Rattle.am_machine.specs.Managed.{is_unkept}
 use Rattle.am_shell.specs.Kept.{IsUnchanged, Leaves}
 use Rattle.am_shell.specs.Outside.{StoreView}

@@ -1,11 +1,14 @@
--- The clock of a session.
-use Rattle.std.specs.Prelude.{◌≡◌, Option, Some, None}
+-- The clocks of a session and of a serving.
+use Rattle.std.specs.Prelude.{◌≡◌, ℕ, Option, Some, None}
 use Rattle.am_outside.specs.Clock.{moment_at}
+use Rattle.am_outside.specs.declared.clock.Clock.{Ghosts as ClockGhosts}
 use Rattle.am_http.specs.declared.end.End.{End}
 use Rattle.am_http.specs.declared.end.Served.{Served}
 use Rattle.am_http.specs.Links.{Link, IsSameLink, Moments}
 use Rattle.am_http.specs.Sessions.{Session, HasFault}
 use Rattle.am_words.specs.declared.command.StepWords.{StepWords}
+use Rattle.am_shell.specs.declared.clocks.ServingClock.{ServingClock}
+use Rattle.am_shell.specs.declared.clocks.ServingClock.TheVariants.{Handed, Standing}
 
 -- the moments of a session: those of its own clock, if the words ask for one, else those of the clock that is handed in
 abbrev pub moments_for : Option StepWords → Moments → Moments
@@ -38,3 +41,14 @@ pub record ServesOn (asked : Option StepWords) (end : End) (old new : Link) : Ty
   pub told : Moments
   pub went : Connects (timed asked old) (with_clock new told) served end
   pub clock : new.server.clock ≡ left_of asked old.server.clock told
+
+-- the moments of each worker of a serving: that of the words at every call, if they say one, else those of the clock that
+-- is handed in
+abbrev pub serving_moments : Option ℕ → Moments → Moments
+serving_moments None handed = handed
+serving_moments (Some moment) handed = λ calls. Some moment
+
+-- the moments that the clock of a serving tells
+abbrev pub told_by : {C : Type 0} → ClockGhosts C → ServingClock C → Moments
+told_by g (Handed clock) = g.moments clock
+told_by g (Standing moment) = λ calls. Some moment

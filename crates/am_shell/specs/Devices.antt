@@ -3,10 +3,10 @@ use Rattle.std.specs.Prelude.{◌≡◌, ℕ, codes, ◌⊎◌, List, Option, Re
 use Rattle.am_outside.specs.Counts.{HasRisen}
 use Rattle.am_outside.specs.declared.files.FileBytes.{FileBytes}
 use Rattle.am_types.specs.declared.manifest.ManifestFault.{ManifestFault}
-use Rattle.am_setback.specs.declared.setback.Setback.{Setback}
-use Rattle.am_setback.specs.declared.setback.Setback.TheVariants.{DeviceRefused, FileFault, NoMemory}
-use Rattle.am_setback.specs.Devices.{Reading, ReadsAs, refusal_line}
-use Rattle.am_setback.specs.Files.{IsMissing, Shelf}
+use Rattle.am_console.specs.declared.setback.Setback.{Setback}
+use Rattle.am_console.specs.declared.setback.Setback.TheVariants.{DeviceRefused, FileFault, NoMemory}
+use Rattle.am_console.specs.Devices.{Reading, ReadsAs, refusal_line}
+use Rattle.am_console.specs.Files.{IsMissing, Shelf}
 
 -- the file of that name wasn't read: the count of faults rose, or no file has that name
 abbrev pub IsUnread : List ℕ → Shelf → Shelf → Type 0

@@ -3,7 +3,7 @@ use Rattle.std.specs.Prelude.{ℕ, ◌⊎◌}
 use Rattle.am_drill.specs.Drills.{drilled}
 use Rattle.am_drill.specs.Tallies.{printed}
 use Rattle.am_words.specs.declared.command.DrillWords.{DrillWords}
-use Rattle.am_setback.specs.Telling.{OnlyTold, Prints, Voices}
+use Rattle.am_console.specs.Telling.{OnlyTold, Prints, Voices}
 use Rattle.am_shell.specs.Lines.{want_line, write_line}
 
 -- a run of a drill that is asked for: what is counted of the generated requests on the generated device is printed, or

@@ -10,9 +10,9 @@ use Rattle.am_keeper.specs.Rows.{IsInOrder, no_rows}
 use Rattle.am_keeper.specs.Keeping.{raised_by}
 use Rattle.am_history.specs.Opening.{opening_with}
 use Rattle.am_history.specs.Desks.{Origin, opening_of}
-use Rattle.am_found.specs.Found.{rows_after}
+use Rattle.am_laws_kept.specs.Found.{rows_after}
 use Rattle.am_machine.specs.Managed.{is_unkept}
-use Rattle.am_setback.specs.declared.setback.Setback.TheVariants as setbacks
+use Rattle.am_console.specs.declared.setback.Setback.TheVariants as setbacks
 use Rattle.am_shell.specs.declared.undone.Undone.{Undone}
 use Rattle.am_shell.specs.declared.undone.Undone.TheVariants as undone
 use Rattle.am_shell.specs.Lines.{rows_line}

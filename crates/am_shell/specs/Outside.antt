@@ -7,7 +7,7 @@ use Rattle.am_outside.specs.declared.files.Files.{Ghosts as FilesGhosts}
 use Rattle.am_outside.specs.declared.outside.Sink.{Ghosts as SinkGhosts}
 use Rattle.am_outside.specs.declared.outside.Source.{Ghosts as SourceGhosts}
 use Rattle.am_http.specs.Links.{SinkView, Streams, streams_of}
-use Rattle.am_setback.specs.Files.{Shelf, shelf_of}
+use Rattle.am_console.specs.Files.{Shelf, shelf_of}
 
 -- a store of kept rows: whether it tells its rows, those at each place, and its counts of failed attaches and of the
 -- faults of its keepers

@@ -7,18 +7,19 @@ use Rattle.am_outside.specs.declared.outside.Source.{Ghosts as SourceGhosts}
 use Rattle.am_model.specs.Boards.{caller_of}
 use Rattle.am_wire_fields.specs.declared.fault.WireFault.{WireFault}
 use Rattle.am_wire_fields.specs.Printing.{printed}
-use Rattle.am_queries.specs.declared.device.Described.{Described}
-use Rattle.am_queries.specs.Queries.{described}
+use Rattle.am_manifest_queries.specs.declared.device.Described.{Described}
+use Rattle.am_manifest_queries.specs.Queries.{described}
 use Rattle.am_visible.specs.Answers.{answer_to}
 use Rattle.am_http.specs.Links.{SourceView, source_of}
-use Rattle.am_setback.specs.declared.setback.Setback.TheVariants as setbacks
-use Rattle.am_setback.specs.Devices.{ReadsAs}
-use Rattle.am_setback.specs.Files.{Shelf, shelf_of}
+use Rattle.am_http.specs.Sessions.{GivesAtMost}
+use Rattle.am_console.specs.declared.setback.Setback.TheVariants as setbacks
+use Rattle.am_console.specs.Devices.{ReadsAs}
+use Rattle.am_console.specs.Files.{Shelf, shelf_of}
 use Rattle.am_words.specs.declared.command.QuestionWords.{QuestionWords}
 use Rattle.am_shell.specs.declared.undone.Undone.{Undone}
 use Rattle.am_shell.specs.declared.undone.Undone.TheVariants as undone
 use Rattle.am_shell.specs.Devices.{FailsToOpen}
-use Rattle.am_setback.specs.Telling.{OnlyTold, Prints, Voices}
+use Rattle.am_console.specs.Telling.{OnlyTold, Prints, Voices}
 use Rattle.am_shell.specs.Lines.{line_of, status_of, write_line}
 
 -- what a question is answered from: the files, and the input
@@ -53,11 +54,12 @@ pub record ReadsMore (before after : SourceView) (old new : List ℕ) (count : �
   pub within : length new ≤ most_read
   pub end : count ≡ 0 → IsAtEnd after.left
 
--- why the input wasn't read: it failed, or memory ran out
-abbrev pub FailsToRead : Undone → SourceView → SourceView → Type 0
-FailsToRead undone.InputFault before after = HasRisen before.faults after.faults
-FailsToRead (undone.Setback setbacks.NoMemory) before after = ⊤
-FailsToRead _ before after = ⊥
+-- why the input wasn't read: it failed, or memory ran out. At most so many bytes of it were taken
+abbrev pub FailsToRead : Undone → ℕ → SourceView → SourceView → Type 0
+FailsToRead undone.InputFault most before after =
+    HasRisen before.faults after.faults × GivesAtMost most before.left after.left
+FailsToRead (undone.Setback setbacks.NoMemory) most before after = GivesAtMost most before.left after.left
+FailsToRead _ most before after = ⊥
 
 -- the device file describes a device with its queries, in which the package that asks is that caller
 pub record IsAsked (asked : QuestionWords) (files : Shelf) (known : Described) (caller : ℕ) : Type 0 where
@@ -83,22 +85,24 @@ pub record Replies (asked : QuestionWords) (before after : Desk) (reply : Result
   pub input : IsRead before.input after.input bytes
   pub answers : answer_to known caller bytes ≡ reply
 
--- the input failed, for a caller that the device has
-pub record InputFails (asked : QuestionWords) (before after : Desk) : Type 0 where
+-- the input was read, as far as it is read at most, for a caller that the device has
+pub record IsBegun (asked : QuestionWords) (before after : Desk) : Type 0 where
   pub known : Described
   pub caller : ℕ
   pub asks : IsAsked asked before.files known caller
-  pub risen : HasRisen before.input.faults after.input.faults
+  pub taken : GivesAtMost most_read before.input.left after.input.left
 
--- why a question isn't answered: the device file, the name, the input, or what was asked; else memory ran out
+-- why a question isn't answered: the device file, the name, the input, or what was asked; or memory ran out. The input
+-- is as it was before, unless the device has the caller
 abbrev pub FailsToAnswer : Undone → QuestionWords → Desk → Desk → Type 0
 FailsToAnswer (undone.Setback setback) asked before after =
-    (setback ≡ setbacks.NoMemory)
-    ⊎ (FailsToOpen setback described asked.device before.files after.files × (after.input ≡ before.input))
+    (FailsToOpen setback described asked.device before.files after.files × (after.input ≡ before.input))
+    ⊎ ((setback ≡ setbacks.NoMemory) × IsBegun asked before after)
 FailsToAnswer undone.NoPackage asked before after =
     ((known : Described) × ReadsAs described before.files.files asked.device (Ok known)
     × (caller_of known.device.packages asked.«package» ≡ None)) × (after.input ≡ before.input)
-FailsToAnswer undone.InputFault asked before after = InputFails asked before after
+FailsToAnswer undone.InputFault asked before after =
+    IsBegun asked before after × HasRisen before.input.faults after.input.faults
 FailsToAnswer (undone.QueryRefused line) asked before after =
     (fault : WireFault) × Replies asked before after (Err fault) × (line ≡ query_line fault)
 FailsToAnswer _ asked before after = ⊥

@@ -19,13 +19,13 @@ use Rattle.am_words.specs.Grammar.{read_command}
 use Rattle.am_workers.specs.Serving.{NetworkView, network_of}
 use Rattle.am_words.specs.declared.command.Command.{Command}
 use Rattle.am_words.specs.declared.command.Command.TheVariants.{Session, Serve, Drill, Visible}
-use Rattle.am_setback.specs.Files.{Shelf, shelf_of}
+use Rattle.am_console.specs.Files.{Shelf, shelf_of}
 use Rattle.am_words.specs.declared.command.SessionWords.{SessionWords}
 use Rattle.am_shell.specs.declared.undone.Undone.{Undone}
 use Rattle.am_shell.specs.Devices.{IsRefused, IsUnread}
 use Rattle.am_shell.specs.Drillings.{RunsDrill}
 use Rattle.am_shell.specs.Kept.{RefusesRows}
-use Rattle.am_setback.specs.Telling.{Tells, Voices}
+use Rattle.am_console.specs.Telling.{Tells, Voices}
 use Rattle.am_shell.specs.Lines.{session_line, session_status, usage_line, want_line}
 use Rattle.am_shell.specs.Sessions.{Happens, Worked, Works, Unattached, Unopened}
 use Rattle.am_shell.specs.Outside.{StoreView, Surroundings, store_of}
@@ -128,7 +128,7 @@ abbrev pub for_serving : World → Premises
 for_serving w = record {
   grounds = record {
     files = w.files;
-    site = record { store = w.store; network = w.network };
+    site = record { store = w.store; network = w.network; clock = w.clock };
   };
   voices = for_drill w;
 }

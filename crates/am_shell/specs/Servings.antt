@@ -1,68 +1,83 @@
 -- A serving that words ask for: a device that many workers serve over a network.
-use Rattle.std.specs.Prelude.{◌≡◌, ℕ, ◌⊎◌, codes, decimal, List, [], ◌++◌, length, Some, Result, Ok, Err, Bool, IsTrue, true, false}
+use Rattle.std.specs.Prelude.{◌≡◌, ℕ, ◌⊎◌, codes, decimal, List, [], ◌++◌, length, Some, Result, Ok, Err, Bool, IsTrue, true, false, ⊤}
 use Rattle.am_types.specs.declared.device.Device.{Device}
 use Rattle.am_outside.specs.Counts.{HasRisen}
+use Rattle.am_outside.specs.Memory.{one_more}
+use Rattle.am_outside.specs.declared.clock.Clock.{Ghosts as ClockGhosts}
 use Rattle.am_outside.specs.declared.files.Files.{Ghosts as FilesGhosts}
 use Rattle.am_network.specs.declared.network.Network.{Ghosts as NetworkGhosts}
 use Rattle.am_network.specs.Links.{listening_at}
 use Rattle.am_keeper.specs.declared.keeper.Store.{Ghosts as StoreGhosts}
 use Rattle.am_history.specs.Desks.{Origin, opening_of}
 use Rattle.am_history.specs.History.{replay}
-use Rattle.am_found.specs.Found.{OpensAs}
+use Rattle.am_laws_kept.specs.Found.{OpensAs}
 use Rattle.am_manifest.specs.Devices.{device_of}
-use Rattle.am_workers.specs.Serving.{Ended, NetworkView, ServesAll, network_of}
+use Rattle.am_http.specs.Links.{Moments}
+use Rattle.am_workers.specs.Serving.{Ended, IsUnserved, NetworkView, ServesAll, network_of}
 use Rattle.am_shell.specs.declared.serving.Done.{Done}
 use Rattle.am_words.specs.declared.command.ServingWords.{ServingWords}
-use Rattle.am_setback.specs.declared.setback.Setback.{Setback}
-use Rattle.am_setback.specs.declared.setback.Setback.TheVariants as setbacks
-use Rattle.am_setback.specs.Devices.{Describes}
-use Rattle.am_setback.specs.Files.{Shelf, shelf_of}
+use Rattle.am_console.specs.declared.setback.Setback.{Setback}
+use Rattle.am_console.specs.declared.setback.Setback.TheVariants as setbacks
+use Rattle.am_console.specs.Devices.{Describes}
+use Rattle.am_console.specs.Files.{Shelf, shelf_of}
 use Rattle.am_shell.specs.declared.undone.Undone.{Undone}
 use Rattle.am_shell.specs.declared.undone.Undone.TheVariants as undone
 use Rattle.am_shell.specs.Devices.{FailsToOpen}
 use Rattle.am_shell.specs.Kept.{FailsToOpenRows, IsOrigin, IsUnchanged, Leaves}
-use Rattle.am_setback.specs.Telling.{OnlyTold, Prints, Voices}
+use Rattle.am_console.specs.Telling.{OnlyTold, Prints, Voices}
 use Rattle.am_shell.specs.Lines.{line_of, network_line, status_of, write_line}
+use Rattle.am_shell.specs.Clocks.{serving_moments}
 use Rattle.am_shell.specs.Outside.{StoreView, store_of}
 
--- what a serving works on: the store of the kept rows, and the network
+-- what a serving works on: the store of the kept rows, the network, and the moments that the clock will answer, if it
+-- tells them
 pub record Site : Type 0 where
   pub store : StoreView
   pub network : NetworkView
+  pub clock : Moments
 
-abbrev pub site_of : {T K N G R W : Type 0} → StoreGhosts T K → NetworkGhosts N G R W → T → N → Site
-site_of t n store network = record { store = store_of t store; network = network_of n network }
+abbrev pub site_of : {T K N G R W C : Type 0} → StoreGhosts T K → NetworkGhosts N G R W → ClockGhosts C → T → N → C → Site
+site_of t n c store network clock =
+    record { store = store_of t store; network = network_of n network; clock = c.moments clock }
 
 -- what it is opened from, and works on
 pub record Grounds : Type 0 where
   pub files : Shelf
   pub site : Site
 
-abbrev pub grounds_of : {F T K N G R W : Type 0} → FilesGhosts F → StoreGhosts T K → NetworkGhosts N G R W
-    → F → T → N → Grounds
-grounds_of f t n files store network = record { files = shelf_of f files; site = site_of t n store network }
+abbrev pub grounds_of : {F T K N G R W C : Type 0} → FilesGhosts F → StoreGhosts T K → NetworkGhosts N G R W
+    → ClockGhosts C → F → T → N → C → Grounds
+grounds_of f t n c files store network clock =
+    record { files = shelf_of f files; site = site_of t n c store network clock }
 
 -- the outside of a whole serving: that, and what it is told on
 pub record Premises : Type 0 where
   pub grounds : Grounds
   pub voices : Voices
 
--- the network once it answered that many gates at a port, with that count of faults
+-- the network once it was asked, one time more, and answered that many gates at a port, with that count of faults
 abbrev pub listened : NetworkView → ℕ → ℕ → ℕ → NetworkView
 listened network port gates faults = record {
   listening = listening_at network.listening port gates;
+  listens = one_more network.listens;
   faults = faults;
   gate_faults = network.gate_faults;
 }
 
+-- the network once it was asked, one time more, and answered no gates
+abbrev pub unheard : NetworkView → ℕ → NetworkView
+unheard network faults = record network { listens = one_more network.listens; faults = faults }
+
 -- the serving that is asked for, of that device: it begins with the rows that were kept, and an empty history; its
--- workers serve it over the network, which listened as was asked for; and it leaves the rows that its history has kept.
--- With these the device opens as the serving left it. What is told of it are the history's length and what the workers did
+-- workers serve it over the network, which listened once and as was asked for, at the moment of the words or those of the
+-- clock; and it leaves the rows that its history has kept. With these the device opens as the serving left it. What is
+-- told of it are the history's length and what the workers did
 pub record Works (asked : ServingWords) (device : Device) (before after : Site) (done : Done) : Type 0 where
   pub origin : Origin
   pub ended : Ended
   pub begins : IsOrigin origin device asked.store before.store
-  pub serves : ServesAll asked.connections asked.workers (record { origin = origin; history = [] }) ended
+  pub serves : ServesAll asked.connections asked.workers
+      (record { origin = origin; history = []; clock = serving_moments asked.at before.clock }) ended
       (listened before.network asked.port asked.workers after.network.faults) after.network
   pub store : Leaves origin asked.store ended.history before.store after.store
   pub found : IsTrue before.store.tells → (at : List ℕ) → asked.store ≡ Some at
@@ -76,23 +91,37 @@ pub record IsLeft (asked : ServingWords) (device : Device) (before after : Store
   pub begins : IsOrigin origin device asked.store before
   pub store : Leaves origin asked.store [] before after
 
--- no manager began, or memory ran out; the rows stay, and nothing was asked of the network unless memory ran out
+-- no manager began: the rows stay, and nothing was asked of the network
 pub record IsUnbegun (why : Undone) (asked : ServingWords) (device : Device) (before after : Site) : Type 0 where
   pub fails : FailsToOpenRows why device asked.store before.store after.store
-  pub store : IsUnchanged before.store after.store ⊎ IsLeft asked device before.store after.store
-  pub network : (why ≡ undone.Setback setbacks.NoMemory) ⊎ (after.network ≡ before.network)
+  pub store : IsUnchanged before.store after.store
+  pub network : after.network ≡ before.network
 
--- the network failed to listen, and the keeper of the manager that began came back
+-- why the network didn't listen: it failed, or memory ran out
+abbrev pub FailsToListen : Undone → NetworkView → NetworkView → Type 0
+FailsToListen undone.NetworkFault old new = HasRisen old.faults new.faults
+FailsToListen (undone.Setback setbacks.NoMemory) old new = ⊤
+FailsToListen _ old new = ⊥
+
+-- the network didn't listen, which is as it was then but for the counts of its calls, and the keeper of the manager that
+-- began came back
 pub record IsUnheard (why : Undone) (asked : ServingWords) (device : Device) (before after : Site) : Type 0 where
-  pub is : why ≡ undone.NetworkFault
-  pub risen : HasRisen before.network.faults after.network.faults
+  pub fails : FailsToListen why before.network after.network
+  pub network : after.network ≡ unheard before.network after.network.faults
   pub store : IsLeft asked device before.store after.store
 
--- the serving that is asked for, of that device, or why it didn't begin
+-- memory ran out before the first link was handed out: the network listened, and its gates came back as they were made.
+-- The rows stay
+pub record LacksWorkers (why : Undone) (asked : ServingWords) (before after : Site) : Type 0 where
+  pub is : why ≡ undone.Setback setbacks.NoMemory
+  pub network : IsUnserved asked.workers (listened before.network asked.port asked.workers after.network.faults) after.network
+  pub store : IsUnchanged before.store after.store
+
+-- the serving that is asked for, of that device, or why nobody was served
 abbrev pub ServesOr : Result Done Undone → ServingWords → Device → Site → Site → Type 0
 ServesOr (Ok done) asked device before after = Works asked device before after done
 ServesOr (Err why) asked device before after =
-    IsUnbegun why asked device before after ⊎ IsUnheard why asked device before after
+    IsUnbegun why asked device before after ⊎ IsUnheard why asked device before after ⊎ LacksWorkers why asked before after
 
 -- the serving that is asked for, of the device that its file describes, or why it didn't begin
 pub record ServesFile (work : Result Done Undone) (asked : ServingWords) (before after : Grounds) : Type 0 where

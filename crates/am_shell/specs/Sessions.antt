@@ -5,14 +5,14 @@ use Rattle.am_types.specs.declared.history.Entry.{Entry}
 use Rattle.am_outside.specs.Counts.{HasRisen}
 use Rattle.am_history.specs.Desks.{DeskView, Origin, opening_of}
 use Rattle.am_history.specs.History.{IsLegal, entries_of, replay}
-use Rattle.am_found.specs.Found.{OpensAs}
+use Rattle.am_laws_kept.specs.Found.{OpensAs}
 use Rattle.am_manifest.specs.Devices.{device_of}
 use Rattle.am_http.specs.declared.end.End.{End}
 use Rattle.am_http.specs.declared.end.Served.{Served}
 use Rattle.am_http.specs.Exchanges.{stored_entries}
 use Rattle.am_http.specs.Links.{Moments, Streams, link_of}
 use Rattle.am_words.specs.declared.command.StepWords.{StepWords}
-use Rattle.am_setback.specs.Devices.{Describes}
+use Rattle.am_console.specs.Devices.{Describes}
 use Rattle.am_words.specs.declared.command.SessionWords.{SessionWords}
 use Rattle.am_shell.specs.declared.undone.Undone.{Undone}
 use Rattle.am_shell.specs.declared.undone.Undone.TheVariants as undone

@@ -2,14 +2,14 @@
 ghost use Rattle.std.specs.Prelude.{codes, IfOk};
 ghost use Rattle.am_model.specs.Sound.{IsSound};
 ghost use Rattle.am_manifest.specs.Devices.{device_of};
-ghost use Rattle.am_queries.specs.Queries.{described};
-ghost use Rattle.am_setback.specs.Devices.{Parses};
-ghost use Rattle.am_setback.specs.Files.{shelf_of};
+ghost use Rattle.am_manifest_queries.specs.Queries.{described};
+ghost use Rattle.am_console.specs.Devices.{Parses};
+ghost use Rattle.am_console.specs.Files.{shelf_of};
 ghost use Rattle.am_shell.specs.Devices.{Opens};
 
+use am_console::{Setback, parse_device, refusal};
+use am_manifest_queries::{Described, read_described};
 use am_outside::Files;
-use am_queries::{Described, read_described};
-use am_setback::{Setback, parse_device, refusal};
 use am_types::{Device, Text, Unmade};
 use std::alloc::Global;
 

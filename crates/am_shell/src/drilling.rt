@@ -1,7 +1,7 @@
 //! A generated device and generated requests, and what is counted of them.
 ghost use Rattle.std.specs.Prelude.{◌≡◌, IfOk};
 ghost use Rattle.am_words.specs.Ranges.{IsDrillInRange};
-ghost use Rattle.am_setback.specs.Telling.{voices_of};
+ghost use Rattle.am_console.specs.Telling.{voices_of};
 ghost use Rattle.am_drill.specs.Drills.{drilled};
 ghost use Rattle.am_drill.specs.Tallies.{printed};
 ghost use Rattle.am_shell.specs.Drillings.{RunsDrill};

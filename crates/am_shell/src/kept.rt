@@ -7,16 +7,19 @@ ghost use Rattle.am_shell.specs.Lines.{rows_line};
 ghost use Rattle.am_shell.specs.Outside.{store_of};
 
 use crate::undone::Undone;
+use am_console::Setback;
 use am_keeper::{Attached, KeepFail, Keeper, Store};
-use am_machine::{Manager, begin};
-use am_opening::OpenFault;
-use am_setback::Setback;
+use am_machine::{Manager, begin_keyed};
+use am_opening::BeginFault;
 use am_types::{Device, NoMemory, Text};
 use std::alloc::Global;
+use std::hash::RandomState;
 
-/// A manager of a sound device with the rows that the store keeps at the place, or with none without a place.
+/// A manager of a sound device with the rows that the store keeps at the place, or with none without a place. It hashes
+/// what callers choose under the keys that were drawn, if some were.
 pub fn open_manager<T: Store>(
     alloc: Global,
+    drawn: Option<RandomState>,
     store: &mut T,
     device: Device,
     place: Option<&Text>,
@@ -38,10 +41,10 @@ pub fn open_manager<T: Store>(
             return Err(unattached(fail));
         }
     };
-    match begin(alloc, device, attached) {
+    match begin_keyed(alloc, device, attached, drawn) {
         Ok(manager) => Ok(manager),
-        Err(OpenFault::NoMemory) => Err(Undone::Setback(Setback::NoMemory)),
-        Err(OpenFault::Rows(name)) => Err(Undone::RowsRefused(rows_line(alloc, &name)?)),
+        Err(BeginFault::NoMemory) => Err(Undone::Setback(Setback::NoMemory)),
+        Err(BeginFault::Rows(name)) => Err(Undone::RowsRefused(rows_line(alloc, &name)?)),
     }
 }
 

@@ -2,6 +2,7 @@
 //! over a network, a drill, or what a package sees.
 #![tactic(auto)]
 
+mod clocks;
 mod device;
 mod drilling;
 mod kept;
@@ -12,5 +13,5 @@ mod session;
 mod telling;
 mod undone;
 
-pub use program::run;
+pub use program::{run, run_keyed};
 pub use telling::tell_want;

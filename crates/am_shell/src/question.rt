@@ -1,18 +1,18 @@
 //! Which components a package sees: a question about a device, which is asked on the input.
-ghost use Rattle.std.specs.Prelude.{◌≡◌, ◌≤◌, ◌<◌, IfOk, IfErr, Ok, length};
+ghost use Rattle.std.specs.Prelude.{◌≡◌, ◌-◌, ◌≤◌, ◌<◌, IfOk, IfErr, Ok, length};
 ghost use Rattle.am_http.specs.Links.{source_of};
 ghost use Rattle.am_model.specs.Sound.{IsSound};
 ghost use Rattle.am_visible.specs.Answers.{answer_to};
-ghost use Rattle.am_setback.specs.Telling.{voices_of};
-ghost use Rattle.am_shell.specs.Questions.{FailsToRead, Happens, IsNoReply, IsRead, ReadsMore, RunsQuestion, desk_of, query_line};
+ghost use Rattle.am_console.specs.Telling.{voices_of};
+ghost use Rattle.am_shell.specs.Questions.{FailsToRead, Happens, IsNoReply, IsRead, ReadsMore, RunsQuestion, desk_of, most_read, query_line};
 
 use crate::device::open_described;
 use crate::telling::print;
 use crate::undone::Undone;
+use am_console::{Setback, tell};
 use am_installed::caller_named;
+use am_manifest_queries::Described;
 use am_outside::{Files, Sink, Source};
-use am_queries::Described;
-use am_setback::{Setback, tell};
 use am_types::{NoMemory, Text, Unmade};
 use am_visible::answer;
 use am_wire_fields::WireFault;
@@ -96,7 +96,7 @@ fn query_line(alloc: Global, fault: &WireFault) -> Result<Text, NoMemory>
 fn read_input<S: Source>(alloc: Global, input: &mut S) -> Result<Vec<u8>, Undone>
     ensures read { IfOk result (λ bytes. IsRead
         (source_of S.Source input.old) (source_of S.Source input.new) bytes.items) }
-    ensures failed { IfErr result (λ why. FailsToRead why
+    ensures failed { IfErr result (λ why. FailsToRead why most_read
         (source_of S.Source input.old) (source_of S.Source input.new)) }
 {
     let mut bytes = Vec::new(alloc);
@@ -114,7 +114,7 @@ fn read_piece<S: Source>(input: &mut S, bytes: &mut Vec<u8>) -> Result<usize, Un
     ensures more { IfOk result (λ count. ReadsMore
         (source_of S.Source input.old) (source_of S.Source input.new) bytes.old.items bytes.new.items count) }
     ensures never_falls { S.faults input.old ≤ S.faults input.new }
-    ensures failed { IfErr result (λ why. FailsToRead why
+    ensures failed { IfErr result (λ why. FailsToRead why (most_read - length bytes.old.items)
         (source_of S.Source input.old) (source_of S.Source input.new)) }
 {
     let mut piece = [0u8; PIECE];

@@ -4,23 +4,25 @@ ghost use Rattle.am_outside.specs.Counts.{HasRisen};
 ghost use Rattle.am_model.specs.Sound.{IsSound};
 ghost use Rattle.am_http.specs.Sending.{Sends};
 ghost use Rattle.am_words.specs.Ranges.{IsServingInRange};
-ghost use Rattle.am_setback.specs.Telling.{voices_of};
+ghost use Rattle.am_console.specs.Telling.{voices_of};
 ghost use Rattle.am_shell.specs.Servings.{Happens, RunsServing, ServesOr, TellsDone, done_line, grounds_of, site_of};
 
+use crate::clocks::clock_of;
 use crate::device::open_device;
 use crate::kept::{hand_back, open_manager};
 use crate::undone::Undone;
-use am_found::kept_is_found;
+use am_console::{Setback, tell};
 use am_http::write_all;
 use am_keeper::Store;
+use am_laws_kept::kept_is_found;
 use am_network::{ListenFail, Network};
 use am_outside::{Clock, Failed, Files, Sink};
-use am_setback::{Setback, tell};
 use am_types::Device;
 use am_words::ServingWords;
 use am_workers::{Worked, serve};
 use itoa::Buffer;
 use std::alloc::Global;
+use std::hash::RandomState;
 use std::sync::Wait;
 use std::thread::Threads;
 
@@ -34,11 +36,14 @@ pub struct Done {
 }
 
 /// Runs the serving that is asked for: its workers serve the device over the network, beginning with the rows that the
-/// store keeps at the place of the words, and its keeper is handed back to the store at the end. Prints how long the
-/// history is and how many links were served. Answers the status, whose line it writes on the errors.
+/// store keeps at the place of the words, and its keeper is handed back to the store at the end. Its moments are the one
+/// that the words ask for, if they do, else those of the clock that is handed in. Prints how long the history is and how
+/// many links were served. Answers the status, whose line it writes on the errors. When memory ran out or the network
+/// didn't listen, no link was handed out.
 pub fn run_serving<R, F: Files, W: Sink, E: Sink, N: Network, T: Store, C: Clock>(
     rt: &R,
     alloc: Global,
+    drawn: Option<RandomState>,
     asked: ServingWords,
     files: &mut F,
     output: &mut W,
@@ -53,16 +58,16 @@ where
     requires range { IsServingInRange asked }
     ensures { RunsServing asked
         (record {
-          grounds = grounds_of F.Files T.Store N.Network files.old store.old network.old;
+          grounds = grounds_of F.Files T.Store N.Network C.Clock files.old store.old network.old clock.now;
           voices = voices_of W.Sink E.Sink output.old errors.old;
         })
         (record {
-          grounds = grounds_of F.Files T.Store N.Network files.new store.new network.new;
+          grounds = grounds_of F.Files T.Store N.Network C.Clock files.new store.new network.new clock.now;
           voices = voices_of W.Sink E.Sink output.new errors.new;
         })
         result }
 {
-    match open_serving(rt, alloc, asked, files, network, store, clock) {
+    match open_serving(rt, alloc, drawn, asked, files, network, store, clock) {
         Ok(done) => tell_done(done, output, errors),
         Err(why) => tell(why.line(), why.status(), errors),
     }
@@ -72,6 +77,7 @@ where
 fn open_serving<R, F: Files, N: Network, T: Store, C: Clock>(
     rt: &R,
     alloc: Global,
+    drawn: Option<RandomState>,
     asked: ServingWords,
     files: &mut F,
     network: &mut N,
@@ -83,17 +89,18 @@ where
     T::Kept: Send,
     requires range { IsServingInRange asked }
     ensures { Happens result asked
-        (grounds_of F.Files T.Store N.Network files.old store.old network.old)
-        (grounds_of F.Files T.Store N.Network files.new store.new network.new) }
+        (grounds_of F.Files T.Store N.Network C.Clock files.old store.old network.old clock.now)
+        (grounds_of F.Files T.Store N.Network C.Clock files.new store.new network.new clock.now) }
 {
     let device = open_device(alloc, files, &asked.device)?;
-    serve_device(rt, alloc, device, asked, network, store, clock)
+    serve_device(rt, alloc, drawn, device, asked, network, store, clock)
 }
 
 // Serves a sound device as is asked for, and answers what is told of it, or why it didn't begin.
 fn serve_device<R, N: Network, T: Store, C: Clock>(
     rt: &R,
     alloc: Global,
+    drawn: Option<RandomState>,
     device: Device,
     asked: ServingWords,
     network: &mut N,
@@ -106,8 +113,8 @@ where
     requires sound { IsSound device }
     requires range { IsServingInRange asked }
     ensures { ServesOr result asked device
-        (site_of T.Store N.Network store.old network.old)
-        (site_of T.Store N.Network store.new network.new) }
+        (site_of T.Store N.Network C.Clock store.old network.old clock.now)
+        (site_of T.Store N.Network C.Clock store.new network.new clock.now) }
 {
     let ServingWords {
         device: _,
@@ -115,12 +122,14 @@ where
         workers,
         store: place,
         connections,
+        at,
     } = asked;
     kept_is_found();
-    let manager = open_manager(alloc, store, device, place.as_ref())?;
+    let clock = clock_of(at, clock);
+    let manager = open_manager(alloc, drawn, store, device, place.as_ref())?;
     match network.listen(port, workers) {
         Ok(gates) => {
-            let (manager, totals) = serve(rt, alloc, manager, network, gates, clock, connections)?;
+            let (manager, totals) = serve(rt, alloc, manager, network, gates, &clock, connections)?;
             let history = manager.length();
             hand_back(store, manager);
             Ok(Done { history, totals })

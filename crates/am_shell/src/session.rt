@@ -11,13 +11,13 @@ ghost use Rattle.am_shell.specs.Runs.{RunsSession};
 use crate::device::open_device;
 use crate::kept::{hand_back, open_manager};
 use crate::undone::Undone;
+use am_console::tell;
 use am_desk::Desk;
-use am_found::kept_is_found;
 use am_http::{Buffers, End, serve_connection};
 use am_keeper::Store;
+use am_laws_kept::kept_is_found;
 use am_machine::SoleDesk;
 use am_outside::{Clock, Files, Sink, Source, StepClock};
-use am_setback::tell;
 use am_types::Device;
 use am_words::{SessionWords, StepWords};
 use std::alloc::Global;
@@ -93,7 +93,8 @@ fn serve_session<S: Source, W: Sink, T: Store, C: Clock>(
         clock: own,
     } = asked;
     let mut buffers = Buffers::new(alloc)?;
-    let manager = open_manager(alloc, store, device, place.as_ref())?;
+    // The one client of a session slows nobody but itself.
+    let manager = open_manager(alloc, None, store, device, place.as_ref())?;
     let mut desk = SoleDesk::new(manager);
     let end = serve_on(alloc, &mut desk, own, input, output, clock, &mut buffers);
     hand_back(store, desk.into_manager());

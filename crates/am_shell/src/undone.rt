@@ -2,7 +2,7 @@
 ghost use Rattle.std.specs.Prelude.{◌≡◌};
 ghost use Rattle.am_shell.specs.Lines.{line_of, status_of};
 
-use am_setback::Setback;
+use am_console::Setback;
 use am_types::{NoMemory, Text};
 
 /// Why what the words ask for wasn't done.
@@ -37,7 +37,7 @@ impl From<Setback> for Undone {
 
 impl From<NoMemory> for Undone {
     ghost use Rattle.std.specs.Prelude.{◌≡◌};
-    ghost use Rattle.am_setback.specs.declared.setback.Setback.TheVariants as setbacks;
+    ghost use Rattle.am_console.specs.declared.setback.Setback.TheVariants as setbacks;
     ghost use Rattle.am_shell.specs.declared.undone.Undone.TheVariants as undone;
 
     ghost from_gives = { λ _ why. why ≡ undone.Setback setbacks.NoMemory };

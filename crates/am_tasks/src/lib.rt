@@ -9,4 +9,5 @@ mod task;
 mod tasks;
 mod views;
 
+pub use am_types::{PlaceFault, StartCall, TaskFault};
 pub use tasks::Tasks;

@@ -1,67 +1,96 @@
 //! The network of the machine.
-ghost use Rattle.std.specs.Prelude.{◌≡◌, ◌≤◌, [], All, IfOk, length, vec_capacity};
+ghost use Rattle.std.specs.Prelude.{◌≡◌, ◌≤◌, [], All, IfOk, IsTrue, length, vec_capacity};
+ghost use Rattle.am_tcp.specs.Places.{IsLocal};
 
 use crate::gate::TcpGate;
+use crate::limits::Limits;
 use am_network::{ListenFail, Network};
-use std::alloc::Global;
+use std::alloc::{AllocError, Global};
 use std::io;
+use std::io::ErrorKind;
 use std::marker::Copy;
-use std::net::{Ipv4Addr, Net, SocketAddr, TcpListener, TcpStream};
+use std::net::{IpAddr, Ipv4Addr, Net, SocketAddr, TcpListener, TcpStream};
 use std::rt::Clock as Time;
+use std::sync::Arc;
 
 /// The ports of this machine, at 127.0.0.1 alone.
 #[derive(Drop)]
 pub struct TcpNetwork<R> {
     rt: R,
     alloc: Global,
-    local_port: Option<u16>,
+    limits: Limits,
+    local_addr: Option<SocketAddr>,
+    listens: u64,
     faults: u64,
     gate_faults: u64,
 }
 
 impl<R> TcpNetwork<R> {
-    /// The ports that the runtime reaches.
+    /// The ports that the runtime reaches, with the usual limits for the peers of their connections.
     pub fn new(rt: R, alloc: Global) -> TcpNetwork<R> {
+        TcpNetwork::with_limits(rt, alloc, Limits::usual())
+    }
+
+    /// The ports that the runtime reaches, with these limits.
+    pub fn with_limits(rt: R, alloc: Global, limits: Limits) -> TcpNetwork<R> {
         TcpNetwork {
             rt,
             alloc,
-            local_port: None,
+            limits,
+            local_addr: None,
+            listens: 0,
             faults: 0,
             gate_faults: 0,
         }
     }
 
-    /// The port at which it listens, or listened last: the one that was asked for, or the free one that the system
-    /// chose where that was 0. `None` before it listened.
-    pub fn local_port(&self) -> Option<u16> {
-        self.local_port
+    /// Where it listens, or listened last, as the system says: the port is the one that was asked for, or the free one
+    /// that the system chose where that was 0. `None` before it listened.
+    pub fn local_addr(&self) -> Option<SocketAddr> {
+        self.local_addr
     }
 }
 
-// Binds a port, and tells which.
+// Whether it is the address 127.0.0.1 with that port, or with any port if that is 0.
+fn is_local(address: &SocketAddr, port: u16) -> bool
+    ensures { IsTrue result → IsLocal port address.now }
+{
+    match address.ip() {
+        IpAddr::V4(ip) => ip == Ipv4Addr::LOCALHOST && (port == 0 || address.port() == port),
+        IpAddr::V6(_) => false,
+    }
+}
+
+// Binds a port, and asks the system at which address it listens, which has to be this one.
 fn bind<R: Net<Listener = TcpListener, Stream = TcpStream>>(
     rt: &R,
     port: u16,
-) -> io::Result<(TcpListener, u16)> {
+) -> io::Result<(TcpListener, SocketAddr)>
+    ensures { IfOk result (λ bound. IsLocal port bound.1) }
+{
     let listener = TcpListener::bind(rt, SocketAddr::from((Ipv4Addr::LOCALHOST, port)))?;
-    let local = listener.local_addr()?;
-    Ok((listener, local.port()))
+    let address = listener.local_addr()?;
+    if !is_local(&address, port) {
+        return Err(io::Error::from(ErrorKind::AddrNotAvailable));
+    }
+    Ok((listener, address))
 }
 
-// Fills a vector with gates over handles of one port, that many in all.
+// Fills a vector with gates at one port, that many in all.
 fn open_gates<R: Time + Copy + Drop>(
-    rt: R,
-    listener: &TcpListener,
+    network: &TcpNetwork<R>,
+    listener: &Arc<TcpListener>,
     gates: u32,
     mut made: Vec<TcpGate<R>>,
-) -> io::Result<Vec<TcpGate<R>>>
+) -> Result<Vec<TcpGate<R>>, AllocError>
     requires empty { made.items ≡ [] }
     requires room { gates ≤ vec_capacity made }
     ensures count { IfOk result (λ made. length made.items ≡ gates) }
     ensures new { IfOk result (λ made. All (λ gate. gate.faults ≡ 0) made.items) }
 {
     for _number in 0..gates {
-        made.push_reserved(TcpGate::new(rt, listener.try_clone()?));
+        let listener = Arc::try_clone(listener)?;
+        made.push_reserved(TcpGate::new(network.rt, network.alloc, network.limits, listener));
     }
     Ok(made)
 }
@@ -74,15 +103,20 @@ impl<R: Net<Listener = TcpListener, Stream = TcpStream> + Time + Copy + Drop + S
 
     ghost listening = { λ n. None };
 
+    ghost listens = { λ n. n.listens };
+
     ghost faults = { λ n. n.faults };
 
     ghost gate_faults = { λ n. n.gate_faults };
 
     fn listen(&mut self, port: u16, gates: u32) -> Result<Vec<TcpGate<R>>, ListenFail> {
+        self.listens = self.listens.saturating_add(1);
         let room = Vec::with_capacity(self.alloc, gates as usize)?;
-        match listen_at(self.rt, port, gates, room) {
-            Ok((made, local)) => {
-                self.local_port = Some(local);
+        match bind(&self.rt, port) {
+            Ok((listener, address)) => {
+                let listener = Arc::new(self.alloc, listener)?;
+                let made = open_gates(self, &listener, gates, room)?;
+                self.local_addr = Some(address);
                 Ok(made)
             }
             Err(_) => {
@@ -95,20 +129,4 @@ impl<R: Net<Listener = TcpListener, Stream = TcpStream> + Time + Copy + Drop + S
     fn release(&mut self, gate: TcpGate<R>) {
         self.gate_faults = self.gate_faults.saturating_add(gate.faults());
     }
-}
-
-// Binds a port, and opens that many gates over it.
-fn listen_at<R: Net<Listener = TcpListener, Stream = TcpStream> + Time + Copy + Drop>(
-    rt: R,
-    port: u16,
-    gates: u32,
-    room: Vec<TcpGate<R>>,
-) -> io::Result<(Vec<TcpGate<R>>, u16)>
-    requires empty { room.items ≡ [] }
-    requires room { gates ≤ vec_capacity room }
-    ensures count { IfOk result (λ made. length made.0.items ≡ gates) }
-    ensures new { IfOk result (λ made. All (λ gate. gate.faults ≡ 0) made.0.items) }
-{
-    let (listener, local) = bind(&rt, port)?;
-    Ok((open_gates(rt, &listener, gates, room)?, local))
 }

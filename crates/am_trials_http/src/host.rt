@@ -2,6 +2,9 @@
 use am_host::{Counted, SystemClock};
 use am_outside::{Clock, Failed, Sink, Source};
 use std::io::{self, ErrorKind, Read};
+use std::rt::Clock as Time;
+use std::thread;
+use std::time::Duration;
 
 /// A reader that a signal interrupts, that then gives a byte, and then fails.
 #[derive(Drop)]
@@ -46,4 +49,27 @@ fn reads_the_clock(rt: HostRuntime) {
     let mut clock = SystemClock::new(rt);
     assert!(rt; 1_700_000_000_000 < clock.another().now());
     assert!(rt; clock.now() <= clock.now());
+}
+
+/// The milliseconds since 1970, by the runtime.
+fn milliseconds(rt: &HostRuntime) -> u64 {
+    match rt.since_1970() {
+        Ok(time) => {
+            let seconds = time.as_secs().saturating_mul(1000);
+            seconds.saturating_add(u64::from(time.subsec_millis()))
+        }
+        Err(_) => 0,
+    }
+}
+
+/// A clock that tells whole seconds would be behind the runtime's in some round, however slow the machine is.
+#[test]
+fn tells_milliseconds(rt: HostRuntime) {
+    let mut clock = SystemClock::new(rt);
+    for _ in 0..4 {
+        let before = milliseconds(&rt);
+        let now = clock.now();
+        assert!(rt; before <= now && now <= milliseconds(&rt));
+        thread::sleep(&rt, Duration::from_millis(7));
+    }
 }

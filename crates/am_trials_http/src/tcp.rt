@@ -1,23 +1,25 @@
 //! A server's network and its clients, over TCP on 127.0.0.1.
 use am_network::{Acceptor, ListenFail, Network};
 use am_outside::{Failed, Sink, Source};
-use am_tcp::{TcpGate, TcpNetwork, TcpReader, TcpWriter};
+use am_tcp::{Limits, TcpGate, TcpNetwork, TcpReader, TcpWriter};
 use std::alloc::Global;
-use std::io::{self, Read, Write};
-use std::net::{Ipv4Addr, Shutdown, SocketAddr, TcpStream};
+use std::io::{self, ErrorKind, Read, Write};
+use std::net::{IpAddr, Ipv4Addr, Shutdown, SocketAddr, TcpStream};
+use std::os::fd::AsRawFd;
 use std::test::Fail;
+use std::thread;
+use std::time::{Duration, Instant};
 
 /// The two ends of a connection, as a server has them.
 #[derive(Drop)]
 struct Link {
-    reader: TcpReader,
-    writer: TcpWriter,
+    reader: TcpReader<HostRuntime>,
+    writer: TcpWriter<HostRuntime>,
 }
 
-/// A new client of the port.
-fn client_of(rt: &HostRuntime, port: Option<u16>) -> Result<TcpStream, Fail> {
-    let port = port.ok_or("a port")?;
-    let address = SocketAddr::from((Ipv4Addr::LOCALHOST, port));
+/// A new client of a network.
+fn client_of(rt: &HostRuntime, address: Option<SocketAddr>) -> Result<TcpStream, Fail> {
+    let address = address.ok_or("an address")?;
     Ok(TcpStream::connect(rt, address)?)
 }
 
@@ -28,7 +30,11 @@ fn accepted(gate: &mut TcpGate<HostRuntime>) -> Result<Link, Fail> {
 }
 
 /// The text that comes next, of so many bytes, or as much as comes before the end.
-fn received(alloc: Global, reader: &mut TcpReader, length: usize) -> Result<String, Fail> {
+fn received(
+    alloc: Global,
+    reader: &mut TcpReader<HostRuntime>,
+    length: usize,
+) -> Result<String, Fail> {
     let mut bytes = Vec::new(alloc);
     for _ in 0..length {
         let mut piece = [0u8; 1];
@@ -41,7 +47,7 @@ fn received(alloc: Global, reader: &mut TcpReader, length: usize) -> Result<Stri
 }
 
 /// Writes all bytes, one after the other.
-fn send(writer: &mut TcpWriter, bytes: &[u8]) -> Result<(), Failed> {
+fn send(writer: &mut TcpWriter<HostRuntime>, bytes: &[u8]) -> Result<(), Failed> {
     for byte in bytes {
         writer.write(&[*byte])?;
     }
@@ -59,9 +65,9 @@ fn rest(alloc: Global, client: &mut TcpStream) -> io::Result<String> {
 fn a_client_is_served(rt: HostRuntime) -> Result<(), Fail> {
     let alloc = rt.alloc();
     let mut network = TcpNetwork::new(rt, alloc);
-    assert_eq!(rt; network.local_port(), None);
+    assert_eq!(rt; network.local_addr(), None);
     let mut gate = network.listen(0, 1)?.pop().ok_or("a gate")?;
-    let mut client = client_of(&rt, network.local_port())?;
+    let mut client = client_of(&rt, network.local_addr())?;
     let mut link = accepted(&mut gate)?;
     client.write_all(b"hello")?;
     assert_eq!(rt; received(alloc, &mut link.reader, 5)?.as_str(), "hello");
@@ -75,7 +81,7 @@ fn a_client_is_served(rt: HostRuntime) -> Result<(), Fail> {
 }
 
 /// Whether a write fails after some time.
-fn fails_at_last(writer: &mut TcpWriter) -> bool {
+fn fails_at_last(writer: &mut TcpWriter<HostRuntime>) -> bool {
     (0u32..1000).any(|_| writer.write(b"x").is_err())
 }
 
@@ -84,7 +90,7 @@ fn a_peer_closes(rt: HostRuntime) -> Result<(), Fail> {
     let alloc = rt.alloc();
     let mut network = TcpNetwork::new(rt, alloc);
     let mut gate = network.listen(0, 1)?.pop().ok_or("a gate")?;
-    let mut client = client_of(&rt, network.local_port())?;
+    let mut client = client_of(&rt, network.local_addr())?;
     client.write_all(b"bye")?;
     drop(client);
     let mut link = accepted(&mut gate)?;
@@ -99,7 +105,7 @@ fn a_peer_closes(rt: HostRuntime) -> Result<(), Fail> {
 fn a_peer_closes_before_it_read_all(rt: HostRuntime) -> Result<(), Fail> {
     let mut network = TcpNetwork::new(rt, rt.alloc());
     let mut gate = network.listen(0, 1)?.pop().ok_or("a gate")?;
-    let mut client = client_of(&rt, network.local_port())?;
+    let mut client = client_of(&rt, network.local_addr())?;
     let mut link = accepted(&mut gate)?;
     assert_eq!(rt; link.writer.write(b"ab"), Ok(2));
     client.read_exact(&mut [0u8; 1])?;
@@ -113,21 +119,26 @@ fn a_port_is_in_use(rt: HostRuntime) -> Result<(), Fail> {
     let mut network = TcpNetwork::new(rt, rt.alloc());
     let gates = network.listen(0, 2)?;
     assert_eq!(rt; gates.len(), 2);
-    let port = network.local_port().ok_or("a port")?;
+    let address = network.local_addr().ok_or("an address")?;
+    let port = address.port();
     let mut other = TcpNetwork::new(rt, rt.alloc());
     assert!(rt; matches!(other.listen(port, 1), Err(ListenFail::Failed)));
-    assert_eq!(rt; other.local_port(), None);
+    assert_eq!(rt; other.local_addr(), None);
     drop(gates);
     assert_eq!(rt; other.listen(port, 1)?.len(), 1);
-    assert_eq!(rt; other.local_port(), Some(port));
+    assert_eq!(rt; other.local_addr(), Some(address));
     Ok(())
 }
 
-/// So many clients of the port, each of which sent its number.
-fn clients_of(rt: &HostRuntime, port: Option<u16>, count: u8) -> Result<Vec<TcpStream>, Fail> {
+/// So many clients of a network, each of which sent its number.
+fn clients_of(
+    rt: &HostRuntime,
+    address: Option<SocketAddr>,
+    count: u8,
+) -> Result<Vec<TcpStream>, Fail> {
     let mut clients = Vec::new(rt.alloc());
     for number in 0..count {
-        let mut client = client_of(rt, port)?;
+        let mut client = client_of(rt, address)?;
         client.write_all(&[number])?;
         clients.push(client)?;
     }
@@ -169,7 +180,7 @@ fn answer_to(client: &mut TcpStream) -> io::Result<u8> {
 fn clients_are_served_at_once(rt: HostRuntime) -> Result<(), Fail> {
     let mut network = TcpNetwork::new(rt, rt.alloc());
     let mut gates = network.listen(0, 4)?;
-    let mut clients = clients_of(&rt, network.local_port(), 64)?;
+    let mut clients = clients_of(&rt, network.local_addr(), 64)?;
     let links = all_answered(rt.alloc(), gates.as_mut_slice(), 16)?;
     assert_eq!(rt; links.len(), 64);
     let mut wanted: u8 = 100;
@@ -178,5 +189,115 @@ fn clients_are_served_at_once(rt: HostRuntime) -> Result<(), Fail> {
         wanted = wanted.wrapping_add(1);
     }
     assert_eq!(rt; wanted, 164);
+    Ok(())
+}
+
+#[test]
+fn no_other_address_is_served(rt: HostRuntime) -> Result<(), Fail> {
+    let mut network = TcpNetwork::new(rt, rt.alloc());
+    let gates = network.listen(0, 1)?;
+    let address = network.local_addr().ok_or("an address")?;
+    assert_eq!(rt; address.ip(), IpAddr::V4(Ipv4Addr::LOCALHOST));
+    let other = SocketAddr::from((Ipv4Addr::new(127, 0, 0, 2), address.port()));
+    match TcpStream::connect(&rt, other) {
+        Ok(_) => return Err(Fail::from("another address of this machine was served")),
+        Err(error) => assert_eq!(rt; error.kind(), ErrorKind::ConnectionRefused),
+    }
+    drop(client_of(&rt, Some(address))?);
+    drop(gates);
+    Ok(())
+}
+
+#[test]
+fn a_descriptor_is_enough(rt: HostRuntime) -> Result<(), Fail> {
+    let mut network = TcpNetwork::new(rt, rt.alloc());
+    let mut gates = network.listen(0, 64)?;
+    let mut gate = gates.pop().ok_or("a gate")?;
+    let client = client_of(&rt, network.local_addr())?;
+    let link = accepted(&mut gate)?;
+    let next = client_of(&rt, network.local_addr())?;
+    // Each descriptor has the least number that is free: the listener's, those of the client and of its link, the next.
+    assert_eq!(rt; Some(next.as_raw_fd()), client.as_raw_fd().checked_add(2));
+    drop(client);
+    gate.finish(link.reader, link.writer);
+    let mut other = TcpNetwork::new(rt, rt.alloc());
+    assert_eq!(rt; other.listen(0, 64)?.len(), 64);
+    let last = client_of(&rt, network.local_addr())?;
+    assert!(rt; last.as_raw_fd() < next.as_raw_fd());
+    Ok(())
+}
+
+/// A network whose peers have so many milliseconds for each thing.
+fn network_of(rt: HostRuntime, millis: u64) -> TcpNetwork<HostRuntime> {
+    let each = Duration::from_millis(millis);
+    let limits = Limits {
+        request: each,
+        response: each,
+        end: each,
+    };
+    TcpNetwork::with_limits(rt, rt.alloc(), limits)
+}
+
+/// Waits for so many milliseconds.
+fn wait(rt: &HostRuntime, millis: u64) {
+    thread::sleep(rt, Duration::from_millis(millis));
+}
+
+#[test]
+fn a_request_has_its_time(rt: HostRuntime) -> Result<(), Fail> {
+    let mut network = network_of(rt, 1000);
+    let mut gate = network.listen(0, 1)?.pop().ok_or("a gate")?;
+    let mut client = client_of(&rt, network.local_addr())?;
+    client.write_all(b"abc")?;
+    let mut link = accepted(&mut gate)?;
+    let mut piece = [0u8; 1];
+    assert_eq!(rt; link.reader.read(&mut piece), Ok(1));
+    // Behind a response the next request has a time of its own.
+    assert_eq!(rt; link.writer.write(b"x"), Ok(1));
+    wait(&rt, 1100);
+    assert_eq!(rt; link.reader.read(&mut piece), Ok(1));
+    assert_eq!(rt; link.reader.faults, 0);
+    // A byte that is there doesn't prolong it.
+    wait(&rt, 1100);
+    assert_eq!(rt; link.reader.read(&mut piece), Err(Failed));
+    assert_eq!(rt; link.reader.faults, 1);
+    Ok(())
+}
+
+#[test]
+fn a_silent_peer_ends_its_link_alone(rt: HostRuntime) -> Result<(), Fail> {
+    let mut network = network_of(rt, 500);
+    let mut gate = network.listen(0, 1)?.pop().ok_or("a gate")?;
+    let silent = client_of(&rt, network.local_addr())?;
+    let mut next = client_of(&rt, network.local_addr())?;
+    next.write_all(b"a")?;
+    let began = Instant::now(&rt)?;
+    let mut link = accepted(&mut gate)?;
+    assert_eq!(rt; link.reader.read(&mut [0u8; 1]), Err(Failed));
+    // The peer doesn't end its side either.
+    gate.finish(link.reader, link.writer);
+    assert!(rt; Duration::from_millis(900) < began.elapsed(&rt)?);
+    let mut link = accepted(&mut gate)?;
+    assert_eq!(rt; link.reader.read(&mut [0u8; 1]), Ok(1));
+    drop(silent);
+    Ok(())
+}
+
+#[test]
+fn a_response_has_its_time(rt: HostRuntime) -> Result<(), Fail> {
+    let mut network = network_of(rt, 1000);
+    let mut gate = network.listen(0, 1)?.pop().ok_or("a gate")?;
+    let client = client_of(&rt, network.local_addr())?;
+    let mut link = accepted(&mut gate)?;
+    assert_eq!(rt; link.writer.write(b"a"), Ok(1));
+    // The next response has a time of its own.
+    wait(&rt, 1100);
+    assert_eq!(rt; link.writer.write(b"b"), Ok(1));
+    let large = vec![in rt.alloc(); 0u8; 16_000_000]?;
+    let taken = link.writer.write(large.as_slice())?;
+    assert!(rt; taken < large.len());
+    assert_eq!(rt; link.writer.write(&large[taken..]), Err(Failed));
+    assert_eq!(rt; link.writer.faults, 1);
+    drop(client);
     Ok(())
 }

@@ -211,7 +211,7 @@ fn try_rows(rt: &(impl Runtime + Abort), alloc: Global, rows: &str) -> Result<()
 
 #[test]
 fn serves_links(rt: HostRuntime) -> Result<(), Fail> {
-    try_sections(SERVINGS, "\n# ", 8, |rows| try_rows(&rt, rt.alloc(), rows))
+    try_sections(SERVINGS, "\n# ", 9, |rows| try_rows(&rt, rt.alloc(), rows))
 }
 
 #[test]

@@ -208,6 +208,7 @@ struct Pair {
     alloc: Global,
     coming: VecDeque<Link>,
     released: Vec<Gate>,
+    listens: u64,
 }
 
 /// Makes that many gates.
@@ -232,11 +233,14 @@ impl Network for Pair {
 
     ghost listening = { λ n. None };
 
+    ghost listens = { λ n. n.listens };
+
     ghost faults = { λ n. 0 };
 
     ghost gate_faults = { λ n. 0 };
 
     fn listen(&mut self, _port: u16, gates: u32) -> Result<Vec<Gate>, ListenFail> {
+        self.listens = self.listens.saturating_add(1);
         let room = Vec::with_capacity(self.alloc, gates as usize)?;
         Ok(gates_of(&mut self.coming, gates, room))
     }
@@ -274,6 +278,7 @@ fn pair_of(alloc: Global, waiting: u32) -> Result<Pair, Fail> {
         alloc,
         coming,
         released: Vec::new(alloc),
+        listens: 0,
     })
 }
 

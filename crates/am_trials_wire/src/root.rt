@@ -2,7 +2,7 @@
 
 ghost use Rattle.am_model.specs.Sound.{IsSound};
 
-use am_queries::{Described, read_described};
+use am_manifest_queries::{Described, read_described};
 use am_resolve::Board;
 use am_types::{NoMemory, Text};
 use am_visible::{answer, sees};

@@ -50,6 +50,11 @@ pub enum Reply {
         moment: u64,
         packages: u32,
     },
+    /// The earliest deadline of a live broadcast that is left, if there is one, and the moment, in milliseconds.
+    Advanced {
+        due: Option<u64>,
+        now: u64,
+    },
     /// It was done.
     Plain,
 }

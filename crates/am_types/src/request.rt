@@ -115,6 +115,10 @@ pub enum Request {
     },
     /// Lets time pass.
     Tick,
+    /// Moves the manager's moment this many milliseconds ahead of the call's own.
+    Advance {
+        by: u64,
+    },
     /// The stored calls from this number on.
     History {
         from: u64,
@@ -184,6 +188,7 @@ impl Clone for Request {
             Grant: value(package permission); held,
             Link: value(package host); approved,
             ForceStop: value(package),
+            Advance: ; by,
             History: ; from,
         }, {
             Request::Send {

@@ -15,6 +15,7 @@ pub enum Limit {
     Tasks,
     Activities,
     Services,
+    Moment,
 }
 
 /// Why a request is refused, or a receiver skipped.

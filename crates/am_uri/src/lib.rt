@@ -12,6 +12,7 @@ mod text;
 mod uri;
 mod words;
 
+pub use am_types::{MimeFault, UriFault};
 pub use mime::parse_mime;
 pub use path::passes_path;
 pub use scheme::is_scheme;

@@ -11,8 +11,8 @@ use Rattle.am_types.specs.declared.resolve.Hit.{Hit}
 use Rattle.am_types.specs.declared.visible.Queries.{Queries}
 use Rattle.am_model.specs.Boards.{Board, board_of, caller_of}
 use Rattle.am_model.specs.Visibility.{visible}
-use Rattle.am_queries.specs.declared.device.Described.{Described}
-use Rattle.am_queries.specs.Queries.{described}
+use Rattle.am_manifest_queries.specs.declared.device.Described.{Described}
+use Rattle.am_manifest_queries.specs.Queries.{described}
 use Rattle.am_wire_routes.specs.declared.endpoint.Endpoint.TheVariants.{Query}
 use Rattle.am_wire_fields.specs.declared.fault.WireFault.{WireFault}
 use Rattle.am_wire_fields.specs.declared.fault.WireFault.TheVariants.{TooLong}

@@ -10,7 +10,7 @@ use crate::fault::VisibleFault;
 use crate::question::question_of;
 use crate::reply::{line_of, reply_to};
 use am_installed::caller_named;
-use am_queries::{Described, read_described};
+use am_manifest_queries::{Described, read_described};
 use am_resolve::Board;
 use am_types::{Device, List, NoMemory, Queries, Request, Text, Unmade};
 use am_wire_fields::Unread;

@@ -13,21 +13,22 @@ use Rattle.am_model.specs.Texts.{lowered}
 use Rattle.am_uri.specs.declared.text.Form.TheVariants.{Any}
 use Rattle.am_wire_routes.specs.declared.endpoint.Endpoint.{Endpoint}
 use Rattle.am_wire_routes.specs.declared.endpoint.Endpoint.TheVariants as at
+use Rattle.am_wire_routes.specs.Table.{endpoint_for}
 use Rattle.am_wire_fields.specs.declared.fault.WireFault.{WireFault}
 use Rattle.am_wire_fields.specs.declared.fault.WireFault.TheVariants.{WrongKind, TooLong}
 use Rattle.am_wire_fields.specs.Bodies.{value_of}
 use Rattle.am_wire_fields.specs.Fields.{required, required_by, required_truth, optional_truth}
-use Rattle.am_wire_fields.specs.Numbers.{required_natural, required_whole, optional_natural}
+use Rattle.am_wire_fields.specs.Numbers.{required_natural, required_up_to, required_whole, optional_natural}
 use Rattle.am_wire_fields.specs.Texts.{required_text, optional_text}
 use Rattle.am_wire_intents.specs.Components.{component_in}
 use Rattle.am_wire_intents.specs.Intents.{required_intent, optional_intent}
 use Rattle.am_wire.specs.Accounts.{asks_receivers, explain_fields, permission_for, asked_with, explain_in}
-use Rattle.am_wire.specs.Activities.{fields_of, number_in, query_in, start_in, start_service_in, stop_service_in, plain_in}
+use Rattle.am_wire.specs.Activities.{fields_of, number_in, greatest_advance, advance_in, query_in, start_in, start_service_in, stop_service_in, plain_in}
 use Rattle.am_wire.specs.Broadcasts.{is_ordered, send_fields, ordered_if, sets_outcome, finish_fields, outcome_if, send_in, sent_with, required_filter, register_in, finish_in}
 use Rattle.am_wire.specs.Pendings.{pending_get_in, pending_send_in, pending_give_in}
 use Rattle.am_wire.specs.Packages.{package_in, key_of, key_in, install_in, grant_fields, grant_in, link_in}
 use Rattle.am_wire.specs.Words.{kind_of, pending_kind_of, pending_flags_of}
-use Rattle.am_wire.specs.Requests.{endpoint_at, request_of, request_in, posted}
+use Rattle.am_wire.specs.Requests.{request_of, request_in, posted}
 
 -- an installation has an access key, and a link a host in lower case
 abbrev pub HasForm : Request → Type 0
@@ -37,7 +38,7 @@ HasForm _ = Unit {0}
 
 -- the request is asked at that endpoint and has its form
 abbrev pub IsMade : Endpoint → Request → Type 0
-IsMade endpoint request = (endpoint_at request ≡ endpoint) × HasForm request
+IsMade endpoint request = (endpoint_for request ≡ endpoint) × HasForm request
 
 -- a request that is made of a value that is read is made so, if what each value makes is
 bound : {A : Type 0} (endpoint : Endpoint) (read : Result A WireFault) (next : A → Result Request WireFault) → ((x : A) → IfOk (next x) (IsMade endpoint))
@@ -83,7 +84,7 @@ install_is_made text (Ok found) = install_with_key text (key_of (as_str found)) 
 
 -- the request that a JSON value makes at an endpoint
 value_is_made : (endpoint : Endpoint) (value : Data) → IfOk (request_in endpoint value) (IsMade endpoint)
-unfolding request_in query_in explain_in asked_with start_in plain_in start_service_in stop_service_in send_in sent_with register_in finish_in pending_get_in pending_send_in pending_give_in install_in key_in grant_in link_in
+unfolding request_in advance_in query_in explain_in asked_with start_in plain_in start_service_in stop_service_in send_in sent_with register_in finish_in pending_get_in pending_send_in pending_give_in install_in key_in grant_in link_in
 value_is_made at.Query value =
     bound at.Query (fields_of (codes "kind" ∷ codes "intent" ∷ codes "defaultOnly" ∷ []) value) _ (λ x0. bound at.Query (kind_of value) _ (λ x1. bound at.Query (required_intent (codes "intent") value) _ (λ x2. bound at.Query (optional_truth (codes "defaultOnly") value) _ (λ x3. (refl, tt)))))
 value_is_made at.Explain value =
@@ -129,6 +130,8 @@ value_is_made at.ForceStop value =
     bound at.ForceStop (package_in value) _ (λ x0. (refl, tt))
 value_is_made at.Tick value =
     bound at.Tick (fields_of [] value) _ (λ x0. (refl, tt))
+value_is_made at.Advance value =
+    bound at.Advance (fields_of (codes "by" ∷ []) value) _ (λ x0. bound at.Advance (required_up_to greatest_advance (codes "by") value) _ (λ x1. (refl, tt)))
 value_is_made at.History value =
     bound at.History (number_in (codes "from") value) _ (λ x0. (refl, tt))
 value_is_made at.Status value = (refl, tt)

@@ -1,11 +1,11 @@
--- Queries, activities and services.
+-- Bodies of one field or none, queries, activities and services.
 use Rattle.std.specs.Prelude.{ℕ, List, [], ◌∷◌, codes, Result, Ok}
 use Rattle.serde_json.specs.Data.{Data}
 use Rattle.am_types.specs.declared.request.Request.{Request}
 use Rattle.am_types.specs.declared.request.Request.TheVariants as asks
 use Rattle.am_wire_fields.specs.declared.fault.WireFault.{WireFault}
 use Rattle.am_wire_fields.specs.Fields.{only_fields, optional_truth, required_by}
-use Rattle.am_wire_fields.specs.Numbers.{required_natural, optional_natural}
+use Rattle.am_wire_fields.specs.Numbers.{required_natural, required_up_to, optional_natural}
 use Rattle.am_types.specs.Reading.{◌>>=◌}
 use Rattle.am_wire_intents.specs.Components.{component_in}
 use Rattle.am_wire_intents.specs.Intents.{required_intent}
@@ -42,6 +42,13 @@ two_in first read_first second read_second make body = do
   x ← read_first first body
   y ← read_second second body
   Ok (make x y)
+
+-- by how many milliseconds the moment is moved ahead at most: 2^50
+abbrev pub greatest_advance : ℕ
+greatest_advance = 1125899906842624
+
+unfoldable pub advance_in : Data → Result Request WireFault
+advance_in body = one_in (codes "by") (required_up_to greatest_advance) asks.Advance body
 
 unfoldable pub query_in : Data → Result Request WireFault
 query_in body = do

@@ -1,4 +1,4 @@
--- The request that a body makes at a route, or its first fault, and the endpoint of a request.
+-- The request that a body makes at a route, or its first fault.
 use Rattle.std.specs.Prelude.{ℕ, List, codes, Result, Ok}
 use Rattle.serde_json.specs.Data.{Data}
 use Rattle.am_types.specs.declared.request.Request.{Request}
@@ -8,7 +8,7 @@ use Rattle.am_wire_routes.specs.declared.endpoint.Endpoint.TheVariants as at
 use Rattle.am_wire_fields.specs.declared.fault.WireFault.{WireFault}
 use Rattle.am_wire_fields.specs.Bodies.{value_of}
 use Rattle.am_types.specs.Reading.{◌>>=◌}
-use Rattle.am_wire.specs.Activities.{plain_in, number_in, query_in, start_in, start_service_in, stop_service_in}
+use Rattle.am_wire.specs.Activities.{plain_in, number_in, advance_in, query_in, start_in, start_service_in, stop_service_in}
 use Rattle.am_wire.specs.Accounts.{explain_in}
 use Rattle.am_wire.specs.Broadcasts.{send_in, register_in, finish_in}
 use Rattle.am_wire.specs.Pendings.{pending_get_in, pending_send_in, pending_give_in}
@@ -40,37 +40,9 @@ request_in at.Grant body = grant_in body
 request_in at.Link body = link_in body
 request_in at.ForceStop body = package_in body >>= λ name. Ok (asks.ForceStop name)
 request_in at.Tick body = plain_in asks.Tick body
+request_in at.Advance body = advance_in body
 request_in at.History body = number_in (codes "from") body >>= λ from. Ok (asks.History from)
 request_in at.Status body = Ok asks.Status
-
--- the endpoint at which a request is asked
-abbrev pub endpoint_at : Request → Endpoint
-endpoint_at (asks.Query kind intent default_only) = at.Query
-endpoint_at (asks.Explain kind intent caller permission shown) = at.Explain
-endpoint_at (asks.Start intent source) = at.Start
-endpoint_at (asks.FinishActivity instance) = at.FinishActivity
-endpoint_at asks.Back = at.Back
-endpoint_at asks.ListTasks = at.ListTasks
-endpoint_at (asks.StartService intent) = at.StartService
-endpoint_at (asks.StopService component) = at.StopService
-endpoint_at asks.Services = at.Services
-endpoint_at (asks.Send intent permission ordered) = at.Send
-endpoint_at (asks.Register filter permission) = at.Register
-endpoint_at (asks.Unregister number) = at.Unregister
-endpoint_at asks.Inbox = at.Inbox
-endpoint_at (asks.Finish delivery answer) = at.Finish
-endpoint_at (asks.PendingGet kind code intent flags) = at.PendingGet
-endpoint_at (asks.PendingSend token fill) = at.PendingSend
-endpoint_at (asks.PendingCancel token) = at.PendingCancel
-endpoint_at (asks.PendingGive token «package») = at.PendingGive
-endpoint_at (asks.Install text key) = at.Install
-endpoint_at (asks.Uninstall «package») = at.Uninstall
-endpoint_at (asks.Grant «package» permission held) = at.Grant
-endpoint_at (asks.Link «package» host approved) = at.Link
-endpoint_at (asks.ForceStop «package») = at.ForceStop
-endpoint_at asks.Tick = at.Tick
-endpoint_at (asks.History from) = at.History
-endpoint_at asks.Status = at.Status
 
 -- the request that the bytes of a body make by their JSON value
 unfoldable pub posted : Endpoint → List ℕ → Result Request WireFault

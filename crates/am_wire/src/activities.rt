@@ -1,14 +1,15 @@
-//! Queries, activities and services.
+//! Bodies of one field or none, queries, activities and services.
 ghost use Rattle.std.specs.Prelude.{[], ◌∷◌, codes, map, if◌then◌else◌};
 ghost use Rattle.serde_json.specs.View.{view};
 ghost use Rattle.am_wire_fields.specs.Fields.{optional_truth};
 ghost use Rattle.am_types.specs.Reading.{Gives};
-ghost use Rattle.am_wire.specs.Activities.{fields_of, plain_in, number_in, query_in, start_in, start_service_in, stop_service_in};
+ghost use Rattle.am_wire.specs.Activities.{fields_of, plain_in, number_in, advance_in, query_in, start_in, start_service_in, stop_service_in};
 
 use crate::words::kind_of;
 use am_types::Request;
 use am_wire_fields::{
     Unread, only_fields, optional_natural, optional_truth, or_drop, required, required_natural,
+    required_up_to,
 };
 use am_wire_intents::{component_in, required_intent};
 use serde_json::Value;
@@ -57,6 +58,19 @@ pub fn number_in(alloc: Global, name: &str, body: &Value) -> Result<u64, Unread>
 {
     fields_of(alloc, &[name], body)?;
     required_natural(alloc, name, body)
+}
+
+/// By how many milliseconds the moment is moved ahead at most: 2^50.
+const GREATEST_ADVANCE: u64 = 1_125_899_906_842_624;
+
+/// A move of the moment ahead: `by`, a number of milliseconds.
+#[tactic(auto, unfolding(crate::specs::Activities::advance_in))]
+pub fn advance_in(alloc: Global, body: &Value) -> Result<Request, Unread>
+    ensures { Gives result (advance_in (view body.now)) }
+{
+    fields_of(alloc, &["by"], body)?;
+    let by = required_up_to(alloc, GREATEST_ADVANCE, "by", body)?;
+    Ok(Request::Advance { by })
 }
 
 /// Refuses a body with other fields than those of a query.

@@ -5,7 +5,7 @@ ghost use Rattle.am_wire.specs.Requests.{request_in, posted, request_of};
 
 use crate::accounts::explain_in;
 use crate::activities::{
-    number_in, plain_in, query_in, start_in, start_service_in, stop_service_in,
+    advance_in, number_in, plain_in, query_in, start_in, start_service_in, stop_service_in,
 };
 use crate::broadcasts::{finish_in, register_in, send_in};
 use crate::packages::{grant_in, install_in, link_in, package_in};
@@ -56,6 +56,7 @@ fn request_in(alloc: Global, endpoint: Endpoint, body: &Value) -> Result<Request
             package: package_in(alloc, body)?,
         }),
         Endpoint::Tick => plain_in(alloc, Request::Tick, body),
+        Endpoint::Advance => advance_in(alloc, body),
         Endpoint::History => Ok(Request::History {
             from: number_in(alloc, "from", body)?,
         }),
@@ -98,15 +99,16 @@ fn posted(alloc: Global, endpoint: Endpoint, body: &[u8]) -> Result<Request, Unr
 /// | `Uninstall`, `ForceStop` | `package` |
 /// | `Grant` | `package`, `permission`, `held` |
 /// | `Link` | `package`, `host`, `approved` |
+/// | `Advance` | `by` |
 /// | `History` | `from` |
 ///
 /// `source`, `instance`, `number`, `delivery`, `token` and `from` are whole numbers from 0 to
-/// 18,446,744,073,709,551,615, and `code` is one from -9,223,372,036,854,775,808 to 9,223,372,036,854,775,807, 0 where
-/// an ordered broadcast has none. `defaultOnly`, `ordered`, `result`, `abort`, `held` and `approved` are truths, false
-/// where they aren't there. `as`, `permission`, `of`, `data`, `package` and `host` are texts of at most 1,024 bytes,
-/// `manifest` is one of at most 65,536, and `key` has 1 to 255 visible ASCII characters. `flags` lists 64 names of
-/// pending flags at most. A host is put in lower ASCII case. A field that is `null` counts as absent, and of a key that
-/// stands twice in an object the last value counts.
+/// 18,446,744,073,709,551,615, `by` is one from 0 to 1,125,899,906,842,624, and `code` is one from
+/// -9,223,372,036,854,775,808 to 9,223,372,036,854,775,807, 0 where an ordered broadcast has none. `defaultOnly`,
+/// `ordered`, `result`, `abort`, `held` and `approved` are truths, false where they aren't there. `as`, `permission`,
+/// `of`, `data`, `package` and `host` are texts of at most 1,024 bytes, `manifest` is one of at most 65,536, and `key`
+/// has 1 to 255 visible ASCII characters. `flags` lists 64 names of pending flags at most. A host is put in lower ASCII
+/// case. A field that is `null` counts as absent, and of a key that stands twice in an object the last value counts.
 ///
 /// # Errors
 ///

@@ -18,6 +18,7 @@ pub use fields::{field, is_listed, only_fields, optional_truth, required, requir
 pub use lists::{list_in, optional_list, optional_texts, texts_in, word_in, words_in};
 pub use naming::{missing, too_long, unknown_field, wrong_kind};
 pub use numbers::{
-    natural_in, optional_natural, optional_whole, required_natural, required_whole, whole_in,
+    natural_in, optional_natural, optional_whole, required_natural, required_up_to, required_whole,
+    whole_in,
 };
 pub use texts::{optional_text, required_text, text_in, text_within};

@@ -1,7 +1,7 @@
 //! The fields that say whole numbers. A number with a fraction or an exponent is none, and neither is -0.
 ghost use Rattle.serde_json.specs.View.{view};
 ghost use Rattle.am_types.specs.Reading.{Gives};
-ghost use Rattle.am_wire_fields.specs.Numbers.{natural_in, optional_natural, optional_whole, required_natural, required_whole, whole_in};
+ghost use Rattle.am_wire_fields.specs.Numbers.{natural_in, optional_natural, optional_whole, required_natural, required_up_to, required_whole, whole_in};
 
 use crate::fields::required;
 use crate::naming::wrong_kind;
@@ -50,6 +50,27 @@ pub fn required_natural(alloc: Global, name: &str, object: &Value) -> Result<u64
 {
     let value = required(alloc, name, object)?;
     natural_in(alloc, name, value)
+}
+
+/// The number from 0 to this one that a field says, which must be there.
+///
+/// # Errors
+///
+/// Where the field isn't there or is null, and then where it says no such number.
+#[tactic(auto, unfolding(crate::specs::Numbers::required_up_to))]
+pub fn required_up_to(
+    alloc: Global,
+    greatest: u64,
+    name: &str,
+    object: &Value,
+) -> Result<u64, Unread>
+    ensures { Gives result (required_up_to greatest name.now (view object.now)) }
+{
+    let number = required_natural(alloc, name, object)?;
+    if number > greatest {
+        return Err(wrong_kind(alloc, name));
+    }
+    Ok(number)
 }
 
 /// The signed number that a field says, which must be there.

@@ -10,7 +10,7 @@ use Rattle.matchit.specs.Level.{IsText}
 use Rattle.matchit.specs.Route.{Scan, scan, parse_route, outside}
 use Rattle.am_wire_routes.specs.declared.endpoint.Endpoint.{Endpoint}
 use Rattle.am_wire_routes.specs.declared.endpoint.Endpoint.TheVariants.{Query}
-use Rattle.am_wire_routes.specs.Table.{path_of, endpoints, is_at, found_at, endpoint_at}
+use Rattle.am_wire_routes.specs.Table.{path_of, method_of, endpoints, is_at, found_at, endpoint_at, endpoint_of}
 
 -- each byte is below 128
 abbrev are_ascii : List ℕ → Bool
@@ -99,3 +99,15 @@ new-among before (e ∷ rest) i d h l =
 -- each request's path is that of none before it
 pub new-path : (i : ℕ) (d : Endpoint) → i < length endpoints → found_at (take i endpoints) (path_of (get_or endpoints i d)) ≡ None
 new-path i d l = new-among [] endpoints i d refl l
+
+-- the request of a request's path is that one, in each case
+pub own_path : (e : Endpoint) → endpoint_at (path_of e) ≡ Some e
+unfolding endpoint_at
+own_path Query = refl
+own_path _ = refl
+
+-- and it is asked for by its method and its path
+pub own_route : (e : Endpoint) → endpoint_of (method_of e) (path_of e) ≡ Ok e
+unfolding endpoint_at
+own_route Query = refl
+own_route _ = refl

@@ -1,8 +1,11 @@
--- The requests of the interface: the path and the method of each, and which request a method and a target ask for.
+-- The endpoints of the interface: the path and the method of each, which of them a method and a target ask for, and at which
+-- of them a request is asked.
 use Rattle.std.specs.Prelude.{ℕ, List, [], ◌∷◌, Bool, Option, None, Some, Result, Ok, Err, codes, bytes_eq, ◌==◌, if◌then◌else◌}
 use Rattle.std.specs.List.{before_first, find}
+use Rattle.am_types.specs.declared.request.Request.{Request}
+use Rattle.am_types.specs.declared.request.Request.TheVariants as asks
 use Rattle.am_wire_routes.specs.declared.endpoint.Endpoint.{Endpoint}
-use Rattle.am_wire_routes.specs.declared.endpoint.Endpoint.TheVariants.{Query, Explain, Start, FinishActivity, Back, ListTasks, StartService, StopService, Services, Send, Register, Unregister, Inbox, Finish, PendingGet, PendingSend, PendingCancel, PendingGive, Install, Uninstall, Grant, Link, ForceStop, Tick, History, Status}
+use Rattle.am_wire_routes.specs.declared.endpoint.Endpoint.TheVariants as at
 use Rattle.am_wire_routes.specs.declared.routes.RouteFault.{RouteFault}
 use Rattle.am_wire_routes.specs.declared.routes.RouteFault.TheVariants.{NoRoute, NoMethod}
 
@@ -21,32 +24,33 @@ post path = record { method = codes "POST"; path = path }
 
 -- the method and the path of each request
 abbrev pub line_of : Endpoint → Line
-line_of Query = post (codes "/v1/query")
-line_of Explain = post (codes "/v1/explain")
-line_of Start = post (codes "/v1/start")
-line_of FinishActivity = post (codes "/v1/finish_activity")
-line_of Back = post (codes "/v1/back")
-line_of ListTasks = get (codes "/v1/tasks")
-line_of StartService = post (codes "/v1/start_service")
-line_of StopService = post (codes "/v1/stop_service")
-line_of Services = get (codes "/v1/services")
-line_of Send = post (codes "/v1/send")
-line_of Register = post (codes "/v1/register")
-line_of Unregister = post (codes "/v1/unregister")
-line_of Inbox = get (codes "/v1/inbox")
-line_of Finish = post (codes "/v1/finish")
-line_of PendingGet = post (codes "/v1/pending/get")
-line_of PendingSend = post (codes "/v1/pending/send")
-line_of PendingCancel = post (codes "/v1/pending/cancel")
-line_of PendingGive = post (codes "/v1/pending/give")
-line_of Install = post (codes "/v1/install")
-line_of Uninstall = post (codes "/v1/uninstall")
-line_of Grant = post (codes "/v1/grant")
-line_of Link = post (codes "/v1/link")
-line_of ForceStop = post (codes "/v1/force_stop")
-line_of Tick = post (codes "/v1/tick")
-line_of History = post (codes "/v1/history")
-line_of Status = get (codes "/v1/status")
+line_of at.Query = post (codes "/v1/query")
+line_of at.Explain = post (codes "/v1/explain")
+line_of at.Start = post (codes "/v1/start")
+line_of at.FinishActivity = post (codes "/v1/finish_activity")
+line_of at.Back = post (codes "/v1/back")
+line_of at.ListTasks = get (codes "/v1/tasks")
+line_of at.StartService = post (codes "/v1/start_service")
+line_of at.StopService = post (codes "/v1/stop_service")
+line_of at.Services = get (codes "/v1/services")
+line_of at.Send = post (codes "/v1/send")
+line_of at.Register = post (codes "/v1/register")
+line_of at.Unregister = post (codes "/v1/unregister")
+line_of at.Inbox = get (codes "/v1/inbox")
+line_of at.Finish = post (codes "/v1/finish")
+line_of at.PendingGet = post (codes "/v1/pending/get")
+line_of at.PendingSend = post (codes "/v1/pending/send")
+line_of at.PendingCancel = post (codes "/v1/pending/cancel")
+line_of at.PendingGive = post (codes "/v1/pending/give")
+line_of at.Install = post (codes "/v1/install")
+line_of at.Uninstall = post (codes "/v1/uninstall")
+line_of at.Grant = post (codes "/v1/grant")
+line_of at.Link = post (codes "/v1/link")
+line_of at.ForceStop = post (codes "/v1/force_stop")
+line_of at.Tick = post (codes "/v1/tick")
+line_of at.Advance = post (codes "/v1/advance")
+line_of at.History = post (codes "/v1/history")
+line_of at.Status = get (codes "/v1/status")
 
 -- the path of a request
 abbrev pub path_of : Endpoint → List ℕ
@@ -59,9 +63,10 @@ method_of endpoint = (line_of endpoint).method
 -- every request
 abbrev pub endpoints : List Endpoint
 endpoints =
-    Query ∷ Explain ∷ Start ∷ FinishActivity ∷ Back ∷ ListTasks ∷ StartService ∷ StopService ∷ Services ∷ Send
-    ∷ Register ∷ Unregister ∷ Inbox ∷ Finish ∷ PendingGet ∷ PendingSend ∷ PendingCancel ∷ PendingGive ∷ Install
-    ∷ Uninstall ∷ Grant ∷ Link ∷ ForceStop ∷ Tick ∷ History ∷ Status ∷ []
+    at.Query ∷ at.Explain ∷ at.Start ∷ at.FinishActivity ∷ at.Back ∷ at.ListTasks ∷ at.StartService ∷ at.StopService
+    ∷ at.Services ∷ at.Send ∷ at.Register ∷ at.Unregister ∷ at.Inbox ∷ at.Finish ∷ at.PendingGet ∷ at.PendingSend
+    ∷ at.PendingCancel ∷ at.PendingGive ∷ at.Install ∷ at.Uninstall ∷ at.Grant ∷ at.Link ∷ at.ForceStop ∷ at.Tick
+    ∷ at.Advance ∷ at.History ∷ at.Status ∷ []
 
 -- the request's path is this one
 abbrev pub is_at : List ℕ → Endpoint → Bool
@@ -91,3 +96,33 @@ asked method (Some endpoint) = if bytes_eq method (method_of endpoint) then Ok e
 -- which request the method and the target ask for
 abbrev pub endpoint_of : List ℕ → List ℕ → Result Endpoint RouteFault
 endpoint_of method target = asked method (endpoint_at (path_in target))
+
+-- the endpoint at which a request is asked
+abbrev pub endpoint_for : Request → Endpoint
+endpoint_for (asks.Query kind intent default_only) = at.Query
+endpoint_for (asks.Explain kind intent caller permission shown) = at.Explain
+endpoint_for (asks.Start intent source) = at.Start
+endpoint_for (asks.FinishActivity instance) = at.FinishActivity
+endpoint_for asks.Back = at.Back
+endpoint_for asks.ListTasks = at.ListTasks
+endpoint_for (asks.StartService intent) = at.StartService
+endpoint_for (asks.StopService component) = at.StopService
+endpoint_for asks.Services = at.Services
+endpoint_for (asks.Send intent permission ordered) = at.Send
+endpoint_for (asks.Register filter permission) = at.Register
+endpoint_for (asks.Unregister number) = at.Unregister
+endpoint_for asks.Inbox = at.Inbox
+endpoint_for (asks.Finish delivery answer) = at.Finish
+endpoint_for (asks.PendingGet kind code intent flags) = at.PendingGet
+endpoint_for (asks.PendingSend token fill) = at.PendingSend
+endpoint_for (asks.PendingCancel token) = at.PendingCancel
+endpoint_for (asks.PendingGive token «package») = at.PendingGive
+endpoint_for (asks.Install text key) = at.Install
+endpoint_for (asks.Uninstall «package») = at.Uninstall
+endpoint_for (asks.Grant «package» permission held) = at.Grant
+endpoint_for (asks.Link «package» host approved) = at.Link
+endpoint_for (asks.ForceStop «package») = at.ForceStop
+endpoint_for asks.Tick = at.Tick
+endpoint_for (asks.Advance by) = at.Advance
+endpoint_for (asks.History from) = at.History
+endpoint_for asks.Status = at.Status

@@ -1,6 +1,7 @@
 ghost use Rattle.std.specs.Prelude.{◌≡◌, Ok};
-ghost use Rattle.am_wire_routes.specs.Table.{endpoint_of, method_of, path_of};
+ghost use Rattle.am_wire_routes.specs.Table.{endpoint_for, endpoint_of, method_of, path_of};
 
+use am_types::Request;
 use http::Method;
 
 /// A request that the interface answers.
@@ -54,6 +55,8 @@ pub enum Endpoint {
     ForceStop,
     /// `POST /v1/tick`.
     Tick,
+    /// `POST /v1/advance`.
+    Advance,
     /// `POST /v1/history`.
     History,
     /// `GET /v1/status`.
@@ -62,7 +65,7 @@ pub enum Endpoint {
 
 impl Endpoint {
     /// Every request, in the order of the variants.
-    pub const ALL: [Endpoint; 26] = [
+    pub const ALL: [Endpoint; 27] = [
         Endpoint::Query,
         Endpoint::Explain,
         Endpoint::Start,
@@ -87,55 +90,97 @@ impl Endpoint {
         Endpoint::Link,
         Endpoint::ForceStop,
         Endpoint::Tick,
+        Endpoint::Advance,
         Endpoint::History,
         Endpoint::Status,
     ];
 
     /// The path that asks for the request. Takes no memory.
-    #[tactic(auto, unfolding(crate::specs::Table::endpoint_at))]
+    #[tactic(auto, using(crate::proofs::Paths::own_route))]
     pub fn path(self) -> &'static str
         ensures path { result.now ≡ path_of self }
         ensures listed { endpoint_of (method_of self) result.now ≡ Ok self }
     {
-        match self {
-            Endpoint::Query => "/v1/query",
-            Endpoint::Explain => "/v1/explain",
-            Endpoint::Start => "/v1/start",
-            Endpoint::FinishActivity => "/v1/finish_activity",
-            Endpoint::Back => "/v1/back",
-            Endpoint::ListTasks => "/v1/tasks",
-            Endpoint::StartService => "/v1/start_service",
-            Endpoint::StopService => "/v1/stop_service",
-            Endpoint::Services => "/v1/services",
-            Endpoint::Send => "/v1/send",
-            Endpoint::Register => "/v1/register",
-            Endpoint::Unregister => "/v1/unregister",
-            Endpoint::Inbox => "/v1/inbox",
-            Endpoint::Finish => "/v1/finish",
-            Endpoint::PendingGet => "/v1/pending/get",
-            Endpoint::PendingSend => "/v1/pending/send",
-            Endpoint::PendingCancel => "/v1/pending/cancel",
-            Endpoint::PendingGive => "/v1/pending/give",
-            Endpoint::Install => "/v1/install",
-            Endpoint::Uninstall => "/v1/uninstall",
-            Endpoint::Grant => "/v1/grant",
-            Endpoint::Link => "/v1/link",
-            Endpoint::ForceStop => "/v1/force_stop",
-            Endpoint::Tick => "/v1/tick",
-            Endpoint::History => "/v1/history",
-            Endpoint::Status => "/v1/status",
-        }
+        let (_, path) = self.line();
+        path
     }
 
     /// The one method that asks for the request. Takes no memory.
     pub fn method(self) -> Method
         ensures { result ≡ method_of self }
     {
+        let (method, _) = self.line();
+        method
+    }
+
+    // The method and the path that ask for the request.
+    fn line(self) -> (Method, &'static str)
+        ensures method { result.0 ≡ method_of self }
+        ensures path { result.1.now ≡ path_of self }
+    {
         match self {
-            Endpoint::ListTasks | Endpoint::Services | Endpoint::Inbox | Endpoint::Status => {
-                Method::GET
-            }
-            _ => Method::POST,
+            Endpoint::Query => (Method::POST, "/v1/query"),
+            Endpoint::Explain => (Method::POST, "/v1/explain"),
+            Endpoint::Start => (Method::POST, "/v1/start"),
+            Endpoint::FinishActivity => (Method::POST, "/v1/finish_activity"),
+            Endpoint::Back => (Method::POST, "/v1/back"),
+            Endpoint::ListTasks => (Method::GET, "/v1/tasks"),
+            Endpoint::StartService => (Method::POST, "/v1/start_service"),
+            Endpoint::StopService => (Method::POST, "/v1/stop_service"),
+            Endpoint::Services => (Method::GET, "/v1/services"),
+            Endpoint::Send => (Method::POST, "/v1/send"),
+            Endpoint::Register => (Method::POST, "/v1/register"),
+            Endpoint::Unregister => (Method::POST, "/v1/unregister"),
+            Endpoint::Inbox => (Method::GET, "/v1/inbox"),
+            Endpoint::Finish => (Method::POST, "/v1/finish"),
+            Endpoint::PendingGet => (Method::POST, "/v1/pending/get"),
+            Endpoint::PendingSend => (Method::POST, "/v1/pending/send"),
+            Endpoint::PendingCancel => (Method::POST, "/v1/pending/cancel"),
+            Endpoint::PendingGive => (Method::POST, "/v1/pending/give"),
+            Endpoint::Install => (Method::POST, "/v1/install"),
+            Endpoint::Uninstall => (Method::POST, "/v1/uninstall"),
+            Endpoint::Grant => (Method::POST, "/v1/grant"),
+            Endpoint::Link => (Method::POST, "/v1/link"),
+            Endpoint::ForceStop => (Method::POST, "/v1/force_stop"),
+            Endpoint::Tick => (Method::POST, "/v1/tick"),
+            Endpoint::Advance => (Method::POST, "/v1/advance"),
+            Endpoint::History => (Method::POST, "/v1/history"),
+            Endpoint::Status => (Method::GET, "/v1/status"),
         }
+    }
+}
+
+/// The endpoint at which the request is asked. Takes no memory.
+pub fn endpoint_of(request: &Request) -> Endpoint
+    ensures { result ≡ endpoint_for request.now }
+{
+    match request {
+        Request::Query { .. } => Endpoint::Query,
+        Request::Explain { .. } => Endpoint::Explain,
+        Request::Start { .. } => Endpoint::Start,
+        Request::FinishActivity { .. } => Endpoint::FinishActivity,
+        Request::Back => Endpoint::Back,
+        Request::ListTasks => Endpoint::ListTasks,
+        Request::StartService { .. } => Endpoint::StartService,
+        Request::StopService { .. } => Endpoint::StopService,
+        Request::Services => Endpoint::Services,
+        Request::Send { .. } => Endpoint::Send,
+        Request::Register { .. } => Endpoint::Register,
+        Request::Unregister { .. } => Endpoint::Unregister,
+        Request::Inbox => Endpoint::Inbox,
+        Request::Finish { .. } => Endpoint::Finish,
+        Request::PendingGet { .. } => Endpoint::PendingGet,
+        Request::PendingSend { .. } => Endpoint::PendingSend,
+        Request::PendingCancel { .. } => Endpoint::PendingCancel,
+        Request::PendingGive { .. } => Endpoint::PendingGive,
+        Request::Install { .. } => Endpoint::Install,
+        Request::Uninstall { .. } => Endpoint::Uninstall,
+        Request::Grant { .. } => Endpoint::Grant,
+        Request::Link { .. } => Endpoint::Link,
+        Request::ForceStop { .. } => Endpoint::ForceStop,
+        Request::Tick => Endpoint::Tick,
+        Request::Advance { .. } => Endpoint::Advance,
+        Request::History { .. } => Endpoint::History,
+        Request::Status => Endpoint::Status,
     }
 }

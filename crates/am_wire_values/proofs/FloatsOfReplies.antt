@@ -100,4 +100,5 @@ reply_none (says.Started component starts) = refl
 reply_none (says.Sent broadcast receivers) = neither _ _ (mapped_none receiving_data (λ r. offered_none r.aim r.skip) receivers) refl
 reply_none (says.Entries from entries) = neither _ _ (entries_none from entries) refl
 reply_none (says.Status history moment packages) = refl
+reply_none (says.Advanced due now) = neither _ _ (or_null_none natural (λ n. refl) due) refl
 reply_none says.Plain = refl

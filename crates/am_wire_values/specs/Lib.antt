@@ -3,6 +3,5 @@ pub mod Names
 pub mod Intents
 pub mod Filters
 pub mod Requests
-pub mod Routes
 pub mod Rules
 pub mod Replies

@@ -20,11 +20,11 @@ use Rattle.am_types.specs.declared.task.InstanceView.{InstanceView}
 use Rattle.am_types.specs.declared.task.Landed.{Landed}
 use Rattle.am_types.specs.declared.task.ServiceView.{ServiceView}
 use Rattle.am_types.specs.declared.task.TaskView.{TaskView}
+use Rattle.am_wire_routes.specs.Table.{endpoint_for, path_of}
 use Rattle.am_wire_values.specs.Fields.{natural, or_null, whole, listed}
 use Rattle.am_wire_values.specs.Intents.{component_data, extras_data, intent_data}
 use Rattle.am_wire_values.specs.Names.{narrowing_name, placed_name, why_name}
 use Rattle.am_wire_values.specs.Requests.{request_data}
-use Rattle.am_wire_values.specs.Routes.{route_of}
 use Rattle.am_wire_values.specs.Rules.{rule_name, named_by, refusal_data, rule_status}
 
 -- components under a name
@@ -132,7 +132,7 @@ unfoldable pub entry_data : ℕ → Entry → Data
 entry_data at entry =
     object (member (codes "at") (natural at) (member (codes "desk") (natural entry.desk)
     (member (codes "kept") (boolean entry.kept) (member (codes "now") (natural entry.now)
-    (member (codes "request") (request_data entry.request) (member (codes "route") (string (route_of entry.request))
+    (member (codes "request") (request_data entry.request) (member (codes "route") (string (path_of (endpoint_for entry.request)))
     (member (codes "uid") (natural entry.uid) (member (codes "weight") (natural entry.weight) no_members))))))))
 
 -- stored calls that follow each other
@@ -164,6 +164,8 @@ reply_data (says.Entries from entries) =
 reply_data (says.Status history moment packages) =
     object (member (codes "history") (natural history) (member (codes "moment") (natural moment)
     (member (codes "packages") (natural packages) no_members)))
+reply_data (says.Advanced due now) =
+    object (member (codes "due") (or_null (option_map natural due)) (member (codes "now") (natural now) no_members))
 reply_data says.Plain = object no_members
 
 -- the status of a reply

@@ -121,5 +121,6 @@ request_data (asks.Grant name permission held) = grant_data name permission held
 request_data (asks.Link name host approved) = link_data name host approved
 request_data (asks.ForceStop name) = with_one (codes "package") (string name)
 request_data asks.Tick = object no_members
+request_data (asks.Advance by) = with_one (codes "by") (natural by)
 request_data (asks.History from) = with_one (codes "from") (natural from)
 request_data asks.Status = object no_members

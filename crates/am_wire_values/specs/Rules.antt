@@ -2,7 +2,7 @@
 use Rattle.std.specs.Prelude.{ℕ, List, codes, Option, Some, None}
 use Rattle.serde_json.specs.Data.{Data, string, object, no_members, member}
 use Rattle.am_types.specs.declared.rule.Limit.{Limit}
-use Rattle.am_types.specs.declared.rule.Limit.TheVariants.{Packages, Grants, Links, Registered, Broadcasts, Receivers, Pending, Holders, Extras, Tasks, Activities, Services}
+use Rattle.am_types.specs.declared.rule.Limit.TheVariants.{Packages, Grants, Links, Registered, Broadcasts, Receivers, Pending, Holders, Extras, Tasks, Activities, Services, Moment}
 use Rattle.am_types.specs.declared.rule.Rule.{Rule}
 use Rattle.am_types.specs.declared.rule.Rule.TheVariants.{UnknownKey, HistoryFull, AdminOnly, NoPackage, NoComponent, NoActivity, NoInstance, NoDelivery, NoToken, NoService, NoReceiver, NotExported, NeedsPermission, ProtectedAction, NotYours, NotHolder, NotCreator, ImplicitService, NeedsNewTask, Mutability, NotOrdered, Installed, Canceled, OverLimit, BadManifest, KeeperFault, RegisteredOnly, ManifestImplicit, StoppedPackage, ReceiverLacks}
 use Rattle.am_types.specs.Printing.{printed}
@@ -21,6 +21,7 @@ limit_name Extras = codes "extras"
 limit_name Tasks = codes "tasks"
 limit_name Activities = codes "activities"
 limit_name Services = codes "services"
+limit_name Moment = codes "moment"
 
 -- the status and the name of a refusal; the last four rules skip a receiver and never refuse a request
 abbrev pub refusal_of : Rule → ℕ × List ℕ

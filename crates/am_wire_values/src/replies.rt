@@ -71,6 +71,7 @@ fn put_reply(alloc: Global, members: &mut Members, reply: &Reply) -> Result<(), 
             packages,
         } =>
             put_all!(alloc, members, "history" => history, "moment" => moment, "packages" => packages),
+        Reply::Advanced { due, now } => put_all!(alloc, members, "due" => due, "now" => now),
         Reply::Plain => Ok(()),
     }
 }

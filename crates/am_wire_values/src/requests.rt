@@ -94,6 +94,7 @@ fn put_request(alloc: Global, members: &mut Members, request: &Request) -> Resul
             approved,
         } => put_all!(alloc, members, "package" => package, "host" => host, "approved" => approved),
         Request::ForceStop { package } => put_shown(alloc, members, "package", package),
+        Request::Advance { by } => put_shown(alloc, members, "by", by),
         Request::History { from } => put_shown(alloc, members, "from", from),
         Request::Back
         | Request::ListTasks

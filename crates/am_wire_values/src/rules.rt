@@ -81,6 +81,7 @@ fn limit_name(limit: Limit) -> &'static str
         Limit::Tasks => "tasks",
         Limit::Activities => "activities",
         Limit::Services => "services",
+        Limit::Moment => "moment",
     }
 }
 

@@ -11,13 +11,13 @@ ghost use Rattle.am_wire_values.specs.Rules.{named_by, rule_name};
 use crate::fields::{Members, put_word};
 use crate::intents::extras_value;
 use crate::names::placed_name;
-use crate::routes::route_of;
 use crate::rules::{named_by, rule_name};
 use crate::shown::{Shown, object_of, object_with, put_shown};
 use am_types::{
     Aim, Entry, InstanceView, Intent, Item, ItemKind, Landed, Outcome, Receiving, Rule,
     ServiceView, TaskView,
 };
+use am_wire_routes::endpoint_of;
 use serde_json::{Map, Value, put};
 use std::alloc::{AllocError, Global};
 
@@ -227,7 +227,12 @@ fn entry_value(alloc: Global, at: u64, call: &Entry) -> Result<Value, AllocError
     put_shown(alloc, &mut members, "kept", &call.kept)?;
     put_shown(alloc, &mut members, "now", &call.now)?;
     put_shown(alloc, &mut members, "request", &call.request)?;
-    put_word(alloc, &mut members, "route", route_of(&call.request))?;
+    put_word(
+        alloc,
+        &mut members,
+        "route",
+        endpoint_of(&call.request).path(),
+    )?;
     put_shown(alloc, &mut members, "uid", &call.uid)?;
     put_shown(alloc, &mut members, "weight", &call.weight)?;
     Ok(Value::Object(members))

@@ -2,14 +2,14 @@
 use Rattle.std.proofs.Common.{◌≡◌, refl, List, [], ◌∷◌, Option, Some, None}
 use Rattle.std.specs.Prelude.{codes, ⊤}
 use Rattle.am_words.specs.Options.{Text, options_in, options_of}
-use Rattle.am_words.specs.Values.{number_of, number_in, optional_number_in, path_of, optional_path_of, clock_of}
+use Rattle.am_words.specs.Values.{number_of, number_in, optional_number_in, path_of, optional_path_of, moment_of, clock_of}
 use Rattle.am_words.specs.Grammar.{drill_of, named, read_command, serve_of, session_of, visible_of}
 use Rattle.am_words.specs.declared.command.Command.{Command}
 use Rattle.am_words.specs.declared.command.Command.TheVariants.{Session, Serve, Drill, Visible}
 use Rattle.am_words.specs.declared.command.StepWords.{StepWords}
 
 unfoldable on_literals : ⊤
-unfolding options_in options_of number_of number_in optional_number_in path_of optional_path_of clock_of drill_of named read_command serve_of session_of visible_of
+unfolding options_in options_of number_of number_in optional_number_in path_of optional_path_of moment_of clock_of drill_of named read_command serve_of session_of visible_of
 on_literals = tt
 
 abbrev no_command : List Text → Type 0
@@ -30,12 +30,12 @@ unfolding on_literals
 session_whole = refl
 
 serve_plain : read_command (codes "serve" ∷ codes "--device" ∷ codes "d" ∷ codes "--port" ∷ codes "1" ∷ codes "--workers=64" ∷ [])
-    ≡ Some (Serve (record { device = codes "d"; port = 1; workers = 64; store = None; connections = None }))
+    ≡ Some (Serve (record { device = codes "d"; port = 1; workers = 64; store = None; connections = None; at = None }))
 unfolding on_literals
 serve_plain = refl
 
-serve_whole : read_command (codes "serve" ∷ codes "--connections=1000000" ∷ codes "--workers=1" ∷ codes "--port=65535" ∷ codes "--store=s" ∷ codes "--device=d" ∷ [])
-    ≡ Some (Serve (record { device = codes "d"; port = 65535; workers = 1; store = Some (codes "s"); connections = Some 1000000 }))
+serve_whole : read_command (codes "serve" ∷ codes "--connections=1000000" ∷ codes "--at" ∷ codes "7" ∷ codes "--workers=1" ∷ codes "--port=65535" ∷ codes "--store=s" ∷ codes "--device=d" ∷ [])
+    ≡ Some (Serve (record { device = codes "d"; port = 65535; workers = 1; store = Some (codes "s"); connections = Some 1000000; at = Some 7 }))
 unfolding on_literals
 serve_whole = refl
 
@@ -133,6 +133,23 @@ greatest_port = refl
 greatest_workers : no_command (codes "serve" ∷ codes "--device=d" ∷ codes "--port=1" ∷ codes "--workers=65" ∷ [])
 unfolding on_literals
 greatest_workers = refl
+
+greatest_moment : read_command (codes "serve" ∷ codes "--device=d" ∷ codes "--port=1" ∷ codes "--workers=1" ∷ codes "--at=18446744073709551615" ∷ [])
+    ≡ Some (Serve (record { device = codes "d"; port = 1; workers = 1; store = None; connections = None; at = Some 18446744073709551615 }))
+unfolding on_literals
+greatest_moment = refl
+
+moment_too_great : no_command (codes "serve" ∷ codes "--device=d" ∷ codes "--port=1" ∷ codes "--workers=1" ∷ codes "--at=18446744073709551616" ∷ [])
+unfolding on_literals
+moment_too_great = refl
+
+no_moment : no_command (codes "serve" ∷ codes "--device=d" ∷ codes "--port=1" ∷ codes "--workers=1" ∷ codes "--at=" ∷ [])
+unfolding on_literals
+no_moment = refl
+
+step_of_a_serving : no_command (codes "serve" ∷ codes "--device=d" ∷ codes "--port=1" ∷ codes "--workers=1" ∷ codes "--at=1" ∷ codes "--step=0" ∷ [])
+unfolding on_literals
+step_of_a_serving = refl
 
 number_too_great : number_of (codes "18446744073709551616") ≡ None
 unfolding number_of

@@ -1,7 +1,7 @@
 -- The words behind the program's name: a command, then its options in any order.
 use Rattle.std.specs.Prelude.{Bool, false, ◌||◌, if◌then◌else◌, List, [], ◌∷◌, Option, Some, None, option_and_then, bytes_eq, codes}
 use Rattle.am_words.specs.Options.{Text, options_of, value_of}
-use Rattle.am_words.specs.Values.{◌>>=◌, number_in, optional_number_in, path_of, optional_path_of, clock_of}
+use Rattle.am_words.specs.Values.{◌>>=◌, number_in, optional_number_in, path_of, optional_path_of, moment_of, clock_of}
 use Rattle.am_words.specs.declared.command.Command.{Command}
 use Rattle.am_words.specs.declared.command.Command.TheVariants.{Session, Serve, Drill, Visible}
 
@@ -11,7 +11,7 @@ abbrev pub session_names : List Text
 session_names = codes "device" ∷ codes "store" ∷ codes "at" ∷ codes "step" ∷ []
 
 abbrev pub serve_names : List Text
-serve_names = codes "device" ∷ codes "port" ∷ codes "workers" ∷ codes "store" ∷ codes "connections" ∷ []
+serve_names = codes "device" ∷ codes "port" ∷ codes "workers" ∷ codes "store" ∷ codes "connections" ∷ codes "at" ∷ []
 
 abbrev pub drill_names : List Text
 drill_names = codes "from" ∷ codes "packages" ∷ codes "requests" ∷ []
@@ -35,12 +35,14 @@ serve_of value = do
   workers ← number_in 1 64 (value (codes "workers"))
   store ← optional_path_of (value (codes "store"))
   connections ← optional_number_in 1 1000000 (value (codes "connections"))
+  at ← moment_of (value (codes "at"))
   Some (Serve (record {
     device = device;
     port = port;
     workers = workers;
     store = store;
     connections = connections;
+    at = at;
   }))
 
 unfoldable pub drill_of : (Text → Option Text) → Option Command

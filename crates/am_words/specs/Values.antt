@@ -43,6 +43,11 @@ unfoldable pub optional_path_of : Option Text → Option (Option Text)
 optional_path_of None = Some None
 optional_path_of (Some text) = option_map (λ path. Some path) (nonempty text)
 
+-- the moment at which a clock stands, which need not be given
+unfoldable pub moment_of : Option Text → Option (Option ℕ)
+moment_of None = Some None
+moment_of (Some text) = option_map (λ moment. Some moment) (number_of text)
+
 -- the first moment and the step of a clock, both or neither
 unfoldable pub clock_of : Option Text → Option Text → Option (Option StepWords)
 clock_of None None = Some None

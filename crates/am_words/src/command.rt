@@ -40,6 +40,8 @@ pub struct ServingWords {
     pub store: Option<Text>,
     /// How many links each worker serves before it ends, from 1 to 1,000,000.
     pub connections: Option<u32>,
+    /// The moment at which the clock of each worker stands, in milliseconds, if it isn't the machine's.
+    pub at: Option<u64>,
 }
 
 /// The drill that words ask for.

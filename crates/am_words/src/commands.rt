@@ -7,7 +7,9 @@ ghost use Rattle.am_words.specs.Values.{path_of};
 ghost use Rattle.am_words.specs.Ranges.{IsInRange, ReadsCommand};
 
 use crate::options::{borrowed, read_options};
-use crate::values::{clock_of, number_in, optional_number_in, optional_path_of, path_of};
+use crate::values::{
+    clock_of, moment_of, number_in, optional_number_in, optional_path_of, path_of,
+};
 use crate::{Command, DrillWords, QuestionWords, ServingWords, SessionWords, WordsFault};
 use am_types::Text;
 use clap::ArgMatches;
@@ -15,7 +17,7 @@ use std::alloc::Global;
 
 static SESSION: [&str; 4] = ["device", "store", "at", "step"];
 
-static SERVE: [&str; 5] = ["device", "port", "workers", "store", "connections"];
+static SERVE: [&str; 6] = ["device", "port", "workers", "store", "connections", "at"];
 
 static DRILL: [&str; 3] = ["from", "packages", "requests"];
 
@@ -50,12 +52,14 @@ fn serve_of(alloc: Global, matches: &ArgMatches<'_>) -> Result<Command, WordsFau
     let workers = number_in(1, 64, matches.get_str("workers"))?;
     let store = optional_path_of(alloc, matches.get_str("store"))?;
     let connections = optional_number_in(1, 1000000, matches.get_str("connections"))?;
+    let at = moment_of(matches.get_str("at"))?;
     Ok(Command::Serve(ServingWords {
         device,
         port: port as u16,
         workers: workers as u32,
         store,
         connections,
+        at,
     }))
 }
 

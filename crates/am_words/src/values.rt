@@ -2,7 +2,7 @@
 ghost use Rattle.std.specs.Prelude.{◌≡◌, ◌≤◌, IfOk, IfSome, option_map};
 ghost use Rattle.std.specs.Char.{is_ascii_digit};
 ghost use Rattle.std.specs.List.{list_all};
-ghost use Rattle.am_words.specs.Values.{clock_of, number_in, number_of, optional_number_in, optional_path_of, path_of};
+ghost use Rattle.am_words.specs.Values.{clock_of, moment_of, number_in, number_of, optional_number_in, optional_path_of, path_of};
 ghost use Rattle.am_words.specs.Answers.{ReadsCopy, ReadsInPlace};
 
 use crate::{StepWords, WordsFault};
@@ -88,6 +88,20 @@ pub(crate) fn optional_path_of(
     }
     let path = path_of(alloc, value)?;
     Ok(Some(path))
+}
+
+/// The moment at which a clock stands, if it is given.
+#[tactic(auto, unfolding(crate::specs::Values::moment_of))]
+pub(crate) fn moment_of(value: Option<&str>) -> Result<Option<u64>, WordsFault>
+    ensures { ReadsInPlace result (moment_of (option_map (λ text. text.now) value.entry)) }
+{
+    let Some(text) = value else {
+        return Ok(None);
+    };
+    let Some(moment) = number_of(text) else {
+        return Err(WordsFault::Usage);
+    };
+    Ok(Some(moment))
 }
 
 /// The clock that begins at one value and goes on by the other, both given or neither.

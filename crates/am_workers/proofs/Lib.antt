@@ -1,3 +1,4 @@
+pub mod ClockLemmas
 pub mod CrewLemmas
 pub mod FormedLemmas
 pub mod ServingLemmas

@@ -1,53 +1,62 @@
 -- What all workers did together, over the history of the manager that they shared.
-use Rattle.std.proofs.Common.{◌≡◌, ℕ, zero, suc, ◌+◌, ◌≤◌, ◌<◌, ⊎_elim, Bool, true, false, ◌||◌, List, [], ◌∷◌, length, drop, map, min, Option, Some, None, refl, sym, ap, ◌∙◌, subst, arith, length-append, slice_get}
+use Rattle.std.proofs.Common.{◌≡◌, ℕ, zero, suc, ◌+◌, ◌≤◌, ◌<◌, Bool, true, false, ◌||◌, List, [], ◌∷◌, ◌++◌, length, drop, map, min, Option, Some, None, refl, sym, ap, ◌∙◌, subst, arith, length-append, slice_get}
 use Rattle.std.specs.Prelude.{All, IfSome, ◌==◌, cond, sum_by, slice_index_or}
 use Rattle.std.specs.List.{AllByRecursion, AllZip, list_any}
 use Rattle.std.proofs.lemmas.List.{get_or-map, length-map}
 use Rattle.std.proofs.lemmas.List.Sums.{sum_by-cons}
 use Rattle.std.proofs.lemmas.Option.{slice_get-get_or}
-use Rattle.std.proofs.lemmas.List.Elements.{All-nil, All-cons, All-head, All-tail, recursion_from_All}
+use Rattle.std.proofs.lemmas.List.Elements.{All-nil, All-cons, All-head, All-tail}
 use Rattle.am_types.specs.declared.history.Entry.{Entry}
 use Rattle.am_outside.specs.Counts.{HasRisen}
-use Rattle.am_network.specs.Links.{GateView, IsNewGate, Links, Listening, raised_by, released}
+use Rattle.am_network.specs.Links.{AreUntouched, GateView, IsNewGate, Links, Listening, raised_by, released}
 use Rattle.am_history.specs.State.{State}
 use Rattle.am_history.specs.Desks.{DeskView, IsSameDesk, Origin, Sharing, opening_of, start_of}
 use Rattle.am_history.specs.History.{Extends, IsLegal, entries_of}
 use Rattle.am_baton.specs.Shared.{IsNumbered, new_desk}
 use Rattle.am_workers.specs.declared.working.Worked.{Worked}
-use Rattle.am_workers.specs.Work.{AreItsLinks, AreOfGate, IsWorked, Service, WorkerView, Works, exchanges_of}
+use Rattle.am_http.specs.Links.{Moments}
+use Rattle.am_workers.specs.Work.{AreItsLinks, AreOfGate, EndsSo, IsWorked, Service, WorkerView, Works, exchanges_of, moments_of_all}
 use Rattle.am_workers.specs.Serving.{AreAllLinks, AreServed, Begun, Ended, Gatework, IsFormed, IsGateServed, MayReleaseAll, NetworkView, ServesAll, all_released, faults_raised, gates_of}
+use Rattle.am_workers.proofs.ClockLemmas.{gives_as}
 use Rattle.am_workers.proofs.FormedLemmas.{all_formed}
 use Rattle.am_workers.proofs.WorkLemmas.{drop_behind, extends_length, worked_stays}
 
 -- a gate that was new has handed out these links alone
-all_links : (old new : Links) (services : List Service) → old.handed ≡ 0 → old.ended ≡ [] → AreItsLinks old new services → AreAllLinks new services
-all_links old new services handed ended its =
-    let first : Links = record { sent = new.sent; handed = 0; ended = [] } in
+all_links : (old new : Links) (services : List Service) → AreUntouched old → AreItsLinks old new services → AreAllLinks new services
+all_links old new services untouched its =
+    let first : Links = record { sent = new.sent; handed = 0; ended = []; failed_at = None } in
     let same : old ≡ first =
-    ap (λ sent. record { sent = sent; handed = old.handed; ended = old.ended }) (sym its.sent)
-    ∙ ap (λ n. record { sent = new.sent; handed = n; ended = old.ended }) handed
-    ∙ ap (λ ls. record { sent = new.sent; handed = 0; ended = ls }) ended in
+    ap (λ sent. record { sent = sent; handed = old.handed; ended = old.ended; failed_at = old.failed_at }) (sym its.sent)
+    ∙ ap (λ n. record { sent = new.sent; handed = n; ended = old.ended; failed_at = old.failed_at }) untouched.0
+    ∙ ap (λ ls. record { sent = new.sent; handed = 0; ended = ls; failed_at = old.failed_at }) untouched.1
+    ∙ ap (λ at. record { sent = new.sent; handed = 0; ended = []; failed_at = at }) untouched.2 in
     subst (λ (l : Links). AreItsLinks l new services) same its
 
-whole_gate : (old new : Option Links) (services : List Service) → IfSome old (λ links. (links.handed ≡ 0) × (links.ended ≡ [])) → AreOfGate old new services
+whole_gate : (old new : Option Links) (services : List Service) → IfSome old AreUntouched → AreOfGate old new services
     → IfSome new (λ links. AreAllLinks links services)
 whole_gate None None services is its = tt
 whole_gate None (Some new) services is its = absurd its
 whole_gate (Some old) None services is its = tt
-whole_gate (Some old) (Some new) services is its = all_links old new services is.0 is.1 its
+whole_gate (Some old) (Some new) services is its = all_links old new services is its
 
--- a gate without a fault didn't fail
-no_fault : (failed : Bool) (old new : ℕ) → (failed ≡ true → HasRisen old new) → new ≡ 0 → failed ≡ false
-no_fault true old new risen none = absurd (let r = risen refl in omega (arith))
-no_fault false old new risen none = refl
+-- a worker that failed raised its gate's count
+risen_by : (failed : Bool) (most : Option ℕ) (faults count : ℕ) (gate : GateView) → EndsSo failed most faults gate count → failed ≡ true → HasRisen faults gate.faults
+risen_by true most faults count gate ends is = let e = ends.0 in omega (arith, e)
+risen_by false most faults count gate ends is = absurd (let x = is in cc)
+
+-- what a worker begins with: the desk that was made with that number, a new gate, and a clock that tells what this one tells
+abbrev pub BeginsAt : Origin → Sharing → Moments → ℕ → WorkerView → Type 0
+BeginsAt origin sharing clock k worker =
+    (worker.desk ≡ new_desk origin sharing k) × IsNewGate worker.gate × ((calls : ℕ) → worker.clock calls ≡ clock calls)
 
 -- the worker of a desk that was made with that number, over the history of the whole
-pub gate_served : (most : Option ℕ) (origin : Origin) (sharing : Sharing) (k : ℕ) (ended : Ended) (old new : WorkerView) (worked : Worked)
-    → old.desk ≡ new_desk origin sharing k → IsNewGate old.gate → (w : Works most old new worked)
+pub gate_served : (most : Option ℕ) (origin : Origin) (sharing : Sharing) (clock : Moments) (k : ℕ) (ended : Ended) (old new : WorkerView) (worked : Worked)
+    → BeginsAt origin sharing clock k old → (w : Works most old new worked)
     → Extends new.desk.seen ended.history → entries_of new.desk.number ended.history ≡ entries_of new.desk.number new.desk.seen
-    → (ended.totals.failed ≡ false → worked.failed ≡ false)
-    → IsGateServed most (record { origin = origin; history = sharing.handed }) ended k (record { gate = new.gate; services = w.services })
-gate_served most origin sharing k ended old new worked made is_new w grows own calm =
+    → IsGateServed most (record { origin = origin; history = sharing.handed; clock = clock }) ended k (record { gate = new.gate; services = w.services; failed = worked.failed })
+gate_served most origin sharing clock k ended old new worked begins w grows own =
+    let made = begins.0 in
+    let is_new = begins.1 in
     let P : DeskView → Type 0 = λ (d : DeskView). IsWorked (start_of d) (length d.seen) d.number new.desk.seen w.services in
     let there : IsWorked (opening_of origin) (length sharing.handed) k new.desk.seen w.services = subst P made w.has.worked in
     let number : new.desk.number ≡ k = w.has.desk.desk.number ∙ ap (λ (d : DeskView). d.number) made in
@@ -60,8 +69,44 @@ gate_served most origin sharing k ended old new worked made is_new w grows own c
           (subst (λ n. entries_of n ended.history ≡ entries_of n new.desk.seen) number own) there;
       links = whole_gate old.gate.links new.gate.links w.services is_new.1 w.has.links;
       few = w.few;
-      stops = ⊎_elim (λ (h : ended.totals.failed ≡ false). w.stops (calm h))
-          (λ (h : new.gate.faults ≡ 0). w.stops (no_fault worked.failed old.gate.faults new.gate.faults w.failed h));
+      told = new.clock;
+      moments = gives_as clock old.clock (moments_of_all w.services) new.clock begins.2 w.has.moments;
+      ends = subst (λ n. EndsSo worked.failed most n new.gate (length w.services)) is_new.0 w.ends;
+    }
+
+-- a clock that tells the same will do
+as_timed : (most : Option ℕ) (begun : Begun) (clock : Moments) (ended : Ended) (number : ℕ) (works : List Gatework) → ((calls : ℕ) → begun.clock calls ≡ clock calls)
+    → AreServed most begun ended number works → AreServed most (record begun { clock = clock }) ended number works
+as_timed most begun clock ended number [] same served = tt
+as_timed most begun clock ended number (work ∷ works) same served = (
+  record {
+    worked = served.0.worked;
+    links = served.0.links;
+    few = served.0.few;
+    told = served.0.told;
+    moments = gives_as clock begun.clock (moments_of_all work.services) served.0.told same served.0.moments;
+    ends = served.0.ends;
+  },
+  as_timed most begun clock ended (suc number) works same served.1,
+)
+
+pub serves_timed : (most : Option ℕ) (count : ℕ) (begun : Begun) (clock : Moments) (ended : Ended) (old new : NetworkView) → ((calls : ℕ) → begun.clock calls ≡ clock calls)
+    → ServesAll most count begun ended old new → ServesAll most count (record begun { clock = clock }) ended old new
+serves_timed most count begun clock ended old new same serves =
+    record {
+      legal = serves.legal;
+      numbered = serves.numbered;
+      formed = serves.formed;
+      works = serves.works;
+      count = serves.count;
+      served = as_timed most begun clock ended 0 serves.works same serves.served;
+      told = serves.told;
+      total = serves.total;
+      failed = serves.failed;
+      risen = serves.risen;
+      listens = serves.listens;
+      faults = serves.faults;
+      gate_faults = serves.gate_faults;
     }
 
 -- what the entries of each number are, all are
@@ -118,6 +163,11 @@ may_rest (Some before) now gate count is may =
     let P : Option Listening → Type 0 = λ (l : Option Listening). MayReleaseAll l count in
     subst P (sym is) (omega (arith, may, length-append before.released (gate ∷ [])))
 
+-- the gates that were released, and one more
+pub released_more : (told : Option Listening) (gates : List GateView) (gate : GateView) → all_released told (gates ++ gate ∷ []) ≡ released (all_released told gates) gate
+released_more told [] gate = refl
+released_more told (first ∷ gates) gate = released_more (released told first) gates gate
+
 module _ {D G W : Type 0} (desk : W → D) (gate : W → G) where
   -- the desk and the gate of the worker at a place
   pub desk_at : (olds : List W) (desks : List D) (k : ℕ) (other : W) → map desk olds ≡ desks → k < length olds
@@ -153,7 +203,7 @@ module _ {W : Type 0} (view : W → WorkerView) (did : W → Worked) where
   works_of most [] [] all = []
   works_of most [] (y ∷ ys) all = []
   works_of most (x ∷ xs) [] all = []
-  works_of most (x ∷ xs) (y ∷ ys) all = record { gate = (view y).gate; services = all.0.services } ∷ works_of most xs ys all.1
+  works_of most (x ∷ xs) (y ∷ ys) all = record { gate = (view y).gate; services = all.0.services; failed = (did y).failed } ∷ works_of most xs ys all.1
 
   pub works_count : (most : Option ℕ) (olds news : List W) (all : AllZip (WorksAs most) olds news) → length (works_of most olds news all) ≡ length olds
   works_count most [] [] all = refl
@@ -184,7 +234,7 @@ module _ {W : Type 0} (view : W → WorkerView) (did : W → Worked) where
       ∙ both_held (did y).served (length all.0.services) (sum_by (λ (w : W). (did w).served) ys)
       (sum_by (λ (work : Gatework). length work.services) (works_of most xs ys all.1)) all.0.served (works_total most xs ys all.1)
       ∙ ap (λ n. min 18446744073709551615 n)
-      (sym (sum_by-cons (λ (work : Gatework). length work.services) (record { gate = (view y).gate; services = all.0.services }) (works_of most xs ys all.1)))
+      (sym (sum_by-cons (λ (work : Gatework). length work.services) (record { gate = (view y).gate; services = all.0.services; failed = (did y).failed }) (works_of most xs ys all.1)))
 
   -- a count that gates raised is no lower
   not_lower : (count : ℕ) (gates : List GateView) → min count 18446744073709551615 ≤ faults_raised count gates
@@ -211,38 +261,33 @@ module _ {W : Type 0} (view : W → WorkerView) (did : W → Worked) where
           → HasRisen (raised_by (view y).gate.faults count) (faults_raised (raised_by (view y).gate.faults count) gates))
           → HasRisen count (faults_raised (raised_by (view y).gate.faults count) gates)
       by true is any later =
-          let once = raised_once (view x).gate.faults (view y).gate.faults count (all.0.failed is) in
+          let once = raised_once (view x).gate.faults (view y).gate.faults count (risen_by (did y).failed most (view x).gate.faults (length all.0.services) (view y).gate all.0.ends is) in
           let rest = not_lower (raised_by (view y).gate.faults count) gates in
           omega (arith, once, rest)
       by false is any later =
           let risen = later (sym (ap (λ (b : Bool). b || list_any (λ (w : W). (did w).failed) ys) is) ∙ any) in
           grind (arith, risen)
 
-  -- if none of them failed, none did
-  pub none_failed : (news : List W) → list_any (λ (w : W). (did w).failed) news ≡ false → All (λ (w : W). (did w).failed ≡ false) news
-  none_failed [] none = All-nil (λ (w : W). (did w).failed ≡ false)
-  none_failed (y ∷ ys) none =
-      let both = or_false (did y).failed (list_any (λ (w : W). (did w).failed) ys) none in
-      All-cons (λ (w : W). (did w).failed ≡ false) y ys both.0 (none_failed ys both.1)
-    where
-      or_false : (a b : Bool) → (a || b) ≡ false → (a ≡ false) × (b ≡ false)
-      or_false true b e = absurd (let x = e in cc)
-      or_false false b e = (refl, e)
+  -- a gate failed if a worker says so
+  pub any_failed : (most : Option ℕ) (olds news : List W) (all : AllZip (WorksAs most) olds news)
+      → list_any (λ (w : W). (did w).failed) news ≡ list_any (λ (work : Gatework). work.failed) (works_of most olds news all)
+  any_failed most [] [] all = refl
+  any_failed most [] (y ∷ ys) all = absurd all
+  any_failed most (x ∷ xs) [] all = absurd all
+  any_failed most (x ∷ xs) (y ∷ ys) all = ap (λ b. (did y).failed || b) (any_failed most xs ys all.1)
 
-  -- what a worker's desk and gate were before its work: those that were made with that number
-  abbrev pub Begins : Origin → Sharing → ℕ → W → Type 0
-  Begins origin sharing k w = ((view w).desk ≡ new_desk origin sharing k) × IsNewGate (view w).gate
+  -- what the workers begin with, of which the first has that number
+  abbrev pub BeginFrom : Origin → Sharing → Moments → ℕ → List W → Type 0
+  BeginFrom origin sharing clock k [] = Unit {0}
+  BeginFrom origin sharing clock k (w ∷ ws) = BeginsAt origin sharing clock k (view w) × BeginFrom origin sharing clock (suc k) ws
 
-  abbrev pub BeginFrom : Origin → Sharing → ℕ → List W → Type 0
-  BeginFrom origin sharing k [] = Unit {0}
-  BeginFrom origin sharing k (w ∷ ws) = Begins origin sharing k w × BeginFrom origin sharing (suc k) ws
-
-  pub begin_from : (origin : Origin) (sharing : Sharing) (k : ℕ) (olds : List W)
-      → ((i : ℕ) (other : W) → i < length olds → Begins origin sharing (k + i) (slice_index_or olds i other)) → BeginFrom origin sharing k olds
-  begin_from origin sharing k [] each = tt
-  begin_from origin sharing k (x ∷ xs) each = (
-    subst (λ n. Begins origin sharing n x) (omega arith) (each 0 x (omega arith)),
-    begin_from origin sharing (suc k) xs (λ i other within. subst (λ n. Begins origin sharing n (slice_index_or xs i other)) (omega arith) (each (suc i) other (omega arith))),
+  pub begin_from : (origin : Origin) (sharing : Sharing) (clock : Moments) (k : ℕ) (olds : List W)
+      → ((i : ℕ) (other : W) → i < length olds → BeginsAt origin sharing clock (k + i) (view (slice_index_or olds i other))) → BeginFrom origin sharing clock k olds
+  begin_from origin sharing clock k [] each = tt
+  begin_from origin sharing clock k (x ∷ xs) each = (
+    subst (λ n. BeginsAt origin sharing clock n (view x)) (omega arith) (each 0 x (omega arith)),
+    begin_from origin sharing clock (suc k) xs
+        (λ i other within. subst (λ n. BeginsAt origin sharing clock n (view (slice_index_or xs i other))) (omega arith) (each (suc i) other (omega arith))),
   )
 
   -- what closing tells of a worker's desk
@@ -250,16 +295,15 @@ module _ {W : Type 0} (view : W → WorkerView) (did : W → Worked) where
   Closes history w = Extends (view w).desk.seen history × (entries_of (view w).desk.number history ≡ entries_of (view w).desk.number (view w).desk.seen)
 
   -- so all gates were served over the history of the whole
-  pub works_served : (most : Option ℕ) (origin : Origin) (sharing : Sharing) (ended : Ended) (k : ℕ) (olds news : List W) (all : AllZip (WorksAs most) olds news)
-      → BeginFrom origin sharing k olds → AllByRecursion (Closes ended.history) news
-      → (ended.totals.failed ≡ false → AllByRecursion (λ (w : W). (did w).failed ≡ false) news)
-      → AreServed most (record { origin = origin; history = sharing.handed }) ended k (works_of most olds news all)
-  works_served most origin sharing ended k [] [] all begins closes calm = tt
-  works_served most origin sharing ended k [] (y ∷ ys) all begins closes calm = absurd all
-  works_served most origin sharing ended k (x ∷ xs) [] all begins closes calm = absurd all
-  works_served most origin sharing ended k (x ∷ xs) (y ∷ ys) all begins closes calm = (
-    gate_served most origin sharing k ended (view x) (view y) (did y) begins.0.0 begins.0.1 all.0 closes.0.0 closes.0.1 (λ h. (calm h).0),
-    works_served most origin sharing ended (suc k) xs ys all.1 begins.1 closes.1 (λ h. (calm h).1),
+  pub works_served : (most : Option ℕ) (origin : Origin) (sharing : Sharing) (clock : Moments) (ended : Ended) (k : ℕ) (olds news : List W) (all : AllZip (WorksAs most) olds news)
+      → BeginFrom origin sharing clock k olds → AllByRecursion (Closes ended.history) news
+      → AreServed most (record { origin = origin; history = sharing.handed; clock = clock }) ended k (works_of most olds news all)
+  works_served most origin sharing clock ended k [] [] all begins closes = tt
+  works_served most origin sharing clock ended k [] (y ∷ ys) all begins closes = absurd all
+  works_served most origin sharing clock ended k (x ∷ xs) [] all begins closes = absurd all
+  works_served most origin sharing clock ended k (x ∷ xs) (y ∷ ys) all begins closes = (
+    gate_served most origin sharing clock k ended (view x) (view y) (did y) begins.0 all.0 closes.0.0 closes.0.1,
+    works_served most origin sharing clock ended (suc k) xs ys all.1 begins.1 closes.1,
   )
 
   -- a worker's desk stays the same desk
@@ -283,23 +327,22 @@ module _ {W : Type 0} (view : W → WorkerView) (did : W → Worked) where
   of_workers P (y ∷ ys) all = (all.0, of_workers P ys all.1)
 
   -- all workers together served the manager
-  pub serves_all : (most : Option ℕ) (count : ℕ) (origin : Origin) (sharing : Sharing) (ended : Ended) (olds news : List W) (old new : NetworkView)
-      → AllZip (WorksAs most) olds news → length olds ≡ count → sharing.desks ≡ count → BeginFrom origin sharing 0 olds
+  pub serves_all : (most : Option ℕ) (count : ℕ) (origin : Origin) (sharing : Sharing) (clock : Moments) (ended : Ended) (olds news : List W) (old new : NetworkView)
+      → AllZip (WorksAs most) olds news → length olds ≡ count → sharing.desks ≡ count → BeginFrom origin sharing clock 0 olds
       → IsLegal (opening_of origin) ended.history → IsNumbered sharing.desks sharing.handed ended.history
       → AllByRecursion (Closes ended.history) news
       → ended.totals.served ≡ min 18446744073709551615 (sum_by (λ (w : W). (did w).served) news)
       → ended.totals.failed ≡ list_any (λ (w : W). (did w).failed) news
-      → new.listening ≡ all_released old.listening (map (λ (w : W). (view w).gate) news) → new.faults ≡ old.faults
+      → new.listening ≡ all_released old.listening (map (λ (w : W). (view w).gate) news) → new.listens ≡ old.listens → new.faults ≡ old.faults
       → new.gate_faults ≡ faults_raised old.gate_faults (map (λ (w : W). (view w).gate) news)
-      → ServesAll most count (record { origin = origin; history = sharing.handed }) ended old new
-  serves_all most count origin sharing ended olds news old new all many desks begins legal numbered closes total failed told faults gate_faults =
+      → ServesAll most count (record { origin = origin; history = sharing.handed; clock = clock }) ended old new
+  serves_all most count origin sharing clock ended olds news old new all many desks begins legal numbered closes total failed told listens faults gate_faults =
       let works = works_of most olds news all in
-      let begun : Begun = record { origin = origin; history = sharing.handed } in
+      let begun : Begun = record { origin = origin; history = sharing.handed; clock = clock } in
       let gates = works_gates most olds news all in
       let as_count : length works ≡ count = works_count most olds news all ∙ many in
       let served : AreServed most begun ended 0 works =
-      works_served most origin sharing ended 0 olds news all begins closes
-      (λ calm. recursion_from_All (λ (w : W). (did w).failed ≡ false) news (none_failed news (sym failed ∙ calm))) in
+      works_served most origin sharing clock ended 0 olds news all begins closes in
       let here : IsNumbered count sharing.handed ended.history = subst (λ n. IsNumbered n sharing.handed ended.history) desks numbered in
       record {
         legal = legal;
@@ -310,7 +353,9 @@ module _ {W : Type 0} (view : W → WorkerView) (did : W → Worked) where
         served = served;
         told = told ∙ ap (all_released old.listening) gates;
         total = total ∙ works_total most olds news all;
-        failed = λ is. subst (λ n. HasRisen old.gate_faults n) (sym gate_faults) (works_raise most olds news old.gate_faults all (sym failed ∙ is));
+        failed = failed ∙ any_failed most olds news all;
+        risen = λ is. subst (λ n. HasRisen old.gate_faults n) (sym gate_faults) (works_raise most olds news old.gate_faults all (sym failed ∙ is));
+        listens = listens;
         faults = faults;
         gate_faults = gate_faults ∙ ap (faults_raised old.gate_faults) gates;
       }

@@ -1,23 +1,26 @@
 -- How a worker serves one more link, and what holds of its links over a longer history.
-use Rattle.std.proofs.Common.{◌≡◌, ℕ, zero, suc, ◌+◌, ◌≤◌, ◌<◌, Bool, true, false, List, [], ◌∷◌, ◌++◌, length, drop, map, Option, Some, None, refl, sym, ap, ◌∙◌, subst, inl, inr, arith, append_assoc, length-append, append-nil}
+use Rattle.std.proofs.Common.{◌≡◌, ℕ, zero, suc, ◌+◌, ◌≤◌, ◌<◌, Bool, true, false, List, [], ◌∷◌, ◌++◌, length, drop, map, Option, Some, None, Ok, Err, refl, sym, ap, ◌∙◌, subst, inl, inr, arith, append_assoc, length-append, append-nil}
 use Rattle.std.specs.Prelude.{IfSome, min}
 use Rattle.std.specs.List.{AllByRecursion}
+use Rattle.std.specs.Option.{option_to_list}
 use Rattle.std.proofs.lemmas.List.{map-append}
 use Rattle.std.proofs.lemmas.Grind.{flat_map-append}
 use Rattle.am_types.specs.declared.history.Entry.{Entry}
-use Rattle.am_outside.specs.Counts.{HasRisen}
-use Rattle.am_network.specs.Links.{AreBack, HandsOut, IsClosed, LinkView, Links, MayTakeBack, taken_back}
+use Rattle.am_outside.specs.declared.failure.Failed.{Failed}
+use Rattle.am_outside.specs.Memory.{one_more}
+use Rattle.am_network.specs.Links.{AreBack, HandsOut, HasFailedLast, IsClosed, LinkView, Links, MayTakeBack, failed, taken_back}
 use Rattle.am_history.specs.State.{State}
 use Rattle.am_history.specs.Desks.{DeskView, IsSameDesk, opening_of, start_of}
 use Rattle.am_history.specs.History.{Extends, IsLegal, entries_of}
-use Rattle.am_http.specs.Exchanges.{AreAnswered, AreInOrder, Exchange, IsAbove, IsAnswer, Point, entry_at, floor_after, floor_of, stored_entries}
+use Rattle.am_http.specs.Exchanges.{AreAnswered, AreInOrder, Exchange, IsAbove, IsAnswer, Point, entry_at, floor_after, floor_of, moments_of, stored_entries}
 use Rattle.am_http.specs.declared.end.End.{End}
 use Rattle.am_http.specs.declared.end.End.TheVariants.{ReadFault, WriteFault}
 use Rattle.am_http.specs.declared.end.Served.{Served}
-use Rattle.am_http.specs.Links.{GoesOn, Link}
+use Rattle.am_http.specs.Links.{Gives, GoesOn, Link}
 use Rattle.am_http.specs.Sessions.{HasFault, Session}
 use Rattle.am_http.proofs.ExchangeLemmas.{all_more, answers_stay, entries_of-append, extends_refl, extends_trans, same_view, stored_entries_stay}
-use Rattle.am_workers.specs.Work.{AreHanded, AreItsLinks, AreOfGate, HasCause, HasServed, IsHanded, IsServed, IsWorked, Service, ServesNext, TellsEnough, WorkerView, Works, exchanges_of}
+use Rattle.am_workers.specs.Work.{AreHanded, AreItsLinks, AreOfGate, HasCause, HasServed, IsHanded, IsServed, IsWorked, Service, ServesNext, TellsEnough, TriesNext, WorkerView, Works, exchanges_of, moments_of_all}
+use Rattle.am_workers.proofs.ClockLemmas.{gives_trans, gives_still}
 
 -- a point above a floor is above a lower one
 above_lower : (low high : ℕ) (point : Option Point) → low ≤ high → IsAbove high point → IsAbove low point
@@ -82,6 +85,12 @@ exchanges_more : (services : List Service) (service : Service) → exchanges_of 
 exchanges_more services service =
     flat_map-append (λ (s : Service). s.exchanges) services (service ∷ [])
     ∙ ap (λ es. exchanges_of services ++ es) (append-nil service.exchanges)
+
+-- the moments of their calls, and of one more
+moments_more : (services : List Service) (service : Service) → moments_of_all (services ++ service ∷ []) ≡ moments_of_all services ++ moments_of service.exchanges
+moments_more services service =
+    ap moments_of (exchanges_more services service)
+    ∙ flat_map-append (λ (e : Exchange). option_to_list e.now) (exchanges_of services) service.exchanges
 
 -- a worker that served no link yet
 pub worked_none : (start : State) (number : ℕ) (history : List Entry) → IsWorked start (length history) number history []
@@ -199,22 +208,37 @@ served_none worker =
       grows = extends_refl worker.desk.seen;
       worked = worked_none (start_of worker.desk) worker.desk.number worker.desk.seen;
       links = of_gate_none worker.gate.links;
+      moments = λ calls. refl;
       faults = omega arith;
     }
 
+-- a failed call of the gate hands out no link
+of_gate_failed : (first old : Option Links) (services : List Service) → AreOfGate first old services → AreOfGate first (failed old) services
+of_gate_failed None None services its = tt
+of_gate_failed None (Some old) services its = absurd its
+of_gate_failed (Some first) None services its = absurd its
+of_gate_failed (Some first) (Some old) services its =
+    record { sent = its.sent; handed = its.handed; first = its.first; last = its.last }
+
+-- so it is the last thing that happened at the gate
+failed_last : (old : Option Links) → IfSome (failed old) HasFailedLast
+failed_last None = tt
+failed_last (Some links) = refl
+
 -- the same worker, if nothing was served
 pub served_same : (first old new : WorkerView) (services : List Service) → HasServed first old services
-    → new.desk ≡ old.desk → new.gate.links ≡ old.gate.links → old.gate.faults ≤ new.gate.faults → HasServed first new services
-served_same first old new services has desk links faults =
+    → new.desk ≡ old.desk → AreOfGate first.gate.links new.gate.links services → Gives old.clock [] new.clock → old.gate.faults ≤ new.gate.faults
+    → HasServed first new services
+served_same first old new services has desk links clock faults =
     let P : DeskView → Type 0 = λ (d : DeskView). GoesOn first.desk d in
     let Q : DeskView → Type 0 = λ (d : DeskView). Extends first.desk.seen d.seen in
     let R : DeskView → Type 0 = λ (d : DeskView). IsWorked (start_of first.desk) (length first.desk.seen) first.desk.number d.seen services in
-    let S : Option Links → Type 0 = λ (l : Option Links). AreOfGate first.gate.links l services in
     record {
       desk = subst P (sym desk) has.desk;
       grows = subst Q (sym desk) has.grows;
       worked = subst R (sym desk) has.worked;
-      links = subst S (sym links) has.links;
+      links = links;
+      moments = gives_still first.clock (moments_of_all services) old.clock new.clock has.moments clock;
       faults = omega (arith, has.faults, faults);
     }
 
@@ -243,9 +267,9 @@ answered_as first old new es same answers =
 -- one more link was served
 pub served_more : (first old new : WorkerView) (services : List Service) (service : Service) → HasServed first old services
     → GoesOn old.desk new.desk → AreAnswered old.desk new.desk service.exchanges → IsServed service
-    → AreOfGate old.gate.links new.gate.links (service ∷ []) → old.gate.faults ≤ new.gate.faults
-    → HasServed first new (services ++ service ∷ [])
-served_more first old new services service has goes answers served links faults =
+    → AreOfGate old.gate.links new.gate.links (service ∷ []) → Gives old.clock (moments_of service.exchanges) new.clock
+    → old.gate.faults ≤ new.gate.faults → HasServed first new (services ++ service ∷ [])
+served_more first old new services service has goes answers served links moments faults =
     let there = answered_as first.desk old.desk new.desk service.exchanges has.desk.desk answers in
     let added = there.grows.0 in
     let is_new : new.desk.seen ≡ old.desk.seen ++ added = there.grows.1 in
@@ -264,6 +288,8 @@ served_more first old new services service has goes answers served links faults 
           (worked_more start floor number old.desk.seen added services service floored has.worked served
           (subst P is_new there.answers) there.in_order (subst Q is_new there.floor) (subst R is_new there.own));
       links = of_gate_more first.gate.links old.gate.links new.gate.links services service has.links links;
+      moments = subst (λ ms. Gives first.clock ms new.clock) (sym (moments_more services service))
+          (gives_trans first.clock (moments_of_all services) old.clock (moments_of service.exchanges) new.clock has.moments moments);
       faults = omega (arith, has.faults, faults);
     }
 
@@ -271,6 +297,17 @@ served_more first old new services service has goes answers served links faults 
 pub none_to_come : (old new : Option Links) → HandsOut old new None → (new ≡ old) × IfSome old IsClosed
 none_to_come None new handed = (handed.0, tt)
 none_to_come (Some links) new handed = (handed.1, handed.0)
+
+-- so nothing was served
+pub tries_none : (old new : WorkerView) → new.desk ≡ old.desk → HandsOut old.gate.links new.gate.links None → new.gate.faults ≡ old.gate.faults
+    → Gives old.clock [] new.clock → TriesNext old new (Ok false)
+tries_none old new desk handed faults clock =
+    let none = none_to_come old.gate.links new.gate.links handed in ((desk, none.0, none.1, clock), faults)
+
+-- nor if the gate failed
+pub tries_failed : (old new : WorkerView) (e : Failed) → new.desk ≡ old.desk → new.gate.links ≡ failed old.gate.links → new.gate.faults ≡ one_more old.gate.faults
+    → Gives old.clock [] new.clock → TriesNext old new (Err e)
+tries_failed old new e desk links faults clock = (desk, links, faults, clock)
 
 -- a connection's link, as its gate sees it
 abbrev pub view_of : Link → LinkView
@@ -319,11 +356,13 @@ of_gate_one (Some links) mid new first last exchanges handed back =
 pub serves_link : (old mid new : Option Links) (first last : Link) (served : Served) (session : Session first last served) → HasFault served.end first last
     → HandsOut old mid (Some (view_of first)) → new ≡ taken_back mid (view_of last)
     → (service : Service) × AreAnswered first.server.desk last.server.desk service.exchanges × IsServed service × AreOfGate old new (service ∷ [])
+    × Gives first.server.clock (moments_of service.exchanges) last.server.clock
 serves_link old mid new first last served session fault handed back = (
   record { first = view_of first; last = view_of last; exchanges = session.exchanges },
   session.answers,
   link_served first last served session fault,
   of_gate_one old mid new (view_of first) (view_of last) session.exchanges handed back,
+  session.moments,
 )
 
 -- every link is back again
@@ -356,7 +395,7 @@ one_more_served first old new services more is has next goes faults =
     let P : Bool → Type 0 = λ (b : Bool). ServesNext old new b in
     let there : ServesNext old new true = subst P is next in (
       services ++ there.0 ∷ [],
-      served_more first old new services there.0 has goes there.1 there.2 there.3 faults,
+      served_more first old new services there.0 has goes there.1 there.2 there.3 there.4 faults,
       length-append services (there.0 ∷ []),
     )
 
@@ -393,40 +432,43 @@ enough_is (Some most) count served enough is tells held short =
     ap Some (let e : most ≡ count + 1 = grind (arith, reached, held, short) in e)
 
 -- a worker that stops since no link is to come
-pub works_closed : (most : Option ℕ) (first old new : WorkerView) (services : List Service) (served : ℕ) → HasServed first old services → IsShort most (length services)
-    → served ≡ min 18446744073709551615 (length services) → ServesNext old new false → old.gate.faults ≤ new.gate.faults
-    → Works most first new (record { served = served; failed = false })
-works_closed most first old new services served has short held next faults =
+pub works_closed : (most : Option ℕ) (first old new : WorkerView) (services : List Service) (served : ℕ) → HasServed first old services
+    → old.gate.faults ≡ first.gate.faults → IsShort most (length services) → served ≡ min 18446744073709551615 (length services)
+    → TriesNext old new (Ok false) → Works most first new (record { served = served; failed = false })
+works_closed most first old new services served has calm short held next =
     let P : Option Links → Type 0 = λ (l : Option Links). IfSome l IsClosed in
+    let Q : Option Links → Type 0 = λ (l : Option Links). AreOfGate first.gate.links l services in
+    let still = next.1 in
     record {
       services = services;
-      has = served_same first old new services has next.0 next.1 faults;
+      has = served_same first old new services has next.0.0 (subst Q (sym next.0.1) has.links) next.0.3 (omega (arith, still));
       few = short_few most (length services) short;
       served = held;
-      failed = λ e. absurd (let x = e in cc);
-      stops = λ e. inr (subst P (sym next.1) next.2);
+      ends = (still ∙ calm, inr (subst P (sym next.0.1) next.0.2));
     }
 
 -- since its gate failed
-pub works_failed : (most : Option ℕ) (first old new : WorkerView) (services : List Service) (served : ℕ) → HasServed first old services → IsShort most (length services)
-    → served ≡ min 18446744073709551615 (length services) → new.desk ≡ old.desk → new.gate.links ≡ old.gate.links → HasRisen old.gate.faults new.gate.faults
-    → old.gate.faults ≤ new.gate.faults → Works most first new (record { served = served; failed = true })
-works_failed most first old new services served has short held desk links risen faults =
-    let before = has.faults in
+pub works_failed : (most : Option ℕ) (first old new : WorkerView) (services : List Service) (served : ℕ) (e : Failed) → HasServed first old services
+    → old.gate.faults ≡ first.gate.faults → IsShort most (length services) → served ≡ min 18446744073709551615 (length services)
+    → TriesNext old new (Err e) → old.gate.faults ≤ new.gate.faults → Works most first new (record { served = served; failed = true })
+works_failed most first old new services served e has calm short held next faults =
+    let Q : Option Links → Type 0 = λ (l : Option Links). AreOfGate first.gate.links l services in
     record {
       services = services;
-      has = served_same first old new services has desk links faults;
+      has = served_same first old new services has next.0 (subst Q (sym next.1) (of_gate_failed first.gate.links old.gate.links services has.links)) next.3 faults;
       few = short_few most (length services) short;
       served = held;
-      failed = λ e. omega (arith, risen, before);
-      stops = λ e. absurd (let x = e in cc);
+      ends = (
+        next.2 ∙ ap one_more calm,
+        subst (λ (l : Option Links). IfSome l HasFailedLast) (sym next.1) (failed_last old.gate.links),
+      );
     }
 
 -- since it served as many links as are asked for
-pub works_enough : (most : Option ℕ) (first new : WorkerView) (services : List Service) (served count : ℕ) (enough : Bool) → HasServed first new services → length services ≡ count + 1
-    → IsShort most count → served ≡ min 18446744073709551615 (count + 1) → enough ≡ true → TellsEnough most served enough
+pub works_enough : (most : Option ℕ) (first new : WorkerView) (services : List Service) (served count : ℕ) (enough : Bool) → HasServed first new services
+    → new.gate.faults ≡ first.gate.faults → length services ≡ count + 1 → IsShort most count → served ≡ min 18446744073709551615 (count + 1) → enough ≡ true → TellsEnough most served enough
     → Works most first new (record { served = served; failed = false })
-works_enough most first new services served count enough has long short held is tells =
+works_enough most first new services served count enough has calm long short held is tells =
     let reached : most ≡ Some (count + 1) = enough_is most count served enough is tells held short in
     let P : Option ℕ → Type 0 = λ (o : Option ℕ). IfSome o (λ m. length services ≤ m) in
     record {
@@ -434,6 +476,5 @@ works_enough most first new services served count enough has long short held is 
       has = has;
       few = subst P (sym reached) (omega (arith, long));
       served = held ∙ ap (λ n. min 18446744073709551615 n) (sym long);
-      failed = λ e. absurd (let x = e in cc);
-      stops = λ e. inl (reached ∙ ap Some (sym long));
+      ends = (calm, inl (reached ∙ ap Some (sym long)));
     }

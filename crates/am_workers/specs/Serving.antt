@@ -1,25 +1,33 @@
 -- A manager that many workers serve over a network.
-use Rattle.std.specs.Prelude.{◌≡◌, ℕ, suc, ◌+◌, ◌≤◌, ◌⊎◌, true, false, List, [], ◌∷◌, length, map, min, Option, IfSome, All, IsTrue, ⊤, sum_by}
+use Rattle.std.specs.Prelude.{◌≡◌, ℕ, suc, ◌+◌, ◌≤◌, Bool, true, List, [], ◌∷◌, length, map, min, Option, None, IfSome, All, IsTrue, ⊤, sum_by}
+use Rattle.std.specs.List.{AllByRecursion, list_any}
 use Rattle.am_types.specs.declared.history.Entry.{Entry}
 use Rattle.am_outside.specs.Counts.{HasRisen}
 use Rattle.am_network.specs.declared.network.Network.{Ghosts as NetworkGhosts}
-use Rattle.am_network.specs.Links.{GateView, Links, Listening, raised_by, released}
+use Rattle.am_network.specs.Links.{GateView, IsNewGate, Links, Listening, raised_by, released}
 use Rattle.am_history.specs.Desks.{Origin, opening_of}
 use Rattle.am_history.specs.History.{IsLegal}
 use Rattle.am_history.specs.Steps.{is_formed}
 use Rattle.am_baton.specs.Shared.{IsNumbered}
+use Rattle.am_http.specs.Links.{Gives, Moments}
 use Rattle.am_workers.specs.declared.working.Worked.{Worked}
-use Rattle.am_workers.specs.Work.{AreItsLinks, IsWorked, MayStop, Service}
+use Rattle.am_workers.specs.Work.{AreItsLinks, EndsSo, IsWorked, Service, moments_of_all}
 
--- a network as clauses see it: what it was asked for last, if it tells that, and its two counts of faults
+-- a network as clauses see it: what it was asked for last, if it tells that, how often it was asked, and its two counts
+-- of faults
 pub record NetworkView : Type 0 where
   pub listening : Option Listening
+  pub listens : ℕ
   pub faults : ℕ
   pub gate_faults : ℕ
 
 abbrev pub network_of : {N G R W : Type 0} → NetworkGhosts N G R W → N → NetworkView
-network_of g network =
-    record { listening = g.listening network; faults = g.faults network; gate_faults = g.gate_faults network }
+network_of g network = record {
+  listening = g.listening network;
+  listens = g.listens network;
+  faults = g.faults network;
+  gate_faults = g.gate_faults network;
+}
 
 -- that many gates may be released
 abbrev pub MayReleaseAll : Option Listening → ℕ → Type 0
@@ -35,32 +43,50 @@ abbrev pub faults_raised : ℕ → List GateView → ℕ
 faults_raised count [] = count
 faults_raised count (gate ∷ others) = faults_raised (raised_by gate.faults count) others
 
--- what a manager had as its serving began: where it comes from, and its history
+-- as many gates as there are workers were released, each of them new: it had handed out no link, and no call of it had
+-- failed. Nothing else was done to the network
+pub record IsUnserved (workers : ℕ) (old new : NetworkView) : Type 0 where
+  pub gates : List GateView
+  pub count : length gates ≡ workers
+  pub fresh : AllByRecursion IsNewGate gates
+  pub told : new.listening ≡ all_released old.listening gates
+  pub listens : new.listens ≡ old.listens
+  pub faults : new.faults ≡ old.faults
+  pub gate_faults : new.gate_faults ≡ old.gate_faults
+
+-- what a manager had as its serving began: where it comes from, its history, and the moments that the clock of the serving
+-- will answer, if it tells them
 pub record Begun : Type 0 where
   pub origin : Origin
   pub history : List Entry
+  pub clock : Moments
 
 -- and what it had as its serving ended, with what the workers did
 pub record Ended : Type 0 where
   pub history : List Entry
   pub totals : Worked
 
--- one gate as it was released, with the links that its worker served
+-- one gate as it was released, with the links that its worker served, and whether a call of it failed
 pub record Gatework : Type 0 where
   pub gate : GateView
   pub services : List Service
+  pub failed : Bool
 
 -- all the links that a gate has handed out and taken back are these
 abbrev pub AreAllLinks : Links → List Service → Type 0
-AreAllLinks links services = AreItsLinks (record { sent = links.sent; handed = 0; ended = [] }) links services
+AreAllLinks links services =
+    AreItsLinks (record { sent = links.sent; handed = 0; ended = []; failed_at = None }) links services
 
 -- the worker of that number served the links of its gate over the history, which are all that the gate handed out, at
--- most so many; and unless its gate failed, it stopped at that number or when no link was to come
+-- most so many. The moments of their calls are those of the serving's clock, one after the other from the first. It stopped
+-- at that number, when no link was to come, or since a call of its gate failed
 pub record IsGateServed (most : Option ℕ) (begun : Begun) (ended : Ended) (number : ℕ) (work : Gatework) : Type 0 where
   pub worked : IsWorked (opening_of begun.origin) (length begun.history) number ended.history work.services
   pub links : IfSome work.gate.links (λ links. AreAllLinks links work.services)
   pub few : IfSome most (λ m. length work.services ≤ m)
-  pub stops : (ended.totals.failed ≡ false) ⊎ (work.gate.faults ≡ 0) → MayStop most work.gate.links (length work.services)
+  pub told : Moments
+  pub moments : Gives begun.clock (moments_of_all work.services) told
+  pub ends : EndsSo work.failed most 0 work.gate (length work.services)
 
 -- each gate was served by the worker of its number, where the first has that number
 abbrev pub AreServed : Option ℕ → Begun → Ended → ℕ → List Gatework → Type 0
@@ -78,7 +104,8 @@ IsFormed entry = IsTrue (is_formed entry.request)
 
 -- the manager was served by that many workers over as many gates of the network: its history goes on from the one that
 -- it had, and could have been made from its opening state; each entry behind carries a worker's number and is formed; each
--- worker served its gate over this history; the gates were released in order; and the totals is that of all workers
+-- worker served its gate over this history; the gates were released in order; the totals are those of all workers; and
+-- they say that a gate failed exactly if one did
 pub record ServesAll (most : Option ℕ) (workers : ℕ) (begun : Begun) (ended : Ended) (old new : NetworkView) : Type 0 where
   pub legal : IsLegal (opening_of begun.origin) ended.history
   pub numbered : IsNumbered workers begun.history ended.history
@@ -88,6 +115,8 @@ pub record ServesAll (most : Option ℕ) (workers : ℕ) (begun : Begun) (ended 
   pub served : AreServed most begun ended 0 works
   pub told : new.listening ≡ all_released old.listening (gates_of works)
   pub total : ended.totals.served ≡ min 18446744073709551615 (sum_by (λ (work : Gatework). length work.services) works)
-  pub failed : ended.totals.failed ≡ true → HasRisen old.gate_faults new.gate_faults
+  pub failed : ended.totals.failed ≡ list_any (λ (work : Gatework). work.failed) works
+  pub risen : ended.totals.failed ≡ true → HasRisen old.gate_faults new.gate_faults
+  pub listens : new.listens ≡ old.listens
   pub faults : new.faults ≡ old.faults
   pub gate_faults : new.gate_faults ≡ faults_raised old.gate_faults (gates_of works)

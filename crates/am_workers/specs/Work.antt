@@ -3,17 +3,18 @@ use Rattle.std.specs.Prelude.{◌≡◌, ℕ, suc, ◌+◌, ◌≤◌, ◌<◌, 
 use Rattle.std.specs.List.{flat_map, AllByRecursion}
 use Rattle.am_types.specs.declared.history.Entry.{Entry}
 use Rattle.am_outside.specs.Counts.{HasRisen}
+use Rattle.am_outside.specs.Memory.{one_more}
 use Rattle.am_outside.specs.declared.failure.Failed.{Failed}
-use Rattle.am_network.specs.Links.{GateView, IsClosed, LinkView, Links, new_link}
+use Rattle.am_network.specs.Links.{GateView, HasFailedLast, IsClosed, LinkView, Links, failed, new_link}
 use Rattle.am_history.specs.State.{State}
 use Rattle.am_history.specs.Desks.{DeskView, start_of}
 use Rattle.am_history.specs.History.{Extends, entries_of}
 use Rattle.am_http.specs.declared.end.End.{End}
 use Rattle.am_http.specs.declared.end.End.TheVariants.{Input, Close, Refused, Cut, Limit, ReadFault, WriteFault}
 use Rattle.am_http.specs.declared.end.Served.{Served}
-use Rattle.am_http.specs.Exchanges.{AreAnswered, AreInOrder, Exchange, IsAnswer, bytes_of, floor_of, frames_of, stored_entries}
+use Rattle.am_http.specs.Exchanges.{AreAnswered, AreInOrder, Exchange, IsAnswer, floor_of, frames_of, moments_of, stored_entries}
 use Rattle.am_http.specs.Frames.{Leaves}
-use Rattle.am_http.specs.Links.{GoesOn}
+use Rattle.am_http.specs.Links.{Gives, GoesOn, Moments}
 use Rattle.am_http.specs.Sessions.{EndsBy, GivesAtMost, Writes, most_bytes, most_frames}
 use Rattle.am_workers.specs.declared.working.Worked.{Worked}
 
@@ -43,7 +44,7 @@ pub record IsServed (service : Service) : Type 0 where
   pub most : length service.exchanges ≤ most_frames
   pub taken : GivesAtMost most_bytes service.first.left service.last.left
   pub end : EndsBy how.end how.answered service.exchanges (record { rest = rest; left = service.last.left; last = last })
-  pub output : Writes how.end service.first.taken service.last.taken (bytes_of service.exchanges ++ last)
+  pub output : Writes how service.first.taken service.last.taken service.exchanges last
   pub cause : HasCause how.end service.first service.last
 
 -- the exchanges of all links, one link after the other
@@ -83,22 +84,34 @@ AreOfGate None (Some new) services = ⊥
 AreOfGate (Some old) None services = ⊥
 AreOfGate (Some old) (Some new) services = AreItsLinks old new services
 
--- a worker: its desk, and its gate
+-- the moments of the calls of these links, one link after the other
+abbrev pub moments_of_all : List Service → List ℕ
+moments_of_all services = moments_of (exchanges_of services)
+
+-- a worker: its desk, its gate, and the moments that its clock will answer, if it tells them
 pub record WorkerView : Type 0 where
   pub desk : DeskView
   pub gate : GateView
+  pub clock : Moments
 
--- a worker served these links
+-- a worker served these links: the moments of their calls are those that its clock answered, one after the other
 pub record HasServed (old new : WorkerView) (services : List Service) : Type 0 where
   pub desk : GoesOn old.desk new.desk
   pub grows : Extends old.desk.seen new.desk.seen
   pub worked : IsWorked (start_of old.desk) (length old.desk.seen) old.desk.number new.desk.seen services
   pub links : AreOfGate old.gate.links new.gate.links services
+  pub moments : Gives old.clock (moments_of_all services) new.clock
   pub faults : old.gate.faults ≤ new.gate.faults
 
 -- it may stop after that many links: that is the most that it was to serve, or no link is to come
 abbrev pub MayStop : Option ℕ → Option Links → ℕ → Type 0
 MayStop most links count = (most ≡ Some count) ⊎ IfSome links IsClosed
+
+-- how a worker ended after that many links, whose gate had counted `faults` before. If it failed, a call of its gate did,
+-- once, after the last link; if it didn't, no call of its gate failed, and it may stop
+abbrev pub EndsSo : Bool → Option ℕ → ℕ → GateView → ℕ → Type 0
+EndsSo true most faults gate count = (gate.faults ≡ one_more faults) × IfSome gate.links HasFailedLast
+EndsSo false most faults gate count = (gate.faults ≡ faults) × MayStop most gate.links count
 
 -- a worker served its links, at most so many, until none was to come or its gate failed
 pub record Works (most : Option ℕ) (old new : WorkerView) (worked : Worked) : Type 0 where
@@ -106,8 +119,7 @@ pub record Works (most : Option ℕ) (old new : WorkerView) (worked : Worked) : 
   pub has : HasServed old new services
   pub few : IfSome most (λ m. length services ≤ m)
   pub served : worked.served ≡ min 18446744073709551615 (length services)
-  pub failed : worked.failed ≡ true → HasRisen old.gate.faults new.gate.faults
-  pub stops : worked.failed ≡ false → MayStop most new.gate.links (length services)
+  pub ends : EndsSo worked.failed most old.gate.faults new.gate (length services)
 
 -- whether that many links are as many as are asked for, which is a number of 32 bits
 abbrev pub TellsEnough : Option ℕ → ℕ → Bool → Type 0
@@ -115,14 +127,16 @@ TellsEnough None served enough = enough ≡ false
 TellsEnough (Some most) served true = most ≤ served
 TellsEnough (Some most) served false = (served < most) × (most < 4294967296)
 
--- the next link was served, or none was to come
+-- the next link was served, at moments of the clock, or none was to come
 abbrev pub ServesNext : WorkerView → WorkerView → Bool → Type 0
 ServesNext old new true = (service : Service) × AreAnswered old.desk new.desk service.exchanges × IsServed service
-    × AreOfGate old.gate.links new.gate.links (service ∷ [])
-ServesNext old new false = (new.desk ≡ old.desk) × (new.gate.links ≡ old.gate.links) × IfSome old.gate.links IsClosed
+    × AreOfGate old.gate.links new.gate.links (service ∷ []) × Gives old.clock (moments_of service.exchanges) new.clock
+ServesNext old new false =
+    (new.desk ≡ old.desk) × (new.gate.links ≡ old.gate.links) × IfSome old.gate.links IsClosed × Gives old.clock [] new.clock
 
--- the same, or the gate failed
+-- the same, and no call of the gate failed; or one did, and nothing else was done
 abbrev pub TriesNext : WorkerView → WorkerView → Result Bool Failed → Type 0
-TriesNext old new (Ok more) = ServesNext old new more
+TriesNext old new (Ok more) = ServesNext old new more × (new.gate.faults ≡ old.gate.faults)
 TriesNext old new (Err e) =
-    (new.desk ≡ old.desk) × (new.gate.links ≡ old.gate.links) × HasRisen old.gate.faults new.gate.faults
+    (new.desk ≡ old.desk) × (new.gate.links ≡ failed old.gate.links) × (new.gate.faults ≡ one_more old.gate.faults)
+    × Gives old.clock [] new.clock

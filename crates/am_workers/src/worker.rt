@@ -1,10 +1,10 @@
 //! Many workers, each in a thread of its own.
-ghost use Rattle.std.specs.Prelude.{◌≡◌, ◌+◌, ◌<◌, ◌≤◌, ◌++◌, ℕ, List as Items, All, IfOk, IfSome, [], length, map, min, slice_index_or, sum_by, vec_len, vec_capacity};
+ghost use Rattle.std.specs.Prelude.{◌≡◌, ◌+◌, ◌<◌, ◌≤◌, ◌++◌, ℕ, List as Items, All, IfOk, IfSome, Some, [], length, map, min, slice_get, slice_index_or, sum_by, vec_len, vec_capacity};
 ghost use Rattle.std.specs.List.{list_any};
-ghost use Rattle.am_network.specs.Links.{AreBack, GateView};
+ghost use Rattle.am_network.specs.Links.{AreBack, GateView, IsNewGate};
 ghost use Rattle.am_workers.specs.declared.worker.Worker.{Worker};
 ghost use Rattle.am_workers.specs.Work.{Works};
-ghost use Rattle.am_workers.specs.Serving.{MayReleaseAll, all_released, faults_raised};
+ghost use Rattle.am_workers.specs.Serving.{IsUnserved, MayReleaseAll, all_released, faults_raised, network_of};
 
 use crate::working::{Worked, work};
 use am_desk::Desk;
@@ -28,73 +28,77 @@ pub struct Worker<D: Drop, A: Drop, C: Drop> {
     pub worked: Worked,
 }
 
-// One worker for each desk and gate, in their order. Takes all the memory that they work with.
-pub(crate) fn hire<D: Drop, A: Acceptor, C: Clock>(
-    alloc: Global,
-    clock: &C,
-    mut desks: VecDeque<D>,
-    mut gates: VecDeque<A>,
-) -> Result<Vec<Worker<D, A, C>>, NoMemory>
-    requires count { length desks.items ≡ length gates.items }
-    ensures desks { IfOk result (λ made. map (λ (w : Worker D A C). w.desk) made.items ≡ desks.items) }
-    ensures gates { IfOk result (λ made. map (λ (w : Worker D A C). w.gate) made.items ≡ gates.items) }
-{
-    let mut workers = Vec::new(alloc);
-    while let Some(desk) = desks.pop_front() {
-        match gates.pop_front() {
-            Some(gate) => {
-                workers.reserve(1)?;
-                workers.push_reserved(ready(alloc, clock, desk, gate)?);
-            }
-            None => unreachable!(),
-        }
-    }
-    Ok(workers)
+/// The memory that workers work with, taken before the first of them begins: the room for the workers and for their desks
+/// at the end, and the buffers of each.
+#[derive(Drop)]
+pub struct Rooms<D: Drop, A: Drop, C: Drop> {
+    pub workers: Vec<Worker<D, A, C>>,
+    pub desks: Vec<D>,
+    pub buffers: VecDeque<Buffers>,
 }
 
-// The worker at a desk and a gate.
-fn ready<D: Drop, A: Acceptor, C: Clock>(
-    alloc: Global,
-    clock: &C,
-    desk: D,
-    gate: A,
-) -> Result<Worker<D, A, C>, NoMemory>
-    ensures desk { IfOk result (λ made. made.desk ≡ desk) }
-    ensures gate { IfOk result (λ made. made.gate ≡ gate) }
+// The buffers of that many workers.
+fn buffers_for(alloc: Global, count: usize) -> Result<Vec<Buffers>, NoMemory>
+    ensures { IfOk result (λ made. length made.items ≡ count) }
 {
-    let buffers = Buffers::new(alloc)?;
-    Ok(Worker {
-        desk,
-        gate,
-        clock: clock.another(),
-        buffers,
-        worked: Worked {
-            served: 0,
-            failed: false,
-        },
+    let mut buffers = Vec::with_capacity(alloc, count)?;
+    for _number in 0..count {
+        buffers.push(Buffers::new(alloc)?)?;
+    }
+    Ok(buffers)
+}
+
+// The memory for that many workers.
+pub(crate) fn rooms_for<D: Drop, A: Drop, C: Drop>(
+    alloc: Global,
+    count: usize,
+) -> Result<Rooms<D, A, C>, NoMemory>
+    ensures workers { IfOk result (λ made. (made.workers.items ≡ []) × (count ≤ vec_capacity made.workers)) }
+    ensures desks { IfOk result (λ made. (made.desks.items ≡ []) × (count ≤ vec_capacity made.desks)) }
+    ensures buffers { IfOk result (λ made. length made.buffers.items ≡ count) }
+{
+    let buffers = buffers_for(alloc, count)?;
+    Ok(Rooms {
+        workers: Vec::with_capacity(alloc, count)?,
+        desks: Vec::with_capacity(alloc, count)?,
+        buffers: VecDeque::from_vec(buffers),
     })
 }
 
-// The workers, and the room for their desks at the end.
-pub(crate) fn gather<D: Drop, A: Acceptor, C: Clock>(
-    alloc: Global,
+// One worker for each desk and gate, in their order, each with a clock that tells what the given one tells. Takes no memory.
+pub(crate) fn hire<D: Drop, A: Acceptor, C: Clock>(
     clock: &C,
     desks: Vec<D>,
     gates: Vec<A>,
-) -> Result<(Vec<Worker<D, A, C>>, Vec<D>), NoMemory>
-    requires count { vec_len desks ≡ vec_len gates }
-    ensures desks { IfOk result (λ made. map (λ (w : Worker D A C). w.desk) made.0.items ≡ desks.items) }
-    ensures gates { IfOk result (λ made. map (λ (w : Worker D A C). w.gate) made.0.items ≡ gates.items) }
-    ensures room { IfOk result (λ made. (made.1.items ≡ []) × (vec_len desks ≤ vec_capacity made.1)) }
+    mut buffers: VecDeque<Buffers>,
+    mut workers: Vec<Worker<D, A, C>>,
+) -> Vec<Worker<D, A, C>>
+    requires gates { vec_len desks ≡ vec_len gates }
+    requires buffers { vec_len desks ≡ length buffers.items }
+    requires empty { workers.items ≡ [] }
+    requires room { vec_len desks ≤ vec_capacity workers }
+    ensures desks { map (λ (w : Worker D A C). w.desk) result.items ≡ desks.items }
+    ensures gates { map (λ (w : Worker D A C). w.gate) result.items ≡ gates.items }
+    ensures clocks { All (λ (w : Worker D A C). (calls : ℕ) → C.moments w.clock calls ≡ C.moments clock.now calls) result.items }
 {
-    let room = Vec::with_capacity(alloc, desks.len())?;
-    let workers = hire(
-        alloc,
-        clock,
-        VecDeque::from_vec(desks),
-        VecDeque::from_vec(gates),
-    )?;
-    Ok((workers, room))
+    let mut free_desks = VecDeque::from_vec(desks);
+    let mut free_gates = VecDeque::from_vec(gates);
+    while let Some(desk) = free_desks.pop_front() {
+        match (free_gates.pop_front(), buffers.pop_front()) {
+            (Some(gate), Some(buffers)) => workers.push_reserved(Worker {
+                desk,
+                gate,
+                clock: clock.another(),
+                buffers,
+                worked: Worked {
+                    served: 0,
+                    failed: false,
+                },
+            }),
+            _ => unreachable!(),
+        }
+    }
+    workers
 }
 
 // Each worker works, in a thread of its own.
@@ -111,10 +115,12 @@ pub(crate) fn work_all<R: Threads + Wait + Sync, D: Desk + Drop + Send, A: Accep
         (record {
           desk = D.view (slice_index_or workers.old i other).desk;
           gate = record { links = A.links (slice_index_or workers.old i other).gate; faults = A.faults (slice_index_or workers.old i other).gate };
+          clock = C.moments (slice_index_or workers.old i other).clock;
         })
         (record {
           desk = D.view (slice_index_or workers.new i other).desk;
           gate = record { links = A.links (slice_index_or workers.new i other).gate; faults = A.faults (slice_index_or workers.new i other).gate };
+          clock = C.moments (slice_index_or workers.new i other).clock;
         })
         (slice_index_or workers.new i other).worked }
 {
@@ -125,8 +131,16 @@ pub(crate) fn work_all<R: Threads + Wait + Sync, D: Desk + Drop + Send, A: Accep
         &|_: usize, worker: &mut Worker<D, A, C>|
             requires { IfSome (A.links worker.old.gate) AreBack × IfSome most (λ m. 1 ≤ m) }
             ensures { Works most
-                (record { desk = D.view worker.old.desk; gate = record { links = A.links worker.old.gate; faults = A.faults worker.old.gate } })
-                (record { desk = D.view worker.new.desk; gate = record { links = A.links worker.new.gate; faults = A.faults worker.new.gate } })
+                (record {
+                  desk = D.view worker.old.desk;
+                  gate = record { links = A.links worker.old.gate; faults = A.faults worker.old.gate };
+                  clock = C.moments worker.old.clock;
+                })
+                (record {
+                  desk = D.view worker.new.desk;
+                  gate = record { links = A.links worker.new.gate; faults = A.faults worker.new.gate };
+                  clock = C.moments worker.new.clock;
+                })
                 worker.new.worked }
         {
             let worked = work(
@@ -175,6 +189,7 @@ pub(crate) fn dismiss<N: Network, D: Drop, C: Drop>(
     requires may { MayReleaseAll (N.listening network.old) (length workers.items) }
     ensures desks { result.items ≡ desks.items ++ map (λ (w : Worker D N.Gate C). w.desk) workers.items }
     ensures told { N.listening network.new ≡ all_released (N.listening network.old) (map (λ (w : Worker D N.Gate C). record { links = N.Gate.links w.gate; faults = N.Gate.faults w.gate }) workers.items) }
+    ensures listens { N.listens network.new ≡ N.listens network.old }
     ensures faults { N.faults network.new ≡ N.faults network.old }
     ensures gate_faults { N.gate_faults network.new ≡ faults_raised (N.gate_faults network.old) (map (λ (w : Worker D N.Gate C). record { links = N.Gate.links w.gate; faults = N.Gate.faults w.gate }) workers.items) }
 {
@@ -190,4 +205,18 @@ pub(crate) fn dismiss<N: Network, D: Drop, C: Drop>(
         desks.push_reserved(desk);
     }
     desks
+}
+
+// Hands gates that no worker served back to the network, in their order, and answers that memory ran out.
+pub(crate) fn dismiss_unserved<N: Network>(network: &mut N, gates: Vec<N::Gate>) -> NoMemory
+    requires new { (k : ℕ) (gate : N.Gate) → slice_get gates.items k ≡ Some gate
+        → IsNewGate (record { links = N.Gate.links gate; faults = N.Gate.faults gate }) }
+    requires may { MayReleaseAll (N.listening network.old) (vec_len gates) }
+    ensures { IsUnserved (vec_len gates) (network_of N.Network network.old) (network_of N.Network network.new) }
+{
+    let mut left = VecDeque::from_vec(gates);
+    while let Some(unserved) = left.pop_front() {
+        network.release(unserved);
+    }
+    NoMemory
 }

@@ -30,8 +30,16 @@ fn serve_next<D: Desk, A: Acceptor, C: Clock>(
 ) -> Result<bool, Failed>
     requires back { IfSome (A.links gate.old) AreBack }
     ensures next { TriesNext
-        (record { desk = D.view desk.old; gate = record { links = A.links gate.old; faults = A.faults gate.old } })
-        (record { desk = D.view desk.new; gate = record { links = A.links gate.new; faults = A.faults gate.new } })
+        (record {
+          desk = D.view desk.old;
+          gate = record { links = A.links gate.old; faults = A.faults gate.old };
+          clock = C.moments clock.old;
+        })
+        (record {
+          desk = D.view desk.new;
+          gate = record { links = A.links gate.new; faults = A.faults gate.new };
+          clock = C.moments clock.new;
+        })
         result }
     ensures desk { GoesOn (D.view desk.old) (D.view desk.new) }
     ensures never_falls { A.faults gate.old ≤ A.faults gate.new }
@@ -60,8 +68,16 @@ pub fn work<R: Wait, D: Desk, A: Acceptor, C: Clock>(
     requires back { IfSome (A.links gate.old) AreBack }
     requires some { IfSome most (λ m. 1 ≤ m) }
     ensures works { Works most
-        (record { desk = D.view desk.old; gate = record { links = A.links gate.old; faults = A.faults gate.old } })
-        (record { desk = D.view desk.new; gate = record { links = A.links gate.new; faults = A.faults gate.new } })
+        (record {
+          desk = D.view desk.old;
+          gate = record { links = A.links gate.old; faults = A.faults gate.old };
+          clock = C.moments clock.old;
+        })
+        (record {
+          desk = D.view desk.new;
+          gate = record { links = A.links gate.new; faults = A.faults gate.new };
+          clock = C.moments clock.new;
+        })
         result }
     ensures back { IfSome (A.links gate.new) AreBack }
 {

@@ -48,6 +48,10 @@ empty serve --device d --port 8080 --workers 1 | 0 - | history 1 served 2\n
 : -
 none | POST /v1/tick HTTP/1.1\r\nAM-Key: sys\r\nContent-Length: 2\r\n\r\n{} -> HTTP/1.1 200 OK\r\nContent-Type: application/json\r\nContent-Length: 2\r\nAM-At: 0\r\nAM-Stored: 1\r\n\r\n{}
 none | POST /v1/history HTTP/1.1\r\nAM-Key: sys\r\nContent-Length: 10\r\n\r\n{"from":0} -> HTTP/1.1 200 OK\r\nContent-Type: application/json\r\nContent-Length: 114\r\nAM-At: 1\r\nAM-Stored: 0\r\n\r\n{"entries":[{"at":0,"desk":0,"kept":true,"now":0,"request":{},"route":"/v1/tick","uid":1000,"weight":2}],"from":0}
+# The clock stands at the moment of the words.
+empty serve --device d --port 8080 --workers 1 --at 7 | 0 - | history 2 served 1\n
+: -
+none | POST /v1/tick HTTP/1.1\r\nAM-Key: sys\r\nContent-Length: 2\r\n\r\n{}POST /v1/tick HTTP/1.1\r\nAM-Key: sys\r\nContent-Length: 2\r\n\r\n{}POST /v1/history HTTP/1.1\r\nAM-Key: sys\r\nContent-Length: 10\r\n\r\n{"from":0} -> HTTP/1.1 200 OK\r\nContent-Type: application/json\r\nContent-Length: 2\r\nAM-At: 0\r\nAM-Stored: 1\r\n\r\n{}HTTP/1.1 200 OK\r\nContent-Type: application/json\r\nContent-Length: 2\r\nAM-At: 1\r\nAM-Stored: 1\r\n\r\n{}HTTP/1.1 200 OK\r\nContent-Type: application/json\r\nContent-Length: 206\r\nAM-At: 2\r\nAM-Stored: 0\r\n\r\n{"entries":[{"at":0,"desk":0,"kept":true,"now":7,"request":{},"route":"/v1/tick","uid":1000,"weight":2},{"at":1,"desk":0,"kept":true,"now":7,"request":{},"route":"/v1/tick","uid":1000,"weight":2}],"from":0}
 # The second of three gates has the second desk.
 empty serve --device d --port 8080 --workers 3 | 0 - | history 1 served 2\n
 : -

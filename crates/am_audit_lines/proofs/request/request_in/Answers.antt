@@ -2,10 +2,10 @@ use Rattle.std.proofs.Common.{◌≡◌, ℕ, List, Option, Some, None, sym, ap,
 use Rattle.std.specs.Option.{option_copied, option_map}
 use Rattle.serde_json.specs.View.{view}
 use Rattle.am_types.specs.declared.history.Entry.{Entry}
-use Rattle.am_wire_routes.specs.Table.{endpoint_at as endpoint_with}
+use Rattle.am_wire_routes.specs.Table.{endpoint_at as endpoint_with, endpoint_for, path_of}
+use Rattle.am_wire_routes.proofs.Paths.{own_path}
 use Rattle.am_wire_values.specs.Replies.{entry_data}
-use Rattle.am_wire_values.specs.Routes.{route_of}
-use Rattle.am_audit_lines.proofs.Entries.{none_is_some, request_said, route_asks, route_said, some_is}
+use Rattle.am_audit_lines.proofs.Entries.{none_is_some, request_said, route_said, some_is}
 use Rattle.am_audit_lines.proofs.request.request_in.Goals as goal
 
 pub returns-in_default-clause-finds : goal.returns-in_default-clause-finds
@@ -15,9 +15,9 @@ returns-in_default-clause-finds c = λ at entry is again.
 pub returns-in_default-endpoint_with-clause-finds :
     goal.returns-in_default-endpoint_with-clause-finds
 returns-in_default-endpoint_with-clause-finds c = λ at entry is again.
-    let route : c.in-Some.route.now ≡ route_of entry.request =
+    let route : c.in-Some.route.now ≡ path_of (endpoint_for entry.request) =
     some_is (sym (ap option_copied c.in-Some.is) ∙ c.route_in.ensures ∙ route_said _ at entry is) in
-    absurd (none_is_some (sym c.in_default-endpoint_with.is ∙ c.endpoint_with.ensures ∙ ap endpoint_with route ∙ route_asks entry.request))
+    absurd (none_is_some (sym c.in_default-endpoint_with.is ∙ c.endpoint_with.ensures ∙ ap endpoint_with route ∙ own_path (endpoint_for entry.request)))
 
 pub returns-in_default-get-clause-finds : goal.returns-in_default-get-clause-finds
 returns-in_default-get-clause-finds c = λ at entry is again.
@@ -25,9 +25,9 @@ returns-in_default-get-clause-finds c = λ at entry is again.
 
 pub returns-clause-finds : goal.returns-clause-finds
 returns-clause-finds c = λ at entry is again.
-    let route : c.in-Some.route.now ≡ route_of entry.request =
+    let route : c.in-Some.route.now ≡ path_of (endpoint_for entry.request) =
     some_is (sym (ap option_copied c.in-Some.is) ∙ c.route_in.ensures ∙ route_said _ at entry is) in
     c.request_at.ensures.finds entry.request
-    (some_is (sym c.in-Some-endpoint_with.is ∙ c.endpoint_with.ensures ∙ ap endpoint_with route ∙ route_asks entry.request))
+    (some_is (sym c.in-Some-endpoint_with.is ∙ c.endpoint_with.ensures ∙ ap endpoint_with route ∙ own_path (endpoint_for entry.request)))
     (some_is (sym (ap (option_map (λ v. view v.now)) c.in-Some-get.is) ∙ c.get.ensures ∙ request_said _ at entry is))
     again

@@ -5,7 +5,7 @@ use Rattle.am_http.specs.Links.{GoesOn, IsSameLink, Link, Server}
 use Rattle.am_http.specs.Sessions.{IsUnasked}
 use Rattle.am_http.proofs.FramingLemmas.{whole_key, whole_body}
 use Rattle.am_http.proofs.NextLemmas.{keeps_refl}
-use Rattle.am_http.proofs.TurnLemmas.{ends_input, ends_cut, ends_refused, held_frame, sends_err, turn_failed, turn_held}
+use Rattle.am_http.proofs.TurnLemmas.{ends_input, ends_cut, ends_refused, gave_window, held_frame, sends_err, turn_failed, turn_held}
 use Rattle.am_http.proofs.connection.serve_frame.Goals as goal
 
 -- nothing is asked of a server that stays
@@ -33,6 +33,7 @@ returns-in-Ok-write_defect-clause-turn g c = (
   c.in-Refused.defect,
   ends_refused _ _ _ c.in-Ok.found c.in-Refused.defect c.in-Ok.ensures.kept c.in-Ok.ensures.found c.in-Refused.is,
   record { unasked = unasked _; output = c.in-Ok-write_defect.ensures.sent },
+  gave_window _ _ _ c.in-Ok.ensures.kept c.in-Ok.ensures.fits,
 )
 
 pub returns-in-Err-clause-turn : goal.returns-in-Err-clause-turn
@@ -41,6 +42,7 @@ returns-in-Err-clause-turn g c =
       c.in-Refused.defect,
       ends_refused _ _ _ c.in-Ok.found c.in-Refused.defect c.in-Ok.ensures.kept c.in-Ok.ensures.found c.in-Refused.is,
       record { unasked = unasked _; output = c.in-Err.ensures.sent },
+      gave_window _ _ _ c.in-Ok.ensures.kept c.in-Ok.ensures.fits,
     )
 
 pub answer_frame-answer-requires-clause-key : goal.answer_frame-answer-requires-clause-key
@@ -60,9 +62,9 @@ returns-then-is_err-clause-turn g c =
     let w = c.next_frame.new.window in
     let f = frame_held c.of.result in
     let sent = c.write_answer-written.ensures.sent in
-    inl (turn_failed _ _ w f c.answer_frame-answer.result sent.0 c.in-Ok.ensures.kept
+    inl (turn_failed _ _ f c.answer_frame-answer.result sent.0 c.in-Ok.ensures.kept
     (held_frame w c.bytes.result.now _ c.in-Ok.found c.in-Whole.spans f c.in-Ok.ensures.found c.in-Whole.is c.bytes.ensures.bytes c.of.ensures)
-    c.answer_frame-answer.ensures.answer sent.1
+    c.in-Ok.ensures.fits c.answer_frame-answer.ensures.answer sent.1
     (sends_err _ _ sent.0 c.write_answer-written.result c.if-is_err.ensures.value sent.2))
 
 pub returns-then-spans-clause-turn : goal.returns-then-spans-clause-turn

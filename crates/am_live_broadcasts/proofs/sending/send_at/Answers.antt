@@ -1,4 +1,4 @@
-use Rattle.am_live_broadcasts.proofs.CastingLemmas.{still_left}
+use Rattle.am_live_broadcasts.proofs.BroadcastLemmas.{still_left}
 use Rattle.am_live_broadcasts.proofs.sending.send_at.Goals as goal
 
 pub send-requires-2-clause-broadcasts : goal.send-requires-2-clause-broadcasts

@@ -108,6 +108,11 @@ returns-in-Tick-clause-done g c =
     (one_state (is_privileged c.args.call.now.uid) replies.Plain after
     ∙ ap (λ (reply : Reply). (reply, after)) (sym c.tick.ensures) ∙ ap (λ (s : State). (c.tick.result, s)) (sym c.settle.ensures))
 
+pub returns-in-Advance-clause-done : goal.returns-in-Advance-clause-done
+returns-in-Advance-clause-done g c =
+    done_by (Ok c.advance.result) c.args.live.now c.advance.new.self c.args.history.now c.args.call.now c.moment_after-moment.result _
+    c.moment_after-moment.ensures.moment c.in-Advance.is c.advance.ensures
+
 pub returns-in_default-clause-done : goal.returns-in_default-clause-done
 returns-in_default-clause-done g c =
     done_at c.read_at.result c.args.live.now c.read_at.new.live c.args.history.now c.args.call.now c.moment_after-moment.result c.args.call.now.request

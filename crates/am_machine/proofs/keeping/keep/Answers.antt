@@ -2,7 +2,7 @@ use Rattle.std.proofs.Common.{List, subst}
 use Rattle.am_types.specs.declared.history.Entry.{Entry}
 use Rattle.am_live_packages.specs.declared.change.Plan.{Plan}
 use Rattle.am_live_packages.specs.Changes.{IsPlanOf, IsAccepted, IsRefusedBy}
-use Rattle.am_machine.proofs.Kept.{refused_step, made_done, made_asked, made_put}
+use Rattle.am_machine.proofs.Kept.{refused_step, made_asked, made_counts, made_done, made_put, made_unasked}
 use Rattle.am_machine.proofs.keeping.keep.Goals as goal
 
 pub returns-in-Refused-clause-done : goal.returns-in-Refused-clause-done
@@ -31,3 +31,12 @@ returns-in-Accepted-clause-put g c =
     subst (λ (p : Plan). IsPlanOf p c.args.live.now c.args.call.now.uid c.args.call.now.request) c.in-Accepted.is c.in_ok-planned.ensures in
     made_put g.K.Keeper c.in-Accepted.change c.in-Accepted.row c.args.live.now c.make.new.live c.args.call.now c.moment_after-moment.result c.make.result
     c.args.keeper.now c.make.new.keeper accepted c.make.ensures.done c.make.ensures.put
+
+pub returns-in-Accepted-clause-unasked : goal.returns-in-Accepted-clause-unasked
+returns-in-Accepted-clause-unasked g c =
+    made_unasked c.in-Accepted.change c.args.live.now c.make.new.live c.moment_after-moment.result c.make.result c.args.keeper.now c.make.new.keeper c.make.ensures.done
+
+pub returns-in-Accepted-clause-counts : goal.returns-in-Accepted-clause-counts
+returns-in-Accepted-clause-counts g c =
+    made_counts g.K.Keeper c.in-Accepted.change c.args.live.now c.make.new.live c.moment_after-moment.result c.make.result c.args.keeper.now c.make.new.keeper
+    c.make.ensures.done c.make.ensures.counts

@@ -18,6 +18,7 @@ loop-worker-preserved g c =
       told = ap (λ t. all_released t (map (λ w. record { links = g.N.Gate.Acceptor.links w.gate; faults = g.N.Gate.Acceptor.faults w.gate }) rest)) out.told
           ∙ ap (λ ws. all_released (g.N.Network.listening c.loop-worker.network) (map (λ w. record { links = g.N.Gate.Acceptor.links w.gate; faults = g.N.Gate.Acceptor.faults w.gate }) ws)) (sym begins)
           ∙ inv.told;
+      listens = out.listens ∙ inv.listens;
       faults = out.faults ∙ inv.faults;
       gate_faults = ap (λ n. faults_raised n (map (λ w. record { links = g.N.Gate.Acceptor.links w.gate; faults = g.N.Gate.Acceptor.faults w.gate }) rest)) out.gate_faults
           ∙ ap (λ ws. faults_raised (g.N.Network.gate_faults c.loop-worker.network) (map (λ w. record { links = g.N.Gate.Acceptor.links w.gate; faults = g.N.Gate.Acceptor.faults w.gate }) ws)) (sym begins)

@@ -5,20 +5,23 @@ use Rattle.am_workers.specs.Work.{HasServed, Service, WorkerView}
 use Rattle.am_workers.proofs.WorkLemmas.{IsShort}
 use Rattle.am_workers.proofs.working.work.Given as goal
 
--- the links so far were served, fewer than are asked for, and are back
+-- the links so far were served, fewer than are asked for, and are back, and no call of the gate failed
 abbrev pub invariant-loop : goal.invariant-loop
 invariant-loop g l =
     let first : WorkerView = record {
       desk = g.D.Desk.view l.initial.desk;
       gate = record { links = g.A.Acceptor.links l.initial.gate; faults = g.A.Acceptor.faults l.initial.gate };
+      clock = g.C.Clock.moments l.initial.clock;
     } in
     let now : WorkerView = record {
       desk = g.D.Desk.view l.desk;
       gate = record { links = g.A.Acceptor.links l.gate; faults = g.A.Acceptor.faults l.gate };
+      clock = g.C.Clock.moments l.clock;
     } in
     record {
       services : List Service;
       has : HasServed first now services;
+      calm : now.gate.faults ≡ first.gate.faults;
       served : l.served ≡ min 18446744073709551615 (length services);
       short : IsShort l.most (length services);
       back : IfSome now.gate.links AreBack;

@@ -14,7 +14,7 @@ use Rattle.am_laws.proofs.Faults.{act_never_faults}
 use Rattle.am_laws.proofs.Numbers.{enough_numbers}
 use Rattle.am_laws_state.specs.Sound.{IsSoundState}
 use Rattle.am_laws_state.proofs.Sound.{replay_is_sound}
-use Rattle.am_machine.specs.Keeping.{told_after, with_kept}
+use Rattle.am_machine.specs.Keeping.{CountsNone, IsUnasked, told_after, with_kept}
 use Rattle.am_machine.specs.Managed.{Holds, HoldsKept, Managed}
 use Rattle.am_machine.proofs.Kept.{has_no_row, only_reads, reads_keep_nothing, told_as_before}
 use Rattle.am_machine.proofs.Stored.{stored_more, fault_is_unkept}
@@ -90,6 +90,15 @@ returns-in-Ok-clause-put g c =
     (λ (honest : g.K.Keeper.is_honest new).
     subst (λ (s : State). g.K.Keeper.rows new ≡ told_after s c.args.entry.request reply (g.K.Keeper.rows c.self.inside.keeper)) (sym c.self.invariant.0.replayed)
     (c.in-Ok.ensures.put honest))
+
+-- the keeper is the one that the call left
+pub returns-in-Ok-clause-unasked : goal.returns-in-Ok-clause-unasked
+returns-in-Ok-clause-unasked g c =
+    subst (λ (m : Managed g.row.K.Denot). IsUnasked c.in-Ok.answered.reply m.keeper c.answer-answered.new.keeper) c.self.view_is c.in-Ok.ensures.unasked
+
+pub returns-in-Ok-clause-counts : goal.returns-in-Ok-clause-counts
+returns-in-Ok-clause-counts g c =
+    subst (λ (m : Managed g.row.K.Denot). CountsNone g.K.Keeper c.in-Ok.answered.reply m.keeper c.answer-answered.new.keeper) c.self.view_is c.in-Ok.ensures.counts
 
 -- no request is itself answered by a fault, so the row wasn't kept
 pub returns-in-Ok-clause-fault : goal.returns-in-Ok-clause-fault

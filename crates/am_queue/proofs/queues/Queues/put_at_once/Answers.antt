@@ -1,6 +1,6 @@
 use Rattle.am_model.specs.Broadcasts.{Broadcasts}
 use Rattle.am_queue.specs.Sound.{all_of}
-use Rattle.am_queue.proofs.Sending.{at_once_sound}
+use Rattle.am_queue.proofs.SendLaws.{at_once_sound}
 use Rattle.am_queue.proofs.queues.Queues.put_at_once.Goals as goal
 
 pub invariant_of-self : goal.invariant_of-self

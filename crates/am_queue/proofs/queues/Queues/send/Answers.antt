@@ -3,7 +3,7 @@ use Rattle.am_model.specs.Broadcasts.{Broadcasts}
 use Rattle.std.specs.Prelude.{None, Some}
 use Rattle.am_model.specs.Sending.{send, with_sent}
 use Rattle.am_queue.specs.Taken.{refusal_of}
-use Rattle.am_queue.proofs.Sending.{refused, not_refused}
+use Rattle.am_queue.proofs.SendLaws.{refused, not_refused}
 use Rattle.am_queue.proofs.queues.Queues.send.Goals as goal
 
 pub returns-in-Some-clause-refused : goal.returns-in-Some-clause-refused

@@ -13,5 +13,5 @@ loop-endpoint-preserved c =
 
 pub invariant_of-result : goal.invariant_of-result
 invariant_of-result c =
-    let all : c.loop-endpoint.endpoint-index ≡ 26 = omega arith in
+    let all : c.loop-endpoint.endpoint-index ≡ 27 = omega arith in
     answers-table c.loop-endpoint.router (rw all at c.loop-endpoint.invariant)

@@ -1,5 +1,0 @@
-use Rattle.am_found.proofs.Found.{history_is_found}
-use Rattle.am_found.proofs.kept_is_found.Goals as goal
-
-pub returns : goal.returns
-returns c = history_is_found

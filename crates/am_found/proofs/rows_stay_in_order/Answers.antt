@@ -1,5 +1,0 @@
-use Rattle.am_found.proofs.Found.{kept_in_order}
-use Rattle.am_found.proofs.rows_stay_in_order.Goals as goal
-
-pub returns : goal.returns
-returns c = kept_in_order

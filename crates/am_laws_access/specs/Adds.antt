@@ -1,0 +1,90 @@
+-- What one entry adds to a state, and that it is a deed of this entry.
+use Rattle.std.specs.Prelude.{◌≡◌, ℕ, ◌+◌, false, not, ◌&&◌, List, ◌∷◌, Option, Some, None, ◌⊎◌}
+use Rattle.std.specs.List.{Contains}
+use Rattle.am_types.specs.declared.intent.Intent.{Intent}
+use Rattle.am_types.specs.declared.broadcast.Spot.{Spot}
+use Rattle.am_types.specs.declared.task.Landed.{Landed}
+use Rattle.am_types.specs.declared.task.Placed.{Placed}
+use Rattle.am_types.specs.declared.task.Placed.TheVariants as how
+use Rattle.am_types.specs.declared.history.Entry.{Entry}
+use Rattle.am_types.specs.declared.reply.Reply.{Reply}
+use Rattle.am_types.specs.declared.reply.Reply.TheVariants as replies
+use Rattle.am_model.specs.Gates.{is_privileged}
+use Rattle.am_model.specs.Receivers.{receivers, admitted, is_protected}
+use Rattle.am_model.specs.Broadcasts.{Normal, Delivery}
+use Rattle.am_model.specs.Tasks.{Instance, Task}
+use Rattle.am_model.specs.Placement.{root_of}
+use Rattle.am_history.specs.State.{State, Service}
+use Rattle.am_history.specs.Services.{running}
+use Rattle.am_history.specs.Steps.{after_due}
+use Rattle.am_laws.specs.Access.{Deed, Sends, IsStarted, IsServed}
+use Rattle.am_laws_access.specs.Intents.{IsAmong, HasDone, IsGivenBy}
+
+-- what may be added to a state: a delivery of the normal broadcast of that number, sender and intent; an activity
+-- instance with the intent that it has; or a running service, started as often as it says
+pub data Addition : Type 0 where
+  ADelivery : ℕ → ℕ → Intent → Delivery → Addition
+  AnInstance : Instance → Addition
+  AService : Service → Addition
+
+-- the delivery is one of the normal broadcast of that number, sender and intent
+pub record IsDeliveryOf (normal : List Normal) (number sender : ℕ) (intent : Intent) (d : Delivery) : Type 0 where
+  pub broadcast : Normal
+  pub one : Contains normal broadcast
+  pub numbered : broadcast.number ≡ number
+  pub sent_by : broadcast.sender ≡ sender
+  pub carries : broadcast.intent ≡ intent
+  pub delivery : Contains broadcast.deliveries d
+
+-- it is there in the state
+abbrev pub Has : State → Addition → Type 0
+Has state (ADelivery number sender intent d) = IsDeliveryOf state.broadcasts.normal number sender intent d
+Has state (AnInstance i) = IsAmong state.tasks.tasks i
+Has state (AService s) = Contains state.services s
+
+-- the uid broadcasts the intent at once, its action isn't kept from it, and the receiver is one of those that are admitted
+pub record IsSentAtOnce (sender : ℕ) (intent : Intent) (spot : Spot) (state : State) (deed : Deed) : Type 0 where
+  pub permission : Option (List ℕ)
+  pub is : deed ≡ Sends sender intent permission None
+  pub unprotected : is_protected state.board.protected intent.action && not (is_privileged sender) ≡ false
+  pub admitted : Contains (admitted (receivers state.board intent sender permission)) spot
+
+-- the service was started once more than it says in this state, or for the first time where it doesn't run
+abbrev pub IsOneMore : State → Service → Type 0
+IsOneMore state s =
+    ((was : Service) × Contains state.services was × (was.component ≡ s.component) × (s.starts ≡ was.starts + 1))
+    ⊎ ((running state.services s.component ≡ None) × (s.starts ≡ 1))
+
+-- the entry added it in this state, in which its deed was admitted: it sent the broadcast, whose number is the one that
+-- is given next; it started the activity with that intent; or it started the service with that intent, once more
+abbrev pub IsAddedBy : State → Entry → Addition → Type 0
+IsAddedBy state entry (ADelivery number sender intent d) =
+    HasDone state entry (IsSentAtOnce sender intent d.spot) × (number ≡ state.broadcasts.next_broadcast)
+IsAddedBy state entry (AnInstance i) = IsGivenBy state entry i
+IsAddedBy state entry (AService s) = HasDone state entry (IsServed s.component s.owner s.intent) × IsOneMore state s
+
+-- what a start did to the front task, in which it landed: it only brought it to the front, and the entry started the
+-- component of its root; or its instance of that number was given its intent, which may be the one that it had
+abbrev pub IsReachedBy : State → Entry → Task → ℕ → Placed → Type 0
+IsReachedBy state entry front number how.Fronted =
+    (root : Instance) × (root_of front.instances ≡ Some root)
+    × HasDone state entry (λ state deed. (intent : Intent) × IsStarted root.component root.owner intent state deed)
+IsReachedBy state entry front number _ =
+    (i : Instance) × Contains front.instances i × (i.number ≡ number) × IsGivenBy state entry i
+
+-- an entry that is answered so in this state, and leaves that one, landed there by a start that the gate admitted
+pub record IsLanding (state : State) (entry : Entry) (after : State) (landed : Landed) : Type 0 where
+  pub front : Task
+  pub behind : List Task
+  pub tasks : after.tasks.tasks ≡ front ∷ behind
+  pub task : front.number ≡ landed.task
+  pub reached : IsReachedBy state entry front landed.instance landed.how
+
+-- an entry with its answer and the state after it adds to a state nothing but what its own deed adds at its moment: what
+-- was due before it adds nothing, and where it says that a start landed, it was this entry's start
+pub record Adds (before : State) (entry : Entry) (answer : Reply × State) : Type 0 where
+  pub due : (a : Addition) → Has (after_due before entry.now) a → Has before a
+  pub own : (a : Addition) → Has answer.1 a
+      → Has (after_due before entry.now) a ⊎ IsAddedBy (after_due before entry.now) entry a
+  pub landing : (landed : Landed) → answer.0 ≡ replies.Placed landed
+      → IsLanding (after_due before entry.now) entry answer.1 landed

@@ -1,0 +1,6 @@
+//! The text of a request's body, which the request's endpoint reads back as the request.
+#![tactic(auto)]
+
+mod bodies;
+
+pub use bodies::request_text;
