@@ -7,12 +7,13 @@ if TYPE_CHECKING:
     from amctl.devicefile import DeviceFile
     from amctl.errors import AmctlError
     from amctl.intents import Intent, IntentFilter
-    from amctl.results import Choose
+    from amctl.results import Advanced, Choose
 
-__all__ = ["AmctlError", "App", "Choose", "Device", "DeviceFile", "Intent", "IntentFilter", "Refusal"]
+__all__ = ["Advanced", "AmctlError", "App", "Choose", "Device", "DeviceFile", "Intent", "IntentFilter", "Refusal"]
 
 # Each is imported when it is first asked for: the conversion of apps, which is in this package too, needs no other package.
 _MODULES = {
+    "Advanced": "results",
     "AmctlError": "errors",
     "App": "device",
     "Choose": "results",

@@ -3,7 +3,7 @@ import difflib
 import os
 import re
 import sys
-from collections.abc import Sequence
+from collections.abc import Mapping, Sequence
 from enum import Enum
 from pathlib import Path
 from typing import List, Optional
@@ -21,6 +21,9 @@ from amctl.results import Choose
 NO_COMMAND = re.compile(r"No such command '(.*)'")
 REFUSED = 1
 WRONG_WORDS = 2
+# what `am` takes of one request
+MOST_AHEAD = 2**50
+LAST_MOMENT = 2**64 - 1
 
 app = typer.Typer(
     add_completion=False,
@@ -168,6 +171,18 @@ def history(asking: Asking, from_: int = option(0, "--from", min=0, help="The nu
         _table(asking, ("number", "moment", "caller", "call"), [words.entry(it, device.file) for it in found])
 
 
+@app.command(epilog="Example: amctl advance --url http://127.0.0.1:8080 --device device.toml 10000")
+@with_groups
+def advance(
+    asking: Asking,
+    by: int = typer.Argument(0, metavar="[MILLISECONDS]", min=0, max=MOST_AHEAD, show_default=False, help="How far; 0, which only asks, if left out."),
+) -> None:
+    """Moves the moment ahead, lets what is due then be late, and says what is due next."""
+    with asking.open() as device:
+        found = asking.caller(device).advance(by)
+    _done(asking, results.to_json(found), words.advanced(found), is_kept_in_store=False)
+
+
 @app.command(epilog="Example: amctl install --store rows maps.toml")
 @with_groups
 def install(
@@ -303,12 +318,13 @@ def serve(
     workers: int = option(4, "--workers", min=1, max=64, help="How many connections are served at once; 4 if left out."),
     store: Optional[Path] = option(None, "--store", metavar="FILE", help="Keeps what is installed, granted and linked."),
     connections: Optional[int] = option(None, "--connections", min=1, max=1_000_000, help="Each worker ends once it has served so many."),
+    at: Optional[int] = option(None, "--at", metavar="MOMENT", min=0, max=LAST_MOMENT, help="The clock stands at this moment, in milliseconds."),
     am: Optional[Path] = option(None, "--am", metavar="PROGRAM", help="The program `am`. Else AM, PATH, or the repository's."),
 ) -> int:
     """Serves a device on 127.0.0.1 until it is stopped."""
     from amctl.serve import Serving, run
 
-    return run(Serving(device, port, workers, store, connections, am))
+    return run(Serving(device, port, workers, store, connections, am, at))
 
 
 @app.command(epilog="Example: amctl ui --device examples/device.toml")
@@ -398,7 +414,7 @@ def _table(asking: Asking, columns: Sequence[str], rows: Sequence[Sequence[str]]
         print(words.NOTHING_YET if asking.where().url is None else words.NOTHING)
 
 
-def _done(asking: Asking, reply: dict[str, int], sentence: str, *, is_kept_in_store: bool = True) -> None:
+def _done(asking: Asking, reply: Mapping[str, int | None], sentence: str, *, is_kept_in_store: bool = True) -> None:
     where = asking.where()
     if asking.json:
         show.show_json(reply)

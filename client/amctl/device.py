@@ -12,7 +12,7 @@ from amctl.errors import AmctlError, BadWords, DeviceFault, Ended
 from amctl.faults import REFUSED, ending_text
 from amctl.find import find_am
 from amctl.intents import Extra, Intent, IntentFilter
-from amctl.results import Account, Choose, Entry, Item, Placed, Sent, Service, Started, Status, Task
+from amctl.results import Account, Advanced, Choose, Entry, Item, Placed, Sent, Service, Started, Status, Task
 from amctl.transport import DONE, Answer, Ask, Pipes, Transport, Web, body_of, run_visible
 
 PendingKind = Literal["activity", "broadcast", "service"]
@@ -93,6 +93,10 @@ class Device:
         if key and not KEY.fullmatch(key):
             raise BadWords(words.no_key(package))
         return App(self, package, key)
+
+    def advance(self, by: int = 0) -> Advanced:
+        """Moves the device's moment so many milliseconds ahead, as the system; by 0 only asks what is due next."""
+        return self.system.advance(by)
 
     def visible(self, package: str, kind: Kind, intent: Intent, *, default_only: bool = False) -> tuple[str, ...]:
         """The components of a query that a package sees by the `queries` of its manifest, as the device file has them."""
@@ -276,6 +280,10 @@ class App:
     def tick(self) -> None:
         """Lets time pass: deadlines that are due are handled."""
         self._post("/v1/tick")
+
+    def advance(self, by: int = 0) -> Advanced:
+        """Moves the device's moment so many milliseconds ahead; by 0 only asks what is due next."""
+        return results.advanced_of(self._post("/v1/advance", by=by))
 
     def history(self, from_: int = 0) -> tuple[Entry, ...]:
         """The stored calls from a number on, at most 64."""

@@ -136,6 +136,14 @@ class Entry:
 
 
 @dataclass(frozen=True)
+class Advanced:
+    """The moment, and the earliest deadline of a live broadcast, if there is one, in milliseconds."""
+
+    due: int | None
+    now: int
+
+
+@dataclass(frozen=True)
 class Status:
     history: int
     moment: int
@@ -188,6 +196,11 @@ def uid_of(body: Mapping[str, Any]) -> int:
 @_reader
 def started_of(body: Mapping[str, Any]) -> Started:
     return Started(**body)
+
+
+@_reader
+def advanced_of(body: Mapping[str, Any]) -> Advanced:
+    return Advanced(**body)
 
 
 @_reader

@@ -1,6 +1,5 @@
 """`amctl serve`: checks what a server needs, starts it, says where it listens, and passes signals on."""
 import os
-import resource
 import signal
 import socket
 import subprocess
@@ -11,20 +10,19 @@ from dataclasses import dataclass
 from pathlib import Path
 from types import FrameType
 
-from amctl import words
+from amctl import words, words_serve
 from amctl.device import checked_store
 from amctl.devicefile import DeviceFile
 from amctl.errors import AmctlError, BadWords, NoProgram
 from amctl.faults import ending_text
 from amctl.find import find_am
+from amctl.limits import check_limits
 from amctl.transport import PRIVATE
 
 HOST = "127.0.0.1"
 # a line of /proc/net/tcp: its number, our address, theirs, the state, and behind five more fields the socket's number
 LISTENING = "0A"
 ADDRESS = "0100007F:{port:04X}"
-# the program, its store and its listener have some beside those of the connections
-OWN_DESCRIPTORS = 16
 PASSED_ON = (signal.SIGINT, signal.SIGTERM, signal.SIGHUP)
 WAIT_SECONDS = 30.0
 NETWORK_FAULT = 9
@@ -45,13 +43,15 @@ class Serving:
     store: Path | None = None
     connections: int | None = None
     am: Path | None = None
+    at: int | None = None
 
     def words(self, am: Path, port: int) -> list[str]:
         """The program's words."""
         given = [str(am), "serve", "--device", str(self.device), "--port", str(port), "--workers", str(self.workers)]
-        if self.store is not None:
-            given += ["--store", str(self.store)]
-        return given if self.connections is None else [*given, "--connections", str(self.connections)]
+        for name, value in (("--store", self.store), ("--connections", self.connections), ("--at", self.at)):
+            if value is not None:
+                given += [name, str(value)]
+        return given
 
 
 def run(serving: Serving) -> int:
@@ -59,7 +59,7 @@ def run(serving: Serving) -> int:
     file = DeviceFile.read(serving.device)
     if serving.store is not None:
         check_store(checked_store(serving.store))
-    check_descriptors(serving.workers)
+    check_limits(serving.workers)
     am = find_am(serving.am)
     if serving.port is not None:
         check_port(serving.port)
@@ -82,7 +82,7 @@ def _served(serving: Serving, am: Path, port: int, file: DeviceFile) -> int:
             print(words.listening(HOST, port), flush=True)
         printed, errors = program.communicate()
     if program.returncode == NETWORK_FAULT and not listened:
-        raise PortTaken(words.port_taken(port))
+        raise PortTaken(words_serve.port_taken(port))
     return _end(program.returncode, printed.strip(), errors.strip(), passing.passed, file)
 
 
@@ -177,25 +177,15 @@ def check_port(port: int) -> None:
         try:
             tried.bind((HOST, port))
         except PermissionError:
-            raise BadWords(words.port_forbidden(port)) from None
+            raise BadWords(words_serve.port_forbidden(port)) from None
         except OSError:
-            raise PortTaken(words.port_taken(port)) from None
+            raise PortTaken(words_serve.port_taken(port)) from None
 
 
 def check_store(store: Path) -> None:
     folder_or_file = store if store.exists() else store.parent
     if not os.access(folder_or_file, os.W_OK):
-        raise BadWords(words.store_unwritable(str(folder_or_file)))
+        raise BadWords(words_serve.store_unwritable(str(folder_or_file)))
     if store.exists() and not os.access(store.parent, os.W_OK):
         # sqlite makes its journal beside the file
-        raise BadWords(words.store_unwritable(str(store.parent)))
-
-
-def check_descriptors(workers: int) -> None:
-    """A connection has two descriptors, one for each direction; the limit is raised as far as it may."""
-    needed = 2 * workers + OWN_DESCRIPTORS
-    soft, hard = resource.getrlimit(resource.RLIMIT_NOFILE)
-    if soft != resource.RLIM_INFINITY and soft < needed:
-        if hard != resource.RLIM_INFINITY and hard < needed:
-            raise BadWords(words.few_descriptors(hard, needed, max((hard - OWN_DESCRIPTORS) // 2, 1)))
-        resource.setrlimit(resource.RLIMIT_NOFILE, (needed, hard))
+        raise BadWords(words_serve.store_unwritable(str(store.parent)))

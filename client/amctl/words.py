@@ -6,7 +6,7 @@ from typing import TYPE_CHECKING, Any
 from urllib.parse import unquote, urlsplit
 
 from amctl.intents import Intent
-from amctl.results import Account, Choose, Entry, Instance, Item, OrderedDelivery, Placed, Receiver, Result, Service, Started, To
+from amctl.results import Account, Advanced, Choose, Entry, Instance, Item, OrderedDelivery, Placed, Receiver, Result, Service, Started, To
 
 if TYPE_CHECKING:
     # a device file's own messages are here too
@@ -78,10 +78,7 @@ THINGS = {
 }
 
 REFUSALS = {
-    "unknown_key": Sentence(
-        "no installed package has the key of {caller}",
-        "install the package, or name the device file that the server was started with",
-    ),
+    "unknown_key": Sentence("no installed package has the key of {caller}", "install the package, or name the device file that the server was started with"),
     "history_full": Sentence("the history is full (1,048,576 calls, or 536,870,912 bytes of them)", "begin a new session or server"),
     "admin_only": Sentence("only the system and the root may ask this, and {caller} is an app", "ask as the system: `device.system`, or leave out `--as`"),
     "no_package": Sentence("no installed package is called {package}", "check its name, or install it first"),
@@ -110,10 +107,7 @@ REFUSALS = {
         "{target} asks its callers for {name}, which {caller} doesn't hold",
         "`amctl grant {caller} {name}`, or a `[[grant]]` in the device file",
     ),
-    "protected_action": Sentence(
-        "only the system and the root may broadcast {action}",
-        "send it as the system, or take it from `protected` in the device file",
-    ),
+    "protected_action": Sentence("only the system and the root may broadcast {action}", "send it as the system, or take it from `protected` in the device file"),
     "not_yours": Sentence("{thing} is another app's, not {caller}'s", "ask as the app whose it is"),
     "not_holder": Sentence("{caller} neither made {thing} nor was given it", "let its creator give it: `pending_give`"),
     "not_creator": Sentence("another app than {caller} made {thing}", "ask as its creator"),
@@ -155,6 +149,7 @@ LIMITS = {
     "tasks": Sentence("there are at most 64 tasks", "finish the activities of one first"),
     "activities": Sentence("a task has at most 64 activities", "finish one first"),
     "services": Sentence("at most 256 services run", "stop one first"),
+    "moment": Sentence("the moment is at most 4,611,686,018,427,387,904 ms", "advance by less"),
     "text": Sentence("a text has at most 1,024 bytes, and a manifest of its own 65,536", "shorten it"),
     "list": Sentence("a list in it is too long (64 entries in a filter, 1,024 of protected or exempt actions)", "shorten it"),
     "filters": Sentence("a component has at most 32 filters", "merge some of them"),
@@ -216,6 +211,7 @@ FIELD_FORMS = {
     "actions": "give at least one action",
     "priority": "give a whole number of 32 bits",
     "port": "give a whole number from 0 to 99999",
+    "by": "give a whole number of milliseconds, from 0 to 1,125,899,906,842,624",
     "body": "give an object",
 }
 
@@ -335,9 +331,7 @@ VERDICTS = {
         "not approved for {host}, and the default browser {browser} gets the link",
         "`amctl link {package} {host}`, or `browser = \"{package}\"` in the device file",
     ),
-    "general": Sentence(
-        "not approved for {host}, and no default browser is set", "`amctl link {package} {host}`, or `browser = \"{package}\"` in the device file"
-    ),
+    "general": Sentence("not approved for {host}, and no default browser is set", "`amctl link {package} {host}`, or `browser = \"{package}\"` in the device file"),
     "implicit_service": Sentence("the intent names neither a component nor a package", "name its package (`-p {package}`) or it (`-n {to}`)"),
     "outranked": Sentence("another one has a greater priority, or comes before it", "lower the other's `priority`, or name this one (`-n {to}`)"),
     "tied": Sentence("it shares the greatest priority with others, so the user would choose", "name it (`-n {to}`), or lower the others' `priority`"),
@@ -346,9 +340,7 @@ VERDICTS = {
         "it stands in a manifest, and the broadcast names neither it nor its package",
         "name its package (`-p {package}`), register the receiver, or list the action in `exempt` of the device file",
     ),
-    "stopped_package": Sentence(
-        "its package is stopped", "start one of its activities or services first, or set the flag INCLUDE_STOPPED"
-    ),
+    "stopped_package": Sentence("its package is stopped", "start one of its activities or services first, or set the flag INCLUDE_STOPPED"),
     "not_exported": Sentence("it isn't exported, and {caller} is another app", "set `exported = true` on it, or ask as {package}"),
     "needs_permission": Sentence("{caller} doesn't hold {name}", "`amctl grant {caller} {name}`, or a `[[grant]]` in the device file"),
     "receiver_lacks": Sentence("it doesn't hold {name}, which the sender asks for", "`amctl grant {package} {name}`, or send without the permission"),
@@ -551,6 +543,12 @@ def stopped(package: str) -> str:
     return f"{package} is stopped, with all that it had."
 
 
+def advanced(found: Advanced) -> str:
+    """The moment, and what is due next."""
+    due = "no delivery has a deadline" if found.due is None else f"the next deadline is {found.due - found.now} ms ahead, at {found.due} ms"
+    return f"the moment is {found.now} ms; {due}."
+
+
 NOT_KEPT = "nothing is kept of this: give --store FILE, or ask a server by --url."
 NOT_KEPT_IN_STORE = "nothing is kept of this, in a store neither: ask a server by --url."
 NOTHING = "nothing."
@@ -642,28 +640,12 @@ def other_server(url: str) -> str:
     return f"what answers at {url} isn't `am`: check the port, or start a server by `amctl serve device.toml`."
 
 
-def port_taken(port: int) -> str:
-    return f"port {port} of 127.0.0.1 is in use: stop who listens there, take another one, or leave out --port to get a free one."
-
-
-def port_forbidden(port: int) -> str:
-    return f"port {port} is kept for the machine's administrator: take one from 1024 on, or leave out --port to get a free one."
-
-
-def store_unwritable(path: str) -> str:
-    return f"the store can't be kept, because {path} may not be written: give yourself the right by `chmod u+w {path}`, or name another file."
-
-
 def store_folder(store: str, example: str) -> str:
     return f"the store {store} is a folder: name a file in it, such as {example}."
 
 
 def store_nowhere(store: str, folder: str) -> str:
     return f"the store {store} can't be made: make its folder by `mkdir -p {folder}`."
-
-
-def few_descriptors(limit: int, needed: int, workers: int) -> str:
-    return f"this process may have {limit} descriptors, and so many workers need {needed}: raise the limit (`ulimit -n {needed}`), or take --workers {workers}."
 
 
 def no_url(url: str) -> str:

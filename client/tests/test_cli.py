@@ -17,7 +17,7 @@ DEVICE = str(EXAMPLES / "device.toml")
 ORDERS = str(EXAMPLES / "orders.toml")
 LINK = "https://www.photos.example/album/cats"
 NAMES = [
-    "adb", "broadcast", "check", "force-stop", "grant", "history", "inbox", "install", "link", "lint", "revoke", "serve", "services",
+    "adb", "advance", "broadcast", "check", "force-stop", "grant", "history", "inbox", "install", "link", "lint", "revoke", "serve", "services",
     "start", "start-service", "survey", "tasks", "ui", "uninstall", "visible", "why",
 ]  # fmt: skip
 SERVICES = """
@@ -155,6 +155,16 @@ def test_what_a_session_of_its_own_forgets_is_said(run: Callable[..., Ran]) -> N
 def test_json_of_nothing(run: Callable[..., Ran]) -> None:
     printed = [run(command, "--device", DEVICE, "--json").out for command in ("tasks", "services", "inbox", "history")]
     assert printed == ['{"tasks":[]}\n', '{"services":[]}\n', '{"items":[]}\n', '{"entries":[],"from":0}\n']
+
+
+def test_advance_says_the_moment_and_what_is_due(run: Callable[..., Ran]) -> None:
+    ran = run("advance", "--device", ORDERS, "5")
+    assert (ran.status, ran.out) == (0, "the moment is 5 ms; no delivery has a deadline.\n")
+    assert ran.err == "amctl: nothing is kept of this, in a store neither: ask a server by --url.\n"
+    assert run("advance", "--device", ORDERS, "--json").out == '{"due":null,"now":0}\n'
+    ran = run("advance", "--device", ORDERS, "--as", "com.shop", "5")
+    assert (ran.status, ran.out) == (1, "")
+    assert ran.err.startswith("amctl: only the system and the root may ask this, and com.shop is an app")
 
 
 def test_visible_is_what_the_commands_document_shows(run: Callable[..., Ran]) -> None:

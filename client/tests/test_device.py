@@ -6,7 +6,7 @@ from pathlib import Path
 
 import pytest
 
-from amctl import Choose, Device, Intent, IntentFilter, Refusal, transport
+from amctl import Advanced, Choose, Device, Intent, IntentFilter, Refusal, transport
 from amctl.errors import BadWords, DeviceFault, Ended, NoProgram, NoServer, OtherAnswer
 from amctl.results import Delivery, OrderedDelivery, Placed, Result
 from amctl.serve import free_port, listeners
@@ -103,6 +103,35 @@ def test_the_clock_of_the_words_stands_until_the_first_call(tmp_path: Path) -> N
         device.system.tick()
         assert [it.now for it in device.system.history()] == [5, 7]
         assert device.system.status().moment == 7
+
+
+def test_the_time_is_moved_to_a_deadline_without_waiting(orders: Device) -> None:
+    shop, guard = orders.app("com.shop"), orders.app("com.guard")
+    shop.send(Intent(action="org.example.ORDER", flags=("FOREGROUND",)), ordered=True, code=1, result=True)
+    assert orders.advance() == Advanced(due=10000, now=0)
+    assert orders.advance(10_000) == Advanced(due=20000, now=10000)
+    assert guard.inbox() == ()
+    (second,) = shop.inbox()
+    assert isinstance(second, OrderedDelivery) and second.to == "com.shop/com.shop.Ledger"
+    shop.finish(second.delivery)
+    (result,) = shop.inbox()
+    assert isinstance(result, Result) and result.code == 1
+    assert orders.system.advance(5) == Advanced(due=None, now=10005)
+    assert orders.system.status().moment == 10005
+
+
+def test_what_can_not_be_moved_is_refused_in_words(orders: Device) -> None:
+    with pytest.raises(Refusal) as refused:
+        orders.app("com.shop").advance(1)
+    assert refused.value.rule == "admin_only"
+    for by in (-1, 2**50 + 1):
+        with pytest.raises(Refusal, match="`by` has a value that isn't taken: give a whole number of milliseconds, from 0 to 1,125,899,906,842,624"):
+            orders.advance(by)
+    assert orders.advance() == Advanced(due=None, now=0)
+    with Device.open(EXAMPLES / "orders.toml", at=2**62) as device:
+        with pytest.raises(Refusal, match="the moment is at most 4,611,686,018,427,387,904 ms: advance by less"):
+            device.advance(1)
+        assert device.advance() == Advanced(due=None, now=2**62)
 
 
 def test_what_is_installed_is_a_caller_in_the_next_session_too(rows: Path) -> None:

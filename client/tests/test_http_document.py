@@ -13,7 +13,7 @@ from amctl.results import to_json
 from amctl.transport import Answer, Ask, Transport, body_of
 from conftest import TOP
 
-BLOCK = re.compile(r"^```(toml device|http request|http next request|http response)\n(.*?)^```$", re.M | re.S)
+BLOCK = re.compile(r"^```(toml device|http request(?: at \d+)?|http next request|http response)\n(.*?)^```$", re.M | re.S)
 # the first moment in the document's history, so that its entries come out as they stand there
 FIRST_MOMENT = 1767225600000
 
@@ -35,6 +35,8 @@ class Talk:
     """The exchanges of one session on a device."""
 
     device: str
+    # the moment at which its clock stands, if it does
+    at: int | None = None
     exchanges: list[Exchange] = field(default_factory=list)
 
 
@@ -56,8 +58,9 @@ def talks() -> list[Talk]:
             last = found[-1].exchanges[-1]
             last.status, last.answer = int(head.split(" ")[1]), json.loads(body)
         else:
-            if kind == "http request":
-                found.append(Talk(device))
+            if kind.startswith("http request"):
+                moment = kind.removeprefix("http request").removeprefix(" at ")
+                found.append(Talk(device, int(moment) if moment else None))
             found[-1].exchanges.append(_request(text))
     return found
 
@@ -122,7 +125,8 @@ def first_route(talk: Talk) -> str:
 def test_exchanges(talk: Talk, tmp_path: Path) -> None:
     file = tmp_path / "device.toml"
     file.write_text(talk.device, encoding="utf-8")
-    with Device.open(file, at=FIRST_MOMENT, step=1) as device:
+    clock = (FIRST_MOMENT, 1) if talk.at is None else (talk.at, 0)
+    with Device.open(file, at=clock[0], step=clock[1]) as device:
         recorder = device._transport = Recorder(device._transport)
         for exchange in talk.exchanges:
             fields = json.loads(exchange.body or "{}")
@@ -145,7 +149,7 @@ def test_the_document_has_every_route() -> None:
     shown = {it.path for talk in talks() for it in talk.exchanges}
     text = (TOP / "docs" / "HTTP.md").read_text(encoding="utf-8")
     listed = set(re.findall(r"^\| `(?:GET|POST) (/v1/[a-z_/]+)` \|", text, re.M))
-    assert len(listed) == 26
+    assert len(listed) == 27
     assert shown == listed
 
 

@@ -25,7 +25,7 @@ def run_pytest(*words: str, cwd: Path) -> Ran:
 def test_the_passing_suite_passes() -> None:
     ran = run_pytest(str(SUITES / "passing"), cwd=SUITES)
     assert ran.status == 0, ran.out
-    assert "3 passed" in ran.out
+    assert "4 passed" in ran.out
 
 
 def test_the_failing_suite_names_the_reasons() -> None:
@@ -55,7 +55,7 @@ def test_eight_at_once_need_no_port() -> None:
     runs = [subprocess.Popen(words, cwd=SUITES, env=environment, stdout=subprocess.PIPE, text=True) for _ in range(8)]
     printed = [it.communicate()[0] for it in runs]
     assert [it.returncode for it in runs] == [0] * 8
-    assert all("3 passed" in it for it in printed)
+    assert all("4 passed" in it for it in printed)
 
 
 def test_the_marker_comes_before_the_file_beside_and_that_before_the_ini_option(tmp_path: Path) -> None:

@@ -1,6 +1,5 @@
 """`amctl serve`: what it checks, when it says that it listens, and how it ends."""
 import os
-import resource
 import signal
 import socket
 import subprocess
@@ -9,10 +8,10 @@ from pathlib import Path
 
 import pytest
 
-from amctl import Device, Intent, serve, words
+from amctl import Advanced, Device, Intent, serve, words
 from amctl.errors import BadWords
 from amctl.find import find_am
-from amctl.serve import check_descriptors, check_port, check_store, free_port, listeners
+from amctl.serve import check_port, check_store, free_port, listeners
 from conftest import CLIENT, EXAMPLES, run_python
 
 ORDERS = EXAMPLES / "orders.toml"
@@ -62,6 +61,20 @@ def test_its_last_line_is_said_in_words() -> None:
     assert program.returncode == 0
 
 
+def test_its_clock_may_stand_and_is_moved_by_requests() -> None:
+    program = started("--workers", "1", "--at", "5")
+    url = f"http://127.0.0.1:{port_of(program)}"
+    with Device.connect(url, ORDERS) as device:
+        device.app("com.shop").send(Intent(action="org.example.ORDER", flags=("FOREGROUND",)), ordered=True)
+        assert device.advance() == Advanced(due=10005, now=5)
+        assert device.advance(10_000) == Advanced(due=20005, now=10005)
+        assert [it.now for it in device.system.history()] == [5, 5, 5]
+    ran = run_python("-m", "amctl", "advance", "--device", str(ORDERS), "--url", url, "3000")
+    assert (ran.out, ran.err) == ("the moment is 13005 ms; the next deadline is 7000 ms ahead, at 20005 ms.\n", "")
+    program.terminate()
+    program.communicate()
+
+
 def test_a_device_that_am_refuses_is_shown_with_its_line(tmp_path: Path) -> None:
     file = tmp_path / "device.toml"
     file.write_text('system_key = "sys"\n[[package]]\nkey = 1\nmanifest = { package = "com.one" }\n', encoding="utf-8")
@@ -106,18 +119,3 @@ def test_a_free_port_may_be_listened_at() -> None:
     assert 1024 <= port <= 65535
     check_port(port)
     assert not listeners(port)
-
-
-def test_few_descriptors_are_said_before_anything_is_started(monkeypatch: pytest.MonkeyPatch) -> None:
-    monkeypatch.setattr(resource, "getrlimit", lambda which: (20, 20))
-    with pytest.raises(BadWords, match=r"may have 20 descriptors, and so many workers need 144: raise the limit \(`ulimit -n 144`\), or take --workers 2"):
-        check_descriptors(64)
-    check_descriptors(2)
-
-
-def test_descriptors_are_raised_as_far_as_they_may(monkeypatch: pytest.MonkeyPatch) -> None:
-    raised: list[tuple[int, int]] = []
-    monkeypatch.setattr(resource, "getrlimit", lambda which: (20, 200))
-    monkeypatch.setattr(resource, "setrlimit", lambda which, limits: raised.append(limits))
-    check_descriptors(64)
-    assert raised == [(144, 200)]

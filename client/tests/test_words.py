@@ -52,7 +52,7 @@ def test_every_error_has_a_sentence(rule: str) -> None:
 def test_every_limit_has_a_sentence() -> None:
     table = section(HTTP, "| `name` of `over_limit` |", "## Each route")
     names = re.findall(r"`([a-z]+)`", "".join(it.split("|")[1] for it in table.splitlines()[2:] if it.startswith("|")))
-    assert len(names) == 12
+    assert len(names) == 13
     for name in names:
         assert words.refusal("over_limit", name, Asked("com.x", "/v1/send")) == words.LIMITS[name]
 

@@ -64,6 +64,8 @@ CASES: dict[str, tuple[tuple[str, ...], str | None, int, str, str]] = {
     ),
     "the same package again": (("why", LINK), HEAD + HEAD.partition("\n")[2], 2, "device.toml:9:1: com.one stands twice", "a name and a key of its own"),
     "a port of a server": (("serve", DEVICE[1], "--port", "70000"), None, 2, "70000 is not in the range", "See `amctl serve --help`"),
+    "a clock of a server": (("serve", DEVICE[1], "--at", "-1"), None, 2, "-1 is not in the range", "See `amctl serve --help`"),
+    "a way to advance": (("advance", *DEVICE, "1125899906842625"), None, 2, "1125899906842625 is not in the range", "See `amctl advance --help`"),
     "a file of a server": (("serve", "devize.toml"), None, 2, "there is no file devize.toml", "check the name"),
     "a store of a server in no folder": (("serve", DEVICE[1], "--store", "x/rows"), None, 2, "the store x/rows can't be made", "mkdir -p x"),
     "a package to see that is not there": (("visible", *DEVICE, "--as", "com.note", LINK), None, 2, "no package com.note", "com."),

@@ -61,7 +61,7 @@ def _fields(fields: dict[str, Any]) -> str:
 def as_command(entry: Entry, caller: str) -> str | None:
     """The words of `amctl` for the call, where it has a command for all that the call says."""
     given = dict(entry.request)
-    words_of = _of_intent(given) if "intent" in given else _of_package(entry.route, given)
+    words_of = _of_intent(given) if "intent" in given else _of_others(entry.route, given)
     name = {"/v1/start": "start", "/v1/start_service": "start-service", "/v1/send": "broadcast"}.get(entry.route)
     if words_of is None or ("intent" in given and name is None):
         return None
@@ -70,12 +70,14 @@ def as_command(entry: Entry, caller: str) -> str | None:
     return shlex.join(["amctl", *(it for it in command if it is not None), *asks])
 
 
-def _of_package(route: str, given: dict[str, Any]) -> list[str] | None:
+def _of_others(route: str, given: dict[str, Any]) -> list[str] | None:
     package = str(given.get("package"))
     if route == "/v1/grant":
         return ["grant" if given.get("held") else "revoke", package, str(given.get("permission"))]
     if route == "/v1/link":
         return ["link", package, str(given.get("host")), *([] if given.get("approved") else ["--denied"])]
+    if route == "/v1/advance":
+        return ["advance", str(given.get("by"))]
     return {"/v1/uninstall": ["uninstall", package], "/v1/force_stop": ["force-stop", package]}.get(route)
 
 

@@ -5,7 +5,7 @@ import webbrowser
 from contextlib import closing
 from pathlib import Path
 
-from amctl import words, words_ui
+from amctl import words_serve, words_ui
 from amctl.errors import AmctlError, BadWords
 from amctl.serve import HOST, PortTaken
 from amctl.ui.desk import Desk
@@ -52,8 +52,8 @@ def _listener(port: int | None) -> socket.socket:
         listener.bind((HOST, port or 0))
     except PermissionError:
         listener.close()
-        raise BadWords(words.port_forbidden(port or 0)) from None
+        raise BadWords(words_serve.port_forbidden(port or 0)) from None
     except OSError:
         listener.close()
-        raise PortTaken(words.port_taken(port or 0)) from None
+        raise PortTaken(words_serve.port_taken(port or 0)) from None
     return listener
