@@ -18,7 +18,7 @@ import threading
 import time
 
 from record import write_history
-from serve_soak import free_port, is_listening
+from server import free_port, is_listening
 from session_mix import FRAMES, device, frame, requests
 
 

@@ -17,7 +17,7 @@ import tempfile
 import threading
 import time
 
-from serve_soak import HEAD, Server, built, fail, frame
+from server import HEAD, Server, built, fail, frame
 
 LINKS, FRAMES = 16, 65536
 MOST = LINKS * FRAMES
@@ -50,11 +50,6 @@ def responses(read):
         fail(f"a response begins {read[at:at + 200]!r}")
 
 
-def resident(pid):
-    with open(f"/proc/{pid}/status", encoding="ascii") as file:
-        return int(re.search(r"VmRSS:\s+(\d+) kB", file.read())[1])
-
-
 def tick_all(server):
     """Ticks until the history is full."""
     at = 0
@@ -85,14 +80,14 @@ def main(program):
         with open(file, "w", encoding="utf-8") as out:
             out.write('system_key = "sys"\n')
         server = Server(program, file, 1, LINKS + 1)
-        before, began = resident(server.process.pid), time.monotonic()
+        before, began = server.resident(), time.monotonic()
         tick_all(server)
-        took, after = time.monotonic() - began, resident(server.process.pid)
+        took, after = time.monotonic() - began, server.resident()
         look(server)
         out, _ = server.process.communicate(timeout=60)
         if (server.process.returncode, out) != (0, f"history {MOST} served {LINKS + 1}\n"):
             fail(f"the server ended with {server.process.returncode} and {out!r}")
-    print(f"{MOST} ticks in {took:.1f} s, {took / MOST * 1e6:.1f} us each; {before} kB before and {after} kB after, {(after - before) * 1024 / MOST:.0f} bytes an entry; then history_full")
+    print(f"{MOST} ticks in {took:.1f} s, {took / MOST * 1e6:.1f} us each; {before >> 10} kB before and {after >> 10} kB after, {(after - before) / MOST:.0f} bytes an entry; then history_full")
 
 
 if __name__ == "__main__":

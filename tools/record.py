@@ -56,6 +56,11 @@ def opened(port):
     return link
 
 
+def private(path, mode="wb", **form):
+    """A new file for its owner alone: it holds keys."""
+    return open(os.open(path, os.O_WRONLY | os.O_CREAT | os.O_TRUNC, 0o600), mode, **form)
+
+
 class Connection:
     """A client's connection, passed on to the server and written to two files."""
 
@@ -71,7 +76,7 @@ class Connection:
 
     def pass_frames(self, path):
         """Once the server has ended its side it reads nothing more, and nothing more is written down."""
-        with open(path, "wb") as kept:
+        with private(path) as kept:
             while piece := read(self.client):
                 if not self.server_ended.is_set():
                     kept.write(piece)
@@ -79,7 +84,7 @@ class Connection:
         shut(self.server, socket.SHUT_WR)
 
     def pass_responses(self, path):
-        with open(path, "wb") as kept:
+        with private(path) as kept:
             while piece := read(self.server):
                 kept.write(piece)
                 write(self.client, piece)
@@ -119,7 +124,7 @@ def entries(port, key):
 def write_history(port, key, path):
     """Writes the history, a compact line for each entry, with the keys of objects in the order of their bytes."""
     count = 0
-    with open(path, "w", encoding="utf-8", newline="\n") as kept:
+    with private(path, "w", encoding="utf-8", newline="\n") as kept:
         for entry in entries(port, key):
             kept.write(json.dumps(entry, ensure_ascii=False, separators=(",", ":"), sort_keys=True) + "\n")
             count += 1

@@ -17,7 +17,7 @@ import subprocess
 import sys
 import tempfile
 
-from serve_soak import HEAD, built, frame, text_of
+from server import HEAD, built, frame, text_of
 
 LIBRARY = r"""
 #define _GNU_SOURCE

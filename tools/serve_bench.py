@@ -19,7 +19,8 @@ import tempfile
 import threading
 import time
 
-from serve_soak import HEAD, Server, built, fail, frame, free_port, is_listening, split_responses, text_of
+from serve_soak import split_responses
+from server import HEAD, Server, ask_many, built, fail, frame, free_port, is_listening, text_of
 
 CONNECTIONS = (1, 4, 16, 64)
 PACKAGES = 256
@@ -147,39 +148,6 @@ def bench_nginx(folder, name, bytes_of_body, length):
         process.wait()
 
 
-def resident(server):
-    with open(f"/proc/{server.process.pid}/status", encoding="ascii") as file:
-        return int(re.search(r"VmRSS:\s+(\d+) kB", file.read())[1])
-
-
-def ask_many(port, asked, count):
-    """Asks so often over one connection."""
-    with socket.create_connection(("127.0.0.1", port)) as link:
-        sender = threading.Thread(target=link.sendall, args=(asked * count,))
-        sender.start()
-        read, answered = b"", 0
-        while answered < count:
-            piece = link.recv(1 << 20)
-            if not piece:
-                fail(f"the server closed after {answered} responses")
-            read += piece
-            whole = list(whole_responses(read))
-            answered += len(whole)
-            read = read[sum(map(len, whole)):]
-        sender.join()
-
-
-def whole_responses(read):
-    """The responses that are there whole."""
-    at = 0
-    while head := HEAD.match(read, at):
-        end = head.end() + int(head[2])
-        if end > len(read):
-            return
-        yield read[at:end]
-        at = end
-
-
 def ask_from_all(server, asked):
     """200,000 requests over 64 connections."""
     links = [threading.Thread(target=ask_many, args=(server.port, asked, REQUESTS // 64)) for _ in range(64)]
@@ -193,10 +161,10 @@ def memory(program, folder):
     server = Server(program, f"{folder}/device.toml", 64)
     try:
         time.sleep(0.5)
-        print(f"64 workers at rest: {resident(server)} kB")
+        print(f"64 workers at rest: {server.resident() >> 10} kB")
         for name in ("status", "start"):
             ask_from_all(server, frame(*ASKED[name]))
-            print(f"after {REQUESTS} times {name}: {resident(server)} kB")
+            print(f"after {REQUESTS} times {name}: {server.resident() >> 10} kB")
         told = list(split_responses(answer(server.port, frame(*ASKED["status"]))))
         print(f"its status then: {told[0].split(bytes([13, 10, 13, 10]))[1].decode()}")
     finally:

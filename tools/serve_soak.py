@@ -13,14 +13,14 @@ frames and asked again, with the reads among them at their places: first over on
 worker, and then the first 65,536 of them in one `am session`. Each has to be answered as before, but for the moments and the
 numbers of the desks. No delivery gets late in the meantime, so the moments change nothing else.
 
-With `--bad` clients that stall, are cut off, never read or reset their connection stand beside good ones, which have to go on.
-It also tries a port that is in use, and looks whether a thousand connections that close at once leave descriptors behind.
+With `--bad` clients that stall, are slow, are cut off, never read or reset their connection stand beside good ones, which have
+to go on; each is ended within the time that docs/COMMANDS.md gives it. It also tries a port that is in use, and looks whether a
+thousand connections that close at once leave descriptors behind, for a server with hardly any to spare too: 200 clients come to
+it at once, again and again, while a good one is answered, and it is answered once they have left.
 """
 import argparse
-import glob
 import json
 import multiprocessing
-import os
 import random
 import re
 import socket
@@ -31,33 +31,12 @@ import tempfile
 import threading
 import time
 
+from attack import BEARABLE, CROWD, ROUNDS, answered_at_once, held_by_bytes, watched
+from server import HEAD, Link, Server, built, fail, frame, text_of
+
 CLIENTS = 64
 VISITS = 2
 FRAMES = 65536
-HEAD = re.compile(
-    rb"HTTP/1\.1 (\d{3} [A-Z][A-Za-z ]*)\r\nContent-Type: application/json\r\nContent-Length: (\d+)\r\n"
-    rb"(?:AM-At: (\d+)\r\n)?(?:AM-Stored: ([01])\r\n)?\r\n"
-)
-STATUSES = {
-    "200 OK", "300 Multiple Choices", "400 Bad Request", "401 Unauthorized", "403 Forbidden", "404 Not Found",
-    "405 Method Not Allowed", "409 Conflict", "410 Gone", "422 Unprocessable Entity", "429 Too Many Requests",
-}
-
-
-def fail(text):
-    sys.exit(f"serve_soak: {text}")
-
-
-def built():
-    """The program that `rt ci` or `rt run` built."""
-    root = os.path.dirname(os.path.dirname(os.path.abspath(__file__)))
-    found = [it for it in glob.glob(f"{root}/crates/am/out/**/am", recursive=True) if os.path.isfile(it) and os.access(it, os.X_OK)]
-    return max(found, key=os.path.getmtime) if found else fail("no built am; name the program")
-
-
-def text_of(value):
-    """The compact text, with its keys in the order of their bytes."""
-    return json.dumps(value, sort_keys=True, ensure_ascii=False, separators=(",", ":"))
 
 
 def action(client):
@@ -72,56 +51,6 @@ def device():
         manifest = f'package = "com.p{number}", activity = [{{ name = ".A", exported = true }}], receiver = [{{ name = ".R", exported = true, {listens} }}]'
         lines += ["[[package]]", f'key = "k{number}"', f"manifest = {{ {manifest} }}"]
     return "\n".join(lines) + "\n"
-
-
-def frame(key, path, body=None):
-    """A frame of a request, whose body is a text, or a `GET` if there is none."""
-    if body is None:
-        return f"GET {path} HTTP/1.1\r\nAM-Key: {key}\r\n\r\n".encode()
-    body = body.encode()
-    return f"POST {path} HTTP/1.1\r\nAM-Key: {key}\r\nContent-Length: {len(body)}\r\n\r\n".encode() + body
-
-
-class Link:
-    """A connection to the server, which has to answer each frame by a whole response."""
-
-    def __init__(self, port):
-        self.socket = socket.create_connection(("127.0.0.1", port))
-        self.socket.setsockopt(socket.IPPROTO_TCP, socket.TCP_NODELAY, 1)
-        self.socket.settimeout(120)
-        self.read = b""
-
-    def more(self):
-        piece = self.socket.recv(1 << 16)
-        if not piece:
-            fail(f"the server closed behind {self.read!r}")
-        self.read += piece
-
-    def response(self):
-        """The status with its phrase, the place, whether it was stored, and the body."""
-        while b"\r\n\r\n" not in self.read:
-            self.more()
-        head = HEAD.match(self.read)
-        if not head or head[1].decode() not in STATUSES or (head[3] is None) != (head[4] is None):
-            fail(f"a response begins {self.read[:300]!r}")
-        end = head.end() + int(head[2])
-        while len(self.read) < end:
-            self.more()
-        body = self.read[head.end():end].decode()
-        self.read = self.read[end:]
-        if text_of(json.loads(body)) != body:
-            fail(f"a body isn't compact and in order: {body[:300]}")
-        return head[1].decode(), *((int(head[3]), int(head[4])) if head[3] else (None, 0)), body
-
-    def ask(self, asked):
-        self.socket.sendall(asked)
-        answer = self.response()
-        if self.read:
-            fail(f"more came than was asked: {self.read[:300]!r}")
-        return answer
-
-    def close(self):
-        self.socket.close()
 
 
 class Client:
@@ -269,45 +198,6 @@ def client(words):
         return Client(*words).run()
     except SystemExit as end:
         raise RuntimeError(str(end)) from None
-
-
-def free_port():
-    with socket.socket() as probe:
-        probe.bind(("127.0.0.1", 0))
-        return probe.getsockname()[1]
-
-
-def is_listening(port):
-    with open("/proc/net/tcp", encoding="ascii") as table:
-        return any(row.split()[1] == f"0100007F:{port:04X}" and row.split()[3] == "0A" for row in table.readlines()[1:])
-
-
-class Server:
-    """A server over the device file, which listens once this is made."""
-
-    def __init__(self, program, file, workers, links=None):
-        self.port = free_port()
-        words = [program, "serve", "--device", file, "--port", str(self.port), "--workers", str(workers)]
-        words += [] if links is None else ["--connections", str(links)]
-        self.process = subprocess.Popen(words, stdin=subprocess.DEVNULL, stdout=subprocess.PIPE, stderr=subprocess.PIPE, text=True)
-        while not is_listening(self.port):
-            if self.process.poll() is not None:
-                fail(f"the server ended: {self.process.communicate()}")
-            time.sleep(0.01)
-
-    def end(self, history, served):
-        """Waits for its end, and sees what it prints."""
-        try:
-            output, errors = self.process.communicate(timeout=120)
-        except subprocess.TimeoutExpired:
-            self.process.kill()
-            fail("the server doesn't end")
-        if (self.process.returncode, output, errors) != (0, f"history {history} served {served}\n", ""):
-            fail(f"the server ended with {self.process.returncode}, {output!r} and {errors!r}, and not history {history} served {served}")
-
-    def kill(self):
-        self.process.kill()
-        self.process.communicate()
 
 
 def pages(link):
@@ -506,6 +396,19 @@ def half(port):
     return ended == (b"", "closed") and 25 < took < 40, f"sends half a frame: {ended[1]} after {took:.1f} s"
 
 
+def slow(port):
+    took = held_by_bytes(port, 1)
+    return 25 < took < 40, f"sends a byte each second: ended after {took:.1f} s"
+
+
+def slow_behind_an_answer(port):
+    connection = connect(port)
+    connection.sendall(STATUS)
+    connection.recv(1 << 16)
+    took = held_by_bytes(port, 1, connection)
+    return 25 < took < 40, f"sends a byte each second behind an answer: ended after {took:.1f} s"
+
+
 def half_and_end(port):
     connection = connect(port)
     connection.sendall(STATUS + STATUS[:20])
@@ -526,7 +429,7 @@ def byte_at_a_time(port):
 
 
 def never_reads(port):
-    """It sends until the server has given it up, which waits 30 seconds for each write that takes nothing. The answers to the
+    """It sends until the server has given it up, which waits 60 seconds for a response that isn't taken. The answers to the
     65,536 frames of a connection are more than the buffers take."""
     connection = socket.socket()
     connection.setsockopt(socket.SOL_SOCKET, socket.SO_RCVBUF, 4096)
@@ -538,7 +441,7 @@ def never_reads(port):
             sent += connection.send(STATUS * 1000)
     except (ConnectionResetError, BrokenPipeError, TimeoutError) as error:
         took = time.monotonic() - began
-        return 25 < took < 190, f"never reads: {type(error).__name__} after {took:.1f} s and {sent} bytes"
+        return 55 < took < 120, f"never reads: {type(error).__name__} after {took:.1f} s and {sent} bytes"
     return False, "never reads: was never ended"
 
 
@@ -551,7 +454,7 @@ def resets(port):
     return True, "resets: three times"
 
 
-BAD = [silent, half, half_and_end, byte_at_a_time, never_reads, resets]
+BAD = [silent, half, slow, slow_behind_an_answer, half_and_end, byte_at_a_time, never_reads, resets]
 
 
 def try_bad(server):
@@ -576,25 +479,37 @@ def try_bad(server):
         fail("a bad client did harm")
 
 
-def descriptors(server):
-    return len(os.listdir(f"/proc/{server.process.pid}/fd"))
-
-
 def try_many(server):
     """A thousand connections that close at once leave nothing behind."""
-    before = descriptors(server)
+    before = server.descriptors()
     for _ in range(1000):
         connect(server.port).close()
     link = Link(server.port)
     link.ask(STATUS)
     link.close()
     end = time.monotonic() + 40
-    while descriptors(server) > before and time.monotonic() < end:
+    while server.descriptors() > before and time.monotonic() < end:
         time.sleep(0.1)
-    after = descriptors(server)
+    after = server.descriptors()
     print(f"{before} descriptors before a thousand connections that close at once, {after} behind them")
     if after != before:
         fail("descriptors were left")
+
+
+def try_few_descriptors(program, file, workers, descriptors):
+    server = Server(program, file, workers, descriptors=descriptors)
+    try:
+        with watched(server.port) as watch:
+            answered = sum(answered_at_once(server.port) for _ in range(ROUNDS))
+        print(
+            f"{workers} workers with {descriptors} descriptors: {answered} of {ROUNDS * CROWD} clients that came at once were answered, "
+            f"and a good one within {watch.longest * 1000:.0f} ms"
+        )
+        if answered == 0 or watch.longest > BEARABLE:
+            fail("clients that came at once did harm")
+        try_many(server)
+    finally:
+        server.kill()
 
 
 def try_port_in_use(program, file, server):
@@ -609,6 +524,8 @@ def main_bad(program):
     with tempfile.NamedTemporaryFile("w", suffix=".toml") as file:
         file.write(device())
         file.flush()
+        try_few_descriptors(program, file.name, 64, 130)
+        try_few_descriptors(program, file.name, 8, 20)
         server = Server(program, file.name, len(BAD) + 2)
         try:
             try_port_in_use(program, file.name, server)

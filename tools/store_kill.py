@@ -159,6 +159,11 @@ def one_kill(program, folder, requests):
     return responses(parts[0])
 
 
+def public_files(folder):
+    """The store's files that others than their owner may read or write."""
+    return [name for name in os.listdir(folder) if name.startswith("rows") and os.stat(f"{folder}/{name}").st_mode & 0o077]
+
+
 def main():
     program, times = sys.argv[1], int(sys.argv[2]) if len(sys.argv) > 2 else 200
     model, greatest, acknowledged, one_more = Model(), 10001, 0, 0
@@ -168,6 +173,8 @@ def main():
         for turn in range(times):
             requests = [drawn() for _ in range(400)]
             answers = one_kill(program, folder, requests)
+            if public := public_files(folder):
+                sys.exit(f"turn {turn}: not private: {public}")
             for request, (status, body) in zip(requests, answers):
                 wanted, model = model.after(request)
                 if status != wanted:
