@@ -1,12 +1,13 @@
 #!/usr/bin/env python3
 """Asks `am serve` by many clients at once, and replays its history.
 
-    serve_soak.py [PROGRAM] [--requests N] [--seed N]
+    serve_soak.py [PROGRAM] [--requests N] [--seed N] [--workers N] [--links N]
     serve_soak.py [PROGRAM] --bad
 
 PROGRAM is the built am; without it the one under crates/am/out is taken. 64 clients ask a server of 64 workers over TCP, each in
-a process of its own, 200,000 requests of many kinds together. Each response has to be whole and in the form of docs/HTTP.md.
-Then the history is read, and the server has to end by itself and to print its length and the number of links.
+a process of its own, 200,000 requests of many kinds together. A client asks over so many links in turn (1), which stay open.
+Each response has to be whole and in the form of docs/HTTP.md. Then the history is read, and the server has to end by itself and
+to print its length and the number of links.
 
 The history has to hold exactly the stored requests, each at the place that its response named. Its entries are rebuilt into
 frames and asked again, with the reads among them at their places: first over one connection after the other to a server of one
@@ -56,19 +57,19 @@ def device():
 class Client:
     """One of the clients, which finishes each delivery of its own packages."""
 
-    def __init__(self, number, port, wanted, seed):
-        self.number, self.port, self.wanted = number, port, wanted
+    def __init__(self, number, port, wanted, seed, width):
+        self.number, self.port, self.wanted, self.width = number, port, wanted, width
         self.random = random.Random(f"{seed} {number}")
         self.keys = [f"k{3 * number + place}" for place in range(3)]
         self.log = []
         self.ordered = self.unfinished = 0
         self.place = 0
-        self.link = None
+        self.links = []
 
     def ask(self, key, path, body=None):
         """The body of the response, which is noted with its frame."""
         asked = frame(key, path, None if body is None else body if isinstance(body, str) else text_of(body))
-        status, at, stored, answer = self.link.ask(asked)
+        status, at, stored, answer = self.links[len(self.log) % self.width].ask(asked)
         if at is not None:
             if at < self.place:
                 fail(f"place {at} was answered behind place {self.place}")
@@ -174,14 +175,15 @@ class Client:
         ])()
 
     def visit(self, wanted):
-        """A connection, over which it asks until it has asked so often, and finishes what it began."""
+        """Connections, over which it asks until it has asked so often, and finishes what it began."""
         kinds = [self.send, self.send_ordered, self.pending, self.start, self.query, self.tick, self.status, self.inbox,
                  self.grant, self.install, self.history, self.refused]
-        self.link = Link(self.port)
+        self.links = [Link(self.port) for _ in range(self.width)]
         while len(self.log) < wanted:
             self.random.choices(kinds, [5, 3, 4, 6, 8, 6, 6, 6, 3, 1, 3, 2])[0]()
         self.settle()
-        self.link.close()
+        for link in self.links:
+            link.close()
 
     def run(self):
         for visit in range(VISITS):
@@ -214,21 +216,22 @@ def pages(link):
         entries += found["entries"]
 
 
-def soak(program, file, requests, seed):
+def soak(program, file, words):
     """What the clients noted, and the history."""
-    server = Server(program, file, CLIENTS, VISITS + 1)
+    links = CLIENTS * VISITS * words.links + 1
+    of_worker = -(-links // words.workers)
+    server = Server(program, file, words.workers, of_worker)
     try:
-        each = -(-requests // CLIENTS)
+        each = -(-words.requests // CLIENTS)
+        asked = [(number, server.port, each, words.seed, words.links) for number in range(CLIENTS)]
         with multiprocessing.get_context("fork").Pool(CLIENTS) as pool:
-            logs = pool.map(client, [(number, server.port, each, seed) for number in range(CLIENTS)], chunksize=1)
-        links = CLIENTS * VISITS + 1
+            logs = pool.map(client, asked, chunksize=1)
         reader = Link(server.port)
         entries = pages(reader)
         reader.close()
-        while links < CLIENTS * (VISITS + 1):
+        for _ in range(words.workers * of_worker - links):
             Link(server.port).close()
-            links += 1
-        server.end(len(entries), links)
+        server.end(len(entries), words.workers * of_worker)
     finally:
         server.kill()
     return [it for log in logs for it in log], entries
@@ -329,14 +332,14 @@ def split_responses(output):
         fail(f"the session's output ends with {output[at:at + 300]!r}")
 
 
-def main_soak(program, requests, seed):
+def main_soak(program, words):
     with tempfile.NamedTemporaryFile("w", suffix=".toml") as file:
         file.write(device())
         file.flush()
         began = time.perf_counter()
-        notes, entries = soak(program, file.name, requests, seed)
+        notes, entries = soak(program, file.name, words)
         took = time.perf_counter() - began
-        print(f"{len(notes)} responses to {CLIENTS} clients checked in {took:.0f} s, {len(entries)} of them stored")
+        print(f"{len(notes)} responses over {CLIENTS * words.links} links on {words.workers} workers checked in {took:.0f} s, {len(entries)} of them stored")
         kinds = {}
         for it in notes:
             kinds[it[4]] = kinds.get(it[4], 0) + 1
@@ -544,10 +547,12 @@ def main():
     reader.add_argument("program", nargs="?")
     reader.add_argument("--requests", type=int, default=200_000)
     reader.add_argument("--seed", type=int, default=1)
+    reader.add_argument("--workers", type=int, default=CLIENTS)
+    reader.add_argument("--links", type=int, default=1)
     reader.add_argument("--bad", action="store_true")
     words = reader.parse_args()
     program = words.program or built()
-    return main_bad(program) if words.bad else main_soak(program, words.requests, words.seed)
+    return main_bad(program) if words.bad else main_soak(program, words)
 
 
 if __name__ == "__main__":

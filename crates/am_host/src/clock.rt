@@ -5,7 +5,7 @@ use am_outside::Clock;
 use std::marker::{Copy, Send};
 use std::rt::Clock as Time;
 
-/// The clock of the system, in milliseconds since 1970. Where it can't be read it stands still.
+/// The clock of the system, in milliseconds since 1970. When it can't be read, it stays at the same moment.
 #[derive(Drop)]
 pub struct SystemClock<R> {
     rt: R,

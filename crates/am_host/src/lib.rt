@@ -1,4 +1,4 @@
-//! The outside of a real process, behind the traits that the program takes. These few lines are trusted: they count each
+//! The outside of a real process, as the traits that the program takes. These few lines are trusted: they count each
 //! fault, and tell nothing of what is read or written.
 #![tactic(auto)]
 

@@ -6,7 +6,7 @@ use am_outside::{Failed, Sink, Source};
 use std::io;
 use std::io::{ErrorKind, Read, Write};
 
-// What a read or a write answers, which is made again where a signal interrupts it.
+// What a read or a write answers. It is made again when a signal interrupts it.
 macro_rules! uninterrupted {
     ($call:expr) => {{
         for _ in 0..u64::MAX {
@@ -31,8 +31,8 @@ fn write_some<W: Write>(writer: &mut W, from: &[u8]) -> io::Result<usize>
     uninterrupted!(writer.write(from))
 }
 
-/// A stream with its count of faults: a reader, as standard input, as a source, or a writer, as standard output, as a
-/// sink. A write that takes nothing is a fault.
+/// A stream with its count of faults: a reader, such as standard input, as a source, or a writer, such as standard
+/// output, as a sink. A write that takes nothing is a fault.
 #[derive(Drop)]
 pub struct Counted<S> {
     stream: S,

@@ -4,7 +4,7 @@ use std::env;
 use std::io::ErrorKind;
 use std::rt::Env;
 
-/// The words behind the program's name. Where one isn't UTF-8 there are none, since no command has it.
+/// The words after the program's name. If one of them isn't UTF-8 there are none, since no command has such a word.
 pub fn read_words<R: Env + AllocGlobal>(rt: &R) -> Result<Vec<Text>, NoMemory> {
     let mut words = Vec::new(rt.alloc());
     match env::args(rt) {

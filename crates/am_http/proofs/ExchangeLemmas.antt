@@ -26,11 +26,13 @@ on_true_map true f h = f h
 on_true_map false f h = tt
 
 -- the front of a longer history
-pub take_stays : (history added : List Entry) (at : ℕ) → at ≤ length history → take at (history ++ added) ≡ take at history
+pub take_stays : (history added : List Entry) (at : ℕ) → at ≤ length history → take at (history ++ added)
+    ≡ take at history
 take_stays history added at within = take-append-le at history added within
 
 -- an entry of a longer history
-pub entry_stays : (history added : List Entry) (at : ℕ) (entry : Entry) → slice_get history at ≡ Some entry → slice_get (history ++ added) at ≡ Some entry
+pub entry_stays : (history added : List Entry) (at : ℕ) (entry : Entry) → slice_get history at ≡ Some entry
+    → slice_get (history ++ added) at ≡ Some entry
 entry_stays history added at entry found =
     let within : at < length history = slice_get_within history at entry found in
     let longer : at < length (history ++ added) = omega (arith, length-append history added) in
@@ -41,19 +43,24 @@ entry_stays history added at entry found =
 pub entry_behind : (before : List Entry) (entry : Entry) → slice_get (before ++ entry ∷ []) (length before) ≡ Some entry
 entry_behind before entry =
     let within : length before < length (before ++ entry ∷ []) = omega (arith, length-append before (entry ∷ [])) in
-    slice_get-get_or (before ++ entry ∷ []) (length before) entry within ∙ ap Some (get_or-append_seam before entry [] entry)
+    slice_get-get_or (before ++ entry ∷ []) (length before) entry within
+    ∙ ap Some (get_or-append_seam before entry [] entry)
 
 -- a mark stays in a longer history
 pub marked_stays : (start : State) (history added : List Entry) (call : Call) (kept : Bool) (point : Point)
     → IsMarked start history call kept point → IsMarked start (history ++ added) call kept point
 marked_stays start history added call kept point marked =
-    let front : take point.at (history ++ added) ≡ take point.at history = take_stays history added point.at marked.within in
-    let P : List Entry → Bool → Type 0 = λ (h : List Entry) b. OnTrue b ((entry : Entry) × (slice_get (history ++ added) point.at ≡ Some entry) × IsEntryOf (replay start h) call kept entry) in
+    let front : take point.at (history ++ added) ≡ take point.at history = take_stays history added point.at
+    marked.within in
+    let P : List Entry → Bool → Type 0 = λ (h : List Entry) b. OnTrue b
+    ((entry : Entry) × (slice_get (history ++ added) point.at ≡ Some entry)
+    × IsEntryOf (replay start h) call kept entry) in
     record {
       within = omega (arith, marked.within, length-append history added);
       stored = marked.stored ∙ ap (λ h. is_stored (replay start h) h call) (sym front);
       entry = subst (λ h. P h point.stored) (sym front)
-          (on_true_map point.stored (λ found. (found.0, entry_stays history added point.at found.0 found.1, found.2)) marked.entry);
+          (on_true_map point.stored (λ found. (found.0, entry_stays history added point.at found.0 found.1, found.2))
+          marked.entry);
     }
 
 -- a call stays the call in a longer history
@@ -78,10 +85,12 @@ answer_stays start desk history added e (by_refusal refused asks unasked point b
     by_refusal refused asks unasked point bytes
 answer_stays start desk history added e (by_reply c bytes) =
     by_reply (called_stays start desk history added e c)
-    (bytes ∙ ap (λ h. response c.point.at c.point.stored (reply_after start h (call_of desk e.frame c.now c.request) c.kept))
+    (bytes ∙ ap (λ h. response c.point.at c.point.stored (reply_after start h (call_of desk e.frame c.now c.request)
+    c.kept))
     (sym (take_stays history added c.point.at c.marked.within)))
 answer_stays start desk history added e (by_want point bytes) = by_want point bytes
-answer_stays start desk history added e (by_late_want c bytes) = by_late_want (called_stays start desk history added e c) bytes
+answer_stays start desk history added e (by_late_want c bytes) = by_late_want
+    (called_stays start desk history added e c) bytes
 
 pub answers_stay : (start : State) (desk : ℕ) (history added : List Entry) (es : List Exchange)
     → AllByRecursion (IsAnswer start desk history) es → AllByRecursion (IsAnswer start desk (history ++ added)) es
@@ -92,15 +101,18 @@ answers_stay start desk history added (e ∷ es) all =
 -- what a stored call became is in a longer history what it was
 entry_kept : (history added : List Entry) (at : ℕ) (stored : Bool) (X : Entry → Type 0)
     → OnTrue stored ((entry : Entry) × (slice_get history at ≡ Some entry) × X entry)
-    → (if stored then option_to_list (slice_get (history ++ added) at) else []) ≡ (if stored then option_to_list (slice_get history at) else [])
+    → (if stored then option_to_list (slice_get (history ++ added) at) else [])
+    ≡ (if stored then option_to_list (slice_get history at) else [])
 entry_kept history added at true X found =
     ap option_to_list (entry_stays history added at found.0 found.1 ∙ sym found.1)
 entry_kept history added at false X found = refl
 
-marked_entry : (start : State) (history added : List Entry) (call : Call) (kept : Bool) (point : Point) → IsMarked start history call kept point
+marked_entry : (start : State) (history added : List Entry) (call : Call) (kept : Bool) (point : Point)
+    → IsMarked start history call kept point
     → entry_at (history ++ added) (Some point) ≡ entry_at history (Some point)
 marked_entry start history added call kept point marked =
-    entry_kept history added point.at point.stored (λ entry. IsEntryOf (replay start (take point.at history)) call kept entry) marked.entry
+    entry_kept history added point.at point.stored (λ entry. IsEntryOf (replay start (take point.at history)) call kept
+    entry) marked.entry
 
 called_entry : (start : State) (desk : ℕ) (history added : List Entry) (e : Exchange) → IsCalled start desk history e
     → entry_at (history ++ added) e.point ≡ entry_at history e.point
@@ -129,12 +141,14 @@ stored_entries_stay start desk history added (e ∷ es) all =
 pub record Stands (old new : DeskView) (e : Exchange) : Type 0 where
   pub grows : Extends old.seen new.seen
   pub answer : IsAnswer (start_of old) old.number new.seen e
-  pub above : (floor : ℕ) → floor ≤ length old.seen → IsAbove floor e.point × (floor_after floor e.point ≤ length new.seen)
+  pub above : (floor : ℕ) → floor ≤ length old.seen → IsAbove floor e.point
+      × (floor_after floor e.point ≤ length new.seen)
   pub own : entries_of old.number new.seen ≡ entries_of old.number old.seen ++ entry_at new.seen e.point
   pub alone : old.sharing.desks ≡ 1 → new.seen ≡ old.seen ++ entry_at new.seen e.point
 
 -- the entries of a desk in two parts
-pub entries_of-append : (desk : ℕ) (xs ys : List Entry) → entries_of desk (xs ++ ys) ≡ entries_of desk xs ++ entries_of desk ys
+pub entries_of-append : (desk : ℕ) (xs ys : List Entry) → entries_of desk (xs ++ ys) ≡ entries_of desk xs
+    ++ entries_of desk ys
 entries_of-append desk xs ys = filter-append (λ (entry : Entry). entry.desk == desk) xs ys
 
 -- the same history goes on from itself
@@ -146,7 +160,8 @@ extends_trans xs ys zs a b =
     (a.0 ++ b.0, b.1 ∙ ap (λ l. l ++ b.0) a.1 ∙ append_assoc xs a.0 b.0)
 
 -- a call that was made at the end of `before`
-follows_grows : (start : State) (before new : List Entry) (call : Call) (kept stored : Bool) → Follows before new stored (IsEntryOf (replay start before) call kept) → Extends before new
+follows_grows : (start : State) (before new : List Entry) (call : Call) (kept stored : Bool)
+    → Follows before new stored (IsEntryOf (replay start before) call kept) → Extends before new
 follows_grows start before new call kept true follows = (follows.0 ∷ [], follows.2)
 follows_grows start before new call kept false follows = ([], follows ∙ sym (append-nil before))
 
@@ -156,19 +171,23 @@ extends_longer xs ys h = omega (arith, ap length h.1, length-append xs h.0)
 front_of : (before new : List Entry) → Extends before new → take (length before) new ≡ before
 front_of before new h = ap (take (length before)) h.1 ∙ take-append_seam before h.0
 
-follows_entry : (start : State) (before new : List Entry) (call : Call) (kept stored : Bool) → Follows before new stored (IsEntryOf (replay start before) call kept)
-    → OnTrue stored ((entry : Entry) × (slice_get new (length before) ≡ Some entry) × IsEntryOf (replay start before) call kept entry)
+follows_entry : (start : State) (before new : List Entry) (call : Call) (kept stored : Bool)
+    → Follows before new stored (IsEntryOf (replay start before) call kept)
+    → OnTrue stored ((entry : Entry) × (slice_get new (length before) ≡ Some entry)
+    × IsEntryOf (replay start before) call kept entry)
 follows_entry start before new call kept true follows =
     (follows.0, ap (λ h. slice_get h (length before)) follows.2 ∙ entry_behind before follows.0, follows.1)
 follows_entry start before new call kept false follows = tt
 
 follows_marked : (start : State) (before new : List Entry) (call : Call) (kept stored : Bool)
-    → stored ≡ is_stored (replay start before) before call → Follows before new stored (IsEntryOf (replay start before) call kept)
+    → stored ≡ is_stored (replay start before) before call → Follows before new stored
+    (IsEntryOf (replay start before) call kept)
     → IsMarked start new call kept (record { at = length before; stored = stored })
 follows_marked start before new call kept stored is_stored_there follows =
     let grows = follows_grows start before new call kept stored follows in
     let front : take (length before) new ≡ before = front_of before new grows in
-    let P : List Entry → Type 0 = λ (h : List Entry). OnTrue stored ((entry : Entry) × (slice_get new (length before) ≡ Some entry) × IsEntryOf (replay start h) call kept entry) in
+    let P : List Entry → Type 0 = λ (h : List Entry). OnTrue stored
+    ((entry : Entry) × (slice_get new (length before) ≡ Some entry) × IsEntryOf (replay start h) call kept entry) in
     record {
       within = extends_longer before new grows;
       stored = is_stored_there ∙ ap (λ h. is_stored (replay start h) h call) (sym front);
@@ -181,8 +200,10 @@ same_number n = eq-eqb n n refl
 own_entry : (desk : ℕ) (entry : Entry) → entry.desk ≡ desk → entries_of desk (entry ∷ []) ≡ entry ∷ []
 own_entry desk entry h = ap (λ b. cond b (entry ∷ []) []) (eq-eqb entry.desk desk h)
 
-follows_own : (start : State) (before new : List Entry) (call : Call) (kept stored : Bool) → Follows before new stored (IsEntryOf (replay start before) call kept)
-    → entries_of call.desk new ≡ entries_of call.desk before ++ (if stored then option_to_list (slice_get new (length before)) else [])
+follows_own : (start : State) (before new : List Entry) (call : Call) (kept stored : Bool)
+    → Follows before new stored (IsEntryOf (replay start before) call kept)
+    → entries_of call.desk new ≡ entries_of call.desk before ++ (if stored then option_to_list
+    (slice_get new (length before)) else [])
 follows_own start before new call kept true follows =
     ap (entries_of call.desk) follows.2
     ∙ entries_of-append call.desk before (follows.0 ∷ [])
@@ -193,7 +214,8 @@ follows_own start before new call kept false follows =
     ap (entries_of call.desk) follows ∙ sym (append-nil (entries_of call.desk before))
 
 -- a stored call adds its entry alone
-follows_adds : (start : State) (before new : List Entry) (call : Call) (kept stored : Bool) → Follows before new stored (IsEntryOf (replay start before) call kept)
+follows_adds : (start : State) (before new : List Entry) (call : Call) (kept stored : Bool)
+    → Follows before new stored (IsEntryOf (replay start before) call kept)
     → new ≡ before ++ (if stored then option_to_list (slice_get new (length before)) else [])
 follows_adds start before new call kept true follows =
     follows.2
@@ -201,7 +223,8 @@ follows_adds start before new call kept true follows =
     (ap option_to_list (sym (ap (λ h. slice_get h (length before)) follows.2 ∙ entry_behind before follows.0)))
 follows_adds start before new call kept false follows = follows ∙ sym (append-nil before)
 
-follows_floor : (start : State) (before new : List Entry) (call : Call) (kept stored : Bool) → Follows before new stored (IsEntryOf (replay start before) call kept)
+follows_floor : (start : State) (before new : List Entry) (call : Call) (kept stored : Bool)
+    → Follows before new stored (IsEntryOf (replay start before) call kept)
     → (floor : ℕ) → floor_after floor (Some (record { at = length before; stored = stored })) ≤ length new
 follows_floor start before new call kept true follows floor =
     omega (arith, ap length follows.2, length-append before (follows.0 ∷ []))
@@ -211,11 +234,20 @@ follows_floor start before new call kept false follows floor = omega (arith, ap 
 none_stands : (old new : DeskView) (e : Exchange) → e.point ≡ None → SeesOthers old new.seen
     → IsAnswer (start_of old) old.number new.seen e → Stands old new e
 none_stands old new e point sees answer =
-    let P : ℕ → Option Point → Type 0 = λ (floor : ℕ) (p : Option Point). IsAbove floor p × (floor_after floor p ≤ length new.seen) in
+    let P : ℕ → Option Point → Type 0 = λ (floor : ℕ) (p : Option Point). IsAbove floor p
+    × (floor_after floor p ≤ length new.seen) in
     record {
       grows = sees.grows;
       answer = answer;
-      above = λ floor low. subst (P floor) (sym point) (tt, omega (arith, low, extends_longer old.seen new.seen sees.grows));
+      above = λ floor low. subst (P floor) (sym point) (
+        tt,
+        omega (
+          arith,
+          low,
+          extends_longer old.seen new.seen
+              sees.grows,
+        ),
+      );
       own = sees.others ∙ sym (append-nil (entries_of old.number old.seen))
           ∙ ap (λ p. entries_of old.number old.seen ++ entry_at new.seen p) (sym point);
       alone = λ one. sees.alone one ∙ sym (append-nil old.seen) ∙ ap (λ p. old.seen ++ entry_at new.seen p) (sym point);
@@ -236,7 +268,8 @@ some_stands : (old new : DeskView) (before : List Entry) (call : Call) (shown : 
     → IsAnswer (start_of old) old.number new.seen e → Stands old new e
 some_stands old new before call shown e same sees shows point answer =
     let start = start_of old in
-    let P : ℕ → Option Point → Type 0 = λ (floor : ℕ) (p : Option Point). IsAbove floor p × (floor_after floor p ≤ length new.seen) in
+    let P : ℕ → Option Point → Type 0 = λ (floor : ℕ) (p : Option Point). IsAbove floor p
+    × (floor_after floor p ≤ length new.seen) in
     let longer : length old.seen ≤ length before = extends_longer old.seen before sees.grows in
     let here : Option Point = Some (record { at = length before; stored = shown.stored }) in
     let others : entries_of call.desk before ≡ entries_of call.desk old.seen =
@@ -246,8 +279,11 @@ some_stands old new before call shown e same sees shows point answer =
       grows = extends_trans old.seen before new.seen sees.grows
           (follows_grows start before new.seen call shows.kept shown.stored shows.follows);
       answer = answer;
-      above = λ floor low. subst (P floor) (sym point)
-          (omega (arith, low, longer), follows_floor start before new.seen call shows.kept shown.stored shows.follows floor);
+      above = λ floor low. subst (P floor) (sym point) (
+        omega (arith, low, longer),
+        follows_floor start before new.seen call shows.kept shown.stored shows.follows
+            floor,
+      );
       own = subst Q same
           (follows_own start before new.seen call shows.kept shown.stored shows.follows
           ∙ ap (λ xs. xs ++ entry_at new.seen here) others
@@ -276,7 +312,8 @@ called_there old new e shown s there =
       kept = s.shows.2.kept;
       point = record { at = length s.shows.0; stored = shown.stored };
       placed = there;
-      marked = follows_marked (start_of old) s.shows.0 new.seen call s.shows.2.kept shown.stored s.shows.2.stored s.shows.2.follows;
+      marked = follows_marked (start_of old) s.shows.0 new.seen call s.shows.2.kept shown.stored s.shows.2.stored
+          s.shows.2.follows;
     }
 
 pub stands : (old new : DeskView) (e : Exchange) → Answered old new e → Stands old new e
@@ -308,15 +345,18 @@ stands old new e (wanted_late shown s bytes) =
     (by_late_want (called_there old new e shown s there) (bytes ∙ ap (λ n. want_after n shown.stored) s.shows.2.at))
 
 -- one more at the end
-pub all_more : {X : Type 0} (P : X → Type 0) (xs : List X) (x : X) → AllByRecursion P xs → P x → AllByRecursion P (xs ++ x ∷ [])
+pub all_more : {X : Type 0} (P : X → Type 0) (xs : List X) (x : X) → AllByRecursion P xs → P x
+    → AllByRecursion P (xs ++ x ∷ [])
 all_more P [] x all one = (one, tt)
 all_more P (y ∷ ys) x all one = (all.0, all_more P ys x all.1 one)
 
-floor_more : (floor : ℕ) (es : List Exchange) (e : Exchange) → floor_of floor (es ++ e ∷ []) ≡ floor_after (floor_of floor es) e.point
+floor_more : (floor : ℕ) (es : List Exchange) (e : Exchange) → floor_of floor (es ++ e ∷ [])
+    ≡ floor_after (floor_of floor es) e.point
 floor_more floor [] e = refl
 floor_more floor (first ∷ others) e = floor_more (floor_after floor first.point) others e
 
-in_order_more : (floor : ℕ) (es : List Exchange) (e : Exchange) → AreInOrder floor es → IsAbove (floor_of floor es) e.point → AreInOrder floor (es ++ e ∷ [])
+in_order_more : (floor : ℕ) (es : List Exchange) (e : Exchange) → AreInOrder floor es
+    → IsAbove (floor_of floor es) e.point → AreInOrder floor (es ++ e ∷ [])
 in_order_more floor [] e order above = (above, tt)
 in_order_more floor (first ∷ others) e order above =
     (order.0, in_order_more (floor_after floor first.point) others e order.1 above)
@@ -333,7 +373,8 @@ same_view first old same =
     ∙ ap (λ s. record { origin = first.origin; number = first.number; sharing = s; seen = old.seen }) same.sharing
 
 -- the entries of stored calls, and of one more
-entries_more : (old new : List Entry) (es : List Exchange) (e : Exchange) → stored_entries new es ≡ stored_entries old es
+entries_more : (old new : List Entry) (es : List Exchange) (e : Exchange) → stored_entries new es
+    ≡ stored_entries old es
     → stored_entries old es ++ entry_at new e.point ≡ stored_entries new (es ++ e ∷ [])
 entries_more old new es e kept =
     ap (λ xs. xs ++ entry_at new e.point) (sym kept)
@@ -359,7 +400,8 @@ one_more first old new es e same so_far here =
       answers = all_more (IsAnswer start desk new.seen) es e
           (subst P (sym is_new) (answers_stay start desk old.seen added es so_far.answers)) next.answer;
       in_order = in_order_more (length first.seen) es e so_far.in_order above.0;
-      floor = let Q : ℕ → Type 0 = λ n. n ≤ length new.seen in subst Q (sym (floor_more (length first.seen) es e)) above.1;
+      floor = let Q : ℕ → Type 0 = λ n. n ≤ length new.seen in subst Q (sym (floor_more (length first.seen) es e))
+          above.1;
       own = next.own
           ∙ ap (λ xs. xs ++ entry_at new.seen e.point) so_far.own
           ∙ append_assoc (entries_of desk first.seen) (stored_entries old.seen es) (entry_at new.seen e.point)

@@ -33,7 +33,8 @@ module _ (bytes name : List ℕ) (headers : List HeaderSpan) (i : ℕ) (d : Head
   -- the values of one more field
   values_of_more : (t : Bool) → is_named name (header_bytes bytes (get_or headers i d)) ≡ t
       → values_of name (headers_at bytes (take (i + 1) headers))
-      ≡ values_of name (headers_at bytes (take i headers)) ++ cond t (span_bytes bytes (get_or headers i d).value ∷ []) []
+      ≡ values_of name (headers_at bytes (take i headers)) ++ cond t (span_bytes bytes (get_or headers i d).value ∷ [])
+      []
   values_of_more t e =
       ap (values_of name) (map_more (header_bytes bytes) headers i d inside)
       ∙ values_of-append name (headers_at bytes (take i headers)) _
@@ -49,7 +50,8 @@ module _ (bytes name : List ℕ) (headers : List HeaderSpan) (i : ℕ) (d : Head
 
   pub IsNamedBy_more : (found : Named) → is_named name (header_bytes bytes (get_or headers i d)) ≡ true
       → IsNamedBy bytes (values_of name (headers_at bytes (take i headers))) found
-      → IsNamedBy bytes (values_of name (headers_at bytes (take (i + 1) headers))) (with_value found (get_or headers i d).value)
+      → IsNamedBy bytes (values_of name (headers_at bytes (take (i + 1) headers)))
+      (with_value found (get_or headers i d).value)
   IsNamedBy_more Absent e h =
       values_of_more true e ∙ ap (λ (v : List (List ℕ)). v ++ (span_bytes bytes (get_or headers i d).value ∷ [])) h
   IsNamedBy_more (Once s) e h = (
@@ -66,9 +68,12 @@ module _ (bytes name : List ℕ) (headers : List HeaderSpan) (i : ℕ) (d : Head
   -- the values that are left, from one field on
   closes_more : (t : Bool) → is_named name (header_bytes bytes (get_or headers i d)) ≡ t
       → list_any lists_close (values_of name (headers_at bytes (drop i headers)))
-      ≡ list_any lists_close (cond t (span_bytes bytes (get_or headers i d).value ∷ values_of name (headers_at bytes (drop (i + 1) headers))) (values_of name (headers_at bytes (drop (i + 1) headers))))
+      ≡ list_any lists_close (cond t (span_bytes bytes (get_or headers i d).value
+      ∷ values_of name (headers_at bytes (drop (i + 1) headers)))
+      (values_of name (headers_at bytes (drop (i + 1) headers))))
   closes_more t e =
-      at_drop_more (λ (hs : List HeaderSpan). list_any lists_close (values_of name (headers_at bytes hs))) headers i d inside
+      at_drop_more (λ (hs : List HeaderSpan). list_any lists_close (values_of name (headers_at bytes hs))) headers i d
+      inside
       ∙ ap (list_any lists_close)
       (values_of-cons name (header_bytes bytes (get_or headers i d)) (headers_at bytes (drop (i + 1) headers)) t e)
 
@@ -92,7 +97,8 @@ module _ (bytes name : List ℕ) (headers : List HeaderSpan) (i : ℕ) (d : Head
       closes_more true e
       ∙ ap (λ (b : Bool). b || list_any lists_close (values_of name (headers_at bytes (drop (i + 1) headers)))) close
 
-pub IsNamedWithin_more : (n : ℕ) (found : Named) (h : HeaderSpan) → IsNamedWithin n found → IsNamedWithin n (Once h.value)
+pub IsNamedWithin_more : (n : ℕ) (found : Named) (h : HeaderSpan) → IsNamedWithin n found
+    → IsNamedWithin n (Once h.value)
     → IsNamedWithin n (with_value found h.value)
 IsNamedWithin_more n Absent h old new = new
 IsNamedWithin_more n (Once s) h old new = old

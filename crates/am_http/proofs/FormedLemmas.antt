@@ -33,18 +33,22 @@ formed (asks.Link name host approved) is = ap (λ (text : List ℕ). is_same tex
 formed _ is = refl
 
 -- so is what was read, where it was read
-formed_or : (endpoint : Endpoint) (read : Result Request WireFault) (request : Request) → IfOk read (IsMade endpoint) → request_or read ≡ Ok request → IsFormed request
+formed_or : (endpoint : Endpoint) (read : Result Request WireFault) (request : Request) → IfOk read (IsMade endpoint)
+    → request_or read ≡ Ok request → IsFormed request
 formed_or endpoint (Err fault) request made is = absurd (cc)
 formed_or endpoint (Ok read) request made is =
     let same : read ≡ request = cc in
     subst IsFormed same (formed read made.1)
 
 -- what is asked where a route was looked up is formed
-formed_at : (route : Result Endpoint RouteFault) (body : List ℕ) (request : Request) → asked_at route body ≡ Ok request → IsFormed request
-formed_at (Ok endpoint) body request is = formed_or endpoint (request_at endpoint body) request (body_is_made endpoint body) is
+formed_at : (route : Result Endpoint RouteFault) (body : List ℕ) (request : Request) → asked_at route body ≡ Ok request
+    → IsFormed request
+formed_at (Ok endpoint) body request is = formed_or endpoint (request_at endpoint body) request
+    (body_is_made endpoint body) is
 formed_at (Err faults.NoRoute) body request is = absurd (cc)
 formed_at (Err (faults.NoMethod endpoint)) body request is = absurd (cc)
 
 -- the request that a frame makes is formed
-pub a_read_request_is_formed : (frame : Frame) (request : Request) → request_of frame ≡ Ok request → IsTrue (is_formed request)
+pub a_read_request_is_formed : (frame : Frame) (request : Request) → request_of frame ≡ Ok request
+    → IsTrue (is_formed request)
 a_read_request_is_formed frame request is = formed_at (endpoint_of frame.method frame.target) frame.body request is

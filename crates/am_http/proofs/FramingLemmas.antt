@@ -1,4 +1,5 @@
--- Laws of the first step over an input: what more bytes leave as it is, how long a frame is, and that it is the only one.
+-- Laws of the first step over an input: what more bytes leave as it is, how long a frame is, and that it is the only
+-- one.
 use Rattle.std.proofs.Common.{◌≡◌, ◌≢◌, ℕ, ◌+◌, ◌-◌, ◌<◌, ◌≤◌, Bool, true, false, cond, List, [], ◌∷◌, ◌++◌, length, take, drop, slice_range, refl, sym, ap, ◌∙◌, subst, arith, append_assoc, append-nil, inl, inr}
 use Rattle.std.specs.Prelude.{Result, Ok, Err, codes, bytes_eq, nat_le, nat_lt, IsUtf8}
 use Rattle.std.specs.Str.{is_utf8}
@@ -98,12 +99,14 @@ record IsWholeBy (bytes : List ℕ) (head : Head) (f : Frame) : Type 0 where
   fits : head.size + n ≤ length bytes
   frame : f ≡ frame_of bytes head n
 
-after_length-whole : (bytes : List ℕ) (head : Head) (f : Frame) (r : Result ℕ Defect) → body_length head.method head.headers ≡ r
+after_length-whole : (bytes : List ℕ) (head : Head) (f : Frame) (r : Result ℕ Defect)
+    → body_length head.method head.headers ≡ r
     → whole f ≡ after_length bytes head r → IsWholeBy bytes head f
 after_length-whole bytes head f (Err d) is e = absurd cc
 after_length-whole bytes head f (Ok n) is e = by_test (nat_le (head.size + n) (length bytes)) refl e
   where
-    by_test : (b : Bool) → nat_le (head.size + n) (length bytes) ≡ b → whole f ≡ cond b (whole (frame_of bytes head n)) cut
+    by_test : (b : Bool) → nat_le (head.size + n) (length bytes) ≡ b → whole f
+        ≡ cond b (whole (frame_of bytes head n)) cut
         → IsWholeBy bytes head f
     by_test true fits e = record {
       n = n;
@@ -164,7 +167,8 @@ after_head-cut bytes head e = by_length (body_length head.method head.headers) r
     by_length (Err d) is e = absurd cc
     by_length (Ok n) is e = by_test (nat_le (head.size + n) (length bytes)) refl e
       where
-        by_test : (b : Bool) → nat_le (head.size + n) (length bytes) ≡ b → cut ≡ cond b (whole (frame_of bytes head n)) cut
+        by_test : (b : Bool) → nat_le (head.size + n) (length bytes) ≡ b → cut
+            ≡ cond b (whole (frame_of bytes head n)) cut
             → length bytes < head.size + 65536
         by_test true more e = absurd cc
         by_test false more e =
@@ -176,7 +180,8 @@ after_head-refused : (bytes more : List ℕ) (head : Head) (d : Defect) → refu
 unfolding after_head
 after_head-refused bytes more head d e = by_length (body_length head.method head.headers) e
   where
-    by_length : (r : Result ℕ Defect) → refused d ≡ after_length bytes head r → refused d ≡ after_length (bytes ++ more) head r
+    by_length : (r : Result ℕ Defect) → refused d ≡ after_length bytes head r → refused d
+        ≡ after_length (bytes ++ more) head r
     by_length (Err other) e = e
     by_length (Ok n) e = by_test (nat_le (head.size + n) (length bytes)) e
       where
@@ -223,9 +228,11 @@ begins_alone bytes n h b enough =
     let size = length head in
     let rest = b.0 ++ drop 8192 bytes in
     let input : bytes ≡ head ++ rest =
-    sym (take-append-drop 8192 bytes) ∙ ap (λ (t : List ℕ). t ++ drop 8192 bytes) b.1.1 ∙ append_assoc head b.0 (drop 8192 bytes) in
+    sym (take-append-drop 8192 bytes) ∙ ap (λ (t : List ℕ). t ++ drop 8192 bytes) b.1.1
+    ∙ append_assoc head b.0 (drop 8192 bytes) in
     let own : take n bytes ≡ head ++ take (n - size) rest =
-    ap (take n) input ∙ take_front n head rest ∙ ap (λ (t : List ℕ). t ++ take (n - size) rest) (take_all n head enough) in
+    ap (take n) input ∙ take_front n head rest ∙ ap (λ (t : List ℕ). t ++ take (n - size) rest) (take_all n head enough)
+    in
     let fits = (head_fits bytes h b).0 in
     let front : window (take n bytes) ≡ head ++ take (8192 - size) (take (n - size) rest) =
     ap (take 8192) own ∙ take_front 8192 head (take (n - size) rest)
@@ -264,7 +271,8 @@ whole_stays bytes more f (by_wait none may e) =
     absurd (without_head-not_whole (window bytes) f e)
 
 -- A defect stays when more bytes come.
-pub refused_stays : (bytes more : List ℕ) (d : Defect) → IsFraming bytes (refused d) → IsFraming (bytes ++ more) (refused d)
+pub refused_stays : (bytes more : List ℕ) (d : Defect) → IsFraming bytes (refused d)
+    → IsFraming (bytes ++ more) (refused d)
 refused_stays bytes more d (by_head h b e) =
     by_head h (begins_stays bytes more h b) (after_head-refused bytes more (head_of h) d e)
 refused_stays bytes more d (by_dead dead e) = by_dead (dead_stays bytes more dead) e
@@ -318,7 +326,8 @@ whole_only bytes f outcome (by_wait none may e) other =
     absurd (without_head-not_whole (window bytes) f e)
 
 -- There is one outcome, but for a dead window in which a reader may overlook that.
-pub outcome_only : (bytes : List ℕ) (a b : Outcome) → ¬ (MayOverlook (window bytes)) → IsFraming bytes a → IsFraming bytes b
+pub outcome_only : (bytes : List ℕ) (a b : Outcome) → ¬ (MayOverlook (window bytes)) → IsFraming bytes a
+    → IsFraming bytes b
     → a ≡ b
 outcome_only bytes a b seen (by_head h x e) (by_head k y g) =
     let same = (request_unique (window bytes) h k x.0 y.0 x.1 y.1).0 in
@@ -358,7 +367,8 @@ pub whole_key : (bytes : List ℕ) (f : Frame) → IsFraming bytes (whole f) →
 unfolding frame_of key_of
 whole_key bytes f (by_head h b e) =
     let w = after_head-whole bytes (head_of h) f e in
-    subst IsUtf8 (sym (ap (λ (g : Frame). g.key) w.frame)) (first_text-IsUtf8 (values_of (codes "AM-Key") (head_of h).headers))
+    subst IsUtf8 (sym (ap (λ (g : Frame). g.key) w.frame)) (first_text-IsUtf8
+    (values_of (codes "AM-Key") (head_of h).headers))
 whole_key bytes f (by_dead dead e) = absurd cc
 whole_key bytes f (by_wait none may e) =
     absurd (without_head-not_whole (window bytes) f e)
@@ -379,7 +389,8 @@ unfolding frame_of
 whole_body bytes f (by_head h b e) =
     let w = after_head-whole bytes (head_of h) f e in
     let size = (head_of h).size in
-    let body : length f.body ≡ length (slice_range bytes size (size + w.n)) = ap (λ (g : Frame). length g.body) w.frame in
+    let body : length f.body ≡ length (slice_range bytes size (size + w.n)) = ap (λ (g : Frame). length g.body) w.frame
+    in
     omega (
       arith,
       length-take (size + w.n - size) (drop size bytes),

@@ -22,14 +22,16 @@ keeps_trans (Some a) (Some b) None h k = absurd k
 keeps_trans (Some a) (Some b) (Some c) h k = k ∙ h
 
 -- what the source gives
-consumes_more : (a b c : Option (List ℕ)) (got more : List ℕ) → Consumes a b got → Consumes b c more → Consumes a c (got ++ more)
+consumes_more : (a b c : Option (List ℕ)) (got more : List ℕ) → Consumes a b got → Consumes b c more
+    → Consumes a c (got ++ more)
 consumes_more None b c got more h k = tt
 consumes_more (Some a) None c got more h k = absurd h
 consumes_more (Some a) (Some b) None got more h k = absurd k
 consumes_more (Some a) (Some b) (Some c) got more h k =
     h ∙ ap (λ xs. got ++ xs) k ∙ sym (append_assoc got more c)
 
-pub reads_more : (old mid new : List ℕ) (a b c : Option (List ℕ)) → Reads old mid a b → Reads mid new b c → Reads old new a c
+pub reads_more : (old mid new : List ℕ) (a b c : Option (List ℕ)) → Reads old mid a b → Reads mid new b c
+    → Reads old new a c
 reads_more old mid new a b c h k = (
   h.0 ++ k.0,
   k.1 ∙ ap (λ xs. xs ++ k.0) h.1 ∙ append_assoc old h.0 k.0,
@@ -42,7 +44,8 @@ gives_window old new left left' reads fits =
     (reads.0, reads.2, omega (arith, ap length reads.1, length-append old reads.0, fits))
 
 -- and what it gives while more is read twice
-pub gives_read : (old mid new : List ℕ) (a b c : Option (List ℕ)) → Reads old mid a b → Reads mid new b c → length new ≤ 73728
+pub gives_read : (old mid new : List ℕ) (a b c : Option (List ℕ)) → Reads old mid a b → Reads mid new b c
+    → length new ≤ 73728
     → GivesAtMost 73728 a c
 gives_read old mid new a b c first next fits = gives_window old new a c (reads_more old mid new a b c first next) fits
 
@@ -50,7 +53,8 @@ pub gives_none : (left : Option (List ℕ)) → GivesAtMost 0 left left
 gives_none None = ([], tt, omega arith)
 gives_none (Some left) = ([], refl, omega arith)
 
-pub gives_more : (n m k : ℕ) (a b c : Option (List ℕ)) → n + m ≤ k → GivesAtMost n a b → GivesAtMost m b c → GivesAtMost k a c
+pub gives_more : (n m k : ℕ) (a b c : Option (List ℕ)) → n + m ≤ k → GivesAtMost n a b → GivesAtMost m b c
+    → GivesAtMost k a c
 gives_more n m k a b c fits h g = (
   h.0 ++ g.0,
   consumes_more a b c h.0 g.0 h.1 g.1,
@@ -95,7 +99,8 @@ none_read [] h = refl
 none_read (x ∷ xs) h = absurd (omega (arith, h))
 
 -- where more bytes are wanted the window holds no whole frame, and has room
-pub wanting_partial : (w : List ℕ) (found : Found) → IsFraming w (outcome_at w found) → is_open found ≡ true → IsPartial w
+pub wanting_partial : (w : List ℕ) (found : Found) → IsFraming w (outcome_at w found) → is_open found ≡ true
+    → IsPartial w
 wanting_partial w (Spans.Whole s) h wanting = absurd cc
 wanting_partial w Spans.Empty h wanting = inl h
 wanting_partial w (Spans.Refused d) h wanting = absurd cc
@@ -106,21 +111,24 @@ partial_fits w (inl h) = omega (arith, ap length (empty_only w h))
 partial_fits w (inr h) = cut_fits w h
 
 -- where no more are wanted what was found stands, whatever follows
-pub closed_known : (w : List ℕ) (left : Option (List ℕ)) (found : Found) → IsFraming w (outcome_at w found) → is_open found ≡ false
+pub closed_known : (w : List ℕ) (left : Option (List ℕ)) (found : Found) → IsFraming w (outcome_at w found)
+    → is_open found ≡ false
     → IfSome (prepend_known w left) (λ input. IsFraming input (outcome_at w found))
 closed_known w left (Spans.Whole s) h closed = known_whole w left (frame_at w s) h
 closed_known w left Spans.Empty h closed = absurd cc
 closed_known w left (Spans.Refused d) h closed = known_refused w left d h
 closed_known w left Spans.Cut h closed = absurd cc
 
-pub finds_closed : (w : List ℕ) (left : Option (List ℕ)) (found : Found) → IsFraming w (outcome_at w found) → IsFoundWithin (length w) found
+pub finds_closed : (w : List ℕ) (left : Option (List ℕ)) (found : Found) → IsFraming w (outcome_at w found)
+    → IsFoundWithin (length w) found
     → is_open found ≡ false → Finds w left found
 finds_closed w left found h within closed =
     record { here = h; told = closed_known w left found h closed; within = within }
 
 -- at the end of the source what was found stands
 pub finds_end : (old new got : List ℕ) (left : Option (List ℕ)) (found : Found)
-    → new ≡ old ++ got → length got ≡ 0 → IsFraming old (outcome_at old found) → IsFoundWithin (length old) found → IsAtEnd left
+    → new ≡ old ++ got → length got ≡ 0 → IsFraming old (outcome_at old found) → IsFoundWithin (length old) found
+    → IsAtEnd left
     → Finds new left found
 finds_end old new got left found grows none h within end =
     let same : old ≡ new = sym (grows ∙ ap (λ xs. old ++ xs) (none_read got none) ∙ append-nil old) in

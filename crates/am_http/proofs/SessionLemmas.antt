@@ -11,13 +11,13 @@ use Rattle.am_outside.specs.Clock.{IsTold}
 use Rattle.am_history.specs.Desks.{DeskView, Origin, opening_of, IsSameDesk}
 use Rattle.am_history.specs.History.{IsLegal}
 use Rattle.am_http.specs.declared.end.End.{End}
-use Rattle.am_http.specs.declared.end.End.TheVariants.{Input, Close, Refused, Cut, Limit, ReadFault, WriteFault}
+use Rattle.am_http.specs.declared.end.End.TheVariants.{Input, Close, Refused, Cut, Limit, Idle, ReadFault, WriteFault}
 use Rattle.am_http.specs.Head.{Frame, whole}
 use Rattle.am_http.specs.Framing.{IsFraming}
 use Rattle.am_http.specs.Frames.{Splits, Leaves, Drops}
 use Rattle.am_http.specs.Exchanges.{Exchange, AreAnswered, frames_of, bytes_of, moments_of}
 use Rattle.am_http.specs.Links.{Link, Midway, Server, Moments, Gives, rest_of, GoesOn, IsSameLink}
-use Rattle.am_http.specs.Sessions.{most_frames, most_held, most_bytes, GivesAtMost, MayGoOn, defect_text, EndsBy, Writes, Session, Going, Serves, IsUnasked, Replies, Stops}
+use Rattle.am_http.specs.Sessions.{most_held, most_taken, GivesAtMost, MayGoOn, defect_text, VisitEnds, Writes, Visit, Going, Serves, IsUnasked, Replies, Stops}
 use Rattle.am_http.specs.Sending.{StopsInside}
 use Rattle.am_http.proofs.FramingLemmas.{whole_fits}
 use Rattle.am_http.proofs.SendLemmas.{appends_trans, appends_none, appends_self, inside_more}
@@ -31,7 +31,8 @@ splits_more input [] f rest splits next =
 splits_more input (first ∷ others) f rest splits next =
     (splits.0, splits_more (drop first.length input) others f rest splits.1 next)
 
-splits_as : (input : List ℕ) (fs : List Frame) (rest after : List ℕ) → after ≡ rest → Splits input fs rest → Splits input fs after
+splits_as : (input : List ℕ) (fs : List Frame) (rest after : List ℕ) → after ≡ rest → Splits input fs rest
+    → Splits input fs after
 splits_as input fs rest after same splits = subst (λ bytes. Splits input fs bytes) (sym same) splits
 
 leaves_more : (input : Option (List ℕ)) (fs : List Frame) (f : Frame) (rest after : Option (List ℕ))
@@ -51,7 +52,8 @@ bytes_more es e =
     flat_map-append (λ (x : Exchange). x.bytes) es (e ∷ []) ∙ ap (λ bs. bytes_of es ++ bs) (append-nil e.bytes)
 
 -- a connection that begins, with an empty window
-pub going_none : (first : Link) (w : List ℕ) → Leaves first.source.left [] (rest_of (record { link = first; window = w }))
+pub going_none : (first : Link) (w : List ℕ) → Leaves first.source.left []
+    (rest_of (record { link = first; window = w }))
     → Going first (record { link = first; window = w }) 0
 going_none first w leaves =
     record {
@@ -76,7 +78,8 @@ gives_as a b (m ∷ ms) c same gives = (
   gives_as (λ calls. a (suc calls)) (λ calls. b (suc calls)) ms c (λ calls. same (suc calls)) gives.1,
 )
 
-gives_trans : (a : Moments) (xs : List ℕ) (b : Moments) (ys : List ℕ) (c : Moments) → Gives a xs b → Gives b ys c → Gives a (xs ++ ys) c
+gives_trans : (a : Moments) (xs : List ℕ) (b : Moments) (ys : List ℕ) (c : Moments) → Gives a xs b → Gives b ys c
+    → Gives a (xs ++ ys) c
 gives_trans a [] b ys c first next = gives_as a b ys c first next
 gives_trans a (x ∷ xs) b ys c first next = (first.0, gives_trans (λ calls. a (suc calls)) xs b ys c first.1 next)
 
@@ -88,7 +91,8 @@ moments_more es e =
 more_moments : (a b c : Moments) (es : List Exchange) (e : Exchange)
     → Gives a (moments_of es) b → Gives b (option_to_list e.now) c → Gives a (moments_of (es ++ e ∷ [])) c
 more_moments a b c es e so_far next =
-    subst (λ ms. Gives a ms c) (sym (moments_more es e)) (gives_trans a (moments_of es) b (option_to_list e.now) c so_far next)
+    subst (λ ms. Gives a ms c) (sym (moments_more es e)) (gives_trans a (moments_of es) b (option_to_list e.now) c
+    so_far next)
 
 unasked_moments : (a b c : Moments) (ms : List ℕ) → Gives a ms b → Gives b [] c → Gives a ms c
 unasked_moments a b c ms so_far none =
@@ -98,12 +102,14 @@ unasked_moments a b c ms so_far none =
 more_frames : (input rest after : Option (List ℕ)) (es : List Exchange) (e : Exchange)
     → Leaves input (frames_of es) rest → Drops rest e.frame after → Leaves input (frames_of (es ++ e ∷ [])) after
 more_frames input rest after es e leaves drops =
-    subst (λ fs. Leaves input fs after) (sym (frames_more es e)) (leaves_more input (frames_of es) e.frame rest after leaves drops)
+    subst (λ fs. Leaves input fs after) (sym (frames_more es e)) (leaves_more input (frames_of es) e.frame rest after
+    leaves drops)
 
 more_output : (old mid new : Option (List ℕ)) (es : List Exchange) (e : Exchange)
     → Appends old mid (bytes_of es) → Appends mid new e.bytes → Appends old new (bytes_of (es ++ e ∷ []))
 more_output old mid new es e so_far next =
-    subst (λ bs. Appends old new bs) (sym (bytes_more es e)) (appends_trans old mid new (bytes_of es) e.bytes so_far next)
+    subst (λ bs. Appends old new bs) (sym (bytes_more es e)) (appends_trans old mid new (bytes_of es) e.bytes so_far
+    next)
 
 more_count : (es : List Exchange) (e : Exchange) (count : ℕ) → length es ≡ count → length (es ++ e ∷ []) ≡ count + 1
 more_count es e count h = omega (arith, h, length-append es (e ∷ []))
@@ -123,21 +129,26 @@ going_more first mid new count same so_far next =
     record {
       exchanges = so_far.exchanges ++ next.exchange ∷ [];
       answers = more_answers first mid new.link.server so_far.exchanges next.exchange same so_far.answers next.served;
-      moments = more_moments first.server.clock mid.link.server.clock new.link.server.clock so_far.exchanges next.exchange
+      moments = more_moments first.server.clock mid.link.server.clock new.link.server.clock so_far.exchanges
+          next.exchange
           so_far.moments next.served.moment;
-      frames = more_frames first.source.left (rest_of mid) (rest_of new) so_far.exchanges next.exchange so_far.frames next.frame;
-      stays = all_more (λ (e : Exchange). e.frame.close ≡ false) so_far.exchanges next.exchange so_far.stays next.closes;
+      frames = more_frames first.source.left (rest_of mid) (rest_of new) so_far.exchanges next.exchange so_far.frames
+          next.frame;
+      stays = all_more (λ (e : Exchange). e.frame.close ≡ false) so_far.exchanges next.exchange so_far.stays
+          next.closes;
       output = more_output first.sink.taken mid.link.sink.taken new.link.sink.taken so_far.exchanges next.exchange
           so_far.output next.output;
       counted = more_count so_far.exchanges next.exchange count so_far.counted;
     }
 
 -- a connection that the peer closes
-pub session_close : (first : Link) (mid : Midway) (link : Link) (window : List ℕ) (count : ℕ) → count < most_frames
-    → GivesAtMost most_bytes first.source.left link.source.left → IsSameDesk first.server.desk mid.link.server.desk
+pub session_close : (limit : ℕ) (first : Link) (mid : Midway) (link : Link) (window : List ℕ) (count : ℕ)
+    → count < limit
+    → GivesAtMost (most_taken limit) first.source.left link.source.left
+    → IsSameDesk first.server.desk mid.link.server.desk
     → Going first mid count → Replies true mid (record { link = link; window = window })
-    → Session first link (record { end = Close; answered = count + 1 })
-session_close first mid link window count below gives same so_far next =
+    → Visit limit first link (record { end = Close; answered = count + 1 })
+session_close limit first mid link window count below gives same so_far next =
     let new : Midway = record { link = link; window = window } in
     let es = so_far.exchanges in
     let e = next.exchange in
@@ -146,20 +157,23 @@ session_close first mid link window count below gives same so_far next =
       rest = rest_of new;
       last = [];
       answers = more_answers first mid new.link.server es e same so_far.answers next.served;
-      moments = more_moments first.server.clock mid.link.server.clock new.link.server.clock es e so_far.moments next.served.moment;
+      moments = more_moments first.server.clock mid.link.server.clock new.link.server.clock es e so_far.moments
+          next.served.moment;
       frames = more_frames first.source.left (rest_of mid) (rest_of new) es e so_far.frames next.frame;
       most = omega (arith, below, more_count es e count so_far.counted);
       taken = gives;
       end = (sym (more_count es e count so_far.counted), (es, e, refl, so_far.stays, next.closes), refl);
-      output = subst (λ bs. Appends first.sink.taken new.link.sink.taken bs) (sym (append-nil (bytes_of (es ++ e ∷ []))))
+      output = subst (λ bs. Appends first.sink.taken new.link.sink.taken bs)
+          (sym (append-nil (bytes_of (es ++ e ∷ []))))
           (more_output first.sink.taken mid.link.sink.taken new.link.sink.taken es e so_far.output next.output);
     }
 
 -- a connection that has had as many frames as it may
-pub session_limit : (first link : Link) (window : List ℕ) → GivesAtMost most_bytes first.source.left link.source.left
-    → Going first (record { link = link; window = window }) 65536
-    → Session first link (record { end = Limit; answered = 65536 })
-session_limit first link window gives so_far =
+pub session_limit : (limit : ℕ) (first link : Link) (window : List ℕ) (count : ℕ) → count ≡ limit
+    → GivesAtMost (most_taken limit) first.source.left link.source.left
+    → Going first (record { link = link; window = window }) count
+    → Visit limit first link (record { end = Limit; answered = count })
+session_limit limit first link window count all gives so_far =
     let mid : Midway = record { link = link; window = window } in
     record {
       exchanges = so_far.exchanges;
@@ -168,10 +182,11 @@ session_limit first link window gives so_far =
       answers = so_far.answers;
       moments = so_far.moments;
       frames = so_far.frames;
-      most = omega (arith, so_far.counted);
+      most = omega (arith, so_far.counted, all);
       taken = gives;
-      end = (sym so_far.counted, so_far.stays, so_far.counted, refl);
-      output = subst (λ bs. Appends first.sink.taken mid.link.sink.taken bs) (sym (append-nil (bytes_of so_far.exchanges)))
+      end = (sym so_far.counted, so_far.stays, so_far.counted ∙ all, refl);
+      output = subst (λ bs. Appends first.sink.taken mid.link.sink.taken bs)
+          (sym (append-nil (bytes_of so_far.exchanges)))
           so_far.output;
     }
 
@@ -179,15 +194,18 @@ session_limit first link window gives so_far =
 rest_after : Option (List ℕ) → Frame → Option (List ℕ)
 rest_after rest f = option_map (drop f.length) rest
 
-drops_after : (rest : Option (List ℕ)) (f : Frame) → IfSome rest (λ input. IsFraming input (whole f)) → Drops rest f (rest_after rest f)
+drops_after : (rest : Option (List ℕ)) (f : Frame) → IfSome rest (λ input. IsFraming input (whole f))
+    → Drops rest f (rest_after rest f)
 unfolding rest_after
 drops_after None f h = tt
 drops_after (Some input) f h = (h, refl)
 
 -- the exchanges so far, after something that no desk was asked for
-same_answers : (first mid new : DeskView) (es : List Exchange) → new.seen ≡ mid.seen → AreAnswered first mid es → AreAnswered first new es
+same_answers : (first mid new : DeskView) (es : List Exchange) → new.seen ≡ mid.seen → AreAnswered first mid es
+    → AreAnswered first new es
 same_answers first mid new es same so_far =
-    let P : List Entry → Type 0 = λ (h : List Entry). AreAnswered first (record { origin = new.origin; number = new.number; sharing = new.sharing; seen = h }) es in
+    let P : List Entry → Type 0 = λ (h : List Entry). AreAnswered first
+    (record { origin = new.origin; number = new.number; sharing = new.sharing; seen = h }) es in
     subst P (sym same)
     (record {
       grows = so_far.grows;
@@ -199,20 +217,25 @@ same_answers first mid new es same so_far =
     })
 
 -- a connection that ends with what was written last, after nothing more was asked of the desk
-ended : (first : Link) (mid new : Midway) (count : ℕ) (end : End) (last : List ℕ) → count < most_frames
-    → GivesAtMost most_bytes first.source.left new.link.source.left
+ended : (limit : ℕ) (first : Link) (mid new : Midway) (count : ℕ) (end : End) (last : List ℕ) → count < limit
+    → GivesAtMost (most_taken limit) first.source.left new.link.source.left
     → (so_far : Going first mid count) → IsUnasked mid.link.server new.link.server
-    → EndsBy end count so_far.exchanges (record { rest = rest_of mid; left = new.link.source.left; last = last })
+    → VisitEnds limit end count so_far.exchanges (record {
+      rest = rest_of mid;
+      left = new.link.source.left;
+      last = last;
+    })
     → Writes (record { end = end; answered = count }) first.sink.taken new.link.sink.taken so_far.exchanges last
-    → Session first new.link (record { end = end; answered = count })
-ended first mid new count end last below gives so_far unasked ends output =
+    → Visit limit first new.link (record { end = end; answered = count })
+ended limit first mid new count end last below gives so_far unasked ends output =
     let es = so_far.exchanges in
     record {
       exchanges = es;
       rest = rest_of mid;
       last = last;
       answers = same_answers first.server.desk mid.link.server.desk new.link.server.desk es unasked.seen so_far.answers;
-      moments = unasked_moments first.server.clock mid.link.server.clock new.link.server.clock (moments_of es) so_far.moments unasked.clock;
+      moments = unasked_moments first.server.clock mid.link.server.clock new.link.server.clock (moments_of es)
+          so_far.moments unasked.clock;
       frames = so_far.frames;
       most = omega (arith, below, so_far.counted);
       taken = gives;
@@ -252,40 +275,56 @@ inside_behind : (old new : Option (List ℕ)) (es : List Exchange) (text : List 
     → StopsInside old new (bytes_of (take count es)) (bytes_of (drop count es) ++ text)
 inside_behind old new es text count counted inside =
     let within : length es ≤ count = omega (arith, counted) in
-    subst (λ (xs : List Exchange). StopsInside old new (bytes_of (take count es)) (bytes_of xs ++ text)) (sym (drop_all count es within))
+    subst (λ (xs : List Exchange). StopsInside old new (bytes_of (take count es)) (bytes_of xs ++ text))
+    (sym (drop_all count es within))
     (subst (λ (xs : List Exchange). StopsInside old new (bytes_of xs) text) (sym (take_all count es within)) inside)
 
 -- a connection that goes on, whose sink took no more
 kept : (first : Link) (mid new : Midway) (count : ℕ) (so_far : Going first mid count)
-    → Keeps mid.link.sink.taken new.link.sink.taken → Appends first.sink.taken new.link.sink.taken (bytes_of so_far.exchanges ++ [])
+    → Keeps mid.link.sink.taken new.link.sink.taken → Appends first.sink.taken new.link.sink.taken
+    (bytes_of so_far.exchanges ++ [])
 kept first mid new count so_far keeps =
     appends_trans first.sink.taken mid.link.sink.taken new.link.sink.taken (bytes_of so_far.exchanges) [] so_far.output
     (appends_none mid.link.sink.taken new.link.sink.taken keeps)
 
 -- a connection that goes on may have a further frame
-may_more : (first : Link) (mid : Midway) (count : ℕ) (so_far : Going first mid count) → count < most_frames → MayGoOn so_far.exchanges
-may_more first mid count so_far below = record { stays = so_far.stays; below = omega (arith, so_far.counted, below) }
+may_more : (limit : ℕ) (first : Link) (mid : Midway) (count : ℕ) (so_far : Going first mid count) → count < limit
+    → MayGoOn limit so_far.exchanges
+may_more limit first mid count so_far below = record {
+  stays = so_far.stays;
+  below = omega
+      (arith, so_far.counted, below);
+}
 
 -- a connection that ends before a further frame is answered
-stopped : (first : Link) (mid new : Midway) (count : ℕ) (end : End) → count < most_frames
-    → GivesAtMost most_bytes first.source.left new.link.source.left → IsSameDesk first.server.desk mid.link.server.desk
-    → Going first mid count → Stops end mid new → Session first new.link (record { end = end; answered = count })
-stopped first mid new count Input below gives same so_far stop =
-    ended first mid new count Input [] below gives so_far stop.1.unasked
-    (sym so_far.counted, may_more first mid count so_far below, stop.0, refl) (kept first mid new count so_far stop.1.output)
-stopped first mid new count Close below gives same so_far stop = absurd stop
-stopped first mid new count Refused below gives same so_far stop =
-    ended first mid new count Refused (defect_text stop.0) below gives so_far stop.2.unasked
-    (sym so_far.counted, (may_more first mid count so_far below, (stop.0, stop.1, refl), stop.3))
-    (appends_trans first.sink.taken mid.link.sink.taken new.link.sink.taken (bytes_of so_far.exchanges) (defect_text stop.0) so_far.output stop.2.output)
-stopped first mid new count Cut below gives same so_far stop =
-    ended first mid new count Cut [] below gives so_far stop.1.unasked
-    (sym so_far.counted, may_more first mid count so_far below, stop.0, refl) (kept first mid new count so_far stop.1.output)
-stopped first mid new count Limit below gives same so_far stop = absurd stop
-stopped first mid new count ReadFault below gives same so_far stop =
-    ended first mid new count ReadFault [] below gives so_far stop.2.unasked
-    (sym so_far.counted, may_more first mid count so_far below, (new.window, stop.0, stop.1), refl) (kept first mid new count so_far stop.2.output)
-stopped first mid new count WriteFault below gives same so_far (inl next) =
+stopped : (limit : ℕ) (first : Link) (mid new : Midway) (count : ℕ) (end : End) → count < limit
+    → GivesAtMost (most_taken limit) first.source.left new.link.source.left
+    → IsSameDesk first.server.desk mid.link.server.desk
+    → Going first mid count → Stops end mid new → Visit limit first new.link (record { end = end; answered = count })
+stopped limit first mid new count Input below gives same so_far stop =
+    ended limit first mid new count Input [] below gives so_far stop.1.unasked
+    (sym so_far.counted, may_more limit first mid count so_far below, stop.0, refl)
+    (kept first mid new count so_far stop.1.output)
+stopped limit first mid new count Close below gives same so_far stop = absurd stop
+stopped limit first mid new count Refused below gives same so_far stop =
+    ended limit first mid new count Refused (defect_text stop.0) below gives so_far stop.2.unasked
+    (sym so_far.counted, (may_more limit first mid count so_far below, (stop.0, stop.1, refl), stop.3))
+    (appends_trans first.sink.taken mid.link.sink.taken new.link.sink.taken (bytes_of so_far.exchanges)
+    (defect_text stop.0) so_far.output stop.2.output)
+stopped limit first mid new count Cut below gives same so_far stop =
+    ended limit first mid new count Cut [] below gives so_far stop.1.unasked
+    (sym so_far.counted, may_more limit first mid count so_far below, stop.0, refl)
+    (kept first mid new count so_far stop.1.output)
+stopped limit first mid new count Limit below gives same so_far stop = absurd stop
+stopped limit first mid new count Idle below gives same so_far stop =
+    ended limit first mid new count Idle [] below gives so_far stop.1.unasked
+    (sym so_far.counted, may_more limit first mid count so_far below, stop.0, refl)
+    (kept first mid new count so_far stop.1.output)
+stopped limit first mid new count ReadFault below gives same so_far stop =
+    ended limit first mid new count ReadFault [] below gives so_far stop.2.unasked
+    (sym so_far.counted, may_more limit first mid count so_far below, (new.window, stop.0, stop.1), refl)
+    (kept first mid new count so_far stop.2.output)
+stopped limit first mid new count WriteFault below gives same so_far (inl next) =
     let es = so_far.exchanges in
     let e = next.exchange in
     let more = more_count es e count so_far.counted in
@@ -294,7 +333,8 @@ stopped first mid new count WriteFault below gives same so_far (inl next) =
       rest = rest_after (rest_of mid) e.frame;
       last = [];
       answers = more_answers first mid new.link.server es e same so_far.answers next.served;
-      moments = more_moments first.server.clock mid.link.server.clock new.link.server.clock es e so_far.moments next.served.moment;
+      moments = more_moments first.server.clock mid.link.server.clock new.link.server.clock es e so_far.moments
+          next.served.moment;
       frames = more_frames first.source.left (rest_of mid) (rest_after (rest_of mid) e.frame) es e so_far.frames
           (drops_after (rest_of mid) e.frame next.frame);
       most = omega (arith, below, more);
@@ -311,20 +351,24 @@ stopped first mid new count WriteFault below gives same so_far (inl next) =
         ),
       );
       output = inside_response first.sink.taken new.link.sink.taken es e count so_far.counted
-          (inside_more first.sink.taken mid.link.sink.taken new.link.sink.taken (bytes_of es) e.bytes so_far.output next.output);
+          (inside_more first.sink.taken mid.link.sink.taken new.link.sink.taken (bytes_of es) e.bytes so_far.output
+          next.output);
     }
-stopped first mid new count WriteFault below gives same so_far (inr stop) =
-    ended first mid new count WriteFault (defect_text stop.0) below gives so_far stop.2.unasked
-    (inr (sym so_far.counted, (may_more first mid count so_far below, (stop.0, stop.1, refl), stop.3)))
+stopped limit first mid new count WriteFault below gives same so_far (inr stop) =
+    ended limit first mid new count WriteFault (defect_text stop.0) below gives so_far stop.2.unasked
+    (inr (sym so_far.counted, (may_more limit first mid count so_far below, (stop.0, stop.1, refl), stop.3)))
     (inside_behind first.sink.taken new.link.sink.taken so_far.exchanges (defect_text stop.0) count so_far.counted
-    (inside_more first.sink.taken mid.link.sink.taken new.link.sink.taken (bytes_of so_far.exchanges) (defect_text stop.0) so_far.output stop.2.output))
+    (inside_more first.sink.taken mid.link.sink.taken new.link.sink.taken (bytes_of so_far.exchanges)
+    (defect_text stop.0) so_far.output stop.2.output))
 
-pub session_stop : (first : Link) (mid : Midway) (link : Link) (window : List ℕ) (count : ℕ) (end : End) → count < most_frames
-    → GivesAtMost most_bytes first.source.left link.source.left → IsSameDesk first.server.desk mid.link.server.desk
+pub session_stop : (limit : ℕ) (first : Link) (mid : Midway) (link : Link) (window : List ℕ) (count : ℕ) (end : End)
+    → count < limit
+    → GivesAtMost (most_taken limit) first.source.left link.source.left
+    → IsSameDesk first.server.desk mid.link.server.desk
     → Going first mid count → Stops end mid (record { link = link; window = window })
-    → Session first link (record { end = end; answered = count })
-session_stop first mid link window count end below gives same so_far stop =
-    stopped first mid (record { link = link; window = window }) count end below gives same so_far stop
+    → Visit limit first link (record { end = end; answered = count })
+session_stop limit first mid link window count end below gives same so_far stop =
+    stopped limit first mid (record { link = link; window = window }) count end below gives same so_far stop
 
 -- what a connection is served with stays the same from turn to turn
 pub same_desk_trans : (a b c : DeskView) → IsSameDesk a b → IsSameDesk b c → IsSameDesk a c

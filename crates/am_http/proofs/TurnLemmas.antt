@@ -41,24 +41,30 @@ told_as : (w : List ℕ) (left : Option (List ℕ)) (found seen : Found) → Fin
 told_as w left found seen finds is =
     subst (λ (f : Found). IfSome (prepend_known w left) (λ input. IsFraming input (outcome_at w f))) is finds.told
 
-pub ends_input : (rest : Option (List ℕ)) (w : List ℕ) (left : Option (List ℕ)) (found : Found) → Keeps rest (prepend_known w left)
+pub ends_input : (rest : Option (List ℕ)) (w : List ℕ) (left : Option (List ℕ)) (found : Found)
+    → Keeps rest (prepend_known w left)
     → Finds w left found → found ≡ Spans.Empty → IfSome rest (λ bytes. bytes ≡ [])
 ends_input rest w left found keeps finds is =
     keeps_if rest (prepend_known w left) (λ bytes. bytes ≡ []) keeps
-    (map_if (prepend_known w left) (λ input. IsFraming input empty) (λ bytes. bytes ≡ []) empty_only (told_as w left found Spans.Empty finds is))
+    (map_if (prepend_known w left) (λ input. IsFraming input empty) (λ bytes. bytes ≡ []) empty_only
+    (told_as w left found Spans.Empty finds is))
 
-pub ends_cut : (rest : Option (List ℕ)) (w : List ℕ) (left : Option (List ℕ)) (found : Found) → Keeps rest (prepend_known w left)
+pub ends_cut : (rest : Option (List ℕ)) (w : List ℕ) (left : Option (List ℕ)) (found : Found)
+    → Keeps rest (prepend_known w left)
     → Finds w left found → found ≡ Spans.Cut → IfSome rest (λ bytes. IsFraming bytes cut)
 ends_cut rest w left found keeps finds is =
     keeps_if rest (prepend_known w left) (λ input. IsFraming input cut) keeps (told_as w left found Spans.Cut finds is)
 
-pub ends_refused : (rest : Option (List ℕ)) (w : List ℕ) (left : Option (List ℕ)) (found : Found) (defect : Defect) → Keeps rest (prepend_known w left)
+pub ends_refused : (rest : Option (List ℕ)) (w : List ℕ) (left : Option (List ℕ)) (found : Found) (defect : Defect)
+    → Keeps rest (prepend_known w left)
     → Finds w left found → found ≡ Spans.Refused defect → HasDefect rest defect
 ends_refused rest w left found defect keeps finds is =
-    keeps_if rest (prepend_known w left) (λ input. IsFraming input (refused defect)) keeps (told_as w left found (Spans.Refused defect) finds is)
+    keeps_if rest (prepend_known w left) (λ input. IsFraming input (refused defect)) keeps
+    (told_as w left found (Spans.Refused defect) finds is)
 
 -- the frame that was found
-pub found_frame : (w : List ℕ) (left : Option (List ℕ)) (found : Found) (spans : FrameSpans) → Finds w left found → found ≡ Spans.Whole spans
+pub found_frame : (w : List ℕ) (left : Option (List ℕ)) (found : Found) (spans : FrameSpans) → Finds w left found
+    → found ≡ Spans.Whole spans
     → IsFraming w (whole (frame_at w spans))
 found_frame w left found spans finds is =
     subst (λ (f : Found). IsFraming w (outcome_at w f)) is finds.here
@@ -71,7 +77,8 @@ gave_window (Some input) w None keeps fits = absurd keeps
 gave_window (Some input) w (Some left) keeps fits = (w, sym keeps, fits)
 
 -- behind a frame of the window the rest goes on
-drops_of : (rest : Option (List ℕ)) (w : List ℕ) (left : Option (List ℕ)) (f : Frame) → Keeps rest (prepend_known w left)
+drops_of : (rest : Option (List ℕ)) (w : List ℕ) (left : Option (List ℕ)) (f : Frame)
+    → Keeps rest (prepend_known w left)
     → IsFraming w (whole f) → Drops rest f (prepend_known (drop f.length w) left)
 drops_of None w left f keeps framed = tt
 drops_of (Some input) w None f keeps framed = absurd keeps
@@ -80,7 +87,8 @@ drops_of (Some input) w (Some left) f keeps framed = (
   sym (drop-append-le f.length w left (whole_fits w f framed).1) ∙ ap (drop f.length) keeps,
 )
 
-told_frame : (rest : Option (List ℕ)) (w : List ℕ) (left : Option (List ℕ)) (f : Frame) → Keeps rest (prepend_known w left)
+told_frame : (rest : Option (List ℕ)) (w : List ℕ) (left : Option (List ℕ)) (f : Frame)
+    → Keeps rest (prepend_known w left)
     → IsFraming w (whole f) → IfSome rest (λ input. IsFraming input (whole f))
 told_frame None w left f keeps framed = tt
 told_frame (Some input) w None f keeps framed = absurd keeps
@@ -99,11 +107,30 @@ shown_exchange : (old new : Server) (f : Frame) (shown : Shown) (bytes : List �
     → ((e : Exchange) → ShowsIn old.desk new.desk e shown → e.bytes ≡ bytes → Answered old.desk new.desk e)
     → (e : Exchange) × Serves old new e × (e.frame ≡ f) × (e.bytes ≡ bytes)
 shown_exchange old new f shown bytes answers says = (
-  record { frame = f; now = Some answers.0; point = Some (record { at = shown.at; stored = shown.stored }); bytes = bytes },
+  record {
+    frame = f;
+    now = Some answers.0;
+    point = Some (record { at = shown.at; stored = shown.stored });
+    bytes =
+        bytes;
+  },
   record {
     answer = says
-        (record { frame = f; now = Some answers.0; point = Some (record { at = shown.at; stored = shown.stored }); bytes = bytes })
-        (record { request = answers.1; asks = answers.2; now = answers.0; asked = refl; placed = refl; shows = answers.3 }) refl;
+        (record {
+          frame = f;
+          now = Some answers.0;
+          point = Some (record { at = shown.at; stored = shown.stored });
+          bytes
+              = bytes;
+        })
+        (record {
+          request = answers.1;
+          asks = answers.2;
+          now = answers.0;
+          asked = refl;
+          placed = refl;
+          shows = answers.3;
+        }) refl;
     moment = answers.4;
   },
   refl,
@@ -111,7 +138,8 @@ shown_exchange old new f shown bytes answers says = (
 )
 
 -- an answer with its text is an exchange
-exchange_of : (old new : Server) (f : Frame) (answer : Answer) (bytes : List ℕ) → AnswersFrame old new f answer → Says answer bytes
+exchange_of : (old new : Server) (f : Frame) (answer : Answer) (bytes : List ℕ) → AnswersFrame old new f answer
+    → Says answer bytes
     → (e : Exchange) × Serves old new e × (e.frame ≡ f) × (e.bytes ≡ bytes)
 exchange_of old new f (Refused refusal) bytes answers (inl said) = (
   record { frame = f; now = None; point = None; bytes = bytes },
@@ -146,7 +174,8 @@ exchange_of old new f Want bytes answers said = (
 )
 
 -- the rest of an input behind the frame that was found, and what the window then holds
-behind_frame : (rest : Option (List ℕ)) (w used : List ℕ) (left : Option (List ℕ)) (f : Frame) → Keeps rest (prepend_known w left)
+behind_frame : (rest : Option (List ℕ)) (w used : List ℕ) (left : Option (List ℕ)) (f : Frame)
+    → Keeps rest (prepend_known w left)
     → IsFraming w (whole f) → drop f.length w ≡ used → Drops rest f (prepend_known used left)
 behind_frame rest w used left f keeps framed is =
     subst (λ (xs : List ℕ). Drops rest f (prepend_known xs left)) is (drops_of rest w left f keeps framed)
@@ -193,21 +222,28 @@ held_frame w bytes left found spans f finds is same held =
     (ap (λ (xs : List ℕ). frame_at xs spans) (sym same) ∙ sym held) (found_frame w left found spans finds is)
 
 -- how a write went
-pub sends_err : (old new : Option (List ℕ)) (text : List ℕ) (r : Result (Unit {0}) Failed) → true ≡ is_err r → Sends old new text r → WritesPart old new text
+pub sends_err : (old new : Option (List ℕ)) (text : List ℕ) (r : Result (Unit {0}) Failed) → true ≡ is_err r
+    → Sends old new text r → WritesPart old new text
 sends_err old new text (Ok done) failed sent = absurd cc
 sends_err old new text (Err e) failed sent = sent
 
-pub sends_ok : (old new : Option (List ℕ)) (text : List ℕ) (r : Result (Unit {0}) Failed) → false ≡ is_err r → Sends old new text r → Appends old new text
+pub sends_ok : (old new : Option (List ℕ)) (text : List ℕ) (r : Result (Unit {0}) Failed) → false ≡ is_err r
+    → Sends old new text r → Appends old new text
 sends_ok old new text (Ok done) fine sent = sent
 sends_ok old new text (Err e) fine sent = absurd cc
 
 -- the frame that slices of the window hold was answered, its response written, and the window used up to behind it
-pub turn_held : (close : Bool) (old new : Midway) (w bytes : List ℕ) (found : Found) (spans : FrameSpans) (f : Frame) (answer : Answer) (text : List ℕ) (r : Result (Unit {0}) Failed)
-    → Keeps (rest_of old) (prepend_known w new.link.source.left) → Finds w new.link.source.left found → found ≡ Spans.Whole spans → bytes ≡ w → f ≡ frame_at bytes spans
+pub turn_held : (close : Bool) (old new : Midway) (w bytes : List ℕ) (found : Found) (spans : FrameSpans) (f : Frame)
+    (answer : Answer) (text : List ℕ) (r : Result (Unit {0}) Failed)
+    → Keeps (rest_of old) (prepend_known w new.link.source.left) → Finds w new.link.source.left found → found
+    ≡ Spans.Whole spans → bytes ≡ w → f ≡ frame_at bytes spans
     → new.window ≡ drop spans.length w → AnswersFrame old.link.server new.link.server f answer → Says answer text
-    → false ≡ is_err r → Sends old.link.sink.taken new.link.sink.taken text r → spans.close ≡ close → Replies close old new
-turn_held close old new w bytes found spans f answer text r keeps finds is same held used answers said fine sent closes =
-    turn_replied close old new w f answer text keeps (held_frame w bytes new.link.source.left found spans f finds is same held)
+    → false ≡ is_err r → Sends old.link.sink.taken new.link.sink.taken text r → spans.close ≡ close
+    → Replies close old new
+turn_held close old new w bytes found spans f answer text r keeps finds is same held used answers said fine sent closes
+    =
+    turn_replied close old new w f answer text keeps (held_frame w bytes new.link.source.left found spans f finds is
+    same held)
     (ap (λ n. drop n w) (ap (λ (x : Frame). x.length) held) ∙ sym used) answers said
     (sends_ok old.link.sink.taken new.link.sink.taken text r fine sent) (ap (λ (x : Frame). x.close) held ∙ closes)
 

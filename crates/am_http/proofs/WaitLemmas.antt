@@ -51,13 +51,15 @@ with_64 h = record h { fields = take 64 h.fields }
 abbrev lines_64 : RequestHead → List ℕ
 lines_64 h = front h ++ flat_map print_field (take 64 h.fields)
 
-pub print_request_is : (h : RequestHead) → print_request h ≡ front h ++ (flat_map print_field h.fields ++ print_end h.last)
+pub print_request_is : (h : RequestHead) → print_request h ≡ front h
+    ++ (flat_map print_field h.fields ++ print_end h.last)
 unfolding print_request
 print_request_is h = refl
 
 print_with_64 : (h : RequestHead) → print_request (with_64 h) ≡ lines_64 h ++ print_end h.last
 print_with_64 h =
-    print_request_is (with_64 h) ∙ sym (append_assoc (front h) (flat_map print_field (take 64 h.fields)) (print_end h.last))
+    print_request_is (with_64 h) ∙ sym (append_assoc (front h) (flat_map print_field (take 64 h.fields))
+    (print_end h.last))
 
 print_split : (h : RequestHead)
     → print_request h ≡ lines_64 h ++ (flat_map print_field (drop 64 h.fields) ++ print_end h.last)
@@ -65,7 +67,8 @@ print_split h =
     let a = flat_map print_field (take 64 h.fields) in
     let b = flat_map print_field (drop 64 h.fields) in
     let fields : flat_map print_field h.fields ≡ a ++ b =
-    ap (flat_map print_field) (sym (take-append-drop 64 h.fields)) ∙ flat_map-append print_field (take 64 h.fields) (drop 64 h.fields) in
+    ap (flat_map print_field) (sym (take-append-drop 64 h.fields))
+    ∙ flat_map-append print_field (take 64 h.fields) (drop 64 h.fields) in
     print_request_is h ∙ ap (λ (t : List ℕ). front h ++ (t ++ print_end h.last)) fields
     ∙ ap (λ (t : List ℕ). front h ++ t) (append_assoc a b (print_end h.last))
     ∙ sym (append_assoc (front h) a (b ++ print_end h.last))
@@ -136,7 +139,8 @@ MayWait-from_head text more h reads =
                 let rest = drop (length text) (lines_64 h) in
                 let whole : text ++ (rest ++ print_end h.last) ≡ print_request (with_64 h) ++ [] =
                 sym (append_assoc text rest (print_end h.last))
-                ∙ ap (λ (t : List ℕ). t ++ print_end h.last) (sym (longer (lines_64 h) tail text more (sym same) inside))
+                ∙ ap (λ (t : List ℕ). t ++ print_end h.last) (sym (longer (lines_64 h) tail text more (sym same)
+                inside))
                 ∙ sym (print_with_64 h) ∙ sym (append-nil _) in
                 inl (not_dead text (rest ++ print_end h.last) (with_64 h) (is_with_64 h reads.0, whole)
                 (omega (arith, length-take-le 64 h.fields (omega arith))))

@@ -1,4 +1,4 @@
--- What a frame is answered, and the text that says it.
+-- The answer to a frame, and the text that says it.
 use Rattle.std.specs.Prelude.{◌≡◌, ℕ, ◌⊎◌, List, [], ◌∷◌, Option, Ok, Err}
 use Rattle.std.specs.Option.{option_to_list}
 use Rattle.am_types.specs.declared.request.Request.{Request}
@@ -10,7 +10,7 @@ use Rattle.am_http.specs.Links.{Server, Gives}
 use Rattle.am_http.specs.Requests.{request_of, refusal_text, call_of}
 use Rattle.am_http.specs.Responses.{response, want_before, want_after}
 
--- the answer to a frame that makes a request, where its call is made at that moment
+-- the answer to a frame that makes a request, whose call is made at that moment
 abbrev pub AnswersAt : DeskView → DeskView → Frame → ℕ → Answer → Type 0
 AnswersAt old new frame now (Refused refusal) = ⊥
 AnswersAt old new frame now (Reply shown) =
@@ -28,7 +28,7 @@ AnswersFrame old new frame (Reply shown) =
 AnswersFrame old new frame Want =
     SeesOthers old.desk new.desk.seen × ((now : Option ℕ) × Gives old.clock (option_to_list now) new.clock)
 
--- the text of an answer, or of want of memory where there was none to print it
+-- the text of an answer, or the text that memory ran out if there was none to print the answer
 abbrev pub Says : Answer → List ℕ → Type 0
 Says (Refused refusal) bytes = (bytes ≡ refusal_text refusal) ⊎ (bytes ≡ want_before)
 Says (Reply shown) bytes =

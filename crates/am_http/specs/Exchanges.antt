@@ -1,4 +1,4 @@
--- Frames with their responses, and where these stand in the history.
+-- Frames with their responses, and their places in the history.
 use Rattle.std.specs.Prelude.{◌≡◌, ℕ, ◌+◌, ◌≤◌, Bool, if◌then◌else◌, List, [], ◌∷◌, ◌++◌, length, take, slice_get, Option, Some, None, Ok, Err, ⊤}
 use Rattle.std.specs.Bool.{OnTrue}
 use Rattle.std.specs.List.{flat_map, AllByRecursion}
@@ -29,7 +29,7 @@ pub record Exchange : Type 0 where
   pub point : Option Point
   pub bytes : List ℕ
 
--- the history has an entry at that place, and it is the one that is meant
+-- the history has an entry at that place, and it is the one meant
 abbrev pub HasEntry : List Entry → ℕ → (Entry → Type 0) → Type 0
 HasEntry history at IsMeant = (entry : Entry) × (slice_get history at ≡ Some entry) × IsMeant entry
 
@@ -78,7 +78,7 @@ abbrev pub IsAbove : ℕ → Option Point → Type 0
 IsAbove floor None = ⊤
 IsAbove floor (Some point) = floor ≤ point.at
 
--- along the exchanges no place is below one before it, and one behind a stored call is above that call's
+-- along the exchanges no place is below an earlier one, and each place after a stored call is above that call's
 abbrev pub AreInOrder : ℕ → List Exchange → Type 0
 AreInOrder floor [] = ⊤
 AreInOrder floor (first ∷ others) = IsAbove floor first.point × AreInOrder (floor_after floor first.point) others
@@ -97,7 +97,7 @@ entry_at history (Some point) = if point.stored then option_to_list (slice_get h
 abbrev pub stored_entries : List Entry → List Exchange → List Entry
 stored_entries history es = flat_map (λ (e : Exchange). entry_at history e.point) es
 
--- each exchange is answered in the one history, which goes on from what the desk had seen; the desk's own new entries
+-- each exchange is answered in one history, which goes on from what the desk had seen; the desk's own new entries
 -- are the stored calls, each once, in the order of the frames. If it has its manager for itself, these are all the
 -- new entries
 pub record AreAnswered (old new : DeskView) (es : List Exchange) : Type 0 where

@@ -9,11 +9,11 @@ use Rattle.httparse.specs.Grammar.{trim_ows}
 use Rattle.am_http.specs.declared.frame.Defect.{Defect}
 use Rattle.am_http.specs.declared.frame.Defect.TheVariants.{BadHead, TransferEncoding, LengthRequired, BodyTooLarge}
 
--- a field: its name, and its value without the blanks and tabs round it
+-- a field: its name, and its value without the spaces and tabs around it
 abbrev pub Header : Type 0
 Header = List ℕ × List ℕ
 
--- the texts are equal where the case of ASCII letters is ignored
+-- the texts are equal if the case of ASCII letters is ignored
 unfoldable pub same_but_case : List ℕ → List ℕ → Bool
 same_but_case a b = bytes_eq (map to_ascii_lowercase a) (map to_ascii_lowercase b)
 
@@ -21,7 +21,7 @@ same_but_case a b = bytes_eq (map to_ascii_lowercase a) (map to_ascii_lowercase 
 abbrev pub is_named : List ℕ → Header → Bool
 is_named name header = same_but_case header.0 name
 
--- the values of the fields of that name, in their order
+-- the values of the fields with that name, in their order
 abbrev pub values_of : List ℕ → List Header → List (List ℕ)
 values_of name [] = []
 values_of name (header ∷ headers) =
@@ -44,7 +44,7 @@ length_by method [] = if bytes_eq method (codes "POST") then Err LengthRequired 
 length_by method (value ∷ []) = stated_length value
 length_by method (value ∷ other ∷ more) = Err BadHead
 
--- the same, where there is no `Transfer-Encoding`
+-- the same, if there is no `Transfer-Encoding`
 abbrev pub length_without : List (List ℕ) → List ℕ → List (List ℕ) → Result ℕ Defect
 length_without [] method lengths = length_by method lengths
 length_without (coding ∷ codings) method lengths = Err TransferEncoding
@@ -60,11 +60,11 @@ abbrev pub first_text : List (List ℕ) → List ℕ
 first_text [] = []
 first_text (value ∷ more) = if is_utf8 value then value else []
 
--- the caller's key, which is empty where none is given
+-- the caller's key, which is empty if none is given
 unfoldable pub key_of : List Header → List ℕ
 key_of headers = first_text (values_of (codes "AM-Key") headers)
 
--- the part is the word `close`, with blanks and tabs round it
+-- the part is the word `close`, with spaces and tabs around it
 unfoldable pub is_close : List ℕ → Bool
 is_close part = same_but_case (trim_ows part) (codes "close")
 

@@ -79,7 +79,7 @@ head_at bytes headers r = record {
   size = r.len;
 }
 
--- there is no value, the one that the span covers, or several of which it covers the first
+-- there is no value, one value, which the span covers, or several, of which it covers the first
 abbrev pub IsNamedBy : List ℕ → List (List ℕ) → Named → Type 0
 IsNamedBy bytes values Absent = values ≡ []
 IsNamedBy bytes values (Once s) = values ≡ span_bytes bytes s ∷ []

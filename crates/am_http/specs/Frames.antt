@@ -3,7 +3,7 @@ use Rattle.std.specs.Prelude.{◌≡◌, ℕ, List, [], ◌∷◌, drop, Option,
 use Rattle.am_http.specs.Head.{Frame, whole}
 use Rattle.am_http.specs.Framing.{IsFraming}
 
--- the input is those whole frames, and then the rest
+-- the input is these whole frames, and then the rest
 abbrev pub Splits : List ℕ → List Frame → List ℕ → Type 0
 Splits input [] rest = input ≡ rest
 Splits input (first ∷ others) rest = IsFraming input (whole first) × Splits (drop first.length input) others rest
@@ -14,7 +14,7 @@ Leaves None frames rest = ⊤
 Leaves (Some input) frames None = ⊥
 Leaves (Some input) frames (Some rest) = Splits input frames rest
 
--- the told rest begins with that frame, and then goes on as told
+-- the told rest begins with this frame, and then goes on as told
 abbrev pub Drops : Option (List ℕ) → Frame → Option (List ℕ) → Type 0
 Drops None frame rest = ⊤
 Drops (Some input) frame None = ⊥

@@ -10,7 +10,7 @@ use Rattle.am_http.specs.Head.{Outcome, empty, refused, cut, head_of, after_head
 abbrev pub window : List ℕ → List ℕ
 window bytes = take 8192 bytes
 
--- the text begins with that head, which has at most 64 fields
+-- the text begins with this head, which has at most 64 fields
 abbrev pub BeginsWithHead : List ℕ → RequestHead → Type 0
 BeginsWithHead text h = (rest : List ℕ) × ReadsRequest text h rest × (length h.fields ≤ 64)
 
@@ -18,7 +18,7 @@ BeginsWithHead text h = (rest : List ℕ) × ReadsRequest text h rest × (length
 abbrev pub HasNoHead : List ℕ → Type 0
 HasNoHead text = (h : RequestHead) → ¬ (BeginsWithHead text h)
 
--- no bytes can follow that make it begin with one
+-- whatever bytes follow, it doesn't begin with one
 abbrev pub IsDead : List ℕ → Type 0
 IsDead text = RequestOverflows 64 text
 
@@ -30,7 +30,7 @@ MayOverlook text = EndsInTarget text ⊎ (65 ≤ count_by (λ b. b == line_feed)
 abbrev pub MayWait : List ℕ → Type 0
 MayWait text = (¬ (IsDead text)) ⊎ MayOverlook text
 
--- the outcome where a reader waits for bytes that do not come, or that the window has no room for
+-- the outcome if a reader waits for bytes that don't come, or for which the window has no room
 abbrev pub without_head : List ℕ → Outcome
 without_head text =
     if length text == 8192 then refused HeadTooLarge else (if length text == 0 then empty else cut)

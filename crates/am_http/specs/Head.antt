@@ -32,7 +32,7 @@ pub record Head : Type 0 where
   pub headers : List Header
   pub size : ℕ
 
--- that of a head of the grammar
+-- the same of a head of the grammar
 abbrev pub head_of : RequestHead → Head
 head_of h = record {
   method = h.method;

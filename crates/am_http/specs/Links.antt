@@ -69,13 +69,13 @@ pub record Midway : Type 0 where
 abbrev pub rest_of : Midway → Option (List ℕ)
 rest_of mid = prepend_known mid.window mid.link.source.left
 
--- the clock answered these moments, one after the other, which are those that it told, and tells the same as before of
--- its later calls
+-- the clock answered these moments, one after the other, as it had told, and what it tells of its later calls is the
+-- same as before
 abbrev pub Gives : Moments → List ℕ → Moments → Type 0
 Gives old [] new = (calls : ℕ) → new calls ≡ old calls
 Gives old (first ∷ others) new = IsTold (old 0) first × Gives (λ calls. old (suc calls)) others new
 
--- it is the same desk, and its history could still have been made if it could before
+-- it is the same desk, and if its history could have been made before, it still could
 pub record GoesOn (old new : DeskView) : Type 0 where
   pub desk : IsSameDesk old new
   pub legal : IsLegal (start_of old) old.seen → IsLegal (start_of old) new.seen

@@ -19,7 +19,7 @@ abbrev pub request_or : Result Request WireFault → Result Request Refusal
 request_or (Ok request) = Ok request
 request_or (Err fault) = Err (BadRequest fault)
 
--- the request that a body makes at the route that was looked up, or the refusal where there is none
+-- the request that a body makes at the route that was looked up, or the refusal if there is no such route
 abbrev pub asked_at : Result Endpoint RouteFault → List ℕ → Result Request Refusal
 asked_at (Ok endpoint) body = request_or (request_at endpoint body)
 asked_at (Err (faults.NoMethod endpoint)) body = Err NoMethod

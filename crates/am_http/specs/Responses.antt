@@ -38,7 +38,7 @@ head status body_length =
 unfoldable pub digit : Bool → List ℕ
 digit truth = if truth then codes "1" else codes "0"
 
--- the lines that say where the call stands in the history, and whether it is stored
+-- the lines that say where the call is in the history, and whether it is stored
 unfoldable pub place_lines : ℕ → Bool → List ℕ
 place_lines at stored = codes "AM-At: " ++ (decimal at ++ (codes "\r\nAM-Stored: " ++ (digit stored ++ codes "\r\n")))
 
@@ -50,11 +50,11 @@ message status lines body = head status (length body) ++ (lines ++ (codes "\r\n"
 unfoldable pub response : ℕ → Bool → Reply → List ℕ
 response at stored reply = message (status_of reply) (place_lines at stored) (compact_text (reply_data reply))
 
--- a refusal before the manager was asked
+-- a refusal for which the manager wasn't asked
 unfoldable pub refusal : ℕ → List ℕ → Option (List ℕ) → List ℕ
 refusal status error name = message status [] (compact_text (error_data error name))
 
--- the body where memory ran out
+-- the body if memory ran out
 unfoldable pub want_body : List ℕ
 want_body = compact_text (error_data (codes "no_memory") None)
 

@@ -15,12 +15,12 @@ StopsInside old new whole next =
     (written : List ℕ) × (missing : List ℕ)
     × (next ≡ written ++ missing) × (0 < length missing) × Appends old new (whole ++ written)
 
--- the text was written whole, or, where the sink failed, a part of it
+-- the text was written whole, or, if the sink failed, a part of it
 abbrev pub Sends : Option (List ℕ) → Option (List ℕ) → List ℕ → Result (Unit {0}) Failed → Type 0
 Sends old new text (Ok done) = Appends old new text
 Sends old new text (Err e) = WritesPart old new text
 
--- some more of the text was written, up to the next place, or nothing where the sink failed
+-- some more of the text was written, up to the next place, or nothing if the sink failed
 abbrev pub SendsFrom : Option (List ℕ) → Option (List ℕ) → List ℕ → ℕ → Result ℕ Failed → Type 0
 SendsFrom old new text at (Ok next) =
     (at < next) × (next ≤ length text) × Appends old new (take (next - at) (drop at text))

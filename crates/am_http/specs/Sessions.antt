@@ -7,7 +7,7 @@ use Rattle.am_outside.specs.Counts.{HasRisen}
 use Rattle.am_http.specs.declared.frame.Defect.{Defect}
 use Rattle.am_http.specs.declared.frame.Defect.TheVariants.{BadHead, HeadTooLarge, TransferEncoding, LengthRequired, BodyTooLarge}
 use Rattle.am_http.specs.declared.end.End.{End}
-use Rattle.am_http.specs.declared.end.End.TheVariants.{Input, Close, Refused, Cut, Limit, ReadFault, WriteFault}
+use Rattle.am_http.specs.declared.end.End.TheVariants.{Input, Close, Refused, Cut, Limit, Idle, ReadFault, WriteFault}
 use Rattle.am_http.specs.declared.end.Served.{Served}
 use Rattle.am_http.specs.Head.{empty, whole, refused, cut}
 use Rattle.am_http.specs.Framing.{IsFraming}
@@ -17,17 +17,22 @@ use Rattle.am_http.specs.Links.{Link, Midway, Server, rest_of, Gives}
 use Rattle.am_http.specs.Responses.{refusal}
 use Rattle.am_http.specs.Sending.{StopsInside, WritesPart}
 
--- how many frames a connection may have
+-- the most frames that a connection may have
 abbrev pub most_frames : ℕ
 most_frames = 65536
 
--- how many bytes a window holds: a head and a body of the greatest length
+-- the most bytes that a window holds: a head and a body of the greatest length
 abbrev pub most_held : ℕ
 most_held = 73728
 
--- how many bytes it takes from its source at most: what a window holds, for each of its frames and once more
+-- the most bytes that a connection of so many frames takes from its source: as many as a window holds, for each frame
+-- and once more
+abbrev pub most_taken : ℕ → ℕ
+most_taken limit = 73728 * (limit + 1)
+
+-- and a whole connection
 abbrev pub most_bytes : ℕ
-most_bytes = 65537 * most_held
+most_bytes = most_taken most_frames
 
 -- a source that tells what is left gave at most n bytes
 abbrev pub GivesAtMost : ℕ → Option (List ℕ) → Option (List ℕ) → Type 0
@@ -45,12 +50,12 @@ defect_text BodyTooLarge = refusal 413 (codes "body_too_large") None
 abbrev pub StayOpen : List Exchange → Type 0
 StayOpen es = AllByRecursion (λ (e : Exchange). e.frame.close ≡ false) es
 
--- after these exchanges a further frame is read: none asks to close, and the connection may have more
-pub record MayGoOn (es : List Exchange) : Type 0 where
+-- after these exchanges a further frame is read: none asks to close, and there may be more of them
+pub record MayGoOn (limit : ℕ) (es : List Exchange) : Type 0 where
   pub stays : StayOpen es
-  pub below : length es < most_frames
+  pub below : length es < limit
 
--- the bytes that were taken and not used hold no whole frame
+-- the bytes that were taken and aren't used hold no whole frame
 abbrev pub IsPartial : List ℕ → Type 0
 IsPartial taken = IsFraming taken empty ⊎ IsFraming taken cut
 
@@ -64,7 +69,7 @@ CloseAtLast es =
     (before : List Exchange) × (closing : Exchange)
     × (es ≡ before ++ closing ∷ []) × StayOpen before × (closing.frame.close ≡ true)
 
--- the end of a connection, behind the frames that were answered: what is told to be left of the input, the part of it
+-- the end of a connection, after the frames that were answered: what is told to be left of the input, the part of it
 -- that the source still has, and the text that is written last
 pub record Tail : Type 0 where
   pub rest : Option (List ℕ)
@@ -79,43 +84,51 @@ EndsInResponse es tail =
     × GivesAtMost (most_held - failed.frame.length) tail.rest tail.left × (tail.last ≡ [])
 
 -- the rest has a defect, whose text is written last. The source gave no more of it than what a window holds
-abbrev pub EndsInDefect : List Exchange → Tail → Type 0
-EndsInDefect es tail =
-    MayGoOn es × ((defect : Defect) × HasDefect tail.rest defect × (tail.last ≡ defect_text defect))
+abbrev pub EndsInDefect : ℕ → List Exchange → Tail → Type 0
+EndsInDefect limit es tail =
+    MayGoOn limit es × ((defect : Defect) × HasDefect tail.rest defect × (tail.last ≡ defect_text defect))
     × GivesAtMost most_held tail.rest tail.left
 
--- the source failed behind bytes that hold no whole frame
+-- the source failed after bytes that hold no whole frame
 abbrev pub EndsInFault : Tail → Type 0
 EndsInFault tail = (taken : List ℕ) × IsPartial taken × Keeps tail.rest (prepend_known taken tail.left)
 
--- what each end means: of the responses that were written whole, of the exchanges, and of what is behind them. The
--- sink fails at the response of the last exchange, so that all but this one were written whole, or at the text for a
--- defect, behind all responses
-abbrev pub EndsBy : End → ℕ → List Exchange → Tail → Type 0
-EndsBy Input answered es tail =
-    (answered ≡ length es) × MayGoOn es × IfSome tail.rest (λ bytes. bytes ≡ []) × (tail.last ≡ [])
-EndsBy Close answered es tail = (answered ≡ length es) × CloseAtLast es × (tail.last ≡ [])
-EndsBy Refused answered es tail = (answered ≡ length es) × EndsInDefect es tail
-EndsBy Cut answered es tail =
-    (answered ≡ length es) × MayGoOn es × IfSome tail.rest (λ bytes. IsFraming bytes cut) × (tail.last ≡ [])
-EndsBy Limit answered es tail =
-    (answered ≡ length es) × StayOpen es × (length es ≡ most_frames) × (tail.last ≡ [])
-EndsBy ReadFault answered es tail = (answered ≡ length es) × MayGoOn es × EndsInFault tail × (tail.last ≡ [])
-EndsBy WriteFault answered es tail =
-    ((answered + 1 ≡ length es) × EndsInResponse es tail) ⊎ ((answered ≡ length es) × EndsInDefect es tail)
+-- what each end means for the responses that were written whole, for the exchanges, of which there may be so many, and
+-- for what follows them. The sink fails at the response of the last exchange, when all except this one were written
+-- whole, or at the text for a defect, after all responses. After an idle connection the source still has all that is
+-- left
+abbrev pub VisitEnds : ℕ → End → ℕ → List Exchange → Tail → Type 0
+VisitEnds limit Input answered es tail =
+    (answered ≡ length es) × MayGoOn limit es × IfSome tail.rest (λ bytes. bytes ≡ []) × (tail.last ≡ [])
+VisitEnds limit Close answered es tail = (answered ≡ length es) × CloseAtLast es × (tail.last ≡ [])
+VisitEnds limit Refused answered es tail = (answered ≡ length es) × EndsInDefect limit es tail
+VisitEnds limit Cut answered es tail =
+    (answered ≡ length es) × MayGoOn limit es × IfSome tail.rest (λ bytes. IsFraming bytes cut) × (tail.last ≡ [])
+VisitEnds limit Limit answered es tail =
+    (answered ≡ length es) × StayOpen es × (length es ≡ limit) × (tail.last ≡ [])
+VisitEnds limit Idle answered es tail =
+    (answered ≡ length es) × MayGoOn limit es × Keeps tail.rest tail.left × (tail.last ≡ [])
+VisitEnds limit ReadFault answered es tail =
+    (answered ≡ length es) × MayGoOn limit es × EndsInFault tail × (tail.last ≡ [])
+VisitEnds limit WriteFault answered es tail =
+    ((answered + 1 ≡ length es) × EndsInResponse es tail) ⊎ ((answered ≡ length es) × EndsInDefect limit es tail)
 
--- the first of the two where the sink failed, else the other
+-- the first of the two if the sink failed, otherwise the second
 abbrev pub IfSinkFailed : End → Type 0 → Type 0 → Type 0
 IfSinkFailed WriteFault stopped finished = stopped
 IfSinkFailed _ stopped finished = finished
 
--- what the sink took: the responses and the text behind them; or, where it failed, the first `answered` responses whole
--- and a part of what is behind them, but not all of that
+-- what the sink took: the responses and the text after them; or, if it failed, the first `answered` responses whole
+-- and a part of what follows them, but not all of that
 abbrev pub Writes : Served → Option (List ℕ) → Option (List ℕ) → List Exchange → List ℕ → Type 0
 Writes served old new es last =
     IfSinkFailed served.end
     (StopsInside old new (bytes_of (take served.answered es)) (bytes_of (drop served.answered es) ++ last))
     (Appends old new (bytes_of es ++ last))
+
+-- what each end of a whole connection means
+abbrev pub EndsBy : End → ℕ → List Exchange → Tail → Type 0
+EndsBy = VisitEnds most_frames
 
 -- the cause of an end by a fault: the count of the source, or of the sink, rose
 abbrev pub HasFault : End → Link → Link → Type 0
@@ -123,20 +136,25 @@ HasFault ReadFault old new = HasRisen old.source.faults new.source.faults
 HasFault WriteFault old new = HasRisen old.sink.faults new.sink.faults
 HasFault _ old new = ⊤
 
--- a whole connection, and how it went
-pub record Session (old new : Link) (served : Served) : Type 0 where
+-- a connection that may have so many frames, up to its end or until it is idle, and how it went
+pub record Visit (limit : ℕ) (old new : Link) (served : Served) : Type 0 where
   pub exchanges : List Exchange
   pub rest : Option (List ℕ)
   pub last : List ℕ
   pub answers : AreAnswered old.server.desk new.server.desk exchanges
   pub moments : Gives old.server.clock (moments_of exchanges) new.server.clock
   pub frames : Leaves old.source.left (frames_of exchanges) rest
-  pub most : length exchanges ≤ most_frames
-  pub taken : GivesAtMost most_bytes old.source.left new.source.left
-  pub end : EndsBy served.end served.answered exchanges (record { rest = rest; left = new.source.left; last = last })
+  pub most : length exchanges ≤ limit
+  pub taken : GivesAtMost (most_taken limit) old.source.left new.source.left
+  pub end : VisitEnds limit served.end served.answered exchanges (record
+      { rest = rest; left = new.source.left; last = last })
   pub output : Writes served old.sink.taken new.sink.taken exchanges last
 
--- a connection that goes on, so far
+-- a whole connection, and how it went
+abbrev pub Session : Link → Link → Served → Type 0
+Session = Visit most_frames
+
+-- a connection so far, which goes on
 pub record Going (old : Link) (now : Midway) (count : ℕ) : Type 0 where
   pub exchanges : List Exchange
   pub answers : AreAnswered old.server.desk now.link.server.desk exchanges
@@ -193,5 +211,6 @@ Stops Close old new = ⊥
 Stops Refused old new = StopsAtDefect old new Appends
 Stops Cut old new = IfSome (rest_of old) (λ bytes. IsFraming bytes cut) × IsLast old new Keeps
 Stops Limit old new = ⊥
+Stops Idle old new = Keeps (rest_of old) new.link.source.left × IsLast old new Keeps
 Stops ReadFault old new = IsPartial new.window × Keeps (rest_of old) (rest_of new) × IsLast old new Keeps
 Stops WriteFault old new = FailsAtAnswer old new ⊎ StopsAtDefect old new WritesPart

@@ -1,4 +1,4 @@
-//! What a frame is answered.
+//! The answer to a frame.
 ghost use Rattle.std.specs.Prelude.{◌≡◌, ◌≤◌, length, IfOk, IsUtf8};
 ghost use Rattle.am_wire.specs.Requests.{request_of as request_at};
 ghost use Rattle.am_http.specs.FrameSpans.{frame_held};
@@ -27,7 +27,7 @@ pub enum Refusal {
     BadRequest(WireFault),
 }
 
-/// What a frame is answered.
+/// The answer to a frame.
 #[derive(Drop)]
 pub enum Answer {
     /// It makes no request.
@@ -108,7 +108,7 @@ fn call<D: Desk>(
     }
 }
 
-/// Answers a frame: it asks the clock once and makes the call, where the frame makes a request.
+/// Answers a frame: if the frame makes a request, it asks the clock once and makes the call.
 pub fn answer_frame<D: Desk, C: Clock>(
     alloc: Global,
     routes: &Routes,

@@ -7,7 +7,7 @@ use am_types::NoMemory;
 use am_wire_routes::Routes;
 use std::alloc::Global;
 
-/// The room for one frame, and for the text that says that memory ran out, and the routes. A worker
+/// The room for one frame, the room for the text that says that memory ran out, and the routes. A worker
 /// makes it once and serves its connections with it, one after the other.
 #[derive(Drop)]
 pub struct Buffers {

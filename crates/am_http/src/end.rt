@@ -13,6 +13,9 @@ pub enum End {
     Cut,
     /// As many frames as a connection may have were answered.
     Limit,
+    /// The source said that a read would wait, and no byte of a next frame was taken from it: the
+    /// connection may be served again later.
+    Idle,
     /// The source failed.
     ReadFault,
     /// The sink failed, at the response to the last frame that was answered, or at the text for a

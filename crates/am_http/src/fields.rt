@@ -45,7 +45,7 @@ fn is_named(bytes: &[u8], header: &HeaderSpan, name: &[u8]) -> bool
     same_but_case(header.name.of(bytes), name)
 }
 
-/// Looks for the fields of that name, in any case.
+/// Looks for the fields with that name, in any case.
 pub(crate) fn find_named(bytes: &[u8], headers: &[HeaderSpan], name: &[u8]) -> Named
     requires { All (IsHeaderWithin (length bytes.now)) headers.now }
     ensures values { IsNamedBy bytes.now
@@ -127,7 +127,7 @@ fn lists_close(value: &[u8]) -> bool
     value.split(|b| *b == b',').any(is_close)
 }
 
-/// Whether some field `Connection` asks to close the connection.
+/// Whether any field `Connection` asks to close the connection.
 pub(crate) fn connection_closes(bytes: &[u8], headers: &[HeaderSpan]) -> bool
     requires { All (IsHeaderWithin (length bytes.now)) headers.now }
     ensures { result ≡ connection_closes (headers_at bytes.now headers.now) }

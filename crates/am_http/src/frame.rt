@@ -27,7 +27,7 @@ pub const MAX_BODY: usize = 65_536;
 /// Why no frame can be read. Each of these ends the connection.
 #[derive(Clone, Copy, Debug, PartialEq, Eq)]
 pub enum Defect {
-    /// No head can begin so, or its `Content-Length` is no length.
+    /// No head can begin so, or its `Content-Length` isn't a length.
     BadHead,
     /// The first [`MAX_HEAD`] bytes hold no whole head.
     HeadTooLarge,
@@ -116,7 +116,7 @@ fn asks_close(bytes: &[u8], headers: &[HeaderSpan], minor: u8) -> bool
     minor == 0 || connection_closes(bytes, headers)
 }
 
-/// What the bytes begin with, where they begin with that head.
+/// What the bytes begin with, if they begin with this head.
 fn frame_after(bytes: &[u8], headers: &[HeaderSpan], head: &RequestSpans) -> Found
     requires head { head.now.len ≤ length bytes.now }
     requires method { IsWithin head.now.len head.now.method }

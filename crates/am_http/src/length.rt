@@ -21,7 +21,7 @@ fn is_length(value: &[u8]) -> bool
     value.iter().all(|b| b.is_ascii_digit())
 }
 
-/// The number that the digits write.
+/// The number that the digits stand for.
 fn decimal(digits: &[u8]) -> usize
     requires { IsTrue (is_length digits.now) }
     ensures { result ≡ digits_value 10 digits.now }

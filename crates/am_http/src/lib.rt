@@ -15,7 +15,7 @@ mod send;
 mod window;
 
 pub use buffers::Buffers;
-pub use connection::{MAX_FRAMES, serve_connection};
+pub use connection::{MAX_FRAMES, serve_connection, serve_link};
 pub use end::{End, Served};
 pub use response::{defect_bytes, refusal_bytes, response_bytes};
 pub use send::write_all;

@@ -9,27 +9,23 @@ use am_wire_values::{error_value, reply_status, reply_text};
 use itoa::Buffer;
 use std::alloc::{AllocError, Global};
 
-/// The room that the response takes where memory ran out after the call was made, in bytes.
+/// The room that the response takes if memory ran out after the call was made, in bytes.
 pub const WANT_ROOM: usize = 192;
 
-/// The response that shows a reply and its place in the history.
+/// The response that shows a reply and its place in the history. It is the reply's own text, printed once, with the
+/// lines put in front of it.
 #[tactic(auto, using(crate::proofs::Phrases::every_status_has_a_phrase), unfolding(crate::specs::Responses::response))]
 pub fn response_bytes(alloc: Global, shown: &Shown) -> Result<Vec<u8>, NoMemory>
     ensures { IfOk result (λ bytes. bytes.items ≡ response shown.now.at shown.now.stored shown.now.reply) }
 {
     let body = reply_text(alloc, &shown.reply)?;
     let lines = place_lines(alloc, shown.at, shown.stored)?;
-    Ok(message(
-        alloc,
-        reply_status(&shown.reply),
-        lines.as_str(),
-        body.as_str(),
-    )?
-    .into_bytes())
+    let text = message(alloc, reply_status(&shown.reply), lines.as_str(), body)?;
+    Ok(text.into_bytes())
 }
 
 /// The response that refuses a request before the manager is asked, for one of the statuses that
-/// have a phrase. It says the error and, if there is one, the name of what is at fault.
+/// have a phrase. It says the error and, if there is one, the name of the part at fault.
 #[tactic(auto, unfolding(crate::specs::Responses::refusal))]
 pub fn refusal_bytes(
     alloc: Global,
@@ -41,16 +37,20 @@ pub fn refusal_bytes(
     ensures { IfOk result (λ bytes. bytes.items ≡ refusal status error.now (option_copied name.entry)) }
 {
     let body = error_value(alloc, error, name)?.to_string(alloc)?;
-    Ok(message(alloc, status, "", body.as_str())?.into_bytes())
+    Ok(message(alloc, status, "", body)?.into_bytes())
 }
 
+// The body, with the lines of the head put in front. There is no second copy of it.
 #[tactic(auto, unfolding(crate::specs::Responses::message))]
-fn message(alloc: Global, status: u16, lines: &str, body: &str) -> Result<String, AllocError>
+fn message(alloc: Global, status: u16, lines: &str, body: String) -> Result<String, AllocError>
     requires { HasPhrase status }
-    ensures { IfOk result (λ text. string_bytes text ≡ message status lines.now body.now) }
+    ensures { IfOk result (λ text. string_bytes text ≡ message status lines.now (string_bytes body)) }
 {
     let head = head(alloc, status, body.len())?;
-    format!(in alloc; "{head}{lines}\r\n{body}")
+    let front = format!(in alloc; "{head}{lines}\r\n")?;
+    let mut text = body;
+    text.insert_str(0, front.as_str())?;
+    Ok(text)
 }
 
 #[tactic(auto, unfolding(crate::specs::Responses::head))]
@@ -131,7 +131,7 @@ pub fn defect_bytes(defect: Defect) -> &'static [u8]
     }
 }
 
-/// The response where memory ran out before the call was made. Takes no memory.
+/// The response if memory ran out before the call was made. Takes no memory.
 #[tactic(auto, unfolding(crate::proofs::Literals::responses_on_literals))]
 pub fn want_before() -> &'static [u8]
     ensures { result.now ≡ want_before }
@@ -139,8 +139,8 @@ pub fn want_before() -> &'static [u8]
     b"HTTP/1.1 507 Insufficient Storage\r\nContent-Type: application/json\r\nContent-Length: 21\r\nAM-Stored: 0\r\n\r\n{\"error\":\"no_memory\"}"
 }
 
-/// Puts the response where memory ran out after the call was made in the place of what the vector
-/// holds. Takes no memory.
+/// Replaces what the vector holds by the response if memory ran out after the call was made.
+/// Takes no memory.
 pub fn put_want_after(into: &mut Vec<u8>, at: u64, stored: bool)
     requires { WANT_ROOM ≤ vec_capacity into.old }
     ensures text { into.new.items ≡ want_after at stored }

@@ -3,6 +3,7 @@ ghost use Rattle.std.specs.Prelude.{◌≡◌, ℕ, ◌<◌, ◌≤◌, List, le
 ghost use Rattle.am_outside.specs.Counts.{HasRisen};
 ghost use Rattle.am_http.specs.Answering.{Says};
 ghost use Rattle.am_http.specs.Requests.{refusal_text};
+ghost use Rattle.am_http.specs.Responses.{response};
 ghost use Rattle.am_http.specs.Sending.{Sends, SendsFrom};
 ghost use Rattle.am_http.specs.Sessions.{defect_text};
 
@@ -10,10 +11,10 @@ use crate::answer::{Answer, Refusal};
 use crate::frame::Defect;
 use crate::response::{defect_bytes, put_want_after, refusal_bytes, response_bytes, want_before};
 use am_outside::{Failed, Sink};
-use am_types::NoMemory;
+use am_types::{NoMemory, Shown};
 use std::alloc::Global;
 
-// Writes once, from a place of the bytes on, and answers the place behind what was taken.
+// Writes once, from a place of the bytes on, and answers the place after what was taken.
 fn write_from<W: Sink>(sink: &mut W, bytes: &[u8], at: usize) -> Result<usize, Failed>
     requires { at < length bytes.now }
     ensures sent { SendsFrom (W.taken sink.old) (W.taken sink.new) bytes.now at result }
@@ -25,7 +26,7 @@ fn write_from<W: Sink>(sink: &mut W, bytes: &[u8], at: usize) -> Result<usize, F
     Ok(at + count)
 }
 
-/// Writes all the bytes, in as many pieces as the sink wants.
+/// Writes all the bytes, in as many pieces as the sink takes.
 pub fn write_all<W: Sink>(sink: &mut W, bytes: &[u8]) -> Result<(), Failed>
     ensures sent { Sends (W.taken sink.old) (W.taken sink.new) bytes.now result }
     ensures never_falls { W.faults sink.old ≤ W.faults sink.new }
@@ -40,8 +41,8 @@ pub fn write_all<W: Sink>(sink: &mut W, bytes: &[u8]) -> Result<(), Failed>
 }
 
 // The response to a frame that makes no request.
-fn refusal_text(alloc: Global, refusal: &Refusal) -> Result<Vec<u8>, NoMemory>
-    ensures { IfOk result (λ bytes. bytes.items ≡ refusal_text refusal.now) }
+fn refusal_text(alloc: Global, refusal: Refusal) -> Result<Vec<u8>, NoMemory>
+    ensures { IfOk result (λ bytes. bytes.items ≡ refusal_text refusal) }
 {
     match refusal {
         Refusal::NoRoute => refusal_bytes(alloc, 404, "no_route", None),
@@ -53,16 +54,26 @@ fn refusal_text(alloc: Global, refusal: &Refusal) -> Result<Vec<u8>, NoMemory>
     }
 }
 
-/// Writes the response that says an answer, or that memory ran out where there is none to print
-/// it. `room` has room for the text of the latter.
+// The response that shows a reply, whose memory is given back once its text is there.
+fn shown_text(alloc: Global, shown: Shown) -> Result<Vec<u8>, NoMemory>
+    ensures { IfOk result (λ bytes. bytes.items ≡ response shown.at shown.stored shown.reply) }
+{
+    let text = response_bytes(alloc, &shown);
+    drop(shown);
+    text
+}
+
+/// Writes the response that says an answer, or that memory ran out if there is none to print
+/// it. `room` has room for the latter's text. While it is written only its text is held, and
+/// afterwards nothing of it.
 pub fn write_answer<W: Sink>(
     alloc: Global,
     sink: &mut W,
     room: &mut Vec<u8>,
-    answer: &Answer,
+    answer: Answer,
 ) -> Result<(), Failed>
     requires room { 192 ≤ vec_capacity room.old }
-    ensures sent { (bytes : List ℕ) × Says answer.now bytes × Sends (W.taken sink.old) (W.taken sink.new) bytes result }
+    ensures sent { (bytes : List ℕ) × Says answer bytes × Sends (W.taken sink.old) (W.taken sink.new) bytes result }
     ensures never_falls { W.faults sink.old ≤ W.faults sink.new }
     ensures failed { OnErr result (HasRisen (W.faults sink.old) (W.faults sink.new)) }
     ensures mark { W.mark sink.new ≡ W.mark sink.old }
@@ -73,13 +84,16 @@ pub fn write_answer<W: Sink>(
             Ok(bytes) => write_all(sink, bytes.as_slice()),
             Err(NoMemory) => write_all(sink, want_before()),
         },
-        Answer::Shown(shown) => match response_bytes(alloc, shown) {
-            Ok(bytes) => write_all(sink, bytes.as_slice()),
-            Err(NoMemory) => {
-                put_want_after(room, shown.at, shown.stored);
-                write_all(sink, room.as_slice())
+        Answer::Shown(shown) => {
+            let (at, stored) = (shown.at, shown.stored);
+            match shown_text(alloc, shown) {
+                Ok(bytes) => write_all(sink, bytes.as_slice()),
+                Err(NoMemory) => {
+                    put_want_after(room, at, stored);
+                    write_all(sink, room.as_slice())
+                }
             }
-        },
+        }
         Answer::Want => write_all(sink, want_before()),
     }
 }

@@ -10,7 +10,7 @@ use am_types::NoMemory;
 use std::alloc::Global;
 use std::marker::Model;
 
-/// How many bytes a window holds: a head and a body of the greatest length.
+/// The most bytes that a window holds: a head and a body of the greatest length.
 pub const CAPACITY: usize = 73_728;
 
 /// The bytes that were read and aren't used yet. Contracts see them as a list.
@@ -67,7 +67,7 @@ impl Window {
         self.start += count;
     }
 
-    /// Reads once into the room behind the bytes.
+    /// Reads once into the room after the bytes.
     pub fn fill<S: Source>(&mut self, source: &mut S) -> Result<usize, Failed>
         requires { length self.old < 73728 }
         ensures fills { Fills self.old self.new (S.left source.old) (S.left source.new) result }
@@ -75,6 +75,7 @@ impl Window {
         ensures never_falls { S.faults source.old ≤ S.faults source.new }
         ensures failed { OnErr result (HasRisen (S.faults source.old) (S.faults source.new)) }
         ensures mark { S.mark source.new ≡ S.mark source.old }
+        ensures waits { S.waits source.new ≡ S.waits source.old }
     {
         to_front(self.bytes.as_mut_slice(), self.start, self.end);
         self.end -= self.start;
@@ -97,7 +98,7 @@ fn to_front(bytes: &mut [u8], start: usize, end: usize)
     }
 }
 
-// Reads once into the room behind a place.
+// Reads once into the room after a place.
 fn read_behind<S: Source>(source: &mut S, bytes: &mut [u8], end: usize) -> Result<usize, Failed>
     requires { end < length bytes.old }
     ensures front { take end bytes.new ≡ take end bytes.old }
@@ -107,6 +108,7 @@ fn read_behind<S: Source>(source: &mut S, bytes: &mut [u8], end: usize) -> Resul
     ensures never_falls { S.faults source.old ≤ S.faults source.new }
     ensures failed { OnErr result (HasRisen (S.faults source.old) (S.faults source.new)) }
     ensures mark { S.mark source.new ≡ S.mark source.old }
+    ensures waits { S.waits source.new ≡ S.waits source.old }
 {
     source.read(&mut bytes[end..])
 }

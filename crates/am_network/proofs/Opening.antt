@@ -16,7 +16,8 @@ other_plans planned others is plans k d below =
 
 -- the room at a place, and the rooms behind it
 pub rooms_step : (gates k : ℕ) (planned : List GatePlan) → k < gates
-    → rooms_of (gates - k) (drop k planned) ≡ length (get_or planned k no_plan).links ∷ rooms_of (gates - (k + 1)) (drop (k + 1) planned)
+    → rooms_of (gates - k) (drop k planned) ≡ length (get_or planned k no_plan).links
+    ∷ rooms_of (gates - (k + 1)) (drop (k + 1) planned)
 rooms_step gates k planned below =
     let more : gates - k ≡ suc (gates - (k + 1)) = omega arith in
     let same : k + 0 ≡ k = omega arith in
@@ -27,36 +28,45 @@ rooms_step gates k planned below =
     ∙ ap (λ rest. length (get_or planned k no_plan).links ∷ rooms_of (gates - (k + 1)) rest) (drop-drop 1 k planned))
 
 -- one room more
-pub rooms_grow : (gates k room : ℕ) (planned : List GatePlan) (rooms all : List ℕ) → k < gates → room ≡ length (get_or planned k no_plan).links
-    → rooms ++ rooms_of (gates - k) (drop k planned) ≡ all → (rooms ++ room ∷ []) ++ rooms_of (gates - (k + 1)) (drop (k + 1) planned) ≡ all
+pub rooms_grow : (gates k room : ℕ) (planned : List GatePlan) (rooms all : List ℕ) → k < gates → room
+    ≡ length (get_or planned k no_plan).links
+    → rooms ++ rooms_of (gates - k) (drop k planned) ≡ all → (rooms ++ room ∷ [])
+    ++ rooms_of (gates - (k + 1)) (drop (k + 1) planned) ≡ all
 rooms_grow gates k room planned rooms all below is before =
     append_assoc rooms (room ∷ []) (rooms_of (gates - (k + 1)) (drop (k + 1) planned))
     ∙ (ap (λ r. rooms ++ (r ∷ rooms_of (gates - (k + 1)) (drop (k + 1) planned))) is
     ∙ (ap (λ rest. rooms ++ rest) (sym (rooms_step gates k planned below)) ∙ before))
 
 -- no room is missing
-pub rooms_end : (gates k : ℕ) (planned : List GatePlan) (rooms all : List ℕ) → k ≡ gates → rooms ++ rooms_of (gates - k) (drop k planned) ≡ all → rooms ≡ all
+pub rooms_end : (gates k : ℕ) (planned : List GatePlan) (rooms all : List ℕ) → k ≡ gates → rooms
+    ++ rooms_of (gates - k) (drop k planned) ≡ all → rooms ≡ all
 rooms_end gates k planned rooms all is before =
     let none : gates - k ≡ 0 = omega arith in
     sym (append-nil rooms) ∙ (sym (ap (λ n. rooms ++ rooms_of n (drop k planned)) none) ∙ before)
 
 -- the first room is for the first plan
-pub first_room : (rooms rest : List ℕ) (room : ℕ) (planned : List GatePlan) → rooms ≡ rooms_of (length rooms) planned → rooms ≡ room ∷ rest
+pub first_room : (rooms rest : List ℕ) (room : ℕ) (planned : List GatePlan) → rooms ≡ rooms_of (length rooms) planned
+    → rooms ≡ room ∷ rest
     → room ≡ length (get_or planned 0 no_plan).links
 first_room rooms rest room planned is begins =
-    let e : room ∷ rest ≡ rooms_of (suc (length rest)) planned = subst (λ (r : List ℕ). r ≡ rooms_of (length r) planned) begins is in
+    let e : room ∷ rest ≡ rooms_of (suc (length rest)) planned = subst (λ (r : List ℕ). r ≡ rooms_of (length r) planned)
+    begins is in
     ap (λ xs. get_or xs 0 room) e
 
 -- and the others are for the others
-pub other_rooms : (rooms rest : List ℕ) (room : ℕ) (planned : List GatePlan) → rooms ≡ rooms_of (length rooms) planned → rooms ≡ room ∷ rest
+pub other_rooms : (rooms rest : List ℕ) (room : ℕ) (planned : List GatePlan) → rooms ≡ rooms_of (length rooms) planned
+    → rooms ≡ room ∷ rest
     → rest ≡ rooms_of (length rest) (drop 1 planned)
 other_rooms rooms rest room planned is begins =
-    let e : room ∷ rest ≡ rooms_of (suc (length rest)) planned = subst (λ (r : List ℕ). r ≡ rooms_of (length r) planned) begins is in
+    let e : room ∷ rest ≡ rooms_of (suc (length rest)) planned = subst (λ (r : List ℕ). r ≡ rooms_of (length r) planned)
+    begins is in
     ap (drop 1) e
 
 -- one gate more
-pub gates_grow : (rooms rest : List ℕ) (room : ℕ) (planned others : List GatePlan) (made all : List GateInMemory) (gate : GateInMemory) → rooms ≡ room ∷ rest
-    → gate ≡ new_gate (get_or planned 0 no_plan) → others ≡ drop 1 planned → made ++ gates_of (length rooms) planned ≡ all
+pub gates_grow : (rooms rest : List ℕ) (room : ℕ) (planned others : List GatePlan) (made all : List GateInMemory)
+    (gate : GateInMemory) → rooms ≡ room ∷ rest
+    → gate ≡ new_gate (get_or planned 0 no_plan) → others ≡ drop 1 planned → made ++ gates_of (length rooms) planned
+    ≡ all
     → (made ++ gate ∷ []) ++ gates_of (length rest) others ≡ all
 gates_grow rooms rest room planned others made all gate begins is left before =
     append_assoc made (gate ∷ []) (gates_of (length rest) others)
@@ -65,7 +75,8 @@ gates_grow rooms rest room planned others made all gate begins is left before =
     ∙ (sym (ap (λ r. made ++ gates_of (length r) planned) begins) ∙ before)))
 
 -- the plans behind all of these gates
-pub left_behind : (rooms rest : List ℕ) (room : ℕ) (planned others all : List GatePlan) → rooms ≡ room ∷ rest → others ≡ drop 1 planned
+pub left_behind : (rooms rest : List ℕ) (room : ℕ) (planned others all : List GatePlan) → rooms ≡ room ∷ rest → others
+    ≡ drop 1 planned
     → drop (length rooms) planned ≡ all → drop (length rest) others ≡ all
 left_behind rooms rest room planned others all begins left before =
     ap (drop (length rest)) left ∙ (drop-drop (length rest) 1 planned
@@ -77,7 +88,8 @@ rooms_count zero planned = refl
 rooms_count (suc others) planned = ap suc (rooms_count others (drop 1 planned))
 
 -- each of them is for its plan
-pub rooms_are : (gates : ℕ) (planned : List GatePlan) (made rooms : List ℕ) → made ≡ rooms → rooms ≡ rooms_of gates planned → (made ≡ rooms_of (length made) planned) × (length made ≡ gates)
+pub rooms_are : (gates : ℕ) (planned : List GatePlan) (made rooms : List ℕ) → made ≡ rooms → rooms
+    ≡ rooms_of gates planned → (made ≡ rooms_of (length made) planned) × (length made ≡ gates)
 rooms_are gates planned made rooms is all =
     let count : length made ≡ gates = ap length (is ∙ all) ∙ rooms_count gates planned in
     (is ∙ (all ∙ ap (λ n. rooms_of n planned) (sym count)), count)
@@ -88,8 +100,10 @@ gates_count zero planned = refl
 gates_count (suc others) planned = ap suc (gates_count others (drop 1 planned))
 
 -- each of them is new
-pub gates_new : (gates : ℕ) (planned : List GatePlan) (k : ℕ) (gate : GateInMemory) → slice_get (gates_of gates planned) k ≡ Some gate → IsNewGate (gate_view gate)
+pub gates_new : (gates : ℕ) (planned : List GatePlan) (k : ℕ) (gate : GateInMemory)
+    → slice_get (gates_of gates planned) k ≡ Some gate → IsNewGate (gate_view gate)
 gates_new zero planned k gate at = absurd (let e = at in cc)
 gates_new (suc others) planned zero gate at =
-    subst (λ (g : GateInMemory). IsNewGate (gate_view g)) (ap (λ o. unwrap_or o gate) at) (refl, (refl, refl, refl))
+    subst (λ (g : GateInMemory). IsNewGate (gate_view g)) (ap (λ o. unwrap_or o gate) at)
+    (refl, (refl, refl, refl, refl))
 gates_new (suc others) planned (suc k) gate at = gates_new others (drop 1 planned) k gate at

@@ -1,13 +1,16 @@
 -- Links, the gates at which they arrive, and the network that the gates belong to, as clauses see them.
-use Rattle.std.specs.Prelude.{◌≡◌, ℕ, ◌+◌, ◌≤◌, ◌<◌, List, [], ◌∷◌, ◌++◌, length, slice_get, Option, Some, None, IfSome, ⊤, min}
+use Rattle.std.specs.Prelude.{◌≡◌, ℕ, ◌+◌, ◌≤◌, ◌<◌, ◌⊎◌, Bool, true, false, List, [], ◌∷◌, ◌++◌, length, slice_get, Option, Some, None, IfSome, ⊤, min}
+use Rattle.std.specs.List.{AllByRecursion}
 use Rattle.am_outside.specs.declared.outside.Source.{Ghosts as SourceGhosts}
 use Rattle.am_outside.specs.declared.outside.Sink.{Ghosts as SinkGhosts}
 
--- a link: what is left of its bytes and what it took, if its two ends tell that, their counts of faults, and their marks
+-- a link: what is left of its bytes and what it took, if its two ends tell that, their counts of faults, their marks,
+-- and how many times its reader said that a read would wait
 pub record LinkView : Type 0 where
   pub left : Option (List ℕ)
   pub read_faults : ℕ
   pub read_mark : ℕ
+  pub read_waits : ℕ
   pub taken : Option (List ℕ)
   pub write_faults : ℕ
   pub write_mark : ℕ
@@ -18,17 +21,25 @@ link_of r w reader writer = record {
   left = r.left reader;
   read_faults = r.faults reader;
   read_mark = r.mark reader;
+  read_waits = r.waits reader;
   taken = w.taken writer;
   write_faults = w.faults writer;
   write_mark = w.mark writer;
 }
 
--- the links of a gate that tells them: the bytes that come over each, how many were handed out, which are the first
--- ones, those that were taken back, and how many had been handed out when a call of `accept` failed last, if one did
+-- a link between two visits: how it is, and how many of its frames were answered so far
+pub record Stand : Type 0 where
+  pub link : LinkView
+  pub answered : ℕ
+
+-- the links of a gate that tells them: the bytes that come over each, how many were handed out (always the first
+-- ones), those that were taken back, those that are parked and come again, and how many had been handed out
+-- when a call for the next link failed last, if one did
 pub record Links : Type 0 where
   pub sent : List (List ℕ)
   pub handed : ℕ
   pub ended : List LinkView
+  pub parked : List Stand
   pub failed_at : Option ℕ
 
 -- a gate: its links, if it tells them, and its count of faults
@@ -36,12 +47,13 @@ pub record GateView : Type 0 where
   pub links : Option Links
   pub faults : ℕ
 
--- the link of that number, counted from 0, as it is handed out, with those bytes to come
+-- the link with this number, counted from 0, as it is handed out, with these bytes to come
 abbrev pub new_link : ℕ → List ℕ → LinkView
 new_link number bytes = record {
   left = Some bytes;
   read_faults = 0;
   read_mark = number;
+  read_waits = 0;
   taken = Some [];
   write_faults = 0;
   write_mark = number;
@@ -51,15 +63,21 @@ new_link number bytes = record {
 abbrev pub IsFaultless : LinkView → Type 0
 IsFaultless link = (link.read_faults ≡ 0) × (link.write_faults ≡ 0)
 
--- no link is to come
+-- no link is to come: none for the first time, and none again
 abbrev pub IsClosed : Links → Type 0
-IsClosed links = length links.sent ≤ links.handed
+IsClosed links = (length links.sent ≤ links.handed) × (links.parked ≡ [])
 
--- every link that was handed out was taken back
+-- the two ends of a link have one mark
+abbrev pub HasOneMark : LinkView → Type 0
+HasOneMark link = link.read_mark ≡ link.write_mark
+
+-- every link that was handed out was taken back, or is parked with two ends of one mark
 abbrev pub AreBack : Links → Type 0
-AreBack links = length links.ended ≡ links.handed
+AreBack links =
+    (length links.ended + length links.parked ≡ links.handed)
+    × AllByRecursion (λ (stand : Stand). HasOneMark stand.link) links.parked
 
--- the gate handed out its next link, or none if no link is to come
+-- the gate handed out its next link for the first time, or none if no link is to come
 abbrev pub HandsOut : Option Links → Option Links → Option LinkView → Type 0
 HandsOut None new handed = (new ≡ None) × IfSome handed IsFaultless
 HandsOut (Some links) new None = IsClosed links × (new ≡ Some links)
@@ -67,12 +85,28 @@ HandsOut (Some links) new (Some link) =
     (bytes : List ℕ) × (slice_get links.sent links.handed ≡ Some bytes)
     × (link ≡ new_link links.handed bytes) × (new ≡ Some (record links { handed = links.handed + 1 }))
 
--- the links of a gate once a call of `accept` failed, which handed out none
+-- the gate handed out its next link for the first time, of which no frame was answered
+abbrev pub HandsNew : Links → Option Links → Stand → Type 0
+HandsNew links new stand = HandsOut (Some links) new (Some stand.link) × (stand.answered ≡ 0)
+
+-- it handed out a parked link again, as it was parked
+abbrev pub HandsAgain : Links → Option Links → Stand → Type 0
+HandsAgain links new stand =
+    (before : List Stand) × (after : List Stand)
+    × (links.parked ≡ before ++ stand ∷ after) × (new ≡ Some (record links { parked = before ++ after }))
+
+-- the gate handed out a link for the first time or again, or none if no link is to come
+abbrev pub HandsOn : Option Links → Option Links → Option Stand → Type 0
+HandsOn None new handed = new ≡ None
+HandsOn (Some links) new None = IsClosed links × (new ≡ Some links)
+HandsOn (Some links) new (Some stand) = HandsNew links new stand ⊎ HandsAgain links new stand
+
+-- the links of a gate once a call for the next link failed and handed out none
 abbrev pub failed : Option Links → Option Links
 failed None = None
 failed (Some links) = Some (record links { failed_at = Some links.handed })
 
--- no link was handed out after the call of `accept` that failed last
+-- no link was handed out for the first time after the last call that failed
 abbrev pub HasFailedLast : Links → Type 0
 HasFailedLast links = links.failed_at ≡ Some links.handed
 
@@ -81,25 +115,43 @@ abbrev pub IsUnread : Option Links → Option (List ℕ) → Type 0
 IsUnread None given = ⊤
 IsUnread (Some links) given = given ≡ Some []
 
--- a link may be taken back: one that was handed out is not back yet, and its two ends have one mark
+-- the same of a link that may be handed out again: it came for the first time if the count of those rose
+abbrev pub IsUnreadAtFirst : Option Links → Option Links → Option (List ℕ) → Type 0
+IsUnreadAtFirst None new given = ⊤
+IsUnreadAtFirst (Some old) None given = ⊤
+IsUnreadAtFirst (Some old) (Some new) given = new.handed ≡ old.handed + 1 → given ≡ Some []
+
+-- a link may be taken back or parked: one that was handed out is not back yet, and its two ends have one mark
 abbrev pub MayTakeBack : Option Links → LinkView → Type 0
 MayTakeBack None link = ⊤
-MayTakeBack (Some links) link = (length links.ended < links.handed) × (link.read_mark ≡ link.write_mark)
+MayTakeBack (Some links) link =
+    (length links.ended + length links.parked < links.handed) × HasOneMark link
 
 -- the gate with a link that was taken back
 abbrev pub taken_back : Option Links → LinkView → Option Links
 taken_back None link = None
 taken_back (Some links) link = Some (record links { ended = links.ended ++ link ∷ [] })
 
--- no link was handed out, none was taken back, and no call of `accept` failed
+-- the gate with a link that was parked
+abbrev pub set_aside : Option Links → Stand → Option Links
+set_aside None stand = None
+set_aside (Some links) stand = Some (record links { parked = links.parked ++ stand ∷ [] })
+
+-- the gate parked the link, or ended it, and says which
+abbrev pub Parks : Bool → Option Links → Option Links → Stand → Type 0
+Parks true old new stand = new ≡ set_aside old stand
+Parks false old new stand = new ≡ taken_back old stand.link
+
+-- no link was handed out, none was taken back or parked, and no call for the next link failed
 abbrev pub AreUntouched : Links → Type 0
-AreUntouched links = (links.handed ≡ 0) × (links.ended ≡ []) × (links.failed_at ≡ None)
+AreUntouched links =
+    (links.handed ≡ 0) × (links.ended ≡ []) × (links.parked ≡ []) × (links.failed_at ≡ None)
 
 -- a gate as it is made: no fault was counted, and its links are untouched
 abbrev pub IsNewGate : GateView → Type 0
 IsNewGate gate = (gate.faults ≡ 0) × IfSome gate.links AreUntouched
 
--- what a network that tells it was asked for last: a port, how many gates it answered, and those that were released
+-- what a network was asked for last, if it tells that: a port, how many gates it answered, and which were released
 -- since, in their order
 pub record Listening : Type 0 where
   pub port : ℕ

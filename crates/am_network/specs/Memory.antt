@@ -31,6 +31,7 @@ ends_view ends = record {
   left = Some ends.0.source.left;
   read_faults = ends.0.source.faults;
   read_mark = ends.0.mark;
+  read_waits = 0;
   taken = Some ends.1.sink.taken;
   write_faults = ends.1.sink.faults;
   write_mark = ends.1.mark;
@@ -40,7 +41,7 @@ ends_view ends = record {
 abbrev pub link_view : MemoryLink → LinkView
 link_view link = ends_view (link.reader, link.writer)
 
--- what a gate in memory holds: the links that were planned, how many of them were handed out, those that were taken
+-- what a gate in memory holds: the planned links, how many of them were handed out, those that were taken
 -- back, the numbers of the calls of `accept` that fail, how many such calls there were and failed, and how many links
 -- had been handed out at the last failure
 pub record GateInMemory : Type 0 where
@@ -56,7 +57,7 @@ pub record GateInMemory : Type 0 where
 abbrev pub ArePlans : List GatePlan → Type 0
 ArePlans = All (λ planned. AreUnused planned.links)
 
--- the gate of a plan, as it is made
+-- the gate of a plan, as it is at first
 abbrev pub new_gate : GatePlan → GateInMemory
 new_gate planned = record {
   plan = planned.links;
@@ -68,12 +69,13 @@ new_gate planned = record {
   failed_at = None;
 }
 
--- the links of a gate, as clauses on any gate see them
+-- the links of a gate, as clauses on any gate see them. It parks none
 abbrev pub links_of : GateInMemory → Links
 links_of gate = record {
   sent = map (λ link. link.reader.left) gate.plan;
   handed = gate.handed;
   ended = map link_view gate.ended;
+  parked = [];
   failed_at = gate.failed_at;
 }
 
@@ -134,12 +136,12 @@ new_network planned failing = record {
 abbrev pub no_plan : GatePlan
 no_plan = record { links = []; failing = [] }
 
--- that many gates: those of the plans in their order, and behind them closed ones
+-- so many gates: those of the plans in their order, and then closed ones
 abbrev pub gates_of : ℕ → List GatePlan → List GateInMemory
 gates_of zero planned = []
 gates_of (suc others) planned = new_gate (slice_index_or planned 0 no_plan) ∷ gates_of others (drop 1 planned)
 
--- how many links each of that many gates has
+-- how many links each of so many gates has
 abbrev pub rooms_of : ℕ → List GatePlan → List ℕ
 rooms_of zero planned = []
 rooms_of (suc others) planned = length (slice_index_or planned 0 no_plan).links ∷ rooms_of others (drop 1 planned)
@@ -149,7 +151,7 @@ abbrev pub listening_of : NetworkInMemory → Listening
 listening_of network =
     record { port = network.port; gates = network.gates; released = map gate_view network.released }
 
--- the network once it answered its next gates, that many, at a port
+-- the network once it answered so many of its gates, the next ones, at a port
 abbrev pub listening_again : NetworkInMemory → ℕ → ℕ → NetworkInMemory
 listening_again network port gates =
     record network { coming = drop gates network.coming; port = port; gates = gates; released = [] }

@@ -27,7 +27,7 @@ pub struct GatePlan {
 /// A gate in memory. The calls of `accept` with the numbers that it was given fail, and no others.
 #[derive(Drop)]
 pub struct MemoryGate {
-    // The links as they were given, which contracts alone read.
+    // The links as they were given, for contracts only.
     plan: Snapshot<List<LinkPlan>>,
     coming: VecDeque<LinkPlan>,
     handed: u64,
@@ -77,7 +77,7 @@ impl Model for Room {
 }
 
 impl Room {
-    // Room for that many links.
+    // Room for so many links.
     pub(crate) fn new(alloc: Global, links: usize) -> Result<Room, AllocError>
         ensures { IfOk result (λ room. room ≡ links) }
     {
@@ -106,7 +106,7 @@ impl MemoryGate {
         }
     }
 
-    /// The links that it took back, in the order in which they came back. Takes no memory.
+    /// The links that it took back, in the order in which they came. Takes no memory.
     pub fn ended(&self) -> &[MemoryLink]
         ensures { result.now ≡ self.now.ended }
     {

@@ -49,7 +49,7 @@ impl Model for MemoryNetwork {
     ghost invariant = { λ n. (n.gates ≤ vec_capacity n.released) × ArePlans n.coming.items };
 }
 
-// How many links the plan of that number has, counted from 0, or none if there is no such plan.
+// How many links the plan with this number has, counted from 0, or none if there is no such plan.
 fn links_at(planned: &VecDeque<GatePlan>, number: usize) -> usize
     ensures { result ≡ length (slice_index_or planned.now.items number no_plan).links }
 {
@@ -59,7 +59,7 @@ fn links_at(planned: &VecDeque<GatePlan>, number: usize) -> usize
     }
 }
 
-// The room for the links of that many gates.
+// The room for the links of so many gates.
 #[tactic(auto, using(crate::proofs::Opening::rooms_grow, crate::proofs::Opening::rooms_end))]
 fn rooms_for(
     alloc: Global,
@@ -75,7 +75,7 @@ fn rooms_for(
     Ok(rooms)
 }
 
-// Takes the next plan, or that of a closed gate if there is none.
+// Takes the next plan, or the plan of a closed gate if there is none.
 fn next_plan(alloc: Global, coming: &mut VecDeque<GatePlan>) -> GatePlan
     requires { ArePlans coming.old.items }
     ensures next { result ≡ slice_index_or coming.old.items 0 no_plan }
@@ -92,7 +92,7 @@ fn next_plan(alloc: Global, coming: &mut VecDeque<GatePlan>) -> GatePlan
     }
 }
 
-// Opens the next gates, of which there are as many as rooms, behind those that were made before.
+// Opens the next gates, as many as there are rooms, and appends them to those already made.
 #[tactic(auto, using(crate::proofs::Opening::first_room, crate::proofs::Opening::other_rooms, crate::proofs::Opening::gates_grow, crate::proofs::Opening::left_behind))]
 fn open_gates(
     alloc: Global,
@@ -134,7 +134,7 @@ impl MemoryNetwork {
         }
     }
 
-    /// The gates that were released since it listened last, in their order. Takes no memory.
+    /// The gates that were released since it last listened, in their order. Takes no memory.
     pub fn released(&self) -> &[MemoryGate]
         ensures { result.now ≡ self.now.released }
     {

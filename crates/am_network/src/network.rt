@@ -3,7 +3,7 @@ ghost use Rattle.std.specs.Prelude.{◌≡◌, ℕ, ◌≤◌, Option, Some, Err
 ghost use Rattle.std.specs.Option.{option_map};
 ghost use Rattle.am_outside.specs.Counts.{HasRisen};
 ghost use Rattle.am_outside.specs.Memory.{one_more};
-ghost use Rattle.am_network.specs.Links.{GateView, HandsOut, IsNewGate, IsUnread, Links, Listening, MayRelease, MayTakeBack, failed, link_of, listening_at, raised_by, released, taken_back};
+ghost use Rattle.am_network.specs.Links.{GateView, HandsOn, HandsOut, IsNewGate, IsUnread, IsUnreadAtFirst, Links, Listening, MayRelease, MayTakeBack, Parks, failed, link_of, listening_at, raised_by, released, taken_back};
 
 use am_outside::{Failed, Sink, Source};
 use std::alloc::{AllocError, AllocFailed};
@@ -19,19 +19,19 @@ pub trait Acceptor: Drop + Send {
     /// Where a link's bytes go.
     type Writer: Sink + Drop + Send;
 
-    /// Its links, where it tells them. Then their readers and writers tell their bytes.
+    /// Its links, if it tells them. Then their readers and writers tell their bytes.
     ghost links: { Self → Option Links };
 
-    /// How many calls of `accept` failed. It stays at the greatest 64-bit number.
+    /// How many calls of `accept` or `next_link` failed. It stays at the greatest 64-bit number.
     ghost faults: { Self → ℕ };
 
-    /// Hands out the next link: its reader and its writer, which have counted no fault yet. Where the gate tells its
-    /// links they have given and taken nothing yet, and their mark is the link's number, counted from 0. It answers
-    /// `None` where no link is to come, and waits until one arrives where it can't tell that.
+    /// Hands out the next link: its reader and its writer, which have counted no fault yet. If the gate tells its
+    /// links, they have given and taken nothing yet, and their mark is the link's number, counted from 0. It answers
+    /// `None` if no link is to come, and waits until one arrives if it can't tell that.
     ///
     /// # Errors
-    /// `Failed` where the gate failed. Its count of faults rose by one then, which stays in a call that doesn't fail. Its
-    /// links are as they were, but for how many had been handed out at the last failure.
+    /// `Failed` if the gate failed: its count of faults rose by one, while a call that doesn't fail leaves it as it is.
+    /// Its links are as they were, except for how many had been handed out at the last failure.
     fn accept(&mut self) -> Result<Option<(Self::Reader, Self::Writer)>, Failed>
         ensures next { IfOk result (λ handed. HandsOut (links self.old) (links self.new)
             (option_map (λ link. link_of Self.Reader.Source Self.Writer.Sink link.0 link.1) handed)) }
@@ -48,6 +48,46 @@ pub trait Acceptor: Drop + Send {
         ensures back { links self.new
             ≡ taken_back (links self.old) (link_of Self.Reader.Source Self.Writer.Sink reader writer) }
         ensures faults { faults self.new ≡ faults self.old };
+
+    /// Hands out the next link, and how many of its frames were answered before: a link for the first time, as
+    /// `accept` does, with 0, or one that was parked, as it was then and with its count. A gate that parks links hands
+    /// one out again when its reader is ready. This body is for gates that park none.
+    ///
+    /// # Errors
+    /// `Failed` as in `accept`.
+    fn next_link(&mut self) -> Result<Option<(Self::Reader, Self::Writer, u32)>, Failed>
+        ensures next { IfOk result (λ handed. HandsOn (links self.old) (links self.new)
+            (option_map (λ link. record {
+              link = link_of Self.Reader.Source Self.Writer.Sink link.0 link.1;
+              answered = link.2;
+            }) handed)) }
+        ensures unread { IfOk result (λ handed. IfSome handed (λ link.
+            IsUnreadAtFirst (links self.old) (links self.new) (Self.Reader.given link.0))) }
+        ensures none { OnErr result (links self.new ≡ failed (links self.old)) }
+        ensures never_falls { faults self.old ≤ faults self.new }
+        ensures failed { OnErr result (faults self.new ≡ one_more (faults self.old)) }
+        ensures counted { OnOk result (faults self.new ≡ faults self.old) }
+    {
+        let Some((reader, writer)) = self.accept()? else {
+            return Ok(None);
+        };
+        Ok(Some((reader, writer, 0)))
+    }
+
+    /// Takes back a link whose reader isn't ready, with the count of its frames that were answered so far, and answers
+    /// whether it is parked, that is, handed out again later. Otherwise it is ended, as by `finish`, which is what this
+    /// body does. Takes no memory.
+    fn park(&mut self, reader: Self::Reader, writer: Self::Writer, answered: u32) -> bool
+        requires { MayTakeBack (links self.old) (link_of Self.Reader.Source Self.Writer.Sink reader writer) }
+        ensures parks { Parks result (links self.old) (links self.new) (record {
+          link = link_of Self.Reader.Source Self.Writer.Sink reader writer;
+          answered = answered;
+        }) }
+        ensures faults { faults self.new ≡ faults self.old }
+    {
+        self.finish(reader, writer);
+        false
+    }
 }
 
 /// Why a network doesn't listen.
@@ -97,7 +137,7 @@ pub trait Network {
     /// A gate of this network.
     type Gate: Acceptor;
 
-    /// What it was asked for last, where it tells that.
+    /// What it was asked for last, if it tells that.
     ghost listening: { Self → Option Listening };
 
     /// How many calls of `listen` there were. It stays at the greatest 64-bit number.
@@ -109,11 +149,11 @@ pub trait Network {
     /// How many faults the released gates had. It stays at the greatest 64-bit number.
     ghost gate_faults: { Self → ℕ };
 
-    /// Listens at a port, and answers that many gates at which its links arrive. It takes the memory for all that these
+    /// Listens at a port, and answers so many gates, at which its links arrive. It takes the memory for all that these
     /// gates and the network are to take back.
     ///
     /// # Errors
-    /// `Failed` where the network failed: its count of faults rose then. `NoMemory` where memory ran out. What was
+    /// `Failed` if the network failed: its count of faults rose then. `NoMemory` if memory ran out. What was
     /// asked for last, and what was released since, is as it was.
     fn listen(&mut self, port: u16, gates: u32) -> Result<Vec<Self::Gate>, ListenFail>
         ensures count { IfOk result (λ made. length made.items ≡ gates) }
@@ -126,7 +166,7 @@ pub trait Network {
         ensures failed { result ≡ Err ListenFail.Failed → HasRisen (faults self.old) (faults self.new) }
         ensures gate_faults { gate_faults self.new ≡ gate_faults self.old };
 
-    /// Takes a gate back, whose faults are counted with those of the gates before. Takes no memory.
+    /// Takes a gate back, and counts its faults with those of the gates released earlier. Takes no memory.
     fn release(&mut self, gate: Self::Gate)
         requires { MayRelease (listening self.old) }
         ensures told { listening self.new ≡ released (listening self.old)

@@ -18,7 +18,7 @@ AnswersFile view bytes old new (Err Absent) = ⊥
 AnswersFile view bytes old new (Err Failed) = HasRisen old new
 AnswersFile view bytes old new (Err NoMemory) = ⊤
 
--- no such file: the answer is that it is absent, or want of memory, and the count stays
+-- no such file: the answer is that it is absent, or that memory ran out, and the count stays
 abbrev pub AnswersNone : {V : Type 0} → ℕ → ℕ → Result V FileFail → Type 0
 AnswersNone old new (Ok read) = ⊥
 AnswersNone old new (Err Absent) = new ≡ old
@@ -38,7 +38,8 @@ AnswersTold view None old new answer = AnswersNone old new answer
 AnswersTold view (Some bytes) old new answer = AnswersFile view bytes old new answer
 
 -- what is answered for a name, where the files are told and where they aren't; `old` and `new` are the counts
-abbrev pub ReadsFile : {V : Type 0} → (V → List ℕ) → Option (List FileBytes) → List ℕ → ℕ → ℕ → Result V FileFail → Type 0
+abbrev pub ReadsFile : {V : Type 0} → (V → List ℕ) → Option (List FileBytes) → List ℕ → ℕ → ℕ → Result V FileFail
+    → Type 0
 ReadsFile view None name old new answer = AnswersUntold old new answer
 ReadsFile view (Some files) name old new answer = AnswersTold view (bytes_of name files) old new answer
 

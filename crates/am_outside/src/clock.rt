@@ -6,7 +6,7 @@ use std::marker::Send;
 
 /// A clock, in milliseconds.
 pub trait Clock: Drop + Send {
-    /// What the clock will answer to its call of that number, counted from 0, where it tells it.
+    /// What the clock will answer to its call of that number, counted from 0, if it tells it.
     ghost moments: { Self → ℕ → Option ℕ };
 
     /// The moment now.
@@ -14,12 +14,12 @@ pub trait Clock: Drop + Send {
         ensures moment { IsTold (moments self.old 0) result }
         ensures next { (calls : ℕ) → moments self.new calls ≡ moments self.old (suc calls) };
 
-    /// A clock for another worker. It will answer the same moments as this one from now on, where this one tells them.
+    /// A clock for another worker. It will answer the same moments as this one from now on, if this one tells them.
     fn another(&self) -> Self
         ensures same { (calls : ℕ) → moments result calls ≡ moments self.now calls };
 }
 
-/// A clock that answers a first moment, then one a step later each time. It stays where the next
+/// A clock that answers a first moment, then one a step later each time. It stays when the next
 /// moment would pass the greatest 64-bit number.
 #[derive(Clone, Copy, Debug, PartialEq, Eq)]
 pub struct StepClock {

@@ -49,7 +49,7 @@ pub trait Files {
     ghost use Rattle.am_outside.specs.declared.files.FileBytes.{FileBytes};
     ghost use Rattle.std.specs.Prelude.{◌≡◌, ℕ, ◌≤◌, List as Items, Option};
 
-    /// The files with their bytes, where the reader tells them.
+    /// The files with their bytes, if the reader tells them.
     ghost files: { Self → Option (Items FileBytes) };
 
     /// How many reads failed. It stays at the greatest 64-bit number.

@@ -29,7 +29,7 @@ impl Model for MemoryFiles {
 
 impl MemoryFiles {
     /// These files, whose names are distinct. The reads with these numbers, counted from 1, fail
-    /// where the name is held, and no other. Takes no memory.
+    /// if the name is held, and no other. Takes no memory.
     pub fn new(alloc: Global, files: List<FileBytes>, failing: List<u32>) -> MemoryFiles
         requires { AreDistinct files }
         ensures { result ≡ record { files = files; failing = failing; reads = 0; faults = 0 } }

@@ -1,6 +1,6 @@
-//! The outside: where bytes come from and go to, files and the clock. Each but the clock counts
-//! its faults, and answers `Failed` only where this count rose.
-ghost use Rattle.std.specs.Prelude.{◌≡◌, ℕ, ◌<◌, ◌≤◌, List as Items, Option, Some, length, take, IfOk, OnErr};
+//! The outside: where bytes come from and go to, files and the clock. Each except the clock counts
+//! its faults, and answers `Failed` only if this count rose.
+ghost use Rattle.std.specs.Prelude.{◌≡◌, ℕ, ◌<◌, ◌≤◌, List as Items, Option, Some, false, length, take, IfOk, OnErr};
 ghost use Rattle.std.specs.Io.{ReadsAtMost, WritesAtMost};
 ghost use Rattle.std.specs.Io.KnownBytes.{ReadConsumes, WriteAppends};
 ghost use Rattle.am_outside.specs.Counts.{HasRisen};
@@ -9,10 +9,10 @@ use crate::Failed;
 
 /// Where bytes come from, as a file, a connection or standard input.
 pub trait Source {
-    /// The bytes given so far, where the source tells them.
+    /// The bytes given so far, if the source tells them.
     ghost given: { Self → Option (Items ℕ) };
 
-    /// The bytes left, where it tells them.
+    /// The bytes left, if it tells them.
     ghost left: { Self → Option (Items ℕ) };
 
     /// How many reads failed. It stays at the greatest 64-bit number.
@@ -21,7 +21,25 @@ pub trait Source {
     /// A number that no read changes.
     ghost mark: { Self → ℕ };
 
-    /// Reads some bytes into the front of a slice, and answers how many: 0 at the end alone.
+    /// How many times it said that a read would wait. It stays at the greatest 64-bit number. A
+    /// source that never says so has 0.
+    ghost waits: { Self → ℕ } = { λ _. 0 };
+
+    /// Whether a read would answer at once: bytes have come, or the end is reached, or the read
+    /// fails. A source that can't tell says yes, as this body does, and then a read may wait. What
+    /// is asked stays as it was, except for the count of the answers "no".
+    fn is_ready(&mut self) -> bool
+        ensures left { left self.new ≡ left self.old }
+        ensures given { given self.new ≡ given self.old }
+        ensures faults { faults self.new ≡ faults self.old }
+        ensures mark { mark self.new ≡ mark self.old }
+        ensures never_falls { waits self.old ≤ waits self.new }
+        ensures waits { result ≡ false → HasRisen (waits self.old) (waits self.new) }
+    {
+        true
+    }
+
+    /// Reads some bytes into the front of a slice, and answers how many: 0 only at the end.
     fn read(&mut self, into: &mut [u8]) -> Result<usize, Failed>
         requires { 0 < length into.old }
         ensures within { ReadsAtMost result into.new }
@@ -29,12 +47,13 @@ pub trait Source {
         ensures given { WriteAppends (given self.old) (given self.new) result into.new }
         ensures never_falls { faults self.old ≤ faults self.new }
         ensures failed { OnErr result (HasRisen (faults self.old) (faults self.new)) }
-        ensures mark { mark self.new ≡ mark self.old };
+        ensures mark { mark self.new ≡ mark self.old }
+        ensures waits { waits self.new ≡ waits self.old };
 }
 
 /// Where bytes go.
 pub trait Sink {
-    /// The bytes taken so far, where the sink tells them.
+    /// The bytes taken so far, if the sink tells them.
     ghost taken: { Self → Option (Items ℕ) };
 
     /// How many writes failed. It stays at the greatest 64-bit number.

@@ -14,8 +14,10 @@ use Rattle.am_shell.specs.declared.undone.Undone.TheVariants as undone
 use Rattle.am_shell.specs.Questions.{Desk, FailsToRead, Happens, IsAsked, IsNoReply, IsRead, most_read}
 
 -- the caller's answer is that of the question
-went : (result : Result (List ℕ) Undone) (asked : QuestionWords) (before after : Desk) (known : Described) (caller : ℕ) (bytes : List ℕ)
-    → IsAsked asked before.files known caller → IsRead before.input after.input bytes → IfOk result (λ text. answer_to known caller bytes ≡ Ok text)
+went : (result : Result (List ℕ) Undone) (asked : QuestionWords) (before after : Desk) (known : Described) (caller : ℕ)
+    (bytes : List ℕ)
+    → IsAsked asked before.files known caller → IsRead before.input after.input bytes
+    → IfOk result (λ text. answer_to known caller bytes ≡ Ok text)
     → IfErr result (λ why. IsNoReply why (answer_to known caller bytes)) → Happens result asked before after
 went (Ok text) asked before after known caller bytes asks read answers fails =
     record { known = known; caller = caller; asks = asks; bytes = bytes; input = read; answers = answers }
@@ -28,23 +30,29 @@ went (Err (undone.Setback setbacks.NoMemory)) asked before after known caller by
     inr (refl, record { known = known; caller = caller; asks = asks; taken = (bytes, read.taken, read.within) })
 went (Err why) asked before after known caller bytes asks read answers fails = absurd fails
 
-pub answered : (result : Result (List ℕ) Undone) (asked : QuestionWords) (before after : Desk) (known : Described) (caller : ℕ) (bytes body : List ℕ)
+pub answered : (result : Result (List ℕ) Undone) (asked : QuestionWords) (before after : Desk) (known : Described)
+    (caller : ℕ) (bytes body : List ℕ)
     → body ≡ bytes → IsAsked asked before.files known caller → IsRead before.input after.input bytes
-    → IfOk result (λ text. answer_to known caller body ≡ Ok text) → IfErr result (λ why. IsNoReply why (answer_to known caller body))
+    → IfOk result (λ text. answer_to known caller body ≡ Ok text) → IfErr result
+    (λ why. IsNoReply why (answer_to known caller body))
     → Happens result asked before after
 answered result asked before after known caller bytes body same asks read answers fails =
-    went result asked before after known caller body asks (subst (IsRead before.input after.input) (sym same) read) answers fails
+    went result asked before after known caller body asks (subst (IsRead before.input after.input) (sym same) read)
+    answers fails
 
 -- what was taken behind bytes that were read
-given_behind : (before mid after : SourceView) (bytes : List ℕ) → Consumes before.left mid.left bytes → length bytes ≤ most_read
+given_behind : (before mid after : SourceView) (bytes : List ℕ) → Consumes before.left mid.left bytes
+    → length bytes ≤ most_read
     → GivesAtMost (most_read - length bytes) mid.left after.left → GivesAtMost most_read before.left after.left
 given_behind before mid after bytes taken within given =
     gives_more (length bytes) (most_read - length bytes) most_read before.left mid.left after.left
     (omega (arith, within)) (bytes, taken, omega arith) given
 
 -- the input wasn't read on behind bytes that were read
-pub failed_behind : (why : Undone) (before mid after : SourceView) (bytes : List ℕ) → Consumes before.left mid.left bytes → length bytes ≤ most_read
-    → before.faults ≤ mid.faults → FailsToRead why (most_read - length bytes) mid after → FailsToRead why most_read before after
+pub failed_behind : (why : Undone) (before mid after : SourceView) (bytes : List ℕ)
+    → Consumes before.left mid.left bytes → length bytes ≤ most_read
+    → before.faults ≤ mid.faults → FailsToRead why (most_read - length bytes) mid after
+    → FailsToRead why most_read before after
 failed_behind undone.InputFault before mid after bytes taken within falls fails =
     (omega (arith, falls, fails.0), given_behind before mid after bytes taken within fails.1)
 failed_behind (undone.Setback setbacks.NoMemory) before mid after bytes taken within falls fails =

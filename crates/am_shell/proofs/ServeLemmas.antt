@@ -33,14 +33,23 @@ desk_of made = record {
 
 -- one that is made of a manager that just began
 first_desk : {K : Type 0} (made : machine.Served K) (manager : machine.Managed K)
-    → made ≡ record { managed = manager; handed = manager.history } → manager.history ≡ [] → desk_of made ≡ sole_desk manager.origin []
+    → made ≡ record { managed = manager; handed = manager.history } → manager.history ≡ [] → desk_of made
+    ≡ sole_desk manager.origin []
 first_desk {K} made manager is fresh =
     ap desk_of is
-    ∙ ap (λ (seen : List Entry). record { origin = manager.origin; number = 0; sharing = record { id = []; desks = 1; handed = seen }; seen = seen }) fresh
+    ∙ ap (λ (seen : List Entry). record {
+      origin = manager.origin;
+      number = 0;
+      sharing = record
+          { id = []; desks = 1; handed = seen };
+      seen = seen;
+    }) fresh
 
 -- a connection over that desk is the session of the manager
-abbrev serves : (origin : Origin) (asked : Option StepWords) (before after : Streams) (first desk : DeskView) (end : End)
-    → first ≡ sole_desk origin [] → ServesOn asked end (link_of first before) (link_of desk after) → Serves origin asked before after end
+abbrev serves : (origin : Origin) (asked : Option StepWords) (before after : Streams) (first desk : DeskView)
+    (end : End)
+    → first ≡ sole_desk origin [] → ServesOn asked end (link_of first before) (link_of desk after)
+    → Serves origin asked before after end
 serves origin asked before after first desk end is went =
     let on : ServesOn asked end (link_of (sole_desk origin []) before) (link_of desk after) =
     subst (λ (d : DeskView). ServesOn asked end (link_of d before) (link_of desk after)) is went in
@@ -56,14 +65,16 @@ serves origin asked before after first desk end is went =
     }
 
 -- the session's calls are formed
-formed : (origin : Origin) (asked : Option StepWords) (before after : Streams) (end : End) (s : Serves origin asked before after end)
+formed : (origin : Origin) (asked : Option StepWords) (before after : Streams) (end : End)
+    (s : Serves origin asked before after end)
     → All IsFormed s.desk.seen
 formed origin asked before after end s =
     subst (λ (entries : List Entry). All IsFormed entries) (sym s.calls)
     (all_formed (opening_of origin) 0 s.desk.seen s.went.session.exchanges s.went.session.answers.answers)
 
 -- with the rows that the session has kept the device opens as the session left it
-pub found : (origin : Origin) (device : Device) (place : Option (List ℕ)) (history : List Entry) (old new : StoreView) → KeptIsFound → IsSound device
+pub found : (origin : Origin) (device : Device) (place : Option (List ℕ)) (history : List Entry) (old new : StoreView)
+    → KeptIsFound → IsSound device
     → IsOrigin origin device place old → Leaves origin place history old new → All IsFormed history → IsTrue old.tells
     → (at : List ℕ) → place ≡ Some at → OpensAs device (new.rows at) (replay (opening_of origin) history)
 found origin device place history old new law sound begins left forms tells at is =
@@ -71,17 +82,22 @@ found origin device place history old new law sound begins left forms tells at i
     (law device origin.rows (opening_of origin) history sound begins.in_order begins.opens forms)
 
 -- the work of a session
-pub works : {K : Type 0} (asked : SessionWords) (device : Device) (before after : Workplace) (now : StoreView) (end : End)
-    (place : Option (List ℕ)) (manager out : machine.Managed K) (made last : machine.Served K) → KeptIsFound → IsSound device → place ≡ asked.store
+pub works : {K : Type 0} (asked : SessionWords) (device : Device) (before after : Workplace) (now : StoreView)
+    (end : End)
+    (place : Option (List ℕ)) (manager out : machine.Managed K) (made last : machine.Served K) → KeptIsFound
+    → IsSound device → place ≡ asked.store
     → IsOrigin manager.origin device place before.store → manager.history ≡ [] → IsUnchanged before.store now
     → made ≡ record { managed = manager; handed = manager.history }
     → ServesOn asked.clock end (link_of (desk_of made) before.streams) (link_of (desk_of last) after.streams)
-    → out ≡ last.managed → Leaves out.origin out.origin.place out.history now after.store → Works asked device before after end
-works {K} asked device before after now end place manager out made last law sound asks begun fresh same is went handed left =
+    → out ≡ last.managed → Leaves out.origin out.origin.place out.history now after.store
+    → Works asked device before after end
+works {K} asked device before after now end place manager out made last law sound asks begun fresh same is went handed
+    left =
     let begins : IsOrigin manager.origin device asked.store before.store =
     subst (λ (p : Option (List ℕ)). IsOrigin manager.origin device p before.store) asks begun in
     let session : Serves manager.origin asked.clock before.streams after.streams end =
-    serves manager.origin asked.clock before.streams after.streams (desk_of made) (desk_of last) end (first_desk made manager is fresh) went in
+    serves manager.origin asked.clock before.streams after.streams (desk_of made) (desk_of last) end
+    (first_desk made manager is fresh) went in
     let one : last.managed.origin ≡ manager.origin = session.went.same.desk.desk.origin in
     let kept : Leaves manager.origin asked.store last.managed.history before.store after.store =
     leaves_asked manager.origin asked.store last.managed.history before.store now after.store same begins.at_place
@@ -92,18 +108,22 @@ works {K} asked device before after now end place manager out made last law soun
       begins = begins;
       session = session;
       store = kept;
-      found = found manager.origin device asked.store last.managed.history before.store after.store law sound begins kept
+      found = found manager.origin device asked.store last.managed.history before.store after.store law sound begins
+          kept
           (formed manager.origin asked.clock before.streams after.streams end session);
     }
 
 -- the store has attached the place of the keeper that comes back
-pub attached_back : {K : Type 0} (old now : StoreView) (place : Option (List ℕ)) (Attached : List ℕ → Type 0) (manager out : machine.Managed K)
-    (made last : machine.Served K) → (IsTrue old.tells → (at : List ℕ) → place ≡ Some at → Attached at) → IsUnchanged old now
+pub attached_back : {K : Type 0} (old now : StoreView) (place : Option (List ℕ)) (Attached : List ℕ → Type 0)
+    (manager out : machine.Managed K)
+    (made last : machine.Served K) → (IsTrue old.tells → (at : List ℕ) → place ≡ Some at → Attached at)
+    → IsUnchanged old now
     → manager.origin.place ≡ place → made ≡ record { managed = manager; handed = manager.history }
     → last.managed.origin ≡ made.managed.origin → out ≡ last.managed
     → IsTrue now.tells → (at : List ℕ) → out.origin.place ≡ Some at → Attached at
 attached_back {K} old now place Attached manager out made last attached same at_place is one handed tells at stands =
     let told : IsTrue old.tells = sym same.tells ∙ tells in
     let back : out.origin.place ≡ manager.origin.place =
-    ap (λ (m : machine.Managed K). m.origin.place) handed ∙ (ap (λ (o : Origin). o.place) one ∙ ap (λ (s : machine.Served K). s.managed.origin.place) is) in
+    ap (λ (m : machine.Managed K). m.origin.place) handed ∙ (ap (λ (o : Origin). o.place) one
+    ∙ ap (λ (s : machine.Served K). s.managed.origin.place) is) in
     attached told at (sym at_place ∙ (sym back ∙ stands))

@@ -29,7 +29,8 @@ use Rattle.am_shell.proofs.ServeLemmas.{found}
 use Rattle.am_shell.proofs.StoreLemmas.{leaves_asked}
 
 -- as many gates may be released as were answered
-pub may_release : (told now : Option Listening) (port gates count : ℕ) → now ≡ listening_at told port gates → count ≡ gates → MayReleaseAll now count
+pub may_release : (told now : Option Listening) (port gates count : ℕ) → now ≡ listening_at told port gates → count
+    ≡ gates → MayReleaseAll now count
 may_release None now port gates count is all =
     let P : Option Listening → Type 0 = λ (l : Option Listening). MayReleaseAll l count in
     subst P (sym is) tt
@@ -38,57 +39,120 @@ may_release (Some before) now port gates count is all =
     subst P (sym is) (omega (arith, all))
 
 -- the network as it listened
-pub listened_so : (before mid after : NetworkView) (port gates : ℕ) → mid.listening ≡ listening_at before.listening port gates → mid.listens ≡ one_more before.listens
+pub listened_so : (before mid after : NetworkView) (port gates : ℕ) → mid.listening
+    ≡ listening_at before.listening port gates → mid.listens ≡ one_more before.listens
     → mid.gate_faults ≡ before.gate_faults → after.faults ≡ mid.faults → mid ≡ listened before port gates after.faults
 listened_so before mid after port gates told listens gate_faults faults =
     ap (λ l. record { listening = l; listens = mid.listens; faults = mid.faults; gate_faults = mid.gate_faults }) told
-    ∙ ap (λ n. record { listening = listening_at before.listening port gates; listens = n; faults = mid.faults; gate_faults = mid.gate_faults }) listens
-    ∙ ap (λ n. record { listening = listening_at before.listening port gates; listens = one_more before.listens; faults = n; gate_faults = mid.gate_faults }) (sym faults)
-    ∙ ap (λ n. record { listening = listening_at before.listening port gates; listens = one_more before.listens; faults = after.faults; gate_faults = n }) gate_faults
+    ∙ ap (λ n. record {
+      listening = listening_at before.listening port gates;
+      listens = n;
+      faults = mid.faults;
+      gate_faults = mid.gate_faults;
+    }) listens
+    ∙ ap (λ n. record {
+      listening = listening_at before.listening port gates;
+      listens = one_more before.listens;
+      faults
+          = n;
+      gate_faults = mid.gate_faults;
+    }) (sym faults)
+    ∙ ap (λ n. record {
+      listening = listening_at before.listening port gates;
+      listens = one_more before.listens;
+      faults
+          = after.faults;
+      gate_faults = n;
+    }) gate_faults
 
 -- and as it didn't
-pub unheard_so : (before after : NetworkView) → after.listening ≡ before.listening → after.listens ≡ one_more before.listens → after.gate_faults ≡ before.gate_faults
+pub unheard_so : (before after : NetworkView) → after.listening ≡ before.listening → after.listens
+    ≡ one_more before.listens → after.gate_faults ≡ before.gate_faults
     → after ≡ unheard before after.faults
 unheard_so before after told listens gate_faults =
-    ap (λ l. record { listening = l; listens = after.listens; faults = after.faults; gate_faults = after.gate_faults }) told
-    ∙ ap (λ n. record { listening = before.listening; listens = n; faults = after.faults; gate_faults = after.gate_faults }) listens
-    ∙ ap (λ n. record { listening = before.listening; listens = one_more before.listens; faults = after.faults; gate_faults = n }) gate_faults
+    ap (λ l. record { listening = l; listens = after.listens; faults = after.faults; gate_faults = after.gate_faults })
+    told
+    ∙ ap (λ n. record {
+      listening = before.listening;
+      listens = n;
+      faults = after.faults;
+      gate_faults =
+          after.gate_faults;
+    }) listens
+    ∙ ap (λ n. record {
+      listening = before.listening;
+      listens = one_more before.listens;
+      faults = after.faults;
+      gate_faults = n;
+    }) gate_faults
 
 -- memory ran out once the network had listened
-pub lacks_workers : (asked : ServingWords) (device : Device) (before after : Site) (mid : NetworkView) (count : ℕ) (why : Undone) → why ≡ undone.Setback setbacks.NoMemory
+pub lacks_workers : (asked : ServingWords) (device : Device) (before after : Site) (mid : NetworkView) (count : ℕ)
+    (why : Undone) → why ≡ undone.Setback setbacks.NoMemory
     → count ≡ asked.workers → IsUnchanged before.store after.store
-    → mid.listening ≡ listening_at before.network.listening asked.port asked.workers → mid.listens ≡ one_more before.network.listens
-    → mid.gate_faults ≡ before.network.gate_faults → IsUnserved count mid after.network → ServesOr (Err why) asked device before after
+    → mid.listening ≡ listening_at before.network.listening asked.port asked.workers → mid.listens
+    ≡ one_more before.network.listens
+    → mid.gate_faults ≡ before.network.gate_faults → IsUnserved count mid after.network
+    → ServesOr (Err why) asked device before after
 lacks_workers asked device before after mid count why is many same told listens gate_faults unserved =
-    let there = listened_so before.network mid after.network asked.port asked.workers told listens gate_faults unserved.faults in
+    let there = listened_so before.network mid after.network asked.port asked.workers told listens gate_faults
+    unserved.faults in
     inr (inr (record {
       is = is;
-      network = subst (λ (n : NetworkView). IsUnserved asked.workers n after.network) there (subst (λ (n : ℕ). IsUnserved n mid after.network) many unserved);
+      network = subst (λ (n : NetworkView). IsUnserved asked.workers n after.network) there
+          (subst (λ (n : ℕ). IsUnserved n mid after.network) many unserved);
       store = same;
     }))
 
 -- a serving that ended
-pub works_serving : {K : Type 0} (asked : ServingWords) (device : Device) (before after : Site) (now : StoreView) (mid : NetworkView) (done : Done) (place : Option (List ℕ))
-    (count : ℕ) (clock : Moments) (manager out : machine.Managed K) → KeptIsFound → IsSound device → place ≡ asked.store → count ≡ asked.workers
+pub works_serving : {K : Type 0} (asked : ServingWords) (device : Device) (before after : Site) (now : StoreView)
+    (mid : NetworkView) (done : Done) (place : Option (List ℕ))
+    (count : ℕ) (clock : Moments) (manager out : machine.Managed K) → KeptIsFound → IsSound device → place ≡ asked.store
+    → count ≡ asked.workers
     → IsOrigin manager.origin device place before.store → manager.history ≡ [] → IsUnchanged before.store now
-    → mid.listening ≡ listening_at before.network.listening asked.port asked.workers → mid.listens ≡ one_more before.network.listens
-    → mid.gate_faults ≡ before.network.gate_faults → ((calls : ℕ) → clock calls ≡ serving_moments asked.at before.clock calls)
-    → ServesAll asked.connections count (record { origin = manager.origin; history = manager.history; clock = clock }) (record { history = out.history; totals = done.totals }) mid after.network
-    → out.origin ≡ manager.origin → Leaves out.origin out.origin.place out.history now after.store → done.history ≡ length out.history → Works asked device before after done
-works_serving {K} asked device before after now mid done place count clock manager out law sound asks many begun fresh same told listens gate_faults timed served one left counted =
+    → mid.listening ≡ listening_at before.network.listening asked.port asked.workers → mid.listens
+    ≡ one_more before.network.listens
+    → mid.gate_faults ≡ before.network.gate_faults → ((calls : ℕ) → clock calls
+    ≡ serving_moments asked.at before.clock calls)
+    → ServesAll asked.connections count (record { origin = manager.origin; history = manager.history; clock = clock })
+    (record { history = out.history; totals = done.totals }) mid after.network
+    → out.origin ≡ manager.origin → Leaves out.origin out.origin.place out.history now after.store → done.history
+    ≡ length out.history → Works asked device before after done
+works_serving {K} asked device before after now mid done place count clock manager out law sound asks many begun fresh
+    same told listens gate_faults timed served one left counted =
     let begins : IsOrigin manager.origin device asked.store before.store =
     subst (λ (p : Option (List ℕ)). IsOrigin manager.origin device p before.store) asks begun in
     let ended : Ended = record { history = out.history; totals = done.totals } in
     let moments = serving_moments asked.at before.clock in
-    let by : ServesAll asked.connections count (record { origin = manager.origin; history = manager.history; clock = moments }) ended mid after.network =
-    serves_timed asked.connections count (record { origin = manager.origin; history = manager.history; clock = clock }) moments ended mid after.network timed served in
-    let whole : ServesAll asked.connections asked.workers (record { origin = manager.origin; history = []; clock = moments }) ended mid after.network =
-    subst (λ (n : ℕ). ServesAll asked.connections n (record { origin = manager.origin; history = []; clock = moments }) ended mid after.network) many
-    (subst (λ (h : List Entry). ServesAll asked.connections count (record { origin = manager.origin; history = h; clock = moments }) ended mid after.network) fresh by) in
-    let there : ServesAll asked.connections asked.workers (record { origin = manager.origin; history = []; clock = moments }) ended
+    let by : ServesAll asked.connections count (record {
+      origin = manager.origin;
+      history = manager.history;
+      clock =
+          moments;
+    }) ended mid after.network =
+    serves_timed asked.connections count (record { origin = manager.origin; history = manager.history; clock = clock })
+    moments ended mid after.network timed served in
+    let whole : ServesAll asked.connections asked.workers (record {
+      origin = manager.origin;
+      history = [];
+      clock =
+          moments;
+    }) ended mid after.network =
+    subst (λ (n : ℕ). ServesAll asked.connections n (record { origin = manager.origin; history = []; clock = moments })
+    ended mid after.network) many
+    (subst (λ (h : List Entry). ServesAll asked.connections count (record
+    { origin = manager.origin; history = h; clock = moments }) ended mid after.network) fresh by) in
+    let there : ServesAll asked.connections asked.workers (record {
+      origin = manager.origin;
+      history = [];
+      clock =
+          moments;
+    }) ended
     (listened before.network asked.port asked.workers after.network.faults) after.network =
-    subst (λ (n : NetworkView). ServesAll asked.connections asked.workers (record { origin = manager.origin; history = []; clock = moments }) ended n after.network)
-    (listened_so before.network mid after.network asked.port asked.workers told listens gate_faults whole.faults) whole in
+    subst (λ (n : NetworkView). ServesAll asked.connections asked.workers
+    (record { origin = manager.origin; history = []; clock = moments }) ended n after.network)
+    (listened_so before.network mid after.network asked.port asked.workers told listens gate_faults whole.faults) whole
+    in
     let kept : Leaves manager.origin asked.store out.history before.store after.store =
     leaves_asked manager.origin asked.store out.history before.store now after.store same begins.at_place
     (subst (λ (o : Origin). Leaves o o.place out.history now after.store) one left) in
@@ -105,15 +169,18 @@ works_serving {K} asked device before after now mid done place count clock manag
     }
 
 -- the store has attached the place of the keeper that comes back
-pub attached_again : {K : Type 0} (old now : StoreView) (place : Option (List ℕ)) (Attached : List ℕ → Type 0) (manager out : machine.Managed K)
-    → (IsTrue old.tells → (at : List ℕ) → place ≡ Some at → Attached at) → IsUnchanged old now → manager.origin.place ≡ place
+pub attached_again : {K : Type 0} (old now : StoreView) (place : Option (List ℕ)) (Attached : List ℕ → Type 0)
+    (manager out : machine.Managed K)
+    → (IsTrue old.tells → (at : List ℕ) → place ≡ Some at → Attached at) → IsUnchanged old now → manager.origin.place
+    ≡ place
     → out.origin ≡ manager.origin → IsTrue now.tells → (at : List ℕ) → out.origin.place ≡ Some at → Attached at
 attached_again {K} old now place Attached manager out attached same at_place one tells at stands =
     let told : IsTrue old.tells = sym same.tells ∙ tells in
     attached told at (sym at_place ∙ (sym (ap (λ (o : Origin). o.place) one) ∙ stands))
 
 -- a keeper that comes back without a call leaves the rows
-pub left_again : {K : Type 0} (asked : ServingWords) (device : Device) (before now after : StoreView) (place : Option (List ℕ)) (manager : machine.Managed K)
+pub left_again : {K : Type 0} (asked : ServingWords) (device : Device) (before now after : StoreView)
+    (place : Option (List ℕ)) (manager : machine.Managed K)
     → place ≡ asked.store → IsOrigin manager.origin device place before → manager.history ≡ [] → IsUnchanged before now
     → Leaves manager.origin manager.origin.place manager.history now after → IsLeft asked device before after
 left_again {K} asked device before now after place manager asks begun fresh same left =
@@ -137,6 +204,7 @@ cut old new xs ys part = (
 )
 
 -- a piece that was sent behind what came first whole
-pub sends_behind : (old mid new : Option (List ℕ)) (xs ys : List ℕ) (result : Result (Unit {0}) Failed) → Appends old mid xs → Sends mid new ys result → Sends old new (xs ++ ys) result
+pub sends_behind : (old mid new : Option (List ℕ)) (xs ys : List ℕ) (result : Result (Unit {0}) Failed)
+    → Appends old mid xs → Sends mid new ys result → Sends old new (xs ++ ys) result
 sends_behind old mid new xs ys (Ok done) first sent = appends_trans old mid new xs ys first sent
 sends_behind old mid new xs ys (Err e) first sent = part_more old mid new xs ys first sent

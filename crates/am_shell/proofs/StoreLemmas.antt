@@ -20,14 +20,17 @@ test_false : {X : Type 0} (b : Bool) (x y : X) → b ≡ false → (if b then x 
 test_false b x y e = rw e
 
 -- rows that come back to a place are there
-there : (place : Option (List ℕ)) (told : Rows) (at : List ℕ) (before : Rows) → place ≡ Some at → rows_back place told at before ≡ told
+there : (place : Option (List ℕ)) (told : Rows) (at : List ℕ) (before : Rows) → place ≡ Some at
+    → rows_back place told at before ≡ told
 there None told at before is = cc
 there (Some path) told at before is =
     let same : path ≡ at = cc in
-    test_true (same_text path at) told before (subst (λ (p : List ℕ). same_text p at ≡ true) (sym same) (nat_list_eq_equiv.refl at))
+    test_true (same_text path at) told before (subst (λ (p : List ℕ). same_text p at ≡ true) (sym same)
+    (nat_list_eq_equiv.refl at))
 
 -- and those at other places stay
-elsewhere : (place : Option (List ℕ)) (told : Rows) (at : List ℕ) (before : Rows) → place ≢ Some at → rows_back place told at before ≡ before
+elsewhere : (place : Option (List ℕ)) (told : Rows) (at : List ℕ) (before : Rows) → place ≢ Some at
+    → rows_back place told at before ≡ before
 elsewhere None told at before apart = refl
 elsewhere (Some path) told at before apart = elim (cases_Bool (same_text path at)) [
   | inl hit ↦ absurd (apart (ap (λ p. Some p) (same_bytes path at (sym hit))))
@@ -44,22 +47,27 @@ rises_more : (few many count : ℕ) → few ≤ many → raised_by few count ≤
 rises_more few many count le = grind (arith, le)
 
 -- a keeper of the rows that the history has kept, which comes back to its place
-pub leaves : (origin : Origin) (history : List Entry) (old new : StoreView) (Honest : Type 0) (place : Option (List ℕ)) (rows : Option Rows) (faults : ℕ)
+pub leaves : (origin : Origin) (history : List Entry) (old new : StoreView) (Honest : Type 0) (place : Option (List ℕ))
+    (rows : Option Rows) (faults : ℕ)
     → new.tells ≡ old.tells → place ≡ origin.place → (IsTrue old.tells → Honest × IsTrue (is_some rows))
     → (Honest → (told : Rows) → rows ≡ Some told → told ≡ rows_after (opening_of origin) origin.rows history)
-    → (IsTrue old.tells → Honest → (told : Rows) → rows ≡ Some told → (at : List ℕ) → new.rows at ≡ rows_back place told at (old.rows at))
-    → new.faults ≡ raised_by faults old.faults → count_by is_unkept history ≤ faults → Leaves origin origin.place history old new
+    → (IsTrue old.tells → Honest → (told : Rows) → rows ≡ Some told → (at : List ℕ) → new.rows at
+    ≡ rows_back place told at (old.rows at))
+    → new.faults ≡ raised_by faults old.faults → count_by is_unkept history ≤ faults
+    → Leaves origin origin.place history old new
 leaves origin history old new Honest place rows faults tells same honest found back counts unkept = record {
   tells = tells;
   others = λ t at apart.
       let sure = honest t in
       let told = told_rows rows sure.1 in
-      back t sure.0 told.0 told.1 at ∙ elsewhere place told.0 at (old.rows at) (subst (λ (p : Option (List ℕ)). p ≢ Some at) (sym same) apart);
+      back t sure.0 told.0 told.1 at ∙ elsewhere place told.0 at (old.rows at)
+      (subst (λ (p : Option (List ℕ)). p ≢ Some at) (sym same) apart);
   kept = λ t at is.
       let sure = honest t in
       let told = told_rows rows sure.1 in
       back t sure.0 told.0 told.1 at ∙ there place told.0 at (old.rows at) (same ∙ is) ∙ found sure.0 told.0 told.1;
-  unkept = subst (λ (n : ℕ). raised_by (count_by is_unkept history) old.faults ≤ n) (sym counts) (rises_more (count_by is_unkept history) faults old.faults unkept);
+  unkept = subst (λ (n : ℕ). raised_by (count_by is_unkept history) old.faults ≤ n) (sym counts)
+      (rises_more (count_by is_unkept history) faults old.faults unkept);
 }
 
 -- where nothing else changed before, and the place is the one that was asked for

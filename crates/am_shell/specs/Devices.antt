@@ -8,15 +8,16 @@ use Rattle.am_console.specs.declared.setback.Setback.TheVariants.{DeviceRefused,
 use Rattle.am_console.specs.Devices.{Reading, ReadsAs, refusal_line}
 use Rattle.am_console.specs.Files.{IsMissing, Shelf}
 
--- the file of that name wasn't read: the count of faults rose, or no file has that name
+-- the file with this name wasn't read: the count of faults rose, or no file has this name
 abbrev pub IsUnread : List ℕ → Shelf → Shelf → Type 0
 IsUnread name before after = HasRisen before.faults after.faults ⊎ IsMissing before.files name
 
 -- the line names the fault that the file has
-pub record IsRefused {X : Type 0} (reading : Reading X) (files : Option (List FileBytes)) (name line : List ℕ) : Type 0 where
-  pub fault : ManifestFault
-  pub file : ReadsAs reading files name (Err fault)
-  pub says : line ≡ refusal_line (codes "am") fault
+pub record IsRefused {X : Type 0} (reading : Reading X) (files : Option (List FileBytes)) (name line : List ℕ) : Type 0
+  where
+    pub fault : ManifestFault
+    pub file : ReadsAs reading files name (Err fault)
+    pub says : line ≡ refusal_line (codes "am") fault
 
 module _ {X : Type 0} where
   -- why the file describes nothing

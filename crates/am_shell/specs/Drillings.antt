@@ -1,4 +1,4 @@
--- A drill that words ask for.
+-- A drill that the words ask for.
 use Rattle.std.specs.Prelude.{ℕ, ◌⊎◌}
 use Rattle.am_drill.specs.Drills.{drilled}
 use Rattle.am_drill.specs.Tallies.{printed}

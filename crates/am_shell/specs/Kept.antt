@@ -18,12 +18,13 @@ use Rattle.am_shell.specs.declared.undone.Undone.TheVariants as undone
 use Rattle.am_shell.specs.Lines.{rows_line}
 use Rattle.am_shell.specs.Outside.{StoreView}
 
--- these rows were kept at the place: those that the store tells there, if it tells its rows; without a place none
+-- these rows were kept at the place: those that the store tells there, if it tells its rows; none without a place
 abbrev pub AreKept : StoreView → Option (List ℕ) → Rows → Type 0
 AreKept store None rows = rows ≡ no_rows
 AreKept store (Some path) rows = IsTrue store.tells → rows ≡ store.rows path
 
--- a manager of that origin begins with the device and the rows that were kept at the place, and its keeper is at the place
+-- a manager with this origin begins with the device and the rows that were kept at the place, and its keeper is at the
+-- place
 pub record IsOrigin (origin : Origin) (device : Device) (place : Option (List ℕ)) (store : StoreView) : Type 0 where
   pub of_device : origin.device ≡ device
   pub kept : AreKept store place origin.rows
@@ -45,7 +46,7 @@ pub record IsUnchanged (old new : StoreView) : Type 0 where
   pub rows : IsTrue old.tells → (at : List ℕ) → new.rows at ≡ old.rows at
   pub faults : new.faults ≡ old.faults
 
--- what a manager of that origin leaves in the store after that history, if its rows are at the place: there are those
+-- what a manager with this origin leaves in the store after this history, if its rows are at the place: there are those
 -- that the history has kept, and at other places those of before. Each entry whose row wasn't kept stands for a fault
 pub record Leaves
     (origin : Origin) (place : Option (List ℕ)) (history : List Entry) (old new : StoreView) : Type 0 where

@@ -17,17 +17,17 @@ pub record StoreView : Type 0 where
   pub failed : ℕ
   pub faults : ℕ
 
--- what a session works on: the store of the kept rows, and what it is served over
+-- what a session works with: the store of the kept rows, and what it is served over
 pub record Workplace : Type 0 where
   pub store : StoreView
   pub streams : Streams
 
--- the outside of a run's work: the files, and what its session works on
+-- the outside of a run's work: the files, and what its session works with
 pub record Outside : Type 0 where
   pub files : Shelf
   pub work : Workplace
 
--- the outside of a whole run: that of its work, and the errors
+-- the outside of a whole run: its work's, and the errors
 pub record Surroundings : Type 0 where
   pub outside : Outside
   pub errors : SinkView
@@ -41,7 +41,7 @@ store_of g store = record {
   faults = g.keeper_faults store;
 }
 
--- what a session works on, with the store, the input, the output and the clock
+-- what a session works with: the store, the input, the output and the clock
 abbrev pub workplace_of : {T K S W C : Type 0} → StoreGhosts T K → SourceGhosts S → SinkGhosts W → ClockGhosts C
     → T → S → W → C → Workplace
 workplace_of t s w c store input output clock =

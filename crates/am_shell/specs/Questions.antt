@@ -1,4 +1,4 @@
--- A question that words ask: which components a package sees of those that a query finds.
+-- A question that the words ask: which components a package sees of those that a query finds.
 use Rattle.std.specs.Prelude.{◌≡◌, ℕ, ◌≤◌, ◌⊎◌, codes, List, ◌++◌, length, Some, None, Result, Ok, Err, ⊤}
 use Rattle.std.specs.Io.KnownBytes.{Consumes, IsAtEnd}
 use Rattle.am_outside.specs.Counts.{HasRisen}
@@ -30,12 +30,12 @@ pub record Desk : Type 0 where
 abbrev pub desk_of : {F S : Type 0} → FilesGhosts F → SourceGhosts S → F → S → Desk
 desk_of f s files input = record { files = shelf_of f files; input = source_of s input }
 
--- the outside of a whole question: what it is answered from, and what it is told on
+-- the outside of a whole question: what it is answered from, and what its answer is printed on
 pub record Booth : Type 0 where
   pub desk : Desk
   pub voices : Voices
 
--- how many bytes are read at most: one more than a query's body may have
+-- the most bytes that are read: one more than a query's body may have
 abbrev pub most_read : ℕ
 most_read = 65537
 
@@ -45,7 +45,7 @@ pub record IsRead (before after : SourceView) (bytes : List ℕ) : Type 0 where
   pub within : length bytes ≤ most_read
   pub end : (length bytes ≡ most_read) ⊎ IsAtEnd after.left
 
--- so many more bytes were read, none at the end alone
+-- so many more bytes were read, none only at the end
 pub record ReadsMore (before after : SourceView) (old new : List ℕ) (count : ℕ) : Type 0 where
   pub piece : List ℕ
   pub grows : new ≡ old ++ piece
@@ -61,7 +61,7 @@ FailsToRead undone.InputFault most before after =
 FailsToRead (undone.Setback setbacks.NoMemory) most before after = GivesAtMost most before.left after.left
 FailsToRead _ most before after = ⊥
 
--- the device file describes a device with its queries, in which the package that asks is that caller
+-- the device file describes a device with its queries, in which the package that asks is this caller
 pub record IsAsked (asked : QuestionWords) (files : Shelf) (known : Described) (caller : ℕ) : Type 0 where
   pub file : ReadsAs described files.files asked.device (Ok known)
   pub named : caller_of known.device.packages asked.«package» ≡ Some caller
@@ -76,7 +76,7 @@ IsNoReply (undone.QueryRefused line) reply = (fault : WireFault) × (reply ≡ E
 IsNoReply (undone.Setback setbacks.NoMemory) reply = ⊤
 IsNoReply _ reply = ⊥
 
--- what the caller is answered of the input, as text or by the first fault
+-- the answer to the caller for this input, as text or as the first fault
 pub record Replies (asked : QuestionWords) (before after : Desk) (reply : Result (List ℕ) WireFault) : Type 0 where
   pub known : Described
   pub caller : ℕ

@@ -61,7 +61,7 @@ pub record HasCause (asked : SessionWords) (before after : Surroundings) (status
   pub unopened : status ≡ 10 →
       (line : List ℕ) × Unopened asked before.outside line × Appends before.errors.taken after.errors.taken line
 
--- a row that was kept for the session that is asked for, of that device, is refused
+-- a row that was kept for the session that is asked for, of this device, is refused
 abbrev pub IsRowRefused : SessionWords → Device → Surroundings → Type 0
 IsRowRefused asked device before = (line : List ℕ) × RefusesRows device asked.store before.outside.work.store line
 
@@ -82,8 +82,8 @@ pub record RunsSession (asked : SessionWords) (before after : Surroundings) (sta
   pub cause : HasCause asked before after status
   pub complete : Completes asked before after status
 
--- all that a run may touch: the files, the store of the kept rows, the input, the output, the clock, the network and the
--- errors
+-- all that a run may touch: the files, the store of the kept rows, the input, the output, the clock, the network and
+-- the errors
 pub record World : Type 0 where
   pub files : Shelf
   pub store : StoreView
@@ -133,7 +133,7 @@ for_serving w = record {
   voices = for_drill w;
 }
 
--- nothing was done but to tell a line on the errors, with its status
+-- nothing was done except to write a line on the errors, with its status
 pub record OnlyTells (line : List ℕ) (status : ℕ) (before after : World) (result : ℕ) : Type 0 where
   pub idle : after ≡ record before { errors = after.errors }
   pub told : Tells line status before.errors after.errors result

@@ -1,4 +1,4 @@
--- A serving that words ask for: a device that many workers serve over a network.
+-- A serving that the words ask for: a device that many workers serve over a network.
 use Rattle.std.specs.Prelude.{◌≡◌, ℕ, ◌⊎◌, codes, decimal, List, [], ◌++◌, length, Some, Result, Ok, Err, Bool, IsTrue, true, false, ⊤}
 use Rattle.am_types.specs.declared.device.Device.{Device}
 use Rattle.am_outside.specs.Counts.{HasRisen}
@@ -36,11 +36,12 @@ pub record Site : Type 0 where
   pub network : NetworkView
   pub clock : Moments
 
-abbrev pub site_of : {T K N G R W C : Type 0} → StoreGhosts T K → NetworkGhosts N G R W → ClockGhosts C → T → N → C → Site
+abbrev pub site_of : {T K N G R W C : Type 0} → StoreGhosts T K → NetworkGhosts N G R W → ClockGhosts C → T → N → C
+    → Site
 site_of t n c store network clock =
     record { store = store_of t store; network = network_of n network; clock = c.moments clock }
 
--- what it is opened from, and works on
+-- what it is opened from, and works with
 pub record Grounds : Type 0 where
   pub files : Shelf
   pub site : Site
@@ -50,12 +51,12 @@ abbrev pub grounds_of : {F T K N G R W C : Type 0} → FilesGhosts F → StoreGh
 grounds_of f t n c files store network clock =
     record { files = shelf_of f files; site = site_of t n c store network clock }
 
--- the outside of a whole serving: that, and what it is told on
+-- the outside of a whole serving: that, and what its end is printed on
 pub record Premises : Type 0 where
   pub grounds : Grounds
   pub voices : Voices
 
--- the network once it was asked, one time more, and answered that many gates at a port, with that count of faults
+-- the network once it was asked, one time more, and answered so many gates at a port, with this count of faults
 abbrev pub listened : NetworkView → ℕ → ℕ → ℕ → NetworkView
 listened network port gates faults = record {
   listening = listening_at network.listening port gates;
@@ -68,10 +69,10 @@ listened network port gates faults = record {
 abbrev pub unheard : NetworkView → ℕ → NetworkView
 unheard network faults = record network { listens = one_more network.listens; faults = faults }
 
--- the serving that is asked for, of that device: it begins with the rows that were kept, and an empty history; its
--- workers serve it over the network, which listened once and as was asked for, at the moment of the words or those of the
--- clock; and it leaves the rows that its history has kept. With these the device opens as the serving left it. What is
--- told of it are the history's length and what the workers did
+-- the serving that is asked for, of this device: it begins with the rows that were kept, and an empty history; its
+-- workers serve it over the network, which listened once and as was asked for, at the moment of the words or those of
+-- the clock; and it leaves the rows that its history has kept. With these the device opens as the serving left it. What
+-- is told of it are the history's length and what the workers did
 pub record Works (asked : ServingWords) (device : Device) (before after : Site) (done : Done) : Type 0 where
   pub origin : Origin
   pub ended : Ended
@@ -103,25 +104,27 @@ FailsToListen undone.NetworkFault old new = HasRisen old.faults new.faults
 FailsToListen (undone.Setback setbacks.NoMemory) old new = ⊤
 FailsToListen _ old new = ⊥
 
--- the network didn't listen, which is as it was then but for the counts of its calls, and the keeper of the manager that
+-- the network didn't listen and is as it was, except for the counts of its calls, and the keeper of the manager that
 -- began came back
 pub record IsUnheard (why : Undone) (asked : ServingWords) (device : Device) (before after : Site) : Type 0 where
   pub fails : FailsToListen why before.network after.network
   pub network : after.network ≡ unheard before.network after.network.faults
   pub store : IsLeft asked device before.store after.store
 
--- memory ran out before the first link was handed out: the network listened, and its gates came back as they were made.
+-- memory ran out before the first link was handed out: the network listened, and its gates came back new.
 -- The rows stay
 pub record LacksWorkers (why : Undone) (asked : ServingWords) (before after : Site) : Type 0 where
   pub is : why ≡ undone.Setback setbacks.NoMemory
-  pub network : IsUnserved asked.workers (listened before.network asked.port asked.workers after.network.faults) after.network
+  pub network : IsUnserved asked.workers (listened before.network asked.port asked.workers after.network.faults)
+      after.network
   pub store : IsUnchanged before.store after.store
 
--- the serving that is asked for, of that device, or why nobody was served
+-- the serving that is asked for, of this device, or why nobody was served
 abbrev pub ServesOr : Result Done Undone → ServingWords → Device → Site → Site → Type 0
 ServesOr (Ok done) asked device before after = Works asked device before after done
 ServesOr (Err why) asked device before after =
-    IsUnbegun why asked device before after ⊎ IsUnheard why asked device before after ⊎ LacksWorkers why asked before after
+    IsUnbegun why asked device before after ⊎ IsUnheard why asked device before after ⊎ LacksWorkers why asked before
+    after
 
 -- the serving that is asked for, of the device that its file describes, or why it didn't begin
 pub record ServesFile (work : Result Done Undone) (asked : ServingWords) (before after : Grounds) : Type 0 where

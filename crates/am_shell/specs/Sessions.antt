@@ -1,4 +1,4 @@
--- A session that words ask for, and what its end or a setback means.
+-- A session that the words ask for, and what its end or a setback means.
 use Rattle.std.specs.Prelude.{◌≡◌, ℕ, List, [], Option, Some, Result, Ok, Err, IsTrue}
 use Rattle.am_types.specs.declared.device.Device.{Device}
 use Rattle.am_types.specs.declared.history.Entry.{Entry}
@@ -21,7 +21,7 @@ use Rattle.am_shell.specs.Devices.{FailsToOpen}
 use Rattle.am_shell.specs.Kept.{FailsToOpenRows, IsOrigin, IsUnchanged, Leaves, RefusesRows}
 use Rattle.am_shell.specs.Outside.{Outside, Workplace}
 
--- the only desk of a manager of that origin, which has seen that history
+-- the only desk of a manager with this origin, which has seen this history
 abbrev pub sole_desk : Origin → List Entry → DeskView
 sole_desk origin seen = record {
   origin = origin;
@@ -30,7 +30,7 @@ sole_desk origin seen = record {
   seen = seen;
 }
 
--- the session of a manager of that origin over the clock of the session, from an empty history, with its end. The
+-- the session of a manager with this origin over the clock of the session, from an empty history, with its end. The
 -- history at the end could have been made, and it is exactly what the session's calls stored, so that each of its
 -- entries is the desk's own
 pub record Serves
@@ -65,7 +65,7 @@ pub record Unopened (asked : SessionWords) (before : Outside) (line : List ℕ) 
   pub file : Describes before.files.files asked.device (Ok device)
   pub refused : RefusesRows device asked.store before.work.store line
 
--- the session that is asked for, of that device, with its end: it begins with the rows that were kept, and leaves those
+-- the session that is asked for, of this device, with its end: it begins with the rows that were kept, and leaves those
 -- that its history has kept. With these the device opens as the session left it
 pub record Works (asked : SessionWords) (device : Device) (before after : Workplace) (end : End) : Type 0 where
   pub origin : Origin
@@ -94,7 +94,7 @@ abbrev pub Happens : Result End Undone → SessionWords → Outside → Outside 
 Happens (Ok end) asked before after = Worked asked before after end
 Happens (Err why) asked before after = FailsToBegin why asked before after
 
--- the session that is asked for, of that device, or why it didn't begin
+-- the session that is asked for, of this device, or why it didn't begin
 abbrev pub ServesOr : Result End Undone → SessionWords → Device → Workplace → Workplace → Type 0
 ServesOr (Ok end) asked device before after = Works asked device before after end
 ServesOr (Err why) asked device before after =

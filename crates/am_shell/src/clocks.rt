@@ -4,7 +4,7 @@ ghost use Rattle.am_shell.specs.Clocks.{serving_moments, told_by};
 
 use am_outside::Clock;
 
-/// The clock of a serving's workers: the one that is handed in, or one that stands at a moment.
+/// The clock of a serving's workers: the one that is handed in, or one that stays at a moment.
 #[derive(Drop)]
 pub(crate) enum ServingClock<C: Clock> {
     Handed(C),
@@ -29,8 +29,8 @@ impl<C: Clock> Clock for ServingClock<C> {
     }
 }
 
-/// The clock of a serving: one that stands at the moment that is asked for, else the one that is handed in, of which
-/// nothing is asked where a moment is.
+/// The clock of a serving: one that stays at the moment that is asked for, otherwise the one that is handed in, which
+/// isn't asked if a moment is asked for.
 pub(crate) fn clock_of<C: Clock>(at: Option<u64>, clock: &C) -> ServingClock<C>
     ensures { (calls : ℕ) → told_by C.Clock result calls ≡ serving_moments at (C.moments clock.now) calls }
 {

@@ -13,7 +13,7 @@ use am_outside::Files;
 use am_types::{Device, Text, Unmade};
 use std::alloc::Global;
 
-/// Reads the device file of that name. A device that was read is sound.
+/// Reads the device file with this name. A device that was read is sound.
 pub fn open_device<F: Files>(alloc: Global, files: &mut F, name: &Text) -> Result<Device, Setback>
     ensures opens { Opens result device_of name.now (shelf_of F.Files files.old) (shelf_of F.Files files.new) }
     ensures sound { IfOk result (λ device. IsSound device) }
@@ -22,7 +22,7 @@ pub fn open_device<F: Files>(alloc: Global, files: &mut F, name: &Text) -> Resul
     parse_device(alloc, "am", bytes.as_slice())
 }
 
-/// Reads the device file of that name with the queries of its packages. A device that was read is sound.
+/// Reads the device file with this name, with the queries of its packages. A device that was read is sound.
 pub fn open_described<F: Files>(
     alloc: Global,
     files: &mut F,

@@ -1,4 +1,4 @@
-//! The manager of a session, which begins with the rows that are kept, and its keeper's way back to the store.
+//! The manager of a session, which begins with the rows that are kept, and how its keeper gets back to the store.
 ghost use Rattle.std.specs.Prelude.{◌≡◌, ◌≤◌, ℕ, List as Items, [], Some, IfOk, OnOk, IfErr, IsTrue};
 ghost use Rattle.std.specs.Option.{option_copied};
 ghost use Rattle.am_model.specs.Sound.{IsSound};
@@ -15,7 +15,7 @@ use am_types::{Device, NoMemory, Text};
 use std::alloc::Global;
 use std::hash::RandomState;
 
-/// A manager of a sound device with the rows that the store keeps at the place, or with none without a place. It hashes
+/// A manager of a sound device with the rows that the store keeps at the place, or none without a place. It hashes
 /// what callers choose under the keys that were drawn, if some were.
 pub fn open_manager<T: Store>(
     alloc: Global,
@@ -48,7 +48,7 @@ pub fn open_manager<T: Store>(
     }
 }
 
-// Why no manager began where the store attached no rows.
+// Why no manager began if the store attached no rows.
 fn unattached(fail: KeepFail) -> Undone
     ensures { result ≡ unattached_of fail }
 {

@@ -1,5 +1,5 @@
-//! The program behind its `main`: words, the device file, the kept rows, and what the words ask for: a session, a serving
-//! over a network, a drill, or what a package sees.
+//! The program behind its `main`: words, the device file, the kept rows, and what the words ask for: a session, a
+//! serving over a network, a drill, or what a package sees.
 #![tactic(auto)]
 
 mod clocks;

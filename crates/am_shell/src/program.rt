@@ -19,28 +19,28 @@ use std::thread::Threads;
 
 /// Runs the command that the words say.
 ///
-/// - A session, from the input to the output, over the device file and the rows that the store keeps at the place of the
-///   words, to which its keeper is handed back at the end.
-///   Its moments are those of the clock that the words ask for, if they do, else those of the clock that is handed in.
-/// - What a package sees, of the device file with the queries of its packages, of the components that a query finds. The
-///   query is read from the input, to its end or to one byte more than a body may have.
+/// - A session, from the input to the output, over the device file and the rows that the store keeps at the place of
+///   the words, to which its keeper is handed back at the end. Its moments are those of the clock that the words ask
+///   for, if they do, otherwise of the clock that is handed in.
+/// - What a package of the device file, which is read with the packages' queries, sees of the components that a query
+///   finds. The query is read from the input, to its end or to one byte more than a body may have.
 ///   The line that answers it is printed on the output.
-/// - A serving: as many workers as the words say, each in a thread of its own if there are threads, serve the links of as
-///   many gates of the network, over the device file and the rows that the store keeps at the place of the words, to which
-///   its keeper is handed back at the end. Each worker has a clock of its own, which stands at the moment of the words, if
-///   they say one, else tells what the clock that is handed in tells. It ends when no link is to come, a call of its gate
-///   fails, or it has served as many links as the words say. Then the length of the history and the number of links
-///   served are printed on the output. It waits for the links of the network.
-/// - A drill: as many generated requests as the words say, on a generated device, in memory. What is counted of their
-///   replies is printed on the output.
+/// - A serving: as many workers as the words say, each in a thread of its own if there are threads, serve the links of
+///   as many gates of the network, over the device file and the rows that the store keeps at the place of the words, to
+///   which its keeper is handed back at the end. Each worker has a clock of its own, which stays at the moment of the
+///   words, if they say one, otherwise tells what the clock that is handed in tells. It ends when no link is to come, a
+///   call of its gate fails, or it has served as many links as the words say. Then the length of the history and the
+///   number of links served are printed on the output. It waits for the links of the network.
+/// - A drill: as many generated requests as the words say, on a generated device, in memory. The counts of their
+///   replies are printed on the output.
 ///
-/// Its status is 0 where the work ended well, 1 where a session ended at a refused or a cut frame or at the limit, 2 for
-/// words that say no command, 3 for a refused device file, 4, 5 and 6 for a fault of the files, of the input and
-/// of the output or the errors, 7 for a fault of the store, 8 where memory ran out, in a session before the first frame
-/// alone and in a serving before the first link is handed out, 9 for a fault of the network, which has handed out no link
-/// then, or of one of its gates, whose worker has served none after it, 10 for a kept row that is refused, 11 for a
-/// question that is no query, and 12 for a package that the device doesn't have.
-/// Each but 0 has its line on the errors.
+/// Its status is 0 if the work ended well, 1 if a session ended at a refused or a cut frame or at the limit, 2 for
+/// words that aren't a command, 3 for a refused device file, 4, 5 and 6 for a fault of the files, of the input and of
+/// the output or the errors, 7 for a fault of the store, 8 if memory ran out, which in a session happens only before
+/// the first frame and in a serving before the first link is handed out, 9 for a fault of the network, which then has
+/// handed out no link, or of one of its gates, whose worker has served none after it, 10 for a kept row that is
+/// refused, 11 for a question that isn't a query, and 12 for a package that the device doesn't have. Each except 0 has
+/// its line on the errors.
 pub fn run<R, F: Files, S: Source, W: Sink, E: Sink, N: Network, T: Store, C: Clock>(
     rt: &R,
     alloc: Global,
@@ -68,7 +68,7 @@ where
     )
 }
 
-/// The same, where a serving hashes what its clients choose under the keys that were drawn, if some were. Nothing that
+/// The same, but a serving hashes what its clients choose under the keys that were drawn, if some were. Nothing that
 /// the program says depends on them.
 pub fn run_keyed<R, F: Files, S: Source, W: Sink, E: Sink, N: Network, T: Store, C: Clock>(
     rt: &R,

@@ -1,4 +1,4 @@
-//! Which components a package sees: a question about a device, which is asked on the input.
+//! Which components a package sees: a question about a device, asked on the input.
 ghost use Rattle.std.specs.Prelude.{◌≡◌, ◌-◌, ◌≤◌, ◌<◌, IfOk, IfErr, Ok, length};
 ghost use Rattle.am_http.specs.Links.{source_of};
 ghost use Rattle.am_model.specs.Sound.{IsSound};
@@ -19,7 +19,7 @@ use am_wire_fields::WireFault;
 use am_words::QuestionWords;
 use std::alloc::Global;
 
-/// How many bytes of the input are read at most, one more than a query's body may have.
+/// The most bytes of the input that are read, one more than a query's body may have.
 const MOST_READ: usize = 65_537;
 
 /// How many bytes are read at once.
@@ -53,7 +53,7 @@ pub fn run_question<F: Files, S: Source, W: Sink, E: Sink>(
     }
 }
 
-// All but the output and the line on the errors.
+// All except the output and the line on the errors.
 fn answer_question<F: Files, S: Source>(
     alloc: Global,
     asked: &QuestionWords,
@@ -72,7 +72,7 @@ fn answer_question<F: Files, S: Source>(
     answer_to(alloc, known, caller, bytes.as_slice())
 }
 
-// What the caller is answered, or the line that names the fault of what it asks.
+// The answer to the caller, or the line that names the fault of what it asks.
 fn answer_to(alloc: Global, known: Described, caller: u32, bytes: &[u8]) -> Result<Text, Undone>
     requires sound { IsSound known.device }
     ensures answered { IfOk result (λ text. answer_to known caller bytes.now ≡ Ok text) }
@@ -108,7 +108,7 @@ fn read_input<S: Source>(alloc: Global, input: &mut S) -> Result<Vec<u8>, Undone
     Ok(bytes)
 }
 
-// Reads once, behind the bytes that were read, and answers how many came: 0 at the end alone.
+// Reads once, after the bytes that were read, and answers how many came: 0 only at the end.
 fn read_piece<S: Source>(input: &mut S, bytes: &mut Vec<u8>) -> Result<usize, Undone>
     requires room { length bytes.old.items < MOST_READ }
     ensures more { IfOk result (λ count. ReadsMore

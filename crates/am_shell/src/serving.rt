@@ -26,7 +26,7 @@ use std::hash::RandomState;
 use std::sync::Wait;
 use std::thread::Threads;
 
-/// What is told of a serving that ended.
+/// What is printed of a serving that ended.
 #[derive(Clone, Copy, Debug, PartialEq, Eq)]
 pub struct Done {
     /// How many entries the history has.
@@ -36,10 +36,10 @@ pub struct Done {
 }
 
 /// Runs the serving that is asked for: its workers serve the device over the network, beginning with the rows that the
-/// store keeps at the place of the words, and its keeper is handed back to the store at the end. Its moments are the one
-/// that the words ask for, if they do, else those of the clock that is handed in. Prints how long the history is and how
-/// many links were served. Answers the status, whose line it writes on the errors. When memory ran out or the network
-/// didn't listen, no link was handed out.
+/// store keeps at the place of the words, and its keeper is handed back to the store at the end. Its moments are the
+/// one that the words ask for, if they do, otherwise those of the clock that is handed in. Prints how long the history
+/// is and how many links were served. Answers the status, whose line it writes on the errors. When memory ran out or
+/// the network didn't listen, no link was handed out.
 pub fn run_serving<R, F: Files, W: Sink, E: Sink, N: Network, T: Store, C: Clock>(
     rt: &R,
     alloc: Global,
@@ -73,7 +73,7 @@ where
     }
 }
 
-// All but what is told.
+// All except what is printed.
 fn open_serving<R, F: Files, N: Network, T: Store, C: Clock>(
     rt: &R,
     alloc: Global,
@@ -96,7 +96,7 @@ where
     serve_device(rt, alloc, drawn, device, asked, network, store, clock)
 }
 
-// Serves a sound device as is asked for, and answers what is told of it, or why it didn't begin.
+// Serves a sound device as is asked for, and answers what is to be printed, or why the serving didn't begin.
 fn serve_device<R, N: Network, T: Store, C: Clock>(
     rt: &R,
     alloc: Global,
@@ -144,7 +144,7 @@ where
     }
 }
 
-// Tells a serving that ended: prints its line, unless a gate failed.
+// Tells how a serving ended: prints its line, unless a gate failed.
 fn tell_done<W: Sink, E: Sink>(done: Done, output: &mut W, errors: &mut E) -> u8
     ensures { TellsDone done.totals.failed done
         (voices_of W.Sink E.Sink output.old errors.old)
@@ -160,7 +160,7 @@ fn tell_done<W: Sink, E: Sink>(done: Done, output: &mut W, errors: &mut E) -> u8
     }
 }
 
-// Writes the line of a serving that ended, for which there may be no memory any more.
+// Writes the line of a serving that ended, without memory, as there may be none left.
 fn write_done<W: Sink>(done: Done, output: &mut W) -> Result<(), Failed>
     ensures sent { Sends (W.taken output.old) (W.taken output.new) (done_line done) result }
     ensures never_falls { W.faults output.old ≤ W.faults output.new }

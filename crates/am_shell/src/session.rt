@@ -24,7 +24,7 @@ use std::alloc::Global;
 
 /// Runs the session that is asked for, from the input to the output: it begins with the rows that the store keeps at
 /// the place of the words, and its keeper is handed back to the store at the end. Its moments are those of the clock
-/// that the words ask for, if they do, else those of the clock that is handed in. Answers the status, whose line it
+/// that the words ask for, if they do, otherwise of the clock that is handed in. Answers the status, whose line it
 /// writes on the errors.
 pub fn run_session<F: Files, S: Source, W: Sink, E: Sink, T: Store, C: Clock>(
     alloc: Global,
@@ -53,7 +53,7 @@ pub fn run_session<F: Files, S: Source, W: Sink, E: Sink, T: Store, C: Clock>(
     }
 }
 
-// All but the line on the errors.
+// All except the line on the errors.
 fn open_session<F: Files, S: Source, W: Sink, T: Store, C: Clock>(
     alloc: Global,
     asked: SessionWords,
@@ -93,7 +93,7 @@ fn serve_session<S: Source, W: Sink, T: Store, C: Clock>(
         clock: own,
     } = asked;
     let mut buffers = Buffers::new(alloc)?;
-    // The one client of a session slows nobody but itself.
+    // The one client of a session slows only itself.
     let manager = open_manager(alloc, None, store, device, place.as_ref())?;
     let mut desk = SoleDesk::new(manager);
     let end = serve_on(alloc, &mut desk, own, input, output, clock, &mut buffers);
@@ -102,7 +102,7 @@ fn serve_session<S: Source, W: Sink, T: Store, C: Clock>(
     Ok(end)
 }
 
-// Serves the input on the desk, by the clock that is asked for, else by the one that is handed in.
+// Serves the input on the desk, by the clock that is asked for, otherwise by the one that is handed in.
 fn serve_on<D: Desk, S: Source, W: Sink, C: Clock>(
     alloc: Global,
     desk: &mut D,
@@ -125,12 +125,13 @@ fn serve_on<D: Desk, S: Source, W: Sink, C: Clock>(
     }
 }
 
-// The line of a session's end.
+// The line for a session's end.
 fn end_line(end: End) -> &'static str
     ensures { result.now ≡ end_line end }
 {
     match end {
-        End::Input | End::Close => "",
+        // A session never rests.
+        End::Input | End::Close | End::Idle => "",
         End::Refused => "am: session ended: refused\n",
         End::Cut => "am: session ended: cut\n",
         End::Limit => "am: session ended: limit\n",
@@ -139,12 +140,12 @@ fn end_line(end: End) -> &'static str
     }
 }
 
-// The status of a session's end.
+// The status for a session's end.
 fn end_status(end: End) -> u8
     ensures { result ≡ end_status end }
 {
     match end {
-        End::Input | End::Close => 0,
+        End::Input | End::Close | End::Idle => 0,
         End::Refused | End::Cut | End::Limit => 1,
         End::ReadFault => 5,
         End::WriteFault => 6,

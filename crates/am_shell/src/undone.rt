@@ -20,7 +20,7 @@ pub enum Undone {
     NoPackage,
     /// Reading the input failed.
     InputFault,
-    /// What is asked is no query, and this line names its first fault.
+    /// What is asked isn't a query, and this line names its first fault.
     QueryRefused(Text),
 }
 

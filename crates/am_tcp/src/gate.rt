@@ -1,87 +1,55 @@
 //! A gate at a port.
-ghost use Rattle.std.specs.Prelude.{◌≡◌, None, IfOk};
+ghost use Rattle.std.specs.Prelude.{◌≡◌, None};
 
-use crate::faults::{is_of_peer, is_shortage};
-use crate::limits::Limits;
-use crate::link::{TcpReader, TcpWriter, end, open};
+use crate::link::{TcpReader, TcpWriter};
+use crate::port::Port;
+use crate::table::Link;
 use am_network::Acceptor;
 use am_outside::Failed;
-use std::alloc::Global;
-use std::io::ErrorKind;
 use std::marker::Copy;
-use std::net::TcpListener;
 use std::rt::Clock as Time;
-use std::sync::Arc;
-use std::time::Duration;
-use std::{io, thread};
+use std::sync::{Arc, Wait};
 
-/// How many milliseconds a gate waits before it tries again, where the system lacks a place or memory for one more
-/// connection.
-const PAUSE_MILLIS: u64 = 50;
-
-/// A gate at a port, at which connections arrive. All gates of one `listen` share the port and one descriptor of it,
-/// and a connection arrives at one of them that waits. It is never closed.
+/// A gate at a port, at which connections arrive. All gates of one `listen` share the port, its connections and three
+/// descriptors. A link arrives again at one of them that waits, whichever had it before. It is never closed.
+///
+/// A parked link is handed out again once its next request is there whole. One is handed out too if a server answers
+/// without more of it, if the peer has ended it, and when its time is over: then a read tells the end, or fails within
+/// a request. If descriptors run short, the parked link that waits longest is ended for the next one.
 #[derive(Drop)]
 pub struct TcpGate<R> {
     rt: R,
-    alloc: Global,
-    limits: Limits,
-    listener: Arc<TcpListener>,
+    port: Arc<Port<R>>,
     faults: u64,
 }
 
-impl<R: Time + Copy + Drop> TcpGate<R> {
+impl<R: Time + Wait + Copy + Drop> TcpGate<R> {
     // A gate at the port.
-    pub(crate) fn new(
-        rt: R,
-        alloc: Global,
-        limits: Limits,
-        listener: Arc<TcpListener>,
-    ) -> TcpGate<R>
+    pub(crate) fn new(rt: R, port: Arc<Port<R>>) -> TcpGate<R>
         ensures { result.faults ≡ 0 }
     {
         TcpGate {
             rt,
-            alloc,
-            limits,
-            listener,
+            port,
             faults: 0,
         }
     }
 
-    // How many calls of `accept` failed.
+    // How many calls of `accept` and `next_link` failed.
     pub(crate) fn faults(&self) -> u64
         ensures { result ≡ self.now.faults }
     {
         self.faults
     }
 
-    // Waits for the next connection that can be served. One that breaks before is left out: it is no fault of the gate.
-    // A full table of open files is no reason to end a worker for good either: connections that wait stay with the
-    // system, and files that other workers close make room, so it waits for a moment and tries again, and counts no
-    // fault.
-    fn next_link(&self) -> io::Result<(TcpReader<R>, TcpWriter<R>)>
-        ensures { IfOk result (λ link. (link.0.faults ≡ 0) × (link.1.faults ≡ 0)) }
-    {
-        for _ in 0..u64::MAX {
-            match self.listener.accept() {
-                Ok((stream, _)) => {
-                    if let Ok(link) = open(self.rt, self.alloc, &self.limits, stream) {
-                        return Ok(link);
-                    }
-                }
-                Err(error) if is_of_peer(&error) => {}
-                Err(error) if is_shortage(&error) => {
-                    thread::sleep(&self.rt, Duration::from_millis(PAUSE_MILLIS));
-                }
-                Err(error) => return Err(error),
-            }
-        }
-        Err(io::Error::from(ErrorKind::Interrupted))
+    // Waits for the peers that were told the end.
+    pub(crate) fn finish_all(&self) {
+        // Where no time can be told, they have none.
+        let _ = self.port.finish_all(self.rt);
     }
 }
 
-impl<R: Time + Copy + Drop + Send> Acceptor for TcpGate<R> {
+impl<R: Time + Wait + Copy + Drop + Send> Acceptor for TcpGate<R> {
     ghost use Rattle.std.specs.Prelude.{None};
 
     type Reader = TcpReader<R>;
@@ -93,8 +61,11 @@ impl<R: Time + Copy + Drop + Send> Acceptor for TcpGate<R> {
     ghost faults = { λ g. g.faults };
 
     fn accept(&mut self) -> Result<Option<(TcpReader<R>, TcpWriter<R>)>, Failed> {
-        match self.next_link() {
-            Ok(link) => Ok(Some(link)),
+        match self.port.next_new(self.rt) {
+            Ok(link) => {
+                let Link { reader, writer, .. } = link;
+                Ok(Some((reader, writer)))
+            }
             Err(_) => {
                 self.faults = self.faults.saturating_add(1);
                 Err(Failed)
@@ -103,6 +74,28 @@ impl<R: Time + Copy + Drop + Send> Acceptor for TcpGate<R> {
     }
 
     fn finish(&mut self, reader: TcpReader<R>, writer: TcpWriter<R>) {
-        end(reader, writer);
+        self.port.finish(self.rt, reader, writer);
+    }
+
+    fn next_link(&mut self) -> Result<Option<(TcpReader<R>, TcpWriter<R>, u32)>, Failed> {
+        match self.port.next(self.rt) {
+            Ok(link) => {
+                let Link {
+                    reader,
+                    writer,
+                    answered,
+                    ..
+                } = link;
+                Ok(Some((reader, writer, answered)))
+            }
+            Err(_) => {
+                self.faults = self.faults.saturating_add(1);
+                Err(Failed)
+            }
+        }
+    }
+
+    fn park(&mut self, reader: TcpReader<R>, writer: TcpWriter<R>, answered: u32) -> bool {
+        self.port.park(self.rt, reader, writer, answered)
     }
 }

@@ -15,29 +15,36 @@ const RESPONSE_SECONDS: u64 = 60;
 /// How many seconds it has at the end of its connection.
 const END_SECONDS: u64 = 2;
 
+/// How many seconds a connection may rest between a response and the next request.
+const IDLE_SECONDS: u64 = 75;
+
 /// How long the peer of a connection may take for each thing as a whole. A limit of 0 leaves it no time.
 #[derive(Clone, Copy)]
 pub struct Limits {
     /// A request is there whole that long after its first byte, and the first one of a connection that long after the
-    /// connection was accepted. Between a response and the next request's first byte it is quiet for no longer either.
+    /// connection was accepted.
     pub request: Duration,
     /// A response is taken whole that long after its first byte was to be written.
     pub response: Duration,
     /// What the peer still sends at the connection's end is waited for that long in all.
     pub end: Duration,
+    /// Between a response and the next request's first byte the connection rests for that long.
+    pub idle: Duration,
 }
 
 impl Limits {
-    /// The limits of a server: 30 seconds for a request, 60 for a response, and 2 at the end.
+    /// The limits of a server: 30 seconds for a request, 60 for a response, 2 at the end, and 75 between requests.
     pub fn usual() -> Limits
         ensures request { as_nanos result.request ≡ 30 * 1000000000 }
         ensures response { as_nanos result.response ≡ 60 * 1000000000 }
         ensures end { as_nanos result.end ≡ 2 * 1000000000 }
+        ensures idle { as_nanos result.idle ≡ 75 * 1000000000 }
     {
         Limits {
             request: Duration::from_secs(REQUEST_SECONDS),
             response: Duration::from_secs(RESPONSE_SECONDS),
             end: Duration::from_secs(END_SECONDS),
+            idle: Duration::from_secs(IDLE_SECONDS),
         }
     }
 }
@@ -72,6 +79,13 @@ impl Term {
         ensures { (self.new.limit ≡ self.old.limit) × (self.new.since ≡ None) }
     {
         self.since = None;
+    }
+
+    /// Since when the limit runs, if it does.
+    pub(crate) fn since(&self) -> Option<Instant>
+        ensures { result ≡ self.now.since }
+    {
+        self.since
     }
 
     /// How much is left, which is nothing once the limit has passed.

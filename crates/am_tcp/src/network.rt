@@ -4,14 +4,17 @@ ghost use Rattle.am_tcp.specs.Places.{IsLocal};
 
 use crate::gate::TcpGate;
 use crate::limits::Limits;
+use crate::port::Port;
 use am_network::{ListenFail, Network};
+use mio::Poll;
+use mio::net::TcpListener as Listener;
 use std::alloc::{AllocError, Global};
 use std::io;
 use std::io::ErrorKind;
 use std::marker::Copy;
-use std::net::{IpAddr, Ipv4Addr, Net, SocketAddr, TcpListener, TcpStream};
+use std::net::{IpAddr, Ipv4Addr, Net, SocketAddr, TcpListener};
 use std::rt::Clock as Time;
-use std::sync::Arc;
+use std::sync::{Arc, Wait};
 
 /// The ports of this machine, at 127.0.0.1 alone.
 #[derive(Drop)]
@@ -61,25 +64,34 @@ fn is_local(address: &SocketAddr, port: u16) -> bool
     }
 }
 
-// Binds a port, and asks the system at which address it listens, which has to be this one.
-fn bind<R: Net<Listener = TcpListener, Stream = TcpStream>>(
-    rt: &R,
-    port: u16,
-) -> io::Result<(TcpListener, SocketAddr)>
+// Binds a port, at which as many connections may wait as the system allows, and asks the system at which address it
+// listens, which has to be this one.
+fn bind<R: Net>(rt: &R, port: u16) -> io::Result<(TcpListener, SocketAddr)>
     ensures { IfOk result (λ bound. IsLocal port bound.1) }
 {
-    let listener = TcpListener::bind(rt, SocketAddr::from((Ipv4Addr::LOCALHOST, port)))?;
+    let listener = Listener::bind(rt, SocketAddr::from((Ipv4Addr::LOCALHOST, port)))?;
     let address = listener.local_addr()?;
     if !is_local(&address, port) {
         return Err(io::Error::from(ErrorKind::AddrNotAvailable));
     }
-    Ok((listener, address))
+    Ok((TcpListener::from(listener), address))
+}
+
+// A port that is listened at, with its address.
+fn open_port<R: Net + Time + Wait + Copy + Drop>(
+    network: &TcpNetwork<R>,
+    port: u16,
+) -> io::Result<(Port<R>, SocketAddr)> {
+    let (listener, address) = bind(&network.rt, port)?;
+    let poll = Poll::new(&network.rt)?;
+    let port = Port::new(network.alloc, network.limits, listener, poll)?;
+    Ok((port, address))
 }
 
 // Fills a vector with gates at one port, that many in all.
-fn open_gates<R: Time + Copy + Drop>(
+fn open_gates<R: Time + Wait + Copy + Drop>(
     network: &TcpNetwork<R>,
-    listener: &Arc<TcpListener>,
+    port: &Arc<Port<R>>,
     gates: u32,
     mut made: Vec<TcpGate<R>>,
 ) -> Result<Vec<TcpGate<R>>, AllocError>
@@ -89,14 +101,12 @@ fn open_gates<R: Time + Copy + Drop>(
     ensures new { IfOk result (λ made. All (λ gate. gate.faults ≡ 0) made.items) }
 {
     for _number in 0..gates {
-        let listener = Arc::try_clone(listener)?;
-        made.push_reserved(TcpGate::new(network.rt, network.alloc, network.limits, listener));
+        made.push_reserved(TcpGate::new(network.rt, Arc::try_clone(port)?));
     }
     Ok(made)
 }
 
-impl<R: Net<Listener = TcpListener, Stream = TcpStream> + Time + Copy + Drop + Send> Network
-    for TcpNetwork<R> {
+impl<R: Net + Time + Wait + Copy + Drop + Send> Network for TcpNetwork<R> {
     ghost use Rattle.std.specs.Prelude.{None};
 
     type Gate = TcpGate<R>;
@@ -112,10 +122,10 @@ impl<R: Net<Listener = TcpListener, Stream = TcpStream> + Time + Copy + Drop + S
     fn listen(&mut self, port: u16, gates: u32) -> Result<Vec<TcpGate<R>>, ListenFail> {
         self.listens = self.listens.saturating_add(1);
         let room = Vec::with_capacity(self.alloc, gates as usize)?;
-        match bind(&self.rt, port) {
-            Ok((listener, address)) => {
-                let listener = Arc::new(self.alloc, listener)?;
-                let made = open_gates(self, &listener, gates, room)?;
+        match open_port(self, port) {
+            Ok((port, address)) => {
+                let port = Arc::new(self.alloc, port)?;
+                let made = open_gates(self, &port, gates, room)?;
                 self.local_addr = Some(address);
                 Ok(made)
             }
@@ -127,6 +137,7 @@ impl<R: Net<Listener = TcpListener, Stream = TcpStream> + Time + Copy + Drop + S
     }
 
     fn release(&mut self, gate: TcpGate<R>) {
+        gate.finish_all();
         self.gate_faults = self.gate_faults.saturating_add(gate.faults());
     }
 }

@@ -62,7 +62,7 @@ fn milliseconds(rt: &HostRuntime) -> u64 {
     }
 }
 
-/// A clock that tells whole seconds would be behind the runtime's in some round, however slow the machine is.
+/// A clock that tells whole seconds would be behind the runtime's in some round, even on a slow machine.
 #[test]
 fn tells_milliseconds(rt: HostRuntime) {
     let mut clock = SystemClock::new(rt);

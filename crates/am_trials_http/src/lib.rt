@@ -1,4 +1,5 @@
-//! Trials of frames and responses that no session shows, and of the adapters of the standard streams, the clock and TCP.
+//! Trials of frames and responses that no session shows, and of the adapters of the standard streams, the clock and
+//! TCP.
 #![tactic(auto)]
 
 #[cfg(test)]

@@ -1,4 +1,4 @@
-//! The bytes of responses that no session of a reasonable length is answered: where a history is full, and where memory runs
+//! The bytes of responses that no session of a reasonable length gets: when a history is full, and when memory runs
 //! out.
 mod no_memory;
 
@@ -9,7 +9,7 @@ use std::alloc::Global;
 use std::process::Abort;
 use std::test::Fail;
 
-/// The response to that reply at that place is these bytes.
+/// The response to this reply at this place is these bytes.
 fn shows(
     rt: &impl Abort,
     alloc: Global,

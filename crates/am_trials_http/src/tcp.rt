@@ -4,17 +4,20 @@ use am_outside::{Failed, Sink, Source};
 use am_tcp::{Limits, TcpGate, TcpNetwork, TcpReader, TcpWriter};
 use std::alloc::Global;
 use std::io::{self, ErrorKind, Read, Write};
+use std::marker::Copy;
 use std::net::{IpAddr, Ipv4Addr, Shutdown, SocketAddr, TcpStream};
 use std::os::fd::AsRawFd;
+use std::rt::Clock;
+use std::sync::Wait;
 use std::test::Fail;
 use std::thread;
 use std::time::{Duration, Instant};
 
 /// The two ends of a connection, as a server has them.
 #[derive(Drop)]
-struct Link {
-    reader: TcpReader<HostRuntime>,
-    writer: TcpWriter<HostRuntime>,
+struct Link<R> {
+    reader: TcpReader<R>,
+    writer: TcpWriter<R>,
 }
 
 /// A new client of a network.
@@ -24,15 +27,15 @@ fn client_of(rt: &HostRuntime, address: Option<SocketAddr>) -> Result<TcpStream,
 }
 
 /// The next connection that arrives.
-fn accepted(gate: &mut TcpGate<HostRuntime>) -> Result<Link, Fail> {
+fn accepted<R: Clock + Wait + Copy + Drop + Send>(gate: &mut TcpGate<R>) -> Result<Link<R>, Fail> {
     let (reader, writer) = gate.accept()?.ok_or("a link")?;
     Ok(Link { reader, writer })
 }
 
 /// The text that comes next, of so many bytes, or as much as comes before the end.
-fn received(
+fn received<R: Clock>(
     alloc: Global,
-    reader: &mut TcpReader<HostRuntime>,
+    reader: &mut TcpReader<R>,
     length: usize,
 ) -> Result<String, Fail> {
     let mut bytes = Vec::new(alloc);
@@ -47,7 +50,7 @@ fn received(
 }
 
 /// Writes all bytes, one after the other.
-fn send(writer: &mut TcpWriter<HostRuntime>, bytes: &[u8]) -> Result<(), Failed> {
+fn send<R: Clock>(writer: &mut TcpWriter<R>, bytes: &[u8]) -> Result<(), Failed> {
     for byte in bytes {
         writer.write(&[*byte])?;
     }
@@ -81,7 +84,7 @@ fn a_client_is_served(rt: HostRuntime) -> Result<(), Fail> {
 }
 
 /// Whether a write fails after some time.
-fn fails_at_last(writer: &mut TcpWriter<HostRuntime>) -> bool {
+fn fails_at_last<R: Clock>(writer: &mut TcpWriter<R>) -> bool {
     (0u32..1000).any(|_| writer.write(b"x").is_err())
 }
 
@@ -146,7 +149,7 @@ fn clients_of(
 }
 
 /// Accepts a connection, and sends back what comes first, raised by 100.
-fn answered(gate: &mut TcpGate<HostRuntime>) -> Result<Link, Fail> {
+fn answered<R: Clock + Wait + Copy + Drop + Send>(gate: &mut TcpGate<R>) -> Result<Link<R>, Fail> {
     let mut link = accepted(gate)?;
     let mut piece = [0u8; 1];
     link.reader.read(&mut piece)?;
@@ -155,11 +158,11 @@ fn answered(gate: &mut TcpGate<HostRuntime>) -> Result<Link, Fail> {
 }
 
 /// Answers so many connections at each gate, and keeps them.
-fn all_answered(
+fn all_answered<R: Clock + Wait + Copy + Drop + Send>(
     alloc: Global,
-    gates: &mut [TcpGate<HostRuntime>],
+    gates: &mut [TcpGate<R>],
     count: u32,
-) -> Result<Vec<Link>, Fail> {
+) -> Result<Vec<Link<R>>, Fail> {
     let mut links = Vec::new(alloc);
     for gate in gates.iter_mut() {
         for _ in 0..count {
@@ -220,10 +223,12 @@ fn a_descriptor_is_enough(rt: HostRuntime) -> Result<(), Fail> {
     assert_eq!(rt; Some(next.as_raw_fd()), client.as_raw_fd().checked_add(2));
     drop(client);
     gate.finish(link.reader, link.writer);
+    // All gates of a port share two: the listener's, and the one over which the system reports.
     let mut other = TcpNetwork::new(rt, rt.alloc());
-    assert_eq!(rt; other.listen(0, 64)?.len(), 64);
+    let others = other.listen(0, 64)?;
+    assert_eq!(rt; others.len(), 64);
     let last = client_of(&rt, network.local_addr())?;
-    assert!(rt; last.as_raw_fd() < next.as_raw_fd());
+    assert_eq!(rt; Some(last.as_raw_fd()), next.as_raw_fd().checked_add(1));
     Ok(())
 }
 
@@ -234,6 +239,7 @@ fn network_of(rt: HostRuntime, millis: u64) -> TcpNetwork<HostRuntime> {
         request: each,
         response: each,
         end: each,
+        idle: each,
     };
     TcpNetwork::with_limits(rt, rt.alloc(), limits)
 }
@@ -268,18 +274,82 @@ fn a_request_has_its_time(rt: HostRuntime) -> Result<(), Fail> {
 fn a_silent_peer_ends_its_link_alone(rt: HostRuntime) -> Result<(), Fail> {
     let mut network = network_of(rt, 500);
     let mut gate = network.listen(0, 1)?.pop().ok_or("a gate")?;
-    let silent = client_of(&rt, network.local_addr())?;
+    let mut silent = client_of(&rt, network.local_addr())?;
     let mut next = client_of(&rt, network.local_addr())?;
     next.write_all(b"a")?;
     let began = Instant::now(&rt)?;
     let mut link = accepted(&mut gate)?;
     assert_eq!(rt; link.reader.read(&mut [0u8; 1]), Err(Failed));
-    // The peer doesn't end its side either.
+    // The peer doesn't end its side either, for which no one waits here.
     gate.finish(link.reader, link.writer);
-    assert!(rt; Duration::from_millis(900) < began.elapsed(&rt)?);
+    assert!(rt; Duration::from_millis(400) < began.elapsed(&rt)?);
+    assert_eq!(rt; silent.read(&mut [0u8; 1])?, 0);
     let mut link = accepted(&mut gate)?;
     assert_eq!(rt; link.reader.read(&mut [0u8; 1]), Ok(1));
-    drop(silent);
+    // It has its time when the gate goes.
+    network.release(gate);
+    assert!(rt; Duration::from_millis(900) < began.elapsed(&rt)?);
+    Ok(())
+}
+
+/// The next link of a gate, with its first request and the count of those that were answered.
+fn asked<R: Clock + Wait + Copy + Drop + Send>(
+    alloc: Global,
+    gate: &mut TcpGate<R>,
+    length: usize,
+) -> Result<(Link<R>, String, u32), Fail> {
+    let (mut reader, writer, answered) = gate.next_link()?.ok_or("a link")?;
+    let text = received(alloc, &mut reader, length)?;
+    Ok((Link { reader, writer }, text, answered))
+}
+
+#[test]
+fn a_link_rests(rt: HostRuntime) -> Result<(), Fail> {
+    let alloc = rt.alloc();
+    let mut network = TcpNetwork::new(rt, alloc);
+    let mut gate = network.listen(0, 1)?.pop().ok_or("a gate")?;
+    let mut client = client_of(&rt, network.local_addr())?;
+    let mut slow = client_of(&rt, network.local_addr())?;
+    slow.write_all(b"GET /s")?;
+    client.write_all(b"GET / HTTP/1.1\r\n\r\n")?;
+    let (mut link, text, answered) = asked(alloc, &mut gate, 18)?;
+    assert_eq!(rt; text.as_str(), "GET / HTTP/1.1\r\n\r\n");
+    assert_eq!(rt; answered, 0);
+    assert!(rt; !link.reader.is_ready());
+    assert!(rt; gate.park(link.reader, link.writer, 7));
+    // A request that isn't there whole is held back, and none of its bytes is lost.
+    client.write_all(b"GET /a HTTP/1.1\r\n\r\nGET /b")?;
+    let (mut link, text, answered) = asked(alloc, &mut gate, 19)?;
+    assert_eq!(rt; text.as_str(), "GET /a HTTP/1.1\r\n\r\n");
+    assert_eq!(rt; answered, 7);
+    assert!(rt; !link.reader.is_ready());
+    client.write_all(b" HTTP/1.1\r\n\r\n")?;
+    assert!(rt; link.reader.is_ready());
+    assert_eq!(rt;
+        received(alloc, &mut link.reader, 19)?.as_str(),
+        "GET /b HTTP/1.1\r\n\r\n"
+    );
+    gate.finish(link.reader, link.writer);
+    Ok(())
+}
+
+#[test]
+fn a_link_rests_for_its_time(rt: HostRuntime) -> Result<(), Fail> {
+    let alloc = rt.alloc();
+    let mut network = network_of(rt, 1000);
+    let mut gate = network.listen(0, 1)?.pop().ok_or("a gate")?;
+    let mut client = client_of(&rt, network.local_addr())?;
+    client.write_all(b"GET / HTTP/1.1\r\n\r\n")?;
+    let (mut link, _text, _answered) = asked(alloc, &mut gate, 18)?;
+    send(&mut link.writer, b"x")?;
+    assert!(rt; !link.reader.is_ready());
+    assert!(rt; gate.park(link.reader, link.writer, 1));
+    // Its time is over: no request is to come.
+    let (link, text, answered) = asked(alloc, &mut gate, 18)?;
+    assert_eq!(rt; text.as_str(), "");
+    assert_eq!(rt; answered, 1);
+    assert_eq!(rt; link.reader.faults, 0);
+    gate.finish(link.reader, link.writer);
     Ok(())
 }
 

@@ -1,5 +1,5 @@
-//! Connections over a device whose packages declare nothing: in pieces, cut off anywhere, and with a fault at each read or
-//! write.
+//! Connections over a device whose packages declare nothing: in pieces, cut off anywhere, and with a fault at each read
+//! or write.
 ghost use Rattle.std.specs.Prelude.{◌<◌};
 
 use am_trials_runs::{Left, Outside, QUIET, Runtime, session_over};
@@ -9,7 +9,7 @@ use std::alloc::Global;
 use std::process::Abort;
 use std::test::Fail;
 
-/// All comes and goes at once.
+/// Everything comes and goes at once.
 const WHOLE: Outside = Outside {
     most: 1_000_000,
     failing: "",
@@ -34,7 +34,7 @@ const QUERY: &[u8] =
 const ANSWER: &[u8] =
     b"HTTP/1.1 200 OK\r\nContent-Type: application/json\r\nContent-Length: 17\r\nAM-At: 0\r\nAM-Stored: 0\r\n\r\n{\"components\":[]}";
 
-/// Two times the same.
+/// The same bytes twice.
 fn twice(alloc: Global, bytes: &[u8]) -> Result<Vec<u8>, NoMemory> {
     let mut both = Vec::new(alloc);
     both.extend_from_slice(bytes)?;
@@ -42,7 +42,7 @@ fn twice(alloc: Global, bytes: &[u8]) -> Result<Vec<u8>, NoMemory> {
     Ok(both)
 }
 
-/// A session over the device with that input.
+/// A session over the device with this input.
 fn serve(
     rt: &impl Runtime,
     alloc: Global,
@@ -65,7 +65,7 @@ fn end(errors: &[u8]) -> &'static str {
     }
 }
 
-/// A session with that input ends so after these bytes.
+/// A session with this input ends so after these bytes.
 fn try_session(
     rt: &(impl Runtime + Abort),
     alloc: Global,

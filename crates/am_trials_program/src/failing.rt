@@ -4,8 +4,8 @@ ghost use Rattle.am_outside.specs.Counts.{HasRisen};
 ghost use Rattle.am_keeper.specs.Rows.{IsInOrder};
 
 use am_keeper::{
-    Attached, KeepFail, Keeper, MemoryKeeper, MemoryStore, Row, Rows, RowsBuilder, Store,
-    StoredRows,
+    Attached, GrantRow, KeepFail, Keeper, LinkRow, MemoryKeeper, MemoryStore, PackageRow, Rows,
+    RowsBuilder, Store, StoredRows,
 };
 use am_trials_runs::{Asked, QUIET, Runtime, asked_over, run_over};
 use am_trials_spelling::{Exchanged, session_of};
@@ -28,6 +28,7 @@ impl SilentKeeper {
     fn counted(&mut self, done: Result<(), KeepFail>) -> Result<(), KeepFail>
         ensures same { result ≡ done }
         ensures place { self.new.place ≡ self.old.place }
+        ensures keeper { self.new.keeper ≡ self.old.keeper }
         ensures never_falls { self.old.faults ≤ self.new.faults }
         ensures failed { done ≡ Err KeepFail.Failed → HasRisen self.old.faults self.new.faults }
         ensures only_failed { done ≢ Err KeepFail.Failed → self.new.faults ≡ self.old.faults }
@@ -52,15 +53,27 @@ impl Keeper for SilentKeeper {
 
     ghost faults = { λ k. k.faults };
 
+    ghost puts = { λ k. k.keeper.calls };
+
     ghost honest_by_nature = { λ k h. h };
 
-    fn put(&mut self, row: &Row) -> Result<(), KeepFail> {
-        let done = self.keeper.put(row);
+    fn put_package(&mut self, row: &PackageRow) -> Result<(), KeepFail> {
+        let done = self.keeper.put_package(row);
+        self.counted(done)
+    }
+
+    fn put_grant(&mut self, row: &GrantRow) -> Result<(), KeepFail> {
+        let done = self.keeper.put_grant(row);
+        self.counted(done)
+    }
+
+    fn put_link(&mut self, row: &LinkRow) -> Result<(), KeepFail> {
+        let done = self.keeper.put_link(row);
         self.counted(done)
     }
 }
 
-/// A store whose keepers fail at the call with that number. It holds the keeper that came back last.
+/// A store whose keepers fail at the call with this number. It holds the keeper that came back last.
 #[derive(Drop)]
 struct FailingStore {
     alloc: Global,
@@ -156,7 +169,7 @@ POST /v1/history | sys | {"from":0} -> 200 OK | 4 0 | {"entries":[{"at":0,"desk"
 
 const BARE: &str = "system_key = 'sys'";
 
-/// The names of the packages that are there, behind one another.
+/// The names of the packages that are there, one after the other.
 fn names(alloc: Global, rows: &Rows) -> Result<String, Fail> {
     let mut names = String::new(alloc);
     for row in rows.packages.as_slice() {
@@ -172,7 +185,7 @@ fn names(alloc: Global, rows: &Rows) -> Result<String, Fail> {
 
 const WORDS: &str = "session --device d --store p";
 
-/// A store with those rows at that place.
+/// A store with these rows at this place.
 fn store_of(alloc: Global, path: Text, rows: Rows) -> Result<MemoryStore, Fail>
     requires { IsInOrder rows }
 {
@@ -181,7 +194,7 @@ fn store_of(alloc: Global, path: Text, rows: Rows) -> Result<MemoryStore, Fail>
     Ok(MemoryStore::new(alloc, List::new(places), List::new(Vec::new(alloc))))
 }
 
-/// A session over those rows, at that place, has so many packages.
+/// A session over these rows, at this place, has so many packages.
 fn try_again(
     rt: &(impl Runtime + Abort),
     alloc: Global,
@@ -201,7 +214,7 @@ fn try_again(
     Ok(())
 }
 
-/// The rows have those packages.
+/// The rows have these packages.
 fn try_names(alloc: Global, rows: &Rows, found: &str) -> Result<(), Fail> {
     let names = names(alloc, rows)?;
     (names.as_str() == found)
@@ -210,7 +223,7 @@ fn try_names(alloc: Global, rows: &Rows, found: &str) -> Result<(), Fail> {
     Ok(())
 }
 
-/// The rows have those packages, and are found again.
+/// The rows have these packages, and are found again.
 fn try_kept(
     rt: &(impl Runtime + Abort),
     alloc: Global,
@@ -231,7 +244,7 @@ fn try_kept(
     }
 }
 
-/// Holds the session over the store, and looks at what it answers.
+/// Runs the session over the store, and looks at its answers.
 fn try_answers(
     rt: &(impl Runtime + Abort),
     alloc: Global,
@@ -257,7 +270,7 @@ fn rows_left(store: FailingStore) -> Result<Rows, Fail>
     Ok(rows?)
 }
 
-/// Holds the session over a keeper that fails at the call of its first line, and looks what is found again.
+/// Runs the session over a keeper that fails at the call of its first line, and looks at what is found again.
 fn try_session(rt: &(impl Runtime + Abort), alloc: Global, session: &str) -> Result<(), Fail> {
     let (head, rows) = session.split_once('\n').ok_or("calls")?;
     let (call, found) = head.split_once(' ').ok_or("packages")?;

@@ -50,7 +50,7 @@ impl Gates {
 }
 
 /// Which end of a link fails, and at which of its calls.
-fn fault(words: &str) -> Result<Outside, Fail>
+pub fn fault(words: &str) -> Result<Outside, Fail>
     ensures { IfOk result (λ outside. 0 < outside.most) }
 {
     let (end, call) = words.split_once(' ').unwrap_or((words, "1"));
@@ -67,7 +67,7 @@ fn fault(words: &str) -> Result<Outside, Fail>
     })
 }
 
-/// A link over which that comes.
+/// A link over which this comes.
 fn link_of(alloc: Global, input: &str, outside: &Outside) -> Result<LinkPlan, Fail>
     requires { 0 < outside.now.most }
     ensures { IfOk result IsUnused }
@@ -100,7 +100,7 @@ fn planned_links(alloc: Global, rows: &str) -> Result<Links, Fail> {
 }
 
 /// The number of the call of `accept` that fails, and the rows of the links.
-fn gate_parts(gate: &str) -> (Option<u32>, &str) {
+pub fn gate_parts(gate: &str) -> (Option<u32>, &str) {
     let (failing, rows) = gate.split_once('\n').unwrap_or((gate, ""));
     (failing.parse::<u32>().ok(), rows)
 }
@@ -149,7 +149,7 @@ fn try_link(
     Ok(())
 }
 
-/// The gate took its links back in their order, but for those that are left.
+/// The gate took its links back in their order, except those that are left.
 fn try_gate(
     rt: &(impl Runtime + Abort),
     alloc: Global,
@@ -185,7 +185,7 @@ fn try_gates(
     Ok(())
 }
 
-/// Holds the serving over the store.
+/// Runs the serving over the store.
 fn try_serving(
     rt: &(impl Runtime + Abort),
     alloc: Global,
@@ -202,7 +202,7 @@ fn try_serving(
     try_gates(rt, alloc, &network, gates)
 }
 
-/// Holds the serving of the rows over a store of its own.
+/// Runs the serving of the rows over a store of its own.
 fn try_rows(rt: &(impl Runtime + Abort), alloc: Global, rows: &str) -> Result<(), Fail> {
     let (_, serving) = rows.split_once('\n').ok_or("a serving")?;
     let mut store = store(alloc, &QUIET)?;

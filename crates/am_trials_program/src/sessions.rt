@@ -37,7 +37,7 @@ key = "k1"
 package = "com.one"
 queries = { intent = [{ scheme = "http" }] }"#;
 
-/// The device file of that name.
+/// The device file with this name.
 pub fn device_file(name: &str) -> &'static str {
     match name {
         "not_toml" => "x = ",

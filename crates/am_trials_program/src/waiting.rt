@@ -14,14 +14,14 @@ use std::sync::atomic::{AtomicBool, Ordering};
 use std::test::Fail;
 use std::{str, thread};
 
-/// How often a link that waits looks whether the other one is answered, before its read fails.
+/// How often a waiting link looks whether the other one is answered, before its read fails.
 const TURNS: u32 = 100_000_000;
 
 const HEAD: &[u8] = b"POST /v1/tick HTTP/1.1\r\nAM-Key: sys\r\nContent-Length: 2\r\n\r\n";
 
 const BODY: &[u8] = b"{}";
 
-/// A response is whole where it ends so.
+/// A response is whole if it ends so.
 const END: &[u8] = b"\r\n\r\n{}";
 
 /// A link that is to come: a frame in two pieces, and where the response goes.
@@ -73,7 +73,7 @@ impl Reader {
         }
     }
 
-    /// One read of the head, or of the body behind it.
+    /// One read of the head, or of the body after it.
     fn read_next(&mut self, into: &mut [u8]) -> Result<usize, Failed>
         requires { 0 < length into.old }
         ensures within { ReadsAtMost result into.new }
@@ -211,7 +211,7 @@ struct Pair {
     listens: u64,
 }
 
-/// Makes that many gates.
+/// Makes so many gates.
 fn gates_of(coming: &mut VecDeque<Link>, gates: u32, mut made: Vec<Gate>) -> Vec<Gate>
     requires empty { made.items ≡ [] }
     requires room { gates ≤ vec_capacity made }
@@ -267,7 +267,7 @@ fn link_of(alloc: Global, waits: bool, answered: &Arc<AtomicBool>) -> Result<Lin
     })
 }
 
-/// Two links, of which the one with that number waits for the other one.
+/// Two links, of which the one with this number waits for the other one.
 fn pair_of(alloc: Global, waiting: u32) -> Result<Pair, Fail> {
     let answered = Arc::new(alloc, AtomicBool::new(false))?;
     let mut coming = VecDeque::new(alloc);
@@ -291,7 +291,7 @@ fn try_gate(rt: &(impl Runtime + Abort), gate: &Gate, place: &str) -> Result<(),
     Ok(())
 }
 
-/// Both links are answered, the one with that number behind the other one.
+/// Both links are answered, the one with this number after the other one.
 fn try_waiting(rt: &(impl Runtime + Abort), alloc: Global, waiting: u32) -> Result<(), Fail> {
     let mut network = pair_of(alloc, waiting)?;
     let mut store = store(alloc, &QUIET)?;

@@ -4,7 +4,8 @@ use Rattle.am_outside.specs.Clock.{IsTold}
 use Rattle.am_http.specs.Links.{Gives, Moments}
 
 -- from a clock that tells the same
-pub gives_as : (a b : Moments) (ms : List ℕ) (c : Moments) → ((calls : ℕ) → b calls ≡ a calls) → Gives b ms c → Gives a ms c
+pub gives_as : (a b : Moments) (ms : List ℕ) (c : Moments) → ((calls : ℕ) → b calls ≡ a calls) → Gives b ms c
+    → Gives a ms c
 gives_as a b [] c same gives = λ calls. gives calls ∙ same calls
 gives_as a b (m ∷ ms) c same gives = (
   subst (λ told. IsTold told m) (same 0) gives.0,
@@ -12,7 +13,8 @@ gives_as a b (m ∷ ms) c same gives = (
 )
 
 -- what it gave, and then gave further
-pub gives_trans : (a : Moments) (xs : List ℕ) (b : Moments) (ys : List ℕ) (c : Moments) → Gives a xs b → Gives b ys c → Gives a (xs ++ ys) c
+pub gives_trans : (a : Moments) (xs : List ℕ) (b : Moments) (ys : List ℕ) (c : Moments) → Gives a xs b → Gives b ys c
+    → Gives a (xs ++ ys) c
 gives_trans a [] b ys c first next = gives_as a b ys c first next
 gives_trans a (x ∷ xs) b ys c first next = (first.0, gives_trans (λ calls. a (suc calls)) xs b ys c first.1 next)
 

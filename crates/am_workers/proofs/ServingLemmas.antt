@@ -1,6 +1,6 @@
 -- What all workers did together, over the history of the manager that they shared.
-use Rattle.std.proofs.Common.{◌≡◌, ℕ, zero, suc, ◌+◌, ◌≤◌, ◌<◌, Bool, true, false, ◌||◌, List, [], ◌∷◌, ◌++◌, length, drop, map, min, Option, Some, None, refl, sym, ap, ◌∙◌, subst, arith, length-append, slice_get}
-use Rattle.std.specs.Prelude.{All, IfSome, ◌==◌, cond, sum_by, slice_index_or}
+use Rattle.std.proofs.Common.{◌≡◌, ℕ, zero, suc, ◌+◌, ◌≤◌, ◌<◌, Bool, true, false, ◌||◌, List, [], ◌∷◌, ◌++◌, length, drop, map, min, Option, Some, None, refl, sym, ap, ◌∙◌, subst, inl, inr, arith, length-append, slice_get}
+use Rattle.std.specs.Prelude.{All, IfSome, ◌==◌, cond, sum_by, slice_index_or, unwrap_or}
 use Rattle.std.specs.List.{AllByRecursion, AllZip, list_any}
 use Rattle.std.proofs.lemmas.List.{get_or-map, length-map}
 use Rattle.std.proofs.lemmas.List.Sums.{sum_by-cons}
@@ -8,74 +8,128 @@ use Rattle.std.proofs.lemmas.Option.{slice_get-get_or}
 use Rattle.std.proofs.lemmas.List.Elements.{All-nil, All-cons, All-head, All-tail}
 use Rattle.am_types.specs.declared.history.Entry.{Entry}
 use Rattle.am_outside.specs.Counts.{HasRisen}
-use Rattle.am_network.specs.Links.{AreUntouched, GateView, IsNewGate, Links, Listening, raised_by, released}
+use Rattle.am_network.specs.Links.{AreUntouched, GateView, HandsOn, IsNewGate, LinkView, Links, Listening, Stand, raised_by, released}
 use Rattle.am_history.specs.State.{State}
 use Rattle.am_history.specs.Desks.{DeskView, IsSameDesk, Origin, Sharing, opening_of, start_of}
 use Rattle.am_history.specs.History.{Extends, IsLegal, entries_of}
 use Rattle.am_baton.specs.Shared.{IsNumbered, new_desk}
 use Rattle.am_workers.specs.declared.working.Worked.{Worked}
+use Rattle.am_http.specs.Exchanges.{Exchange}
 use Rattle.am_http.specs.Links.{Moments}
-use Rattle.am_workers.specs.Work.{AreItsLinks, AreOfGate, EndsSo, IsWorked, Service, WorkerView, Works, exchanges_of, moments_of_all}
+use Rattle.am_workers.specs.Work.{AreOfGate, EndsSo, IsWorked, Service, WorkerView, Works, ended_in, exchanges_of, given_back, moments_of_all}
 use Rattle.am_workers.specs.Serving.{AreAllLinks, AreServed, Begun, Ended, Gatework, IsFormed, IsGateServed, MayReleaseAll, NetworkView, ServesAll, all_released, faults_raised, gates_of}
 use Rattle.am_workers.proofs.ClockLemmas.{gives_as}
 use Rattle.am_workers.proofs.FormedLemmas.{all_formed}
 use Rattle.am_workers.proofs.WorkLemmas.{drop_behind, extends_length, worked_stays}
 
+-- the bytes that come over a gate's links
+abbrev sent_of : Option Links → Option (List (List ℕ))
+sent_of None = None
+sent_of (Some links) = Some links.sent
+
+-- they are the same once a link was handed out
+sent_out : (old out : Option Links) (stand : Stand) → HandsOn old out (Some stand) → sent_of out ≡ sent_of old
+sent_out None out stand handed = ap sent_of handed
+sent_out (Some links) out stand (inl new) = ap sent_of new.0.3
+sent_out (Some links) out stand (inr again) = ap sent_of again.3
+
+-- and is back
+sent_back : (out : Option Links) (first : Stand) (last : LinkView) (exchanges : List Exchange) (parked : Bool)
+    → sent_of (given_back out (record { first = first; last = last; exchanges = exchanges; parked = parked }))
+    ≡ sent_of out
+sent_back None first last exchanges true = refl
+sent_back None first last exchanges false = refl
+sent_back (Some links) first last exchanges true = refl
+sent_back (Some links) first last exchanges false = refl
+
+same_sent : (old new : Option Links) (services : List Service) → AreOfGate old new services → sent_of new ≡ sent_of old
+same_sent old new [] its = ap sent_of its
+same_sent old new (s ∷ ss) its =
+    same_sent (given_back its.0 s) new ss its.2
+    ∙ (sent_back its.0 s.first s.last s.exchanges s.parked ∙ sent_out old its.0 s.first its.1)
+
 -- a gate that was new has handed out these links alone
-all_links : (old new : Links) (services : List Service) → AreUntouched old → AreItsLinks old new services → AreAllLinks new services
+all_links : (old new : Links) (services : List Service) → AreUntouched old
+    → AreOfGate (Some old) (Some new) services → AreAllLinks new services
 all_links old new services untouched its =
-    let first : Links = record { sent = new.sent; handed = 0; ended = []; failed_at = None } in
+    let sent : new.sent ≡ old.sent = ap (λ (o : Option (List (List ℕ))). unwrap_or o new.sent)
+    (same_sent (Some old) (Some new) services its) in
+    let first : Links = record { sent = new.sent; handed = 0; ended = []; parked = []; failed_at = None } in
     let same : old ≡ first =
-    ap (λ sent. record { sent = sent; handed = old.handed; ended = old.ended; failed_at = old.failed_at }) (sym its.sent)
-    ∙ ap (λ n. record { sent = new.sent; handed = n; ended = old.ended; failed_at = old.failed_at }) untouched.0
-    ∙ ap (λ ls. record { sent = new.sent; handed = 0; ended = ls; failed_at = old.failed_at }) untouched.1
-    ∙ ap (λ at. record { sent = new.sent; handed = 0; ended = []; failed_at = at }) untouched.2 in
-    subst (λ (l : Links). AreItsLinks l new services) same its
+    ap (λ s. record {
+      sent = s;
+      handed = old.handed;
+      ended = old.ended;
+      parked = old.parked;
+      failed_at =
+          old.failed_at;
+    }) (sym sent)
+    ∙ ap (λ n. record {
+      sent = new.sent;
+      handed = n;
+      ended = old.ended;
+      parked = old.parked;
+      failed_at = old.failed_at;
+    }) untouched.0
+    ∙ ap (λ ls. record { sent = new.sent; handed = 0; ended = ls; parked = old.parked; failed_at = old.failed_at })
+    untouched.1
+    ∙ ap (λ ps. record { sent = new.sent; handed = 0; ended = []; parked = ps; failed_at = old.failed_at }) untouched.2
+    ∙ ap (λ at. record { sent = new.sent; handed = 0; ended = []; parked = []; failed_at = at }) untouched.3 in
+    subst (λ (l : Links). AreOfGate (Some l) (Some new) services) same its
 
 whole_gate : (old new : Option Links) (services : List Service) → IfSome old AreUntouched → AreOfGate old new services
     → IfSome new (λ links. AreAllLinks links services)
 whole_gate None None services is its = tt
-whole_gate None (Some new) services is its = absurd its
+whole_gate None (Some new) services is its = absurd (let e = same_sent None (Some new) services its in cc)
 whole_gate (Some old) None services is its = tt
 whole_gate (Some old) (Some new) services is its = all_links old new services is its
 
 -- a worker that failed raised its gate's count
-risen_by : (failed : Bool) (most : Option ℕ) (faults count : ℕ) (gate : GateView) → EndsSo failed most faults gate count → failed ≡ true → HasRisen faults gate.faults
-risen_by true most faults count gate ends is = let e = ends.0 in omega (arith, e)
-risen_by false most faults count gate ends is = absurd (let x = is in cc)
+risen_by : (failed : Bool) (most : Option ℕ) (faults count : ℕ) (links : Option Links) (gate : GateView)
+    → EndsSo failed most faults links gate count → failed ≡ true → HasRisen faults gate.faults
+risen_by true most faults count links gate ends is = let e = ends.0 in omega (arith, e)
+risen_by false most faults count links gate ends is = absurd (let x = is in cc)
 
--- what a worker begins with: the desk that was made with that number, a new gate, and a clock that tells what this one tells
+-- what a worker begins with: the desk that was made with that number, a new gate, and a clock that tells what this one
+-- tells
 abbrev pub BeginsAt : Origin → Sharing → Moments → ℕ → WorkerView → Type 0
 BeginsAt origin sharing clock k worker =
     (worker.desk ≡ new_desk origin sharing k) × IsNewGate worker.gate × ((calls : ℕ) → worker.clock calls ≡ clock calls)
 
 -- the worker of a desk that was made with that number, over the history of the whole
-pub gate_served : (most : Option ℕ) (origin : Origin) (sharing : Sharing) (clock : Moments) (k : ℕ) (ended : Ended) (old new : WorkerView) (worked : Worked)
+pub gate_served : (most : Option ℕ) (origin : Origin) (sharing : Sharing) (clock : Moments) (k : ℕ) (ended : Ended)
+    (old new : WorkerView) (worked : Worked)
     → BeginsAt origin sharing clock k old → (w : Works most old new worked)
-    → Extends new.desk.seen ended.history → entries_of new.desk.number ended.history ≡ entries_of new.desk.number new.desk.seen
-    → IsGateServed most (record { origin = origin; history = sharing.handed; clock = clock }) ended k (record { gate = new.gate; services = w.services; failed = worked.failed })
+    → Extends new.desk.seen ended.history → entries_of new.desk.number ended.history
+    ≡ entries_of new.desk.number new.desk.seen
+    → IsGateServed most (record { origin = origin; history = sharing.handed; clock = clock }) ended k
+    (record { gate = new.gate; links = w.links; services = w.services; failed = worked.failed })
 gate_served most origin sharing clock k ended old new worked begins w grows own =
     let made = begins.0 in
     let is_new = begins.1 in
-    let P : DeskView → Type 0 = λ (d : DeskView). IsWorked (start_of d) (length d.seen) d.number new.desk.seen w.services in
-    let there : IsWorked (opening_of origin) (length sharing.handed) k new.desk.seen w.services = subst P made w.has.worked in
+    let P : DeskView → Type 0 = λ (d : DeskView). IsWorked (start_of d) (length d.seen) d.number new.desk.seen
+    w.services in
+    let there : IsWorked (opening_of origin) (length sharing.handed) k new.desk.seen w.services = subst P made
+    w.has.worked in
     let number : new.desk.number ≡ k = w.has.desk.desk.number ∙ ap (λ (d : DeskView). d.number) made in
     let grown = w.has.grows in
     let seen : old.desk.seen ≡ sharing.handed = ap (λ (d : DeskView). d.seen) made in
     let floored : length sharing.handed ≤ length new.desk.seen =
     extends_length sharing.handed new.desk.seen (subst (λ (h : List Entry). Extends h new.desk.seen) seen grown) in
     record {
-      worked = worked_stays (opening_of origin) (length sharing.handed) k new.desk.seen ended.history w.services floored grows
+      worked = worked_stays (opening_of origin) (length sharing.handed) k new.desk.seen ended.history w.services floored
+          grows
           (subst (λ n. entries_of n ended.history ≡ entries_of n new.desk.seen) number own) there;
-      links = whole_gate old.gate.links new.gate.links w.services is_new.1 w.has.links;
+      links = whole_gate old.gate.links w.links w.services is_new.1 w.has.links;
       few = w.few;
       told = new.clock;
       moments = gives_as clock old.clock (moments_of_all w.services) new.clock begins.2 w.has.moments;
-      ends = subst (λ n. EndsSo worked.failed most n new.gate (length w.services)) is_new.0 w.ends;
+      ends = subst (λ n. EndsSo worked.failed most n w.links new.gate (ended_in w.services)) is_new.0 w.ends;
     }
 
 -- a clock that tells the same will do
-as_timed : (most : Option ℕ) (begun : Begun) (clock : Moments) (ended : Ended) (number : ℕ) (works : List Gatework) → ((calls : ℕ) → begun.clock calls ≡ clock calls)
+as_timed : (most : Option ℕ) (begun : Begun) (clock : Moments) (ended : Ended) (number : ℕ) (works : List Gatework)
+    → ((calls : ℕ) → begun.clock calls ≡ clock calls)
     → AreServed most begun ended number works → AreServed most (record begun { clock = clock }) ended number works
 as_timed most begun clock ended number [] same served = tt
 as_timed most begun clock ended number (work ∷ works) same served = (
@@ -90,7 +144,8 @@ as_timed most begun clock ended number (work ∷ works) same served = (
   as_timed most begun clock ended (suc number) works same served.1,
 )
 
-pub serves_timed : (most : Option ℕ) (count : ℕ) (begun : Begun) (clock : Moments) (ended : Ended) (old new : NetworkView) → ((calls : ℕ) → begun.clock calls ≡ clock calls)
+pub serves_timed : (most : Option ℕ) (count : ℕ) (begun : Begun) (clock : Moments) (ended : Ended)
+    (old new : NetworkView) → ((calls : ℕ) → begun.clock calls ≡ clock calls)
     → ServesAll most count begun ended old new → ServesAll most count (record begun { clock = clock }) ended old new
 serves_timed most count begun clock ended old new same serves =
     record {
@@ -115,47 +170,62 @@ pub formed_all : (n : ℕ) (entries : List Entry) → All (λ (entry : Entry). e
 formed_all n [] below each = All-nil IsFormed
 formed_all n (x ∷ xs) below each =
     All-cons IsFormed x xs
-    (All-head IsFormed x (entries_of x.desk xs) (subst (All IsFormed) (own_first x xs) (each x.desk (All-head (λ (entry : Entry). entry.desk < n) x xs below))))
-    (formed_all n xs (All-tail (λ (entry : Entry). entry.desk < n) x xs below) (λ k within. others k x xs (each k within)))
+    (All-head IsFormed x (entries_of x.desk xs) (subst (All IsFormed) (own_first x xs)
+    (each x.desk (All-head (λ (entry : Entry). entry.desk < n) x xs below))))
+    (formed_all n xs (All-tail (λ (entry : Entry). entry.desk < n) x xs below)
+    (λ k within. others k x xs (each k within)))
   where
     own_first : (x : Entry) (xs : List Entry) → entries_of x.desk (x ∷ xs) ≡ x ∷ entries_of x.desk xs
-    own_first x xs = ap (λ (b : Bool). cond b (x ∷ entries_of x.desk xs) (entries_of x.desk xs)) (let e : (x.desk == x.desk) ≡ true = grind (arith) in e)
+    own_first x xs = ap (λ (b : Bool). cond b (x ∷ entries_of x.desk xs) (entries_of x.desk xs))
+        (let e : (x.desk == x.desk) ≡ true = grind (arith) in e)
 
-    by : (b : Bool) (k : ℕ) (x : Entry) (xs : List Entry) → (x.desk == k) ≡ b → All IsFormed (entries_of k (x ∷ xs)) → All IsFormed (entries_of k xs)
-    by true k x xs e all = All-tail IsFormed x (entries_of k xs) (subst (All IsFormed) (ap (λ (b : Bool). cond b (x ∷ entries_of k xs) (entries_of k xs)) e) all)
-    by false k x xs e all = subst (All IsFormed) (ap (λ (b : Bool). cond b (x ∷ entries_of k xs) (entries_of k xs)) e) all
+    by : (b : Bool) (k : ℕ) (x : Entry) (xs : List Entry) → (x.desk == k) ≡ b → All IsFormed (entries_of k (x ∷ xs))
+        → All IsFormed (entries_of k xs)
+    by true k x xs e all = All-tail IsFormed x (entries_of k xs) (subst (All IsFormed)
+        (ap (λ (b : Bool). cond b (x ∷ entries_of k xs) (entries_of k xs)) e) all)
+    by false k x xs e all = subst (All IsFormed) (ap (λ (b : Bool). cond b (x ∷ entries_of k xs) (entries_of k xs)) e)
+        all
 
-    others : (k : ℕ) (x : Entry) (xs : List Entry) → All IsFormed (entries_of k (x ∷ xs)) → All IsFormed (entries_of k xs)
+    others : (k : ℕ) (x : Entry) (xs : List Entry) → All IsFormed (entries_of k (x ∷ xs))
+        → All IsFormed (entries_of k xs)
     others k x xs all = by (x.desk == k) k x xs refl all
 
 -- the entries of a worker's number are formed
-worker_formed : (start : State) (floor number : ℕ) (history : List Entry) (services : List Service) → IsWorked start floor number history services
+worker_formed : (start : State) (floor number : ℕ) (history : List Entry) (services : List Service)
+    → IsWorked start floor number history services
     → All IsFormed (entries_of number (drop floor history))
 worker_formed start floor number history services worked =
     subst (All IsFormed) (sym worked.own) (all_formed start number history (exchanges_of services) worked.answers)
 
-served_at : (most : Option ℕ) (begun : Begun) (ended : Ended) (number : ℕ) (works : List Gatework) → AreServed most begun ended number works
+served_at : (most : Option ℕ) (begun : Begun) (ended : Ended) (number : ℕ) (works : List Gatework)
+    → AreServed most begun ended number works
     → (k : ℕ) → k < length works → (work : Gatework) × IsGateServed most begun ended (number + k) work
 served_at most begun ended number [] served k within = absurd (omega arith)
-served_at most begun ended number (work ∷ works) served zero within = (work, subst (λ n. IsGateServed most begun ended n work) (omega arith) served.0)
+served_at most begun ended number (work ∷ works) served zero within =
+    (work, subst (λ n. IsGateServed most begun ended n work) (omega arith) served.0)
 served_at most begun ended number (work ∷ works) served (suc k) within =
     let there = served_at most begun ended (suc number) works served.1 k (omega arith) in
     (there.0, subst (λ n. IsGateServed most begun ended n there.0) (omega arith) there.1)
 
 -- so all entries that the workers added are formed
-pub all_are_formed : (most : Option ℕ) (begun : Begun) (ended : Ended) (works : List Gatework) → AreServed most begun ended 0 works
-    → (count : ℕ) → length works ≡ count → (numbered : IsNumbered count begun.history ended.history) → All IsFormed numbered.0
+pub all_are_formed : (most : Option ℕ) (begun : Begun) (ended : Ended) (works : List Gatework)
+    → AreServed most begun ended 0 works
+    → (count : ℕ) → length works ≡ count → (numbered : IsNumbered count begun.history ended.history)
+    → All IsFormed numbered.0
 all_are_formed most begun ended works served count many numbered =
-    let behind : drop (length begun.history) ended.history ≡ numbered.0 = drop_behind begun.history ended.history numbered.0 numbered.1 in
+    let behind : drop (length begun.history) ended.history ≡ numbered.0 = drop_behind begun.history ended.history
+    numbered.0 numbered.1 in
     formed_all count numbered.0 numbered.2
     (λ k within.
     let there = served_at most begun ended 0 works served k (omega (arith, many, within)) in
     subst (λ (h : List Entry). All IsFormed (entries_of k h)) behind
     (worker_formed (opening_of begun.origin) (length begun.history) k ended.history there.0.services
-    (subst (λ (n : ℕ). IsWorked (opening_of begun.origin) (length begun.history) n ended.history there.0.services) (omega arith) there.1.worked)))
+    (subst (λ (n : ℕ). IsWorked (opening_of begun.origin) (length begun.history) n ended.history there.0.services)
+    (omega arith) there.1.worked)))
 
 -- once one was released, the others may be
-pub may_rest : (told now : Option Listening) (gate : GateView) (count : ℕ) → now ≡ released told gate → MayReleaseAll told (suc count) → MayReleaseAll now count
+pub may_rest : (told now : Option Listening) (gate : GateView) (count : ℕ) → now ≡ released told gate
+    → MayReleaseAll told (suc count) → MayReleaseAll now count
 may_rest None now gate count is may =
     let P : Option Listening → Type 0 = λ (l : Option Listening). MayReleaseAll l count in
     subst P (sym is) tt
@@ -164,7 +234,8 @@ may_rest (Some before) now gate count is may =
     subst P (sym is) (omega (arith, may, length-append before.released (gate ∷ [])))
 
 -- the gates that were released, and one more
-pub released_more : (told : Option Listening) (gates : List GateView) (gate : GateView) → all_released told (gates ++ gate ∷ []) ≡ released (all_released told gates) gate
+pub released_more : (told : Option Listening) (gates : List GateView) (gate : GateView)
+    → all_released told (gates ++ gate ∷ []) ≡ released (all_released told gates) gate
 released_more told [] gate = refl
 released_more told (first ∷ gates) gate = released_more (released told first) gates gate
 
@@ -175,12 +246,14 @@ module _ {D G W : Type 0} (desk : W → D) (gate : W → G) where
   desk_at olds desks k other is within =
       sym (get_or-map desk olds k other (desk other) within) ∙ ap (λ ds. slice_index_or ds k (desk other)) is
 
-  pub gate_at : (P : G → Type 0) (olds : List W) (gates : List G) → map gate olds ≡ gates → ((k : ℕ) (g : G) → slice_get gates k ≡ Some g → P g)
+  pub gate_at : (P : G → Type 0) (olds : List W) (gates : List G) → map gate olds ≡ gates
+      → ((k : ℕ) (g : G) → slice_get gates k ≡ Some g → P g)
       → (k : ℕ) (other : W) → k < length olds → P (gate (slice_index_or olds k other))
   gate_at P olds gates is each k other within =
       let long : k < length (map gate olds) = subst (λ n. k < n) (sym (length-map olds gate)) within in
       each k (gate (slice_index_or olds k other))
-      (ap (λ gs. slice_get gs k) (sym is) ∙ (slice_get-get_or (map gate olds) k (gate other) long ∙ ap Some (get_or-map gate olds k other (gate other) within)))
+      (ap (λ gs. slice_get gs k) (sym is) ∙ (slice_get-get_or (map gate olds) k (gate other) long
+      ∙ ap Some (get_or-map gate olds k other (gate other) within)))
 
 module _ {W : Type 0} (view : W → WorkerView) (did : W → Worked) where
   -- a worker before and after its work
@@ -189,7 +262,8 @@ module _ {W : Type 0} (view : W → WorkerView) (did : W → Worked) where
 
   -- what holds at each place, holds along both lists
   pub along : (R : W → W → Type 0) (olds news : List W) → length news ≡ length olds
-      → ((k : ℕ) (other : W) → k < length olds → R (slice_index_or olds k other) (slice_index_or news k other)) → AllZip R olds news
+      → ((k : ℕ) (other : W) → k < length olds → R (slice_index_or olds k other) (slice_index_or news k other))
+      → AllZip R olds news
   along R [] [] count each = tt
   along R [] (y ∷ ys) count each = absurd (omega (arith, count))
   along R (x ∷ xs) [] count each = absurd (omega (arith, count))
@@ -203,9 +277,15 @@ module _ {W : Type 0} (view : W → WorkerView) (did : W → Worked) where
   works_of most [] [] all = []
   works_of most [] (y ∷ ys) all = []
   works_of most (x ∷ xs) [] all = []
-  works_of most (x ∷ xs) (y ∷ ys) all = record { gate = (view y).gate; services = all.0.services; failed = (did y).failed } ∷ works_of most xs ys all.1
+  works_of most (x ∷ xs) (y ∷ ys) all = record {
+    gate = (view y).gate;
+    links = all.0.links;
+    services = all.0.services;
+    failed = (did y).failed;
+  } ∷ works_of most xs ys all.1
 
-  pub works_count : (most : Option ℕ) (olds news : List W) (all : AllZip (WorksAs most) olds news) → length (works_of most olds news all) ≡ length olds
+  pub works_count : (most : Option ℕ) (olds news : List W) (all : AllZip (WorksAs most) olds news)
+      → length (works_of most olds news all) ≡ length olds
   works_count most [] [] all = refl
   works_count most [] (y ∷ ys) all = absurd all
   works_count most (x ∷ xs) [] all = absurd all
@@ -225,28 +305,33 @@ module _ {W : Type 0} (view : W → WorkerView) (did : W → Worked) where
 
   pub works_total : (most : Option ℕ) (olds news : List W) (all : AllZip (WorksAs most) olds news)
       → min 18446744073709551615 (sum_by (λ (w : W). (did w).served) news)
-      ≡ min 18446744073709551615 (sum_by (λ (work : Gatework). length work.services) (works_of most olds news all))
+      ≡ min 18446744073709551615 (sum_by (λ (work : Gatework). ended_in work.services) (works_of most olds news all))
   works_total most [] [] all = refl
   works_total most [] (y ∷ ys) all = absurd all
   works_total most (x ∷ xs) [] all = absurd all
   works_total most (x ∷ xs) (y ∷ ys) all =
       ap (λ n. min 18446744073709551615 n) (sum_by-cons (λ (w : W). (did w).served) y ys)
-      ∙ both_held (did y).served (length all.0.services) (sum_by (λ (w : W). (did w).served) ys)
-      (sum_by (λ (work : Gatework). length work.services) (works_of most xs ys all.1)) all.0.served (works_total most xs ys all.1)
+      ∙ both_held (did y).served (ended_in all.0.services) (sum_by (λ (w : W). (did w).served) ys)
+      (sum_by (λ (work : Gatework). ended_in work.services) (works_of most xs ys all.1)) all.0.served
+      (works_total most xs ys all.1)
       ∙ ap (λ n. min 18446744073709551615 n)
-      (sym (sum_by-cons (λ (work : Gatework). length work.services) (record { gate = (view y).gate; services = all.0.services; failed = (did y).failed }) (works_of most xs ys all.1)))
+      (sym (sum_by-cons (λ (work : Gatework). ended_in work.services)
+      (record { gate = (view y).gate; links = all.0.links; services = all.0.services; failed = (did y).failed })
+      (works_of most xs ys all.1)))
 
   -- a count that gates raised is no lower
   not_lower : (count : ℕ) (gates : List GateView) → min count 18446744073709551615 ≤ faults_raised count gates
   not_lower count [] = omega arith
   not_lower count (gate ∷ gates) = let rest = not_lower (raised_by gate.faults count) gates in grind (arith, rest)
 
-  raised_once : (old new count : ℕ) → HasRisen old new → min (count + 1) 18446744073709551615 ≤ min (raised_by new count) 18446744073709551615
+  raised_once : (old new count : ℕ) → HasRisen old new → min (count + 1) 18446744073709551615 ≤ min
+      (raised_by new count) 18446744073709551615
   raised_once old new count risen = grind (arith, risen)
 
   -- if one of the gates failed, the count rose
   pub works_raise : (most : Option ℕ) (olds news : List W) (count : ℕ) → AllZip (WorksAs most) olds news
-      → list_any (λ (w : W). (did w).failed) news ≡ true → HasRisen count (faults_raised count (map (λ (w : W). (view w).gate) news))
+      → list_any (λ (w : W). (did w).failed) news ≡ true → HasRisen count
+      (faults_raised count (map (λ (w : W). (view w).gate) news))
   works_raise most [] [] count all failed = absurd (let e = failed in cc)
   works_raise most [] (y ∷ ys) count all failed = absurd all
   works_raise most (x ∷ xs) [] count all failed = absurd all
@@ -258,10 +343,12 @@ module _ {W : Type 0} (view : W → WorkerView) (did : W → Worked) where
 
       by : (b : Bool) → (did y).failed ≡ b → ((did y).failed || list_any (λ (w : W). (did w).failed) ys) ≡ true
           → (list_any (λ (w : W). (did w).failed) ys ≡ true
-          → HasRisen (raised_by (view y).gate.faults count) (faults_raised (raised_by (view y).gate.faults count) gates))
+          → HasRisen (raised_by (view y).gate.faults count) (faults_raised (raised_by (view y).gate.faults count)
+          gates))
           → HasRisen count (faults_raised (raised_by (view y).gate.faults count) gates)
       by true is any later =
-          let once = raised_once (view x).gate.faults (view y).gate.faults count (risen_by (did y).failed most (view x).gate.faults (length all.0.services) (view y).gate all.0.ends is) in
+          let once = raised_once (view x).gate.faults (view y).gate.faults count
+          (risen_by (did y).failed most (view x).gate.faults (ended_in all.0.services) all.0.links (view y).gate all.0.ends is) in
           let rest = not_lower (raised_by (view y).gate.faults count) gates in
           omega (arith, once, rest)
       by false is any later =
@@ -270,7 +357,8 @@ module _ {W : Type 0} (view : W → WorkerView) (did : W → Worked) where
 
   -- a gate failed if a worker says so
   pub any_failed : (most : Option ℕ) (olds news : List W) (all : AllZip (WorksAs most) olds news)
-      → list_any (λ (w : W). (did w).failed) news ≡ list_any (λ (work : Gatework). work.failed) (works_of most olds news all)
+      → list_any (λ (w : W). (did w).failed) news ≡ list_any (λ (work : Gatework). work.failed)
+      (works_of most olds news all)
   any_failed most [] [] all = refl
   any_failed most [] (y ∷ ys) all = absurd all
   any_failed most (x ∷ xs) [] all = absurd all
@@ -279,25 +367,31 @@ module _ {W : Type 0} (view : W → WorkerView) (did : W → Worked) where
   -- what the workers begin with, of which the first has that number
   abbrev pub BeginFrom : Origin → Sharing → Moments → ℕ → List W → Type 0
   BeginFrom origin sharing clock k [] = Unit {0}
-  BeginFrom origin sharing clock k (w ∷ ws) = BeginsAt origin sharing clock k (view w) × BeginFrom origin sharing clock (suc k) ws
+  BeginFrom origin sharing clock k (w ∷ ws) = BeginsAt origin sharing clock k (view w)
+      × BeginFrom origin sharing clock (suc k) ws
 
   pub begin_from : (origin : Origin) (sharing : Sharing) (clock : Moments) (k : ℕ) (olds : List W)
-      → ((i : ℕ) (other : W) → i < length olds → BeginsAt origin sharing clock (k + i) (view (slice_index_or olds i other))) → BeginFrom origin sharing clock k olds
+      → ((i : ℕ) (other : W) → i < length olds → BeginsAt origin sharing clock (k + i)
+      (view (slice_index_or olds i other))) → BeginFrom origin sharing clock k olds
   begin_from origin sharing clock k [] each = tt
   begin_from origin sharing clock k (x ∷ xs) each = (
     subst (λ n. BeginsAt origin sharing clock n (view x)) (omega arith) (each 0 x (omega arith)),
     begin_from origin sharing clock (suc k) xs
-        (λ i other within. subst (λ n. BeginsAt origin sharing clock n (view (slice_index_or xs i other))) (omega arith) (each (suc i) other (omega arith))),
+        (λ i other within. subst (λ n. BeginsAt origin sharing clock n (view (slice_index_or xs i other))) (omega arith)
+        (each (suc i) other (omega arith))),
   )
 
   -- what closing tells of a worker's desk
   abbrev pub Closes : List Entry → W → Type 0
-  Closes history w = Extends (view w).desk.seen history × (entries_of (view w).desk.number history ≡ entries_of (view w).desk.number (view w).desk.seen)
+  Closes history w = Extends (view w).desk.seen history × (entries_of (view w).desk.number history
+      ≡ entries_of (view w).desk.number (view w).desk.seen)
 
   -- so all gates were served over the history of the whole
-  pub works_served : (most : Option ℕ) (origin : Origin) (sharing : Sharing) (clock : Moments) (ended : Ended) (k : ℕ) (olds news : List W) (all : AllZip (WorksAs most) olds news)
+  pub works_served : (most : Option ℕ) (origin : Origin) (sharing : Sharing) (clock : Moments) (ended : Ended) (k : ℕ)
+      (olds news : List W) (all : AllZip (WorksAs most) olds news)
       → BeginFrom origin sharing clock k olds → AllByRecursion (Closes ended.history) news
-      → AreServed most (record { origin = origin; history = sharing.handed; clock = clock }) ended k (works_of most olds news all)
+      → AreServed most (record { origin = origin; history = sharing.handed; clock = clock }) ended k
+      (works_of most olds news all)
   works_served most origin sharing clock ended k [] [] all begins closes = tt
   works_served most origin sharing clock ended k [] (y ∷ ys) all begins closes = absurd all
   works_served most origin sharing clock ended k (x ∷ xs) [] all begins closes = absurd all
@@ -307,8 +401,10 @@ module _ {W : Type 0} (view : W → WorkerView) (did : W → Worked) where
   )
 
   -- a worker's desk stays the same desk
-  pub same_desks : (most : Option ℕ) (olds news : List W) → AllZip (WorksAs most) olds news → (k : ℕ) (other : DeskView) → k < length (map (λ (w : W). (view w).desk) olds)
-      → IsSameDesk (slice_index_or (map (λ (w : W). (view w).desk) olds) k other) (slice_index_or (map (λ (w : W). (view w).desk) news) k other)
+  pub same_desks : (most : Option ℕ) (olds news : List W) → AllZip (WorksAs most) olds news → (k : ℕ) (other : DeskView)
+      → k < length (map (λ (w : W). (view w).desk) olds)
+      → IsSameDesk (slice_index_or (map (λ (w : W). (view w).desk) olds) k other)
+      (slice_index_or (map (λ (w : W). (view w).desk) news) k other)
   same_desks most [] [] all k other within = absurd (omega arith)
   same_desks most [] (y ∷ ys) all k other within = absurd all
   same_desks most (x ∷ xs) [] all k other within = absurd all
@@ -322,28 +418,34 @@ module _ {W : Type 0} (view : W → WorkerView) (did : W → Worked) where
   as_many most (x ∷ xs) (y ∷ ys) all = ap suc (as_many most xs ys all.1)
 
   -- what is told of all desks is told of each worker's
-  pub of_workers : (P : DeskView → Type 0) (news : List W) → AllByRecursion P (map (λ (w : W). (view w).desk) news) → AllByRecursion (λ (w : W). P (view w).desk) news
+  pub of_workers : (P : DeskView → Type 0) (news : List W) → AllByRecursion P (map (λ (w : W). (view w).desk) news)
+      → AllByRecursion (λ (w : W). P (view w).desk) news
   of_workers P [] all = tt
   of_workers P (y ∷ ys) all = (all.0, of_workers P ys all.1)
 
   -- all workers together served the manager
-  pub serves_all : (most : Option ℕ) (count : ℕ) (origin : Origin) (sharing : Sharing) (clock : Moments) (ended : Ended) (olds news : List W) (old new : NetworkView)
-      → AllZip (WorksAs most) olds news → length olds ≡ count → sharing.desks ≡ count → BeginFrom origin sharing clock 0 olds
+  pub serves_all : (most : Option ℕ) (count : ℕ) (origin : Origin) (sharing : Sharing) (clock : Moments) (ended : Ended)
+      (olds news : List W) (old new : NetworkView)
+      → AllZip (WorksAs most) olds news → length olds ≡ count → sharing.desks ≡ count
+      → BeginFrom origin sharing clock 0 olds
       → IsLegal (opening_of origin) ended.history → IsNumbered sharing.desks sharing.handed ended.history
       → AllByRecursion (Closes ended.history) news
       → ended.totals.served ≡ min 18446744073709551615 (sum_by (λ (w : W). (did w).served) news)
       → ended.totals.failed ≡ list_any (λ (w : W). (did w).failed) news
-      → new.listening ≡ all_released old.listening (map (λ (w : W). (view w).gate) news) → new.listens ≡ old.listens → new.faults ≡ old.faults
+      → new.listening ≡ all_released old.listening (map (λ (w : W). (view w).gate) news) → new.listens ≡ old.listens
+      → new.faults ≡ old.faults
       → new.gate_faults ≡ faults_raised old.gate_faults (map (λ (w : W). (view w).gate) news)
       → ServesAll most count (record { origin = origin; history = sharing.handed; clock = clock }) ended old new
-  serves_all most count origin sharing clock ended olds news old new all many desks begins legal numbered closes total failed told listens faults gate_faults =
+  serves_all most count origin sharing clock ended olds news old new all many desks begins legal numbered closes total
+      failed told listens faults gate_faults =
       let works = works_of most olds news all in
       let begun : Begun = record { origin = origin; history = sharing.handed; clock = clock } in
       let gates = works_gates most olds news all in
       let as_count : length works ≡ count = works_count most olds news all ∙ many in
       let served : AreServed most begun ended 0 works =
       works_served most origin sharing clock ended 0 olds news all begins closes in
-      let here : IsNumbered count sharing.handed ended.history = subst (λ n. IsNumbered n sharing.handed ended.history) desks numbered in
+      let here : IsNumbered count sharing.handed ended.history = subst (λ n. IsNumbered n sharing.handed ended.history)
+      desks numbered in
       record {
         legal = legal;
         numbered = (here.0, here.1, here.2);
@@ -354,7 +456,8 @@ module _ {W : Type 0} (view : W → WorkerView) (did : W → Worked) where
         told = told ∙ ap (all_released old.listening) gates;
         total = total ∙ works_total most olds news all;
         failed = failed ∙ any_failed most olds news all;
-        risen = λ is. subst (λ n. HasRisen old.gate_faults n) (sym gate_faults) (works_raise most olds news old.gate_faults all (sym failed ∙ is));
+        risen = λ is. subst (λ n. HasRisen old.gate_faults n) (sym gate_faults)
+            (works_raise most olds news old.gate_faults all (sym failed ∙ is));
         listens = listens;
         faults = faults;
         gate_faults = gate_faults ∙ ap (faults_raised old.gate_faults) gates;

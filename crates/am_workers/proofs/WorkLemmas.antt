@@ -1,25 +1,26 @@
 -- How a worker serves one more link, and what holds of its links over a longer history.
-use Rattle.std.proofs.Common.{◌≡◌, ℕ, zero, suc, ◌+◌, ◌≤◌, ◌<◌, Bool, true, false, List, [], ◌∷◌, ◌++◌, length, drop, map, Option, Some, None, Ok, Err, refl, sym, ap, ◌∙◌, subst, inl, inr, arith, append_assoc, length-append, append-nil}
-use Rattle.std.specs.Prelude.{IfSome, min}
+use Rattle.std.proofs.Common.{◌≡◌, ℕ, zero, suc, ◌+◌, ◌≤◌, ◌<◌, Bool, true, false, List, [], ◌∷◌, ◌++◌, length, drop, Option, Some, None, Ok, Err, refl, sym, ap, ◌∙◌, subst, inl, inr, arith, length-append, append-nil}
+use Rattle.std.specs.Prelude.{IfSome, ◌-◌, min, if◌then◌else◌}
 use Rattle.std.specs.List.{AllByRecursion}
 use Rattle.std.specs.Option.{option_to_list}
-use Rattle.std.proofs.lemmas.List.{map-append}
 use Rattle.std.proofs.lemmas.Grind.{flat_map-append}
 use Rattle.am_types.specs.declared.history.Entry.{Entry}
 use Rattle.am_outside.specs.declared.failure.Failed.{Failed}
+use Rattle.am_outside.specs.Counts.{HasRisen}
 use Rattle.am_outside.specs.Memory.{one_more}
-use Rattle.am_network.specs.Links.{AreBack, HandsOut, HasFailedLast, IsClosed, LinkView, Links, MayTakeBack, failed, taken_back}
+use Rattle.am_network.specs.Links.{AreBack, HandsOn, HasOneMark, IsClosed, LinkView, Links, MayTakeBack, Parks, Stand, failed, set_aside}
 use Rattle.am_history.specs.State.{State}
 use Rattle.am_history.specs.Desks.{DeskView, IsSameDesk, opening_of, start_of}
 use Rattle.am_history.specs.History.{Extends, IsLegal, entries_of}
-use Rattle.am_http.specs.Exchanges.{AreAnswered, AreInOrder, Exchange, IsAbove, IsAnswer, Point, entry_at, floor_after, floor_of, moments_of, stored_entries}
+use Rattle.am_http.specs.Exchanges.{AreAnswered, AreInOrder, Exchange, IsAbove, IsAnswer, Point, entry_at, floor_after, floor_of, frames_of, moments_of, stored_entries}
+use Rattle.am_http.specs.Frames.{Leaves}
 use Rattle.am_http.specs.declared.end.End.{End}
-use Rattle.am_http.specs.declared.end.End.TheVariants.{ReadFault, WriteFault}
+use Rattle.am_http.specs.declared.end.End.TheVariants.{Idle, ReadFault, WriteFault}
 use Rattle.am_http.specs.declared.end.Served.{Served}
 use Rattle.am_http.specs.Links.{Gives, GoesOn, Link}
-use Rattle.am_http.specs.Sessions.{HasFault, Session}
+use Rattle.am_http.specs.Sessions.{GivesAtMost, HasFault, Visit, VisitEnds, Writes, most_frames, most_taken}
 use Rattle.am_http.proofs.ExchangeLemmas.{all_more, answers_stay, entries_of-append, extends_refl, extends_trans, same_view, stored_entries_stay}
-use Rattle.am_workers.specs.Work.{AreHanded, AreItsLinks, AreOfGate, HasCause, HasServed, IsHanded, IsServed, IsWorked, Service, ServesNext, TellsEnough, TriesNext, WorkerView, Works, exchanges_of, moments_of_all}
+use Rattle.am_workers.specs.Work.{AreOfGate, HasCause, HasServed, IsServed, IsWorked, Service, ServesNext, TellsEnough, TriesNext, WorkerView, Works, ended_in, exchanges_of, frames_left, given_back, moments_of_all}
 use Rattle.am_workers.proofs.ClockLemmas.{gives_trans, gives_still}
 
 -- a point above a floor is above a lower one
@@ -45,7 +46,8 @@ floor_lower low high (e ∷ es) below =
     floor_lower (floor_after low e.point) (floor_after high e.point) es (after_lower low high e.point below)
 
 -- places in order along exchanges, and along more behind them
-in_order_both : (floor : ℕ) (xs ys : List Exchange) → AreInOrder floor xs → AreInOrder (floor_of floor xs) ys → AreInOrder floor (xs ++ ys)
+in_order_both : (floor : ℕ) (xs ys : List Exchange) → AreInOrder floor xs → AreInOrder (floor_of floor xs) ys
+    → AreInOrder floor (xs ++ ys)
 in_order_both floor [] ys first next = next
 in_order_both floor (x ∷ xs) ys first next = (first.0, in_order_both (floor_after floor x.point) xs ys first.1 next)
 
@@ -54,7 +56,8 @@ floor_both floor [] ys = refl
 floor_both floor (x ∷ xs) ys = floor_both (floor_after floor x.point) xs ys
 
 -- what holds of all exchanges, and of more behind them
-all_both : {X : Type 0} (P : X → Type 0) (xs ys : List X) → AllByRecursion P xs → AllByRecursion P ys → AllByRecursion P (xs ++ ys)
+all_both : {X : Type 0} (P : X → Type 0) (xs ys : List X) → AllByRecursion P xs → AllByRecursion P ys
+    → AllByRecursion P (xs ++ ys)
 all_both P [] ys first next = next
 all_both P (x ∷ xs) ys first next = (first.0, all_both P xs ys first.1 next)
 
@@ -69,11 +72,13 @@ drop_all [] = refl
 drop_all (x ∷ xs) = drop_all xs
 
 pub drop_behind : (xs whole ys : List Entry) → whole ≡ xs ++ ys → drop (length xs) whole ≡ ys
-drop_behind xs whole ys is = ap (drop (length xs)) is ∙ drop_longer (length xs) xs ys (omega arith) ∙ ap (λ zs. zs ++ ys) (drop_all xs)
+drop_behind xs whole ys is = ap (drop (length xs)) is ∙ drop_longer (length xs) xs ys (omega arith)
+    ∙ ap (λ zs. zs ++ ys) (drop_all xs)
 
 -- a longer history is longer
 pub extends_length : (xs ys : List Entry) → Extends xs ys → length xs ≤ length ys
-extends_length xs ys grows = let e = ap (λ (h : List Entry). length h) grows.1 in omega (arith, e, length-append xs grows.0)
+extends_length xs ys grows = let e = ap (λ (h : List Entry). length h) grows.1 in omega
+    (arith, e, length-append xs grows.0)
 
 -- what was put behind a list is known by the whole
 behind : {X : Type 0} (xs ys zs : List X) → xs ++ ys ≡ xs ++ zs → ys ≡ zs
@@ -81,19 +86,22 @@ behind [] ys zs same = same
 behind (x ∷ xs) ys zs same = behind xs ys zs (ap (drop 1) same)
 
 -- the links of one worker, and one more
-exchanges_more : (services : List Service) (service : Service) → exchanges_of (services ++ service ∷ []) ≡ exchanges_of services ++ service.exchanges
+exchanges_more : (services : List Service) (service : Service) → exchanges_of (services ++ service ∷ [])
+    ≡ exchanges_of services ++ service.exchanges
 exchanges_more services service =
     flat_map-append (λ (s : Service). s.exchanges) services (service ∷ [])
     ∙ ap (λ es. exchanges_of services ++ es) (append-nil service.exchanges)
 
 -- the moments of their calls, and of one more
-moments_more : (services : List Service) (service : Service) → moments_of_all (services ++ service ∷ []) ≡ moments_of_all services ++ moments_of service.exchanges
+moments_more : (services : List Service) (service : Service) → moments_of_all (services ++ service ∷ [])
+    ≡ moments_of_all services ++ moments_of service.exchanges
 moments_more services service =
     ap moments_of (exchanges_more services service)
     ∙ flat_map-append (λ (e : Exchange). option_to_list e.now) (exchanges_of services) service.exchanges
 
 -- a worker that served no link yet
-pub worked_none : (start : State) (number : ℕ) (history : List Entry) → IsWorked start (length history) number history []
+pub worked_none : (start : State) (number : ℕ) (history : List Entry)
+    → IsWorked start (length history) number history []
 worked_none start number history =
     record {
       each = tt;
@@ -104,7 +112,8 @@ worked_none start number history =
     }
 
 -- the relation over a longer history, to which none of the worker's entries were added
-pub worked_stays : (start : State) (floor number : ℕ) (history longer : List Entry) (services : List Service) → floor ≤ length history
+pub worked_stays : (start : State) (floor number : ℕ) (history longer : List Entry) (services : List Service)
+    → floor ≤ length history
     → Extends history longer → entries_of number longer ≡ entries_of number history
     → IsWorked start floor number history services → IsWorked start floor number longer services
 worked_stays start floor number history longer services floored grows others worked =
@@ -112,7 +121,8 @@ worked_stays start floor number history longer services floored grows others wor
     let es = exchanges_of services in
     let none : entries_of number added ≡ [] =
     behind (entries_of number history) (entries_of number added) []
-    (sym (entries_of-append number history added) ∙ ap (entries_of number) (sym grows.1) ∙ others ∙ sym (append-nil (entries_of number history))) in
+    (sym (entries_of-append number history added) ∙ ap (entries_of number) (sym grows.1) ∙ others
+    ∙ sym (append-nil (entries_of number history))) in
     let P : List Entry → Type 0 = λ (h : List Entry). IsWorked start floor number h services in
     subst P (sym grows.1)
     (record {
@@ -129,17 +139,20 @@ worked_stays start floor number history longer services floored grows others wor
     })
 
 -- the entries that a link's calls added
-added_own : (number : ℕ) (old added stored : List Entry) → entries_of number (old ++ added) ≡ entries_of number old ++ stored → entries_of number added ≡ stored
+added_own : (number : ℕ) (old added stored : List Entry) → entries_of number (old ++ added) ≡ entries_of number old
+    ++ stored → entries_of number added ≡ stored
 added_own number old added stored own =
     behind (entries_of number old) (entries_of number added) stored (sym (entries_of-append number old added) ∙ own)
 
 -- one more link over a history that goes on
-worked_more : (start : State) (floor number : ℕ) (history added : List Entry) (services : List Service) (service : Service) → floor ≤ length history
+worked_more : (start : State) (floor number : ℕ) (history added : List Entry) (services : List Service)
+    (service : Service) → floor ≤ length history
     → IsWorked start floor number history services → IsServed service
     → AllByRecursion (IsAnswer start number (history ++ added)) service.exchanges
     → AreInOrder (length history) service.exchanges
     → floor_of (length history) service.exchanges ≤ length (history ++ added)
-    → entries_of number (history ++ added) ≡ entries_of number history ++ stored_entries (history ++ added) service.exchanges
+    → entries_of number (history ++ added) ≡ entries_of number history
+    ++ stored_entries (history ++ added) service.exchanges
     → IsWorked start floor number (history ++ added) (services ++ service ∷ [])
 worked_more start floor number history added services service floored worked served answers in_order within own =
     let es = exchanges_of services in
@@ -151,54 +164,39 @@ worked_more start floor number history added services service floored worked ser
     let lower = floor_lower (floor_of floor es) (length history) service.exchanges worked.within in
     record {
       each = all_more IsServed services service worked.each served;
-      answers = subst P (sym whole) (all_both (IsAnswer start number new) es service.exchanges (answers_stay start number history added es worked.answers) answers);
-      in_order = subst Q (sym whole) (in_order_both floor es service.exchanges worked.in_order (in_order_lower (floor_of floor es) (length history) service.exchanges worked.within in_order));
+      answers = subst P (sym whole) (all_both (IsAnswer start number new) es service.exchanges
+          (answers_stay start number history added es worked.answers) answers);
+      in_order = subst Q (sym whole) (in_order_both floor es service.exchanges worked.in_order
+          (in_order_lower (floor_of floor es) (length history) service.exchanges worked.within in_order));
       within = subst R (sym whole) (omega (arith, floor_both floor es service.exchanges, lower, within));
       own = ap (entries_of number) (drop_longer floor history added floored)
           ∙ entries_of-append number (drop floor history) added
-          ∙ ap (λ xs. entries_of number (drop floor history) ++ xs) (added_own number history added (stored_entries new service.exchanges) own)
-          ∙ ap (λ xs. xs ++ stored_entries new service.exchanges) (worked.own ∙ sym (stored_entries_stay start number history added es worked.answers))
+          ∙ ap (λ xs. entries_of number (drop floor history) ++ xs)
+          (added_own number history added (stored_entries new service.exchanges) own)
+          ∙ ap (λ xs. xs ++ stored_entries new service.exchanges) (worked.own
+          ∙ sym (stored_entries_stay start number history added es worked.answers))
           ∙ sym (flat_map-append (λ (e : Exchange). entry_at new e.point) es service.exchanges)
           ∙ ap (stored_entries new) (sym whole);
     }
 
 -- the links that a gate handed out, and one more
-handed_more : (sent : List (List ℕ)) (number : ℕ) (services : List Service) (service : Service) → AreHanded sent number services
-    → IsHanded sent (number + length services) service.first → AreHanded sent number (services ++ service ∷ [])
-handed_more sent number [] service handed next = (subst (λ n. IsHanded sent n service.first) (omega arith) next, tt)
-handed_more sent number (first ∷ others) service handed next = (
-  handed.0,
-  handed_more sent (suc number) others service handed.1 (subst (λ n. IsHanded sent n service.first) (omega arith) next),
-)
-
-links_more : (first old new : Links) (services : List Service) (service : Service) → AreItsLinks first old services
-    → AreItsLinks old new (service ∷ []) → AreItsLinks first new (services ++ service ∷ [])
-links_more first old new services service so_far next =
-    record {
-      sent = next.sent ∙ so_far.sent;
-      handed = omega (arith, so_far.handed, next.handed, length-append services (service ∷ []));
-      first = handed_more first.sent first.handed services service so_far.first
-          (subst (λ n. IsHanded first.sent n service.first) so_far.handed
-          (subst (λ sent. IsHanded sent old.handed service.first) so_far.sent next.first.0));
-      last = next.last
-          ∙ ap (λ ls. ls ++ service.last ∷ []) so_far.last
-          ∙ append_assoc first.ended (map (λ (s : Service). s.last) services) (service.last ∷ [])
-          ∙ ap (λ ls. first.ended ++ ls) (sym (map-append (λ (s : Service). s.last) services (service ∷ [])));
-    }
-
-of_gate_more : (first old new : Option Links) (services : List Service) (service : Service) → AreOfGate first old services
+of_gate_more : (first old new : Option Links) (services : List Service) (service : Service)
+    → AreOfGate first old services
     → AreOfGate old new (service ∷ []) → AreOfGate first new (services ++ service ∷ [])
-of_gate_more None None None services service so_far next = tt
-of_gate_more None None (Some new) services service so_far next = absurd next
-of_gate_more None (Some old) new services service so_far next = absurd so_far
-of_gate_more (Some first) None new services service so_far next = absurd so_far
-of_gate_more (Some first) (Some old) None services service so_far next = absurd next
-of_gate_more (Some first) (Some old) (Some new) services service so_far next = links_more first old new services service so_far next
+of_gate_more first old new [] service so_far next =
+    subst (λ (l : Option Links). AreOfGate l new (service ∷ [])) so_far next
+of_gate_more first old new (s ∷ ss) service so_far next =
+    (so_far.0, so_far.1, of_gate_more (given_back so_far.0 s) old new ss service so_far.2 next)
 
-of_gate_none : (links : Option Links) → AreOfGate links links []
-of_gate_none None = tt
-of_gate_none (Some links) =
-    record { sent = refl; handed = omega arith; first = tt; last = sym (append-nil links.ended) }
+-- how many of them were ended
+ended_more : (services : List Service) (service : Service)
+    → ended_in (services ++ service ∷ []) ≡ ended_in services + ended_in (service ∷ [])
+ended_more [] service = omega arith
+ended_more (s ∷ ss) service = omega (arith, ended_more ss service)
+
+one_at_most : (parked : Bool) → (if parked then 0 else 1) + 0 ≤ 1
+one_at_most true = omega arith
+one_at_most false = omega arith
 
 -- a worker that served no link yet
 pub served_none : (worker : WorkerView) → HasServed worker worker []
@@ -207,37 +205,25 @@ served_none worker =
       desk = record { desk = record { origin = refl; number = refl; sharing = refl }; legal = λ h. h };
       grows = extends_refl worker.desk.seen;
       worked = worked_none (start_of worker.desk) worker.desk.number worker.desk.seen;
-      links = of_gate_none worker.gate.links;
+      links = refl;
       moments = λ calls. refl;
       faults = omega arith;
     }
 
--- a failed call of the gate hands out no link
-of_gate_failed : (first old : Option Links) (services : List Service) → AreOfGate first old services → AreOfGate first (failed old) services
-of_gate_failed None None services its = tt
-of_gate_failed None (Some old) services its = absurd its
-of_gate_failed (Some first) None services its = absurd its
-of_gate_failed (Some first) (Some old) services its =
-    record { sent = its.sent; handed = its.handed; first = its.first; last = its.last }
-
--- so it is the last thing that happened at the gate
-failed_last : (old : Option Links) → IfSome (failed old) HasFailedLast
-failed_last None = tt
-failed_last (Some links) = refl
-
--- the same worker, if nothing was served
+-- the worker if nothing was served since, but for a call of its gate that may have failed
 pub served_same : (first old new : WorkerView) (services : List Service) → HasServed first old services
-    → new.desk ≡ old.desk → AreOfGate first.gate.links new.gate.links services → Gives old.clock [] new.clock → old.gate.faults ≤ new.gate.faults
-    → HasServed first new services
-served_same first old new services has desk links clock faults =
+    → new.desk ≡ old.desk → Gives old.clock [] new.clock → old.gate.faults ≤ new.gate.faults
+    → HasServed first (record new { gate = record (new.gate) { links = old.gate.links } }) services
+served_same first old new services has desk clock faults =
     let P : DeskView → Type 0 = λ (d : DeskView). GoesOn first.desk d in
     let Q : DeskView → Type 0 = λ (d : DeskView). Extends first.desk.seen d.seen in
-    let R : DeskView → Type 0 = λ (d : DeskView). IsWorked (start_of first.desk) (length first.desk.seen) first.desk.number d.seen services in
+    let R : DeskView → Type 0 = λ (d : DeskView). IsWorked (start_of first.desk) (length first.desk.seen)
+    first.desk.number d.seen services in
     record {
       desk = subst P (sym desk) has.desk;
       grows = subst Q (sym desk) has.grows;
       worked = subst R (sym desk) has.worked;
-      links = links;
+      links = has.links;
       moments = gives_still first.clock (moments_of_all services) old.clock new.clock has.moments clock;
       faults = omega (arith, has.faults, faults);
     }
@@ -255,17 +241,20 @@ goes_on_trans a b c first next =
     record {
       desk = same_trans a b c first.desk next.desk;
       legal = λ h.
-          subst (λ origin. IsLegal (opening_of origin) b.seen → IsLegal (opening_of origin) c.seen) first.desk.origin next.legal (first.legal h);
+          subst (λ origin. IsLegal (opening_of origin) b.seen → IsLegal (opening_of origin) c.seen) first.desk.origin
+          next.legal (first.legal h);
     }
 
 -- the answers over a desk that is the same
 answered_as : (first old new : DeskView) (es : List Exchange) → IsSameDesk first old → AreAnswered old new es
-    → AreAnswered (record { origin = first.origin; number = first.number; sharing = first.sharing; seen = old.seen }) new es
+    → AreAnswered (record { origin = first.origin; number = first.number; sharing = first.sharing; seen = old.seen })
+    new es
 answered_as first old new es same answers =
     subst (λ (d : DeskView). AreAnswered d new es) (same_view first old same) answers
 
 -- one more link was served
-pub served_more : (first old new : WorkerView) (services : List Service) (service : Service) → HasServed first old services
+pub served_more : (first old new : WorkerView) (services : List Service) (service : Service)
+    → HasServed first old services
     → GoesOn old.desk new.desk → AreAnswered old.desk new.desk service.exchanges → IsServed service
     → AreOfGate old.gate.links new.gate.links (service ∷ []) → Gives old.clock (moments_of service.exchanges) new.clock
     → old.gate.faults ≤ new.gate.faults → HasServed first new (services ++ service ∷ [])
@@ -278,7 +267,8 @@ served_more first old new services service has goes answers served links moments
     let floor = length first.desk.seen in
     let P : List Entry → Type 0 = λ (h : List Entry). AllByRecursion (IsAnswer start number h) service.exchanges in
     let Q : List Entry → Type 0 = λ (h : List Entry). floor_of (length old.desk.seen) service.exchanges ≤ length h in
-    let R : List Entry → Type 0 = λ (h : List Entry). entries_of number h ≡ entries_of number old.desk.seen ++ stored_entries h service.exchanges in
+    let R : List Entry → Type 0 = λ (h : List Entry). entries_of number h ≡ entries_of number old.desk.seen
+    ++ stored_entries h service.exchanges in
     let S : List Entry → Type 0 = λ (h : List Entry). IsWorked start floor number h (services ++ service ∷ []) in
     let floored : floor ≤ length old.desk.seen = extends_length first.desk.seen old.desk.seen has.grows in
     record {
@@ -289,121 +279,229 @@ served_more first old new services service has goes answers served links moments
           (subst P is_new there.answers) there.in_order (subst Q is_new there.floor) (subst R is_new there.own));
       links = of_gate_more first.gate.links old.gate.links new.gate.links services service has.links links;
       moments = subst (λ ms. Gives first.clock ms new.clock) (sym (moments_more services service))
-          (gives_trans first.clock (moments_of_all services) old.clock (moments_of service.exchanges) new.clock has.moments moments);
+          (gives_trans first.clock (moments_of_all services) old.clock (moments_of service.exchanges) new.clock
+          has.moments moments);
       faults = omega (arith, has.faults, faults);
     }
 
 -- no link was to come
-pub none_to_come : (old new : Option Links) → HandsOut old new None → (new ≡ old) × IfSome old IsClosed
-none_to_come None new handed = (handed.0, tt)
+pub none_to_come : (old new : Option Links) → HandsOn old new None → (new ≡ old) × IfSome old IsClosed
+none_to_come None new handed = (handed, tt)
 none_to_come (Some links) new handed = (handed.1, handed.0)
 
 -- so nothing was served
-pub tries_none : (old new : WorkerView) → new.desk ≡ old.desk → HandsOut old.gate.links new.gate.links None → new.gate.faults ≡ old.gate.faults
-    → Gives old.clock [] new.clock → TriesNext old new (Ok false)
+pub tries_none : (old new : WorkerView) → new.desk ≡ old.desk → HandsOn old.gate.links new.gate.links None
+    → new.gate.faults ≡ old.gate.faults
+    → Gives old.clock [] new.clock → TriesNext old new (Ok None)
 tries_none old new desk handed faults clock =
     let none = none_to_come old.gate.links new.gate.links handed in ((desk, none.0, none.1, clock), faults)
 
 -- nor if the gate failed
-pub tries_failed : (old new : WorkerView) (e : Failed) → new.desk ≡ old.desk → new.gate.links ≡ failed old.gate.links → new.gate.faults ≡ one_more old.gate.faults
+pub tries_failed : (old new : WorkerView) (e : Failed) → new.desk ≡ old.desk → new.gate.links ≡ failed old.gate.links
+    → new.gate.faults ≡ one_more old.gate.faults
     → Gives old.clock [] new.clock → TriesNext old new (Err e)
 tries_failed old new e desk links faults clock = (desk, links, faults, clock)
 
--- a connection's link, as its gate sees it
-abbrev pub view_of : Link → LinkView
-view_of link = record {
+-- a connection's link, as its gate sees it, with the count of its reader's waits
+abbrev pub view_of : Link → ℕ → LinkView
+view_of link waits = record {
   left = link.source.left;
   read_faults = link.source.faults;
   read_mark = link.source.mark;
+  read_waits = waits;
   taken = link.sink.taken;
   write_faults = link.sink.faults;
   write_mark = link.sink.mark;
 }
 
-cause_of : (end : End) (first last : Link) → HasFault end first last → HasCause end (view_of first) (view_of last)
-cause_of ReadFault first last fault = fault
-cause_of WriteFault first last fault = fault
-cause_of end first last fault = tt
+cause_of : (end : End) (first last : Link) (before after : ℕ) → HasFault end first last
+    → (end ≡ Idle → HasRisen before after)
+    → HasCause end (view_of first before) (view_of last after)
+cause_of Idle first last before after fault rests = rests refl
+cause_of ReadFault first last before after fault rests = fault
+cause_of WriteFault first last before after fault rests = fault
+cause_of end first last before after fault rests = tt
 
--- a connection that ended is a link that was served
-pub link_served : (first last : Link) (served : Served) (session : Session first last served) → HasFault served.end first last
-    → IsServed (record { first = view_of first; last = view_of last; exchanges = session.exchanges })
-link_served first last served session fault =
+-- after an idle connection that was served so, a further frame may come
+idle_below : (limit : ℕ) (first last : Link) (served : Served) (visit : Visit limit first last served)
+    → served.end ≡ Idle → (served.answered ≡ length visit.exchanges) × (served.answered < limit)
+idle_below limit first last served visit idle =
+    let P : End → Type 0 = λ (e : End). VisitEnds limit e served.answered visit.exchanges
+    (record { rest = visit.rest; left = last.source.left; last = visit.last }) in
+    let there : VisitEnds limit Idle served.answered visit.exchanges
+    (record { rest = visit.rest; left = last.source.left; last = visit.last }) = subst P idle visit.end in
+    (there.0, omega (arith, there.0, there.1.below))
+
+-- so its frames are no more than a connection may have
+pub few_frames : (before : ℕ) (first last : Link) (served : Served) → Visit (most_frames - before) first last served
+    → served.end ≡ Idle → before + served.answered ≤ 65536
+few_frames before first last served visit idle =
+    let below = (idle_below (most_frames - before) first last served visit idle).1 in omega (arith, below)
+
+-- a link that was handed out so, and served by a connection
+abbrev pub served_as : (stand : Stand) (first last : Link) (after : ℕ) (served : Served)
+    → Visit (frames_left stand) first last served → Bool → Service
+served_as stand first last after served visit parked =
+    record { first = stand; last = view_of last after; exchanges = visit.exchanges; parked = parked }
+
+-- it was served as it should be
+link_served : (stand : Stand) (first last : Link) (before after : ℕ) (served : Served) (parked : Bool)
+    (visit : Visit (frames_left stand) first last served) → stand.link ≡ view_of first before
+    → HasFault served.end first last → (served.end ≡ Idle → HasRisen before after)
+    → (parked ≡ true → served.end ≡ Idle) → IsServed (served_as stand first last after served visit parked)
+link_served stand first last before after served parked visit is fault rests idle =
+    let limit = frames_left stand in
+    let F : LinkView → Type 0 = λ (v : LinkView). Leaves v.left (frames_of visit.exchanges) visit.rest in
+    let G : LinkView → Type 0 = λ (v : LinkView). GivesAtMost (most_taken limit) v.left last.source.left in
+    let O : LinkView → Type 0 = λ (v : LinkView). Writes served v.taken last.sink.taken visit.exchanges visit.last in
+    let C : LinkView → Type 0 = λ (v : LinkView). HasCause served.end v (view_of last after) in
     record {
       how = served;
-      rest = session.rest;
-      last = session.last;
-      frames = session.frames;
-      most = session.most;
-      taken = session.taken;
-      end = session.end;
-      output = session.output;
-      cause = cause_of served.end first last fault;
+      rest = visit.rest;
+      last = visit.last;
+      frames = subst F (sym is) visit.frames;
+      most = visit.most;
+      taken = subst G (sym is) visit.taken;
+      end = visit.end;
+      output = subst O (sym is) visit.output;
+      cause = subst C (sym is) (cause_of served.end first last before after fault rests);
+      parked = idle;
     }
 
--- a link that was handed out and taken back
-pub of_gate_one : (old mid new : Option Links) (first last : LinkView) (exchanges : List Exchange) → HandsOut old mid (Some first) → new ≡ taken_back mid last
-    → AreOfGate old new (record { first = first; last = last; exchanges = exchanges } ∷ [])
-of_gate_one None mid new first last exchanges handed back =
-    let P : Option Links → Type 0 = λ (l : Option Links). AreOfGate None l (record { first = first; last = last; exchanges = exchanges } ∷ []) in
-    subst P (sym (back ∙ ap (λ m. taken_back m last) handed.0)) tt
-of_gate_one (Some links) mid new first last exchanges handed back =
-    let P : Option Links → Type 0 = λ (l : Option Links). AreOfGate (Some links) l (record { first = first; last = last; exchanges = exchanges } ∷ []) in
-    subst P (sym (back ∙ ap (λ m. taken_back m last) handed.3))
-    (record { sent = refl; handed = refl; first = ((handed.0, handed.1, handed.2), tt); last = refl })
+-- its gate has it back: parked, with the count of its frames, or ended
+given : (stand : Stand) (mid new : Option Links) (first last : Link) (after : ℕ) (served : Served) (parked : Bool)
+    (visit : Visit (frames_left stand) first last served) → (parked ≡ true → served.end ≡ Idle)
+    → Parks parked mid new (record { link = view_of last after; answered = stand.answered + served.answered })
+    → new ≡ given_back mid (served_as stand first last after served visit parked)
+given stand mid new first last after served true visit idle back =
+    let count = (idle_below (frames_left stand) first last served visit (idle refl)).0 in
+    back ∙ ap (λ n. set_aside mid (record { link = view_of last after; answered = stand.answered + n })) count
+given stand mid new first last after served false visit idle back = back
 
--- a connection over a link that was handed out and taken back
-pub serves_link : (old mid new : Option Links) (first last : Link) (served : Served) (session : Session first last served) → HasFault served.end first last
-    → HandsOut old mid (Some (view_of first)) → new ≡ taken_back mid (view_of last)
-    → (service : Service) × AreAnswered first.server.desk last.server.desk service.exchanges × IsServed service × AreOfGate old new (service ∷ [])
-    × Gives first.server.clock (moments_of service.exchanges) last.server.clock
-serves_link old mid new first last served session fault handed back = (
-  record { first = view_of first; last = view_of last; exchanges = session.exchanges },
-  session.answers,
-  link_served first last served session fault,
-  of_gate_one old mid new (view_of first) (view_of last) session.exchanges handed back,
-  session.moments,
+-- so many links ended by that
+ended_one : (parked : Bool) (ended : ℕ) → ended ≡ (if parked then 0 else 1) → ended ≡ (if parked then 0 else 1) + 0
+ended_one true ended is = is
+ended_one false ended is = is
+
+-- a connection over a link that was handed out and is back
+pub serves_link : (stand : Stand) (old mid new : Option Links) (first last : Link) (before after : ℕ) (served : Served)
+    (parked : Bool) (ended : ℕ) (visit : Visit (frames_left stand) first last served)
+    → stand.link ≡ view_of first before → HasFault served.end first last → (served.end ≡ Idle → HasRisen before after)
+    → (parked ≡ true → served.end ≡ Idle) → HandsOn old mid (Some stand)
+    → Parks parked mid new (record { link = view_of last after; answered = stand.answered + served.answered })
+    → ended ≡ (if parked then 0 else 1)
+    → (service : Service) × AreAnswered first.server.desk last.server.desk service.exchanges × IsServed service
+    × AreOfGate old new (service ∷ [])
+    × Gives first.server.clock (moments_of service.exchanges) last.server.clock × (ended ≡ ended_in (service ∷ []))
+serves_link stand old mid new first last before after served parked ended visit is fault rests idle handed back many = (
+  served_as stand first last after served visit parked,
+  visit.answers,
+  link_served stand first last before after served parked visit is fault rests idle,
+  (mid, handed, given stand mid new first last after served parked visit idle back),
+  visit.moments,
+  ended_one parked ended many,
 )
 
--- every link is back again
-pub back_again : (old mid new : Option Links) (first last : LinkView) → HandsOut old mid (Some first) → new ≡ taken_back mid last → IfSome old AreBack → IfSome new AreBack
-back_again None mid new first last handed back all =
-    let P : Option Links → Type 0 = λ (l : Option Links). IfSome l AreBack in
-    subst P (sym (back ∙ ap (λ m. taken_back m last) handed.0)) tt
-back_again (Some links) mid new first last handed back all =
-    let P : Option Links → Type 0 = λ (l : Option Links). IfSome l AreBack in
-    subst P (sym (back ∙ ap (λ m. taken_back m last) handed.3)) (omega (arith, all, length-append links.ended (last ∷ [])))
+-- while a link is out, all others are back
+abbrev pub IsOneOut : Links → Type 0
+IsOneOut links =
+    (length links.ended + length links.parked + 1 ≡ links.handed)
+    × AllByRecursion (λ (stand : Stand). HasOneMark stand.link) links.parked
 
--- it may be taken back
-pub may_be_back : (old mid : Option Links) (first last : LinkView) → HandsOut old mid (Some first) → IfSome old AreBack
-    → last.read_mark ≡ first.read_mark → last.write_mark ≡ first.write_mark → MayTakeBack mid last
+all_left : {X : Type 0} (P : X → Type 0) (before : List X) (x : X) (after : List X)
+    → AllByRecursion P (before ++ x ∷ after) → AllByRecursion P (before ++ after)
+all_left P [] x after all = all.1
+all_left P (y ∷ before) x after all = (all.0, all_left P before x after all.1)
+
+all_at : {X : Type 0} (P : X → Type 0) (before : List X) (x : X) (after : List X)
+    → AllByRecursion P (before ++ x ∷ after) → P x
+all_at P [] x after all = all.0
+all_at P (y ∷ before) x after all = all_at P before x after all.1
+
+one_out : (links : Links) (mid : Option Links) (first : Stand) → HandsOn (Some links) mid (Some first) → AreBack links
+    → (now : Links) × (mid ≡ Some now) × IsOneOut now × HasOneMark first.link
+one_out links mid first (inl new) back = (
+  record links { handed = links.handed + 1 },
+  new.0.3,
+  (omega (arith, back.0), back.1),
+  (let P : LinkView → Type 0 = λ (l : LinkView). HasOneMark l in subst P (sym new.0.2) refl),
+)
+one_out links mid first (inr again) back =
+    let P : Stand → Type 0 = λ (s : Stand). HasOneMark s.link in
+    let all = subst (λ (ss : List Stand). AllByRecursion P ss) again.2 back.1 in
+    let many = ap (λ (ss : List Stand). length ss) again.2 in (
+      record links { parked = again.0 ++ again.1 },
+      again.3,
+      (
+        omega (arith, back.0, many, length-append again.0 (first ∷ again.1), length-append again.0 again.1),
+        all_left P again.0 first again.1 all,
+      ),
+      all_at P again.0 first again.1 all,
+    )
+
+-- it may be taken back or parked
+pub may_be_back : (old mid : Option Links) (first : Stand) (last : LinkView) → HandsOn old mid (Some first)
+    → IfSome old AreBack → last.read_mark ≡ first.link.read_mark → last.write_mark ≡ first.link.write_mark
+    → MayTakeBack mid last
 may_be_back None mid first last handed all read write =
     let P : Option Links → Type 0 = λ (l : Option Links). MayTakeBack l last in
-    subst P (sym handed.0) tt
+    subst P (sym handed) tt
 may_be_back (Some links) mid first last handed all read write =
     let P : Option Links → Type 0 = λ (l : Option Links). MayTakeBack l last in
-    subst P (sym handed.3) (
-      omega (arith, all),
-      read ∙ ap (λ (l : LinkView). l.read_mark) handed.2 ∙ sym (ap (λ (l : LinkView). l.write_mark) handed.2) ∙ sym write,
+    let out = one_out links mid first handed all in
+    subst P (sym out.1) (omega (arith, out.2.0), read ∙ out.3 ∙ sym write)
+
+-- and then every link is back again
+back_so : (now : Links) (parked : Bool) (new : Option Links) (stand : Stand) → IsOneOut now
+    → HasOneMark stand.link → Parks parked (Some now) new stand → IfSome new AreBack
+back_so now true new stand out mark back =
+    let P : Option Links → Type 0 = λ (l : Option Links). IfSome l AreBack in
+    let Q : Stand → Type 0 = λ (s : Stand). HasOneMark s.link in
+    subst P (sym back) (
+      omega (arith, out.0, length-append now.parked (stand ∷ [])),
+      all_both Q now.parked (stand ∷ []) out.1 (mark, tt),
     )
+back_so now false new stand out mark back =
+    let P : Option Links → Type 0 = λ (l : Option Links). IfSome l AreBack in
+    subst P (sym back) (omega (arith, out.0, length-append now.ended (stand.link ∷ [])), out.1)
+
+back_none : (parked : Bool) (new : Option Links) (stand : Stand) → Parks parked None new stand → IfSome new AreBack
+back_none true new stand back = let P : Option Links → Type 0 = λ (l : Option Links). IfSome l AreBack in subst P
+    (sym back) tt
+back_none false new stand back = let P : Option Links → Type 0 = λ (l : Option Links). IfSome l AreBack in subst P
+    (sym back) tt
+
+pub back_again : (old mid new : Option Links) (first last : Stand) (parked : Bool) → HandsOn old mid (Some first)
+    → IfSome old AreBack → last.link.read_mark ≡ first.link.read_mark → last.link.write_mark ≡ first.link.write_mark
+    → Parks parked mid new last → IfSome new AreBack
+back_again None mid new first last parked handed all read write back =
+    back_none parked new last (subst (λ (l : Option Links). Parks parked l new last) handed back)
+back_again (Some links) mid new first last parked handed all read write back =
+    let out = one_out links mid first handed all in
+    back_so out.0 parked new last out.2 (read ∙ out.3 ∙ sym write)
+    (subst (λ (l : Option Links). Parks parked l new last) out.1 back)
 
 -- one more link was served, if there was one
-pub one_more_served : (first old new : WorkerView) (services : List Service) (more : Bool) → more ≡ true → HasServed first old services → ServesNext old new more
+pub one_more_served : (first old new : WorkerView) (services : List Service) (next : Option ℕ) (ended : ℕ)
+    → next ≡ Some ended → HasServed first old services → ServesNext old new next
     → GoesOn old.desk new.desk → old.gate.faults ≤ new.gate.faults
-    → (all : List Service) × HasServed first new all × (length all ≡ length services + 1)
-one_more_served first old new services more is has next goes faults =
-    let P : Bool → Type 0 = λ (b : Bool). ServesNext old new b in
-    let there : ServesNext old new true = subst P is next in (
+    → (all : List Service) × HasServed first new all × (ended_in all ≡ ended_in services + ended) × (ended ≤ 1)
+one_more_served first old new services next ended is has serves goes faults =
+    let P : Option ℕ → Type 0 = λ (o : Option ℕ). ServesNext old new o in
+    let there : ServesNext old new (Some ended) = subst P is serves in
+    let one = one_at_most there.0.parked in (
       services ++ there.0 ∷ [],
       served_more first old new services there.0 has goes there.1 there.2 there.3 there.4 faults,
-      length-append services (there.0 ∷ []),
+      omega (arith, ended_more services there.0, there.5),
+      omega (arith, one, there.5),
     )
 
--- how many links were served, one more of which was counted
-pub counted_more : (served count : ℕ) → served ≡ min 18446744073709551615 count → min (served + 1) 18446744073709551615 ≡ min 18446744073709551615 (count + 1)
-counted_more served count is = grind (arith, is)
+-- how many links were ended, with those that were counted now
+pub counted_more : (served count ended : ℕ) → served ≡ min 18446744073709551615 count
+    → min (served + ended) 18446744073709551615 ≡ min 18446744073709551615 (count + ended)
+counted_more served count ended is = grind (arith, is)
 
--- fewer links were served than are asked for
+-- fewer links were ended than are asked for
 abbrev pub IsShort : Option ℕ → ℕ → Type 0
 IsShort None count = Unit {0}
 IsShort (Some most) count = count < most
@@ -416,65 +514,78 @@ short_few : (most : Option ℕ) (count : ℕ) → IsShort most count → IfSome 
 short_few None count short = tt
 short_few (Some most) count short = omega (arith, short)
 
-pub short_still : (most : Option ℕ) (count served : ℕ) (enough : Bool) → enough ≡ false → TellsEnough most served enough → served ≡ min 18446744073709551615 count → IsShort most count
+pub short_still : (most : Option ℕ) (count served : ℕ) (enough : Bool) → enough ≡ false → TellsEnough most served enough
+    → served ≡ min 18446744073709551615 count → IsShort most count
 short_still None count served enough is tells held = tt
 short_still (Some most) count served enough is tells held =
     let P : Bool → Type 0 = λ (b : Bool). TellsEnough (Some most) served b in
     let short = subst P is tells in
     grind (arith, short.0, short.1, held)
 
-enough_is : (most : Option ℕ) (count served : ℕ) (enough : Bool) → enough ≡ true → TellsEnough most served enough → served ≡ min 18446744073709551615 (count + 1)
-    → IsShort most count → most ≡ Some (count + 1)
-enough_is None count served enough is tells held short = absurd (let e = sym is ∙ tells in cc)
-enough_is (Some most) count served enough is tells held short =
+enough_is : (most : Option ℕ) (count ended served : ℕ) (enough : Bool) → ended ≤ 1 → enough ≡ true
+    → TellsEnough most served enough → served ≡ min 18446744073709551615 (count + ended)
+    → IsShort most count → most ≡ Some (count + ended)
+enough_is None count ended served enough one is tells held short = absurd (let e = sym is ∙ tells in cc)
+enough_is (Some most) count ended served enough one is tells held short =
     let P : Bool → Type 0 = λ (b : Bool). TellsEnough (Some most) served b in
     let reached : most ≤ served = subst P is tells in
-    ap Some (let e : most ≡ count + 1 = grind (arith, reached, held, short) in e)
+    ap Some (let e : most ≡ count + ended = grind (arith, reached, held, short, one) in e)
 
 -- a worker that stops since no link is to come
-pub works_closed : (most : Option ℕ) (first old new : WorkerView) (services : List Service) (served : ℕ) → HasServed first old services
-    → old.gate.faults ≡ first.gate.faults → IsShort most (length services) → served ≡ min 18446744073709551615 (length services)
-    → TriesNext old new (Ok false) → Works most first new (record { served = served; failed = false })
+pub works_closed : (most : Option ℕ) (first old new : WorkerView) (services : List Service) (served : ℕ)
+    → HasServed first old services
+    → old.gate.faults ≡ first.gate.faults → IsShort most (ended_in services)
+    → served ≡ min 18446744073709551615 (ended_in services)
+    → TriesNext old new (Ok None) → Works most first new (record { served = served; failed = false })
 works_closed most first old new services served has calm short held next =
-    let P : Option Links → Type 0 = λ (l : Option Links). IfSome l IsClosed in
-    let Q : Option Links → Type 0 = λ (l : Option Links). AreOfGate first.gate.links l services in
     let still = next.1 in
     record {
       services = services;
-      has = served_same first old new services has next.0.0 (subst Q (sym next.0.1) has.links) next.0.3 (omega (arith, still));
-      few = short_few most (length services) short;
+      links = old.gate.links;
+      has = served_same first old new services has next.0.0 next.0.3 (omega (arith, still));
+      few = short_few most (ended_in services) short;
       served = held;
-      ends = (still ∙ calm, inr (subst P (sym next.0.1) next.0.2));
+      ends = (still ∙ calm, next.0.1, inr next.0.2);
     }
 
 -- since its gate failed
-pub works_failed : (most : Option ℕ) (first old new : WorkerView) (services : List Service) (served : ℕ) (e : Failed) → HasServed first old services
-    → old.gate.faults ≡ first.gate.faults → IsShort most (length services) → served ≡ min 18446744073709551615 (length services)
-    → TriesNext old new (Err e) → old.gate.faults ≤ new.gate.faults → Works most first new (record { served = served; failed = true })
+pub works_failed : (most : Option ℕ) (first old new : WorkerView) (services : List Service) (served : ℕ) (e : Failed)
+    → HasServed first old services
+    → old.gate.faults ≡ first.gate.faults → IsShort most (ended_in services)
+    → served ≡ min 18446744073709551615 (ended_in services)
+    → TriesNext old new (Err e) → old.gate.faults ≤ new.gate.faults
+    → Works most first new (record { served = served; failed = true })
 works_failed most first old new services served e has calm short held next faults =
-    let Q : Option Links → Type 0 = λ (l : Option Links). AreOfGate first.gate.links l services in
     record {
       services = services;
-      has = served_same first old new services has next.0 (subst Q (sym next.1) (of_gate_failed first.gate.links old.gate.links services has.links)) next.3 faults;
-      few = short_few most (length services) short;
+      links = old.gate.links;
+      has = served_same first old new services has next.0 next.3 faults;
+      few = short_few most (ended_in services) short;
       served = held;
-      ends = (
-        next.2 ∙ ap one_more calm,
-        subst (λ (l : Option Links). IfSome l HasFailedLast) (sym next.1) (failed_last old.gate.links),
-      );
+      ends = (next.2 ∙ ap one_more calm, next.1);
     }
 
--- since it served as many links as are asked for
-pub works_enough : (most : Option ℕ) (first new : WorkerView) (services : List Service) (served count : ℕ) (enough : Bool) → HasServed first new services
-    → new.gate.faults ≡ first.gate.faults → length services ≡ count + 1 → IsShort most count → served ≡ min 18446744073709551615 (count + 1) → enough ≡ true → TellsEnough most served enough
+-- since it ended as many links as are asked for
+pub works_enough : (most : Option ℕ) (first new : WorkerView) (services : List Service) (served count ended : ℕ)
+    (enough : Bool) → ended ≤ 1 → HasServed first new services
+    → new.gate.faults ≡ first.gate.faults → ended_in services ≡ count + ended → IsShort most count
+    → served ≡ min 18446744073709551615 (count + ended) → enough ≡ true → TellsEnough most served enough
     → Works most first new (record { served = served; failed = false })
-works_enough most first new services served count enough has calm long short held is tells =
-    let reached : most ≡ Some (count + 1) = enough_is most count served enough is tells held short in
-    let P : Option ℕ → Type 0 = λ (o : Option ℕ). IfSome o (λ m. length services ≤ m) in
+works_enough most first new services served count ended enough one has calm long short held is tells =
+    let reached : most ≡ Some (count + ended) = enough_is most count ended served enough one is tells held short in
+    let P : Option ℕ → Type 0 = λ (o : Option ℕ). IfSome o (λ m. ended_in services ≤ m) in
     record {
       services = services;
-      has = has;
+      links = new.gate.links;
+      has = record {
+        desk = has.desk;
+        grows = has.grows;
+        worked = has.worked;
+        links = has.links;
+        moments = has.moments;
+        faults = has.faults;
+      };
       few = subst P (sym reached) (omega (arith, long));
       served = held ∙ ap (λ n. min 18446744073709551615 n) (sym long);
-      ends = (calm, inl (reached ∙ ap Some (sym long)));
+      ends = (calm, refl, inl (reached ∙ ap Some (sym long)));
     }

@@ -18,12 +18,12 @@ use std::thread::Threads;
 
 /// Serves a manager by as many workers as a network answered gates, 1 to 64, each of which serves the links of its gate
 /// on a desk of its own, at most `most` of them if that is given, which is at least 1. They work at the same time, each
-/// in a thread of its own if there are threads, and with a clock of its own that tells what the given one tells. Once all
-/// have ended, the gates are handed back to the network, in their order, and the manager comes back with what the workers
-/// did.
+/// in a thread of its own if there are threads, and with a clock of its own that tells what the given one tells. Once
+/// all have ended, the gates are handed back to the network, in their order, and the manager comes back with what the
+/// workers did.
 ///
 /// # Errors
-/// `NoMemory` where memory ran out, which is before the first link is handed out. The gates are handed back to the network
+/// `NoMemory` if memory ran out, which is before the first link is handed out. The gates are handed back to the network
 /// as they were then, and the manager is dropped.
 pub fn serve<R, K: Keeper + Send, N: Network, C: Clock>(
     rt: &R,
@@ -67,7 +67,7 @@ where
     let totals = totals_of(workers.as_slice());
     let desks = dismiss(network, VecDeque::from_vec(workers), room);
     let manager = close(desks);
-    // The count of the entries isn't wanted: it tells the contract that the history is legal.
+    // The count of the entries isn't used: it tells the contract that the history is legal.
     let _ = manager.length();
     Ok((manager, totals))
 }

@@ -18,7 +18,7 @@ use std::sync::Wait;
 use std::thread;
 use std::thread::Threads;
 
-/// A worker: its desk, its gate, and all else that it works with.
+/// A worker: its desk, its gate, and everything else that it works with.
 #[derive(Drop)]
 pub struct Worker<D: Drop, A: Drop, C: Drop> {
     pub desk: D,
@@ -28,8 +28,8 @@ pub struct Worker<D: Drop, A: Drop, C: Drop> {
     pub worked: Worked,
 }
 
-/// The memory that workers work with, taken before the first of them begins: the room for the workers and for their desks
-/// at the end, and the buffers of each.
+/// The memory that workers work with, taken before the first of them begins: the room for the workers and for their
+/// desks at the end, and the buffers of each.
 #[derive(Drop)]
 pub struct Rooms<D: Drop, A: Drop, C: Drop> {
     pub workers: Vec<Worker<D, A, C>>,
@@ -37,7 +37,7 @@ pub struct Rooms<D: Drop, A: Drop, C: Drop> {
     pub buffers: VecDeque<Buffers>,
 }
 
-// The buffers of that many workers.
+// The buffers of so many workers.
 fn buffers_for(alloc: Global, count: usize) -> Result<Vec<Buffers>, NoMemory>
     ensures { IfOk result (λ made. length made.items ≡ count) }
 {
@@ -48,7 +48,7 @@ fn buffers_for(alloc: Global, count: usize) -> Result<Vec<Buffers>, NoMemory>
     Ok(buffers)
 }
 
-// The memory for that many workers.
+// The memory for so many workers.
 pub(crate) fn rooms_for<D: Drop, A: Drop, C: Drop>(
     alloc: Global,
     count: usize,
@@ -65,7 +65,8 @@ pub(crate) fn rooms_for<D: Drop, A: Drop, C: Drop>(
     })
 }
 
-// One worker for each desk and gate, in their order, each with a clock that tells what the given one tells. Takes no memory.
+// One worker for each desk and gate, in their order, each with a clock that tells what the given one tells. Takes no
+// memory.
 pub(crate) fn hire<D: Drop, A: Acceptor, C: Clock>(
     clock: &C,
     desks: Vec<D>,
@@ -179,7 +180,7 @@ fn served_by<D: Drop, A: Drop, C: Drop>(workers: &[Worker<D, A, C>]) -> u64
     served
 }
 
-// Hands the gates back to the network, in the order of the workers, and answers the desks behind those that are there.
+// Hands the gates back to the network, in the order of the workers, and appends the desks to those that are there.
 pub(crate) fn dismiss<N: Network, D: Drop, C: Drop>(
     network: &mut N,
     mut workers: VecDeque<Worker<D, N::Gate, C>>,

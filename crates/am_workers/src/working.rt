@@ -1,11 +1,11 @@
 //! One worker.
-ghost use Rattle.std.specs.Prelude.{◌≡◌, ◌≤◌, IfSome};
-ghost use Rattle.am_network.specs.Links.{AreBack};
+ghost use Rattle.std.specs.Prelude.{◌≡◌, ◌+◌, ◌≤◌, IfSome};
+ghost use Rattle.am_network.specs.Links.{AreBack, MayTakeBack, link_of};
 ghost use Rattle.am_http.specs.Links.{GoesOn};
-ghost use Rattle.am_workers.specs.Work.{TellsEnough, TriesNext, Works};
+ghost use Rattle.am_workers.specs.Work.{IsBack, TellsEnough, TriesNext, Works};
 
 use am_desk::Desk;
-use am_http::{Buffers, serve_connection};
+use am_http::{Buffers, End, Served, serve_link};
 use am_network::Acceptor;
 use am_outside::{Clock, Failed};
 use std::alloc::Global;
@@ -14,20 +14,55 @@ use std::sync::Wait;
 /// What a worker did, or workers together.
 #[derive(Clone, Copy, Debug, PartialEq, Eq)]
 pub struct Worked {
-    /// How many links were served and handed back. It stays at the greatest 64-bit number.
+    /// How many links were served and ended. It stays at the greatest 64-bit number.
     pub served: u64,
     /// Whether a worker stopped since its gate failed.
     pub failed: bool,
 }
 
-// Serves the next link, and answers whether there was one.
+// Hands a link back to the gate, of which so many frames were answered before it was served so: parked if it is idle and
+// the gate parks it, else ended. Answers how many links ended by that, which is none or one.
+fn hand_back<A: Acceptor>(
+    gate: &mut A,
+    reader: A::Reader,
+    writer: A::Writer,
+    before: u32,
+    served: Served,
+) -> u64
+    requires may { MayTakeBack (A.links gate.old) (link_of A.Reader.Source A.Writer.Sink reader writer) }
+    requires few { served.end ≡ End.Idle → before + served.answered ≤ 65536 }
+    ensures back { IsBack served.end (A.links gate.old) (A.links gate.new)
+        (record {
+          link = link_of A.Reader.Source A.Writer.Sink reader writer;
+          answered = before + served.answered;
+        })
+        result }
+    ensures faults { A.faults gate.new ≡ A.faults gate.old }
+{
+    match served.end {
+        End::Idle => {
+            if gate.park(reader, writer, before + served.answered) {
+                0
+            } else {
+                1
+            }
+        }
+        _ => {
+            gate.finish(reader, writer);
+            1
+        }
+    }
+}
+
+// Serves the next link, and answers how many links ended by that, which is one, or none where it is parked; or that
+// there was no link.
 fn serve_next<D: Desk, A: Acceptor, C: Clock>(
     alloc: Global,
     desk: &mut D,
     gate: &mut A,
     clock: &mut C,
     buffers: &mut Buffers,
-) -> Result<bool, Failed>
+) -> Result<Option<u64>, Failed>
     requires back { IfSome (A.links gate.old) AreBack }
     ensures next { TriesNext
         (record {
@@ -45,17 +80,26 @@ fn serve_next<D: Desk, A: Acceptor, C: Clock>(
     ensures never_falls { A.faults gate.old ≤ A.faults gate.new }
     ensures back { IfSome (A.links gate.new) AreBack }
 {
-    let Some((mut reader, mut writer)) = gate.accept()? else {
-        return Ok(false);
+    let Some((mut reader, mut writer, before)) = gate.next_link()? else {
+        return Ok(None);
     };
-    serve_connection(alloc, desk, &mut reader, &mut writer, clock, buffers);
-    gate.finish(reader, writer);
-    Ok(true)
+    let served = serve_link(
+        alloc,
+        desk,
+        &mut reader,
+        &mut writer,
+        clock,
+        buffers,
+        before,
+        true,
+    );
+    Ok(Some(hand_back(gate, reader, writer, before, served)))
 }
 
 /// Serves the links of a gate on a desk, one after the other, and hands each back to the gate once its connection has
-/// ended, until no link is to come, the gate fails, or as many links were served as are asked for, which are at least 1.
-/// It waits for the links, and its calls for those of other desks.
+/// ended, or parks it while it is idle, until no link is to come, the gate fails, or as many links were ended as are
+/// asked for, which are at least 1. A link that was parked is served further when the gate hands it out again. It waits
+/// for the links, and its calls for those of other desks.
 pub fn work<R: Wait, D: Desk, A: Acceptor, C: Clock>(
     rt: &R,
     alloc: Global,
@@ -84,8 +128,8 @@ pub fn work<R: Wait, D: Desk, A: Acceptor, C: Clock>(
     let mut served: u64 = 0;
     for _ in rt.forever() {
         match serve_next(alloc, desk, gate, clock, buffers) {
-            Ok(true) => served = served.saturating_add(1),
-            Ok(false) => {
+            Ok(Some(ended)) => served = served.saturating_add(ended),
+            Ok(None) => {
                 return Worked {
                     served,
                     failed: false,

@@ -34,7 +34,7 @@ impl Desk for Exhausted {
 const QUERY: &[u8] =
     b"POST /v1/query HTTP/1.1\r\nAM-Key: k1\r\nContent-Length: 31\r\n\r\n{\"kind\":\"activity\",\"intent\":{}}";
 
-/// What a query is answered at that desk.
+/// The answer to a query at that desk.
 pub fn refused_for_memory(alloc: Global) -> Result<MemorySink, Fail> {
     let device = read_device(alloc, EMPTY.as_bytes())
         .ok()

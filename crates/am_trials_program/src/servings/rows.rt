@@ -1,9 +1,9 @@
 //! Servings: the device file `d` and the words; the status and the line on the errors; and the output. Then each gate
-//! behind `: `, with the number of its call of `accept` that fails, or `-`. Then its links: which end of it fails, and at
-//! which of its calls, or `none`; `left` is one that isn't served. Then what comes over it, and what it took. `\r\n` stands
-//! for the end of a line, and `-` for nothing.
+//! after `: `, with the number of its call of `accept` that fails, or `-`. Then its links: which end of it fails, and
+//! at which of its calls, or `none`; `left` is one that isn't served. Then what comes over it, and what it took. `\r\n`
+//! stands for the end of a line, and `-` for nothing.
 
-/// The servings, each behind a line that begins with `# ` and says what it shows.
+/// The servings, each after a line that begins with `# ` and says what it shows.
 pub const SERVINGS: &str = r#"# Each link is answered by itself.
 empty serve --device d --port 8080 --workers 1 | 0 - | history 0 served 2\n
 : -

@@ -1,6 +1,6 @@
-//! Runs: the device file `d`, the object of the outside whose first call fails, and the words; the input; the status and
-//! the line on the errors; and the output. `\r\n` stands for the end of a line, and `-` for nothing. A line that begins
-//! with `#` says what the next one shows.
+//! Runs: the device file `d`, the object of the outside whose first call fails, and the words; the input; the status
+//! and the line on the errors; and the output. `\r\n` stands for the end of a line, and `-` for nothing. A line that
+//! begins with `#` says what the next one shows.
 
 pub const ROWS: &str =
     r#"bare store session --device d --store p | GET /v1/status HTTP/1.1\r\nAM-Key: sys\r\n\r\n | 7 am: store fault | -

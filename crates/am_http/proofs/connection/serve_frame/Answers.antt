@@ -63,24 +63,28 @@ returns-then-is_err-clause-turn g c =
     let f = frame_held c.of.result in
     let sent = c.write_answer-written.ensures.sent in
     inl (turn_failed _ _ f c.answer_frame-answer.result sent.0 c.in-Ok.ensures.kept
-    (held_frame w c.bytes.result.now _ c.in-Ok.found c.in-Whole.spans f c.in-Ok.ensures.found c.in-Whole.is c.bytes.ensures.bytes c.of.ensures)
+    (held_frame w c.bytes.result.now _ c.in-Ok.found c.in-Whole.spans f c.in-Ok.ensures.found c.in-Whole.is
+    c.bytes.ensures.bytes c.of.ensures)
     c.in-Ok.ensures.fits c.answer_frame-answer.ensures.answer sent.1
     (sends_err _ _ sent.0 c.write_answer-written.result c.if-is_err.ensures.value sent.2))
 
 pub returns-then-spans-clause-turn : goal.returns-then-spans-clause-turn
 returns-then-spans-clause-turn g c =
     let sent = c.write_answer-written.ensures.sent in
-    turn_held _ _ _ _ _ _ _ _ _ _ _ c.in-Ok.ensures.kept c.in-Ok.ensures.found c.in-Whole.is c.bytes.ensures.bytes c.of.ensures c.consume.ensures
+    turn_held _ _ _ _ _ _ _ _ _ _ _ c.in-Ok.ensures.kept c.in-Ok.ensures.found c.in-Whole.is c.bytes.ensures.bytes
+    c.of.ensures c.consume.ensures
     c.answer_frame-answer.ensures.answer sent.1 c.if-is_err.ensures.value sent.2 c.if-spans.true
 
 pub returns-else-spans-clause-turn : goal.returns-else-spans-clause-turn
 returns-else-spans-clause-turn g c =
     let sent = c.write_answer-written.ensures.sent in
-    turn_held _ _ _ _ _ _ _ _ _ _ _ c.in-Ok.ensures.kept c.in-Ok.ensures.found c.in-Whole.is c.bytes.ensures.bytes c.of.ensures c.consume.ensures
+    turn_held _ _ _ _ _ _ _ _ _ _ _ c.in-Ok.ensures.kept c.in-Ok.ensures.found c.in-Whole.is c.bytes.ensures.bytes
+    c.of.ensures c.consume.ensures
     c.answer_frame-answer.ensures.answer sent.1 c.if-is_err.ensures.value sent.2 c.if-spans.false
 
 -- the same link, whose source and sink have their marks and whose faults don't fall
-same_link : (old new : Link) → GoesOn old.server.desk new.server.desk → new.source.mark ≡ old.source.mark → old.source.faults ≤ new.source.faults
+same_link : (old new : Link) → GoesOn old.server.desk new.server.desk → new.source.mark ≡ old.source.mark
+    → old.source.faults ≤ new.source.faults
     → new.sink.mark ≡ old.sink.mark → old.sink.faults ≤ new.sink.faults → IsSameLink old new
 same_link old new desk source source_faults sink sink_faults = record {
   desk = desk;
@@ -89,30 +93,37 @@ same_link old new desk source source_faults sink sink_faults = record {
 }
 
 pub returns-in-Empty-clause-same : goal.returns-in-Empty-clause-same
-returns-in-Empty-clause-same g c = same_link _ _ (stays _) c.in-Ok.ensures.mark c.in-Ok.ensures.never_falls refl (omega arith)
+returns-in-Empty-clause-same g c = same_link _ _ (stays _) c.in-Ok.ensures.mark c.in-Ok.ensures.never_falls refl
+    (omega arith)
 
 pub returns-in-Cut-clause-same : goal.returns-in-Cut-clause-same
-returns-in-Cut-clause-same g c = same_link _ _ (stays _) c.in-Ok.ensures.mark c.in-Ok.ensures.never_falls refl (omega arith)
+returns-in-Cut-clause-same g c = same_link _ _ (stays _) c.in-Ok.ensures.mark c.in-Ok.ensures.never_falls refl
+    (omega arith)
 
 pub returns-in-Ok-write_defect-clause-same : goal.returns-in-Ok-write_defect-clause-same
 returns-in-Ok-write_defect-clause-same g c =
-    same_link _ _ (stays _) c.in-Ok.ensures.mark c.in-Ok.ensures.never_falls c.in-Ok-write_defect.ensures.mark c.in-Ok-write_defect.ensures.never_falls
+    same_link _ _ (stays _) c.in-Ok.ensures.mark c.in-Ok.ensures.never_falls c.in-Ok-write_defect.ensures.mark
+    c.in-Ok-write_defect.ensures.never_falls
 
 pub returns-in-Err-clause-same : goal.returns-in-Err-clause-same
 returns-in-Err-clause-same g c =
-    same_link _ _ (stays _) c.in-Ok.ensures.mark c.in-Ok.ensures.never_falls c.in-Err.ensures.mark c.in-Err.ensures.never_falls
+    same_link _ _ (stays _) c.in-Ok.ensures.mark c.in-Ok.ensures.never_falls c.in-Err.ensures.mark
+    c.in-Err.ensures.never_falls
 
 pub returns-then-is_err-clause-same : goal.returns-then-is_err-clause-same
 returns-then-is_err-clause-same g c =
     let written = c.write_answer-written.ensures in
-    same_link _ _ c.answer_frame-answer.ensures.goes_on c.in-Ok.ensures.mark c.in-Ok.ensures.never_falls written.mark written.never_falls
+    same_link _ _ c.answer_frame-answer.ensures.goes_on c.in-Ok.ensures.mark c.in-Ok.ensures.never_falls written.mark
+    written.never_falls
 
 pub returns-then-spans-clause-same : goal.returns-then-spans-clause-same
 returns-then-spans-clause-same g c =
     let written = c.write_answer-written.ensures in
-    same_link _ _ c.answer_frame-answer.ensures.goes_on c.in-Ok.ensures.mark c.in-Ok.ensures.never_falls written.mark written.never_falls
+    same_link _ _ c.answer_frame-answer.ensures.goes_on c.in-Ok.ensures.mark c.in-Ok.ensures.never_falls written.mark
+    written.never_falls
 
 pub returns-else-spans-clause-same : goal.returns-else-spans-clause-same
 returns-else-spans-clause-same g c =
     let written = c.write_answer-written.ensures in
-    same_link _ _ c.answer_frame-answer.ensures.goes_on c.in-Ok.ensures.mark c.in-Ok.ensures.never_falls written.mark written.never_falls
+    same_link _ _ c.answer_frame-answer.ensures.goes_on c.in-Ok.ensures.mark c.in-Ok.ensures.never_falls written.mark
+    written.never_falls

@@ -13,26 +13,31 @@ pub returns-then-lists_close : goal.returns-then-lists_close
 unfolding connection_closes
 returns-then-lists_close c =
     sym (sym c.loop-header.invariant
-    ∙ closes_here c.args.bytes.now (codes "Connection") c.args.headers.now c.loop-header.header-index _ c.loop-header-test.true
+    ∙ closes_here c.args.bytes.now (codes "Connection") c.args.headers.now c.loop-header.header-index _
+    c.loop-header-test.true
     (sym c.is_named.ensures ∙ c.if-is_named.true)
     (ap lists_close (sym c.of.ensures) ∙ sym c.lists_close.ensures ∙ c.if-lists_close.true))
 
 pub returns : goal.returns
 unfolding connection_closes
 returns c =
-    sym (at_drop_all (λ (hs : List HeaderSpan). list_any lists_close (values_of (codes "Connection") (headers_at c.args.bytes.now hs))) c.args.headers.now c.loop-header.header-index c.loop-header-test.false)
+    sym (at_drop_all (λ (hs : List HeaderSpan). list_any lists_close
+    (values_of (codes "Connection") (headers_at c.args.bytes.now hs))) c.args.headers.now c.loop-header.header-index
+    c.loop-header-test.false)
     ∙ c.loop-header.invariant
 
 pub loop-header-preserved : goal.loop-header-preserved
 loop-header-preserved c =
     elim c.else-is_named.branch [
       | else-is_named-via-then-is_named+else-lists_close w ↦
-          sym (closes_not_here c.args.bytes.now (codes "Connection") c.args.headers.now c.loop-header.header-index _ c.loop-header-test.true
+          sym (closes_not_here c.args.bytes.now (codes "Connection") c.args.headers.now c.loop-header.header-index _
+          c.loop-header-test.true
           (sym c.is_named.ensures ∙ w.if-is_named.true)
           (ap lists_close (sym w.of.ensures) ∙ sym w.lists_close.ensures ∙ w.if-lists_close.false))
           ∙ c.loop-header.invariant
       | else-is_named-via-else-is_named w ↦
-          sym (closes_other c.args.bytes.now (codes "Connection") c.args.headers.now c.loop-header.header-index _ c.loop-header-test.true
+          sym (closes_other c.args.bytes.now (codes "Connection") c.args.headers.now c.loop-header.header-index _
+          c.loop-header-test.true
           (sym c.is_named.ensures ∙ w.if-is_named.false))
           ∙ c.loop-header.invariant
     ]

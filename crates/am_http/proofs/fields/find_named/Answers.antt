@@ -26,7 +26,8 @@ loop-header-preserved c =
             IsNamedBy_more bytes name headers i _ inside c.loop-header.found
                 (sym c.is_named.ensures ∙ w.if-is_named.true) c.loop-header.invariant.0,
             λ n all.
-                IsNamedWithin_more n c.loop-header.found (get_or headers i none) (c.loop-header.invariant.1 n all) (all i none inside).1,
+                IsNamedWithin_more n c.loop-header.found (get_or headers i none) (c.loop-header.invariant.1 n all)
+                (all i none inside).1,
           )
       | else-is_named w ↦
           subst Kept (sym w.found-is) (

@@ -7,11 +7,14 @@ use Rattle.am_http.specs.Fields.{values_of, length_without, body_length}
 use Rattle.am_http.specs.FrameSpans.{headers_at, IsNamedBy}
 use Rattle.am_http.proofs.length.body_length.Goals as goal
 
-length_without-coded : (bytes method : List ℕ) (codings lengths : List (List ℕ)) (found : Named) → IsNamedBy bytes codings found
+length_without-coded : (bytes method : List ℕ) (codings lengths : List (List ℕ)) (found : Named)
+    → IsNamedBy bytes codings found
     → found ≢ Absent → Err TransferEncoding ≡ length_without codings method lengths
 length_without-coded bytes method codings lengths Absent h some = absurd (some refl)
-length_without-coded bytes method codings lengths (Once s) h some = sym (ap (λ (t : List (List ℕ)). length_without t method lengths) h)
-length_without-coded bytes method codings lengths (Repeated s) h some = sym (ap (λ (t : List (List ℕ)). length_without t method lengths) h.2)
+length_without-coded bytes method codings lengths (Once s) h some = sym
+    (ap (λ (t : List (List ℕ)). length_without t method lengths) h)
+length_without-coded bytes method codings lengths (Repeated s) h some = sym
+    (ap (λ (t : List (List ℕ)). length_without t method lengths) h.2)
 
 pub returns-in-Absent : goal.returns-in-Absent
 unfolding body_length
@@ -23,4 +26,5 @@ returns-in-Absent c =
 pub returns-in_default : goal.returns-in_default
 unfolding body_length
 returns-in_default c =
-    length_without-coded c.args.bytes.now c.args.method.now _ _ c.find_named.result c.find_named.ensures.values c.in_default.not-Absent
+    length_without-coded c.args.bytes.now c.args.method.now _ _ c.find_named.result c.find_named.ensures.values
+    c.in_default.not-Absent

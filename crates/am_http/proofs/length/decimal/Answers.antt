@@ -15,7 +15,8 @@ digit_at : (ds : List ℕ) (i : ℕ) → i < length ds → is_length ds ≡ true
 digit_at ds i inside all =
     let digits : list_all is_ascii_digit ds ≡ true =
     (and_parts (nat_lt 0 (length ds) && nat_le (length ds) 19) (list_all is_ascii_digit ds) all).1 in
-    let digit : is_ascii_digit (get_or ds i 0) ≡ true = and_at (list_all is_ascii_digit) is_ascii_digit refl (λ _ _. refl) ds i 0 inside digits in
+    let digit : is_ascii_digit (get_or ds i 0) ≡ true = and_at (list_all is_ascii_digit) is_ascii_digit refl
+    (λ _ _. refl) ds i 0 inside digits in
     (grind (arith, nat_tests), grind (arith, nat_tests), grind (arith, nat_tests))
 
 short : (ds : List ℕ) → is_length ds ≡ true → length ds ≤ 19
@@ -45,6 +46,11 @@ overflow_add-number c =
 pub loop-digit-preserved : goal.loop-digit-preserved
 loop-digit-preserved c =
     let digit = digit_at c.args.digits.now c.loop-digit.digit-index c.loop-digit-test.true c.requires in (
-      omega (arith, digits_value_more 10 c.args.digits.now c.loop-digit.digit-index c.loop-digit-test.true, digit.2, c.loop-digit.invariant.0),
+      omega (
+        arith,
+        digits_value_more 10 c.args.digits.now c.loop-digit.digit-index c.loop-digit-test.true,
+        digit.2,
+        c.loop-digit.invariant.0,
+      ),
       pow_more c.loop-digit.digit-index c.loop-digit.number _ c.loop-digit.invariant.1 (omega arith),
     )

@@ -9,7 +9,8 @@ use Rattle.am_http.proofs.length.is_length.Goals as goal
 
 is_length_is : (v : List ℕ) → 0 < length v → length v ≤ 19 → list_all is_ascii_digit v ≡ is_length v
 is_length_is v some few =
-    sym (ap₂ (λ (a b : Bool). (a && b) && list_all is_ascii_digit v) (lt-ltb 0 (length v) some) (le-leb (length v) 19 few))
+    sym (ap₂ (λ (a b : Bool). (a && b) && list_all is_ascii_digit v) (lt-ltb 0 (length v) some)
+    (le-leb (length v) 19 few))
 
 pub returns : goal.returns
 returns c =

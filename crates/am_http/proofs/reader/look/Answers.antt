@@ -8,10 +8,12 @@ use Rattle.am_http.proofs.NextLemmas.{wanting_partial, partial_fits, finds_close
 use Rattle.am_http.proofs.reader.look.Goals as goal
 
 -- what was found of the window's bytes was found of the window
-in_window : (w now : List ℕ) (found : Found) → w ≡ now → IsFraming w (outcome_at w found) → IsFraming now (outcome_at now found)
+in_window : (w now : List ℕ) (found : Found) → w ≡ now → IsFraming w (outcome_at w found)
+    → IsFraming now (outcome_at now found)
 in_window w now found same h = subst (λ (xs : List ℕ). IsFraming xs (outcome_at xs found)) same h
 
-within_window : (w now : List ℕ) (found : Found) → w ≡ now → IsFoundWithin (length w) found → IsFoundWithin (length now) found
+within_window : (w now : List ℕ) (found : Found) → w ≡ now → IsFoundWithin (length w) found
+    → IsFoundWithin (length now) found
 within_window w now found same h = subst (λ (xs : List ℕ). IsFoundWithin (length xs) found) same h
 
 pub returns-then-not-wants_more-clause-found : goal.returns-then-not-wants_more-clause-found
@@ -28,14 +30,16 @@ fill-requires g c =
     let found = c.find_frame-found.result in
     let wanting : is_open found ≡ true = sym c.if-not-wants_more.ensures in
     partial_fits c.args.window.now
-    (wanting_partial c.args.window.now found (in_window _ _ found c.bytes.ensures.bytes c.find_frame-found.ensures.framing) wanting)
+    (wanting_partial c.args.window.now found (in_window _ _ found c.bytes.ensures.bytes
+    c.find_frame-found.ensures.framing) wanting)
 
 pub returns-in_err-count-clause-partial : goal.returns-in_err-count-clause-partial
 returns-in_err-count-clause-partial g c =
     let found = c.find_frame-found.result in
     let wanting : is_open found ≡ true = sym c.if-not-wants_more.ensures in
     let before : IsPartial c.args.window.now =
-    wanting_partial c.args.window.now found (in_window _ _ found c.bytes.ensures.bytes c.find_frame-found.ensures.framing) wanting in
+    wanting_partial c.args.window.now found (in_window _ _ found c.bytes.ensures.bytes
+    c.find_frame-found.ensures.framing) wanting in
     on_err c.from_residual.result (subst (λ (w : List ℕ). IsPartial w) (sym c.in_err-count.ensures.fills.0) before)
 
 pub returns-then-count-eq0-clause-found : goal.returns-then-count-eq0-clause-found

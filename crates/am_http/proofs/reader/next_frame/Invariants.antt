@@ -12,6 +12,7 @@ invariant-loop-found g l =
       reads : Reads l.initial.window l.window (left l.initial.source) (left l.source);
       never_falls : g.S.Source.faults l.initial.source ≤ g.S.Source.faults l.source;
       mark : g.S.Source.mark l.source ≡ g.S.Source.mark l.initial.source;
+      waits : g.S.Source.waits l.source ≡ g.S.Source.waits l.initial.source;
     }
 
 abbrev pub decreases-loop-found : goal.decreases-loop-found

@@ -6,7 +6,8 @@ use Rattle.am_network.proofs.memory_network.open_gates.Given as goal
 abbrev pub invariant-loop-room : goal.invariant-loop-room
 invariant-loop-room l =
     record {
-      made : l.made.items ++ gates_of (length l.rooms.items) l.coming.items ≡ l.fn.made.items ++ gates_of (length l.fn.rooms.items) l.fn.coming.items;
+      made : l.made.items ++ gates_of (length l.rooms.items) l.coming.items ≡ l.fn.made.items
+          ++ gates_of (length l.fn.rooms.items) l.fn.coming.items;
       rest : drop (length l.rooms.items) l.coming.items ≡ drop (length l.fn.rooms.items) l.fn.coming.items;
       rooms : l.rooms.items ≡ rooms_of (length l.rooms.items) l.coming.items;
       plans : ArePlans l.coming.items;

@@ -8,8 +8,11 @@ returns-in-Ok g c =
     let begun = c.in_ok-manager.ensures in
     let heard = c.in-Ok.ensures in
     let done = c.in_ok-manager-in-Ok.ensures in
-    works_serving c.args.asked c.args.device _ _ _ _ _ _ _ _ c.in_ok-manager.manager c.in_ok-manager-in-Ok.manager c.kept_is_found.ensures c.requires.sound c.as_ref.ensures.value
-    (c.in-Ok.gates.ok.0 ∙ heard.count) begun.origin begun.fresh begun.unchanged heard.told heard.listens heard.gate_faults c.clock_of-clock.ensures done.serves done.origin c.hand_back.ensures c.length-history.ensures.count
+    works_serving c.args.asked c.args.device _ _ _ _ _ _ _ _ c.in_ok-manager.manager c.in_ok-manager-in-Ok.manager
+    c.kept_is_found.ensures c.requires.sound c.as_ref.ensures.value
+    (c.in-Ok.gates.ok.0 ∙ heard.count) begun.origin begun.fresh begun.unchanged heard.told heard.listens
+    heard.gate_faults c.clock_of-clock.ensures done.serves done.origin c.hand_back.ensures
+    c.length-history.ensures.count
 
 pub returns-in-Failed : goal.returns-in-Failed
 returns-in-Failed g c =
@@ -17,8 +20,10 @@ returns-in-Failed g c =
     let out = c.in-Err.ensures in
     inr (inl (record {
       fails = out.failed (ap Err c.in-Failed.is);
-      network = unheard_so (network_of g.N.Network c.args.network.now) (network_of g.N.Network c.listen.new.self) out.same out.listens out.gate_faults;
-      store = left_again c.args.asked c.args.device _ _ _ _ c.in_ok-manager.manager c.as_ref.ensures.value begun.origin begun.fresh begun.unchanged c.hand_back-in-Err.ensures;
+      network = unheard_so (network_of g.N.Network c.args.network.now) (network_of g.N.Network c.listen.new.self)
+          out.same out.listens out.gate_faults;
+      store = left_again c.args.asked c.args.device _ _ _ _ c.in_ok-manager.manager c.as_ref.ensures.value begun.origin
+          begun.fresh begun.unchanged c.hand_back-in-Err.ensures;
     }))
 
 pub returns : goal.returns
@@ -27,6 +32,8 @@ returns g c =
     let out = c.in-Err.ensures in
     inr (inl (record {
       fails = tt;
-      network = unheard_so (network_of g.N.Network c.args.network.now) (network_of g.N.Network c.listen.new.self) out.same out.listens out.gate_faults;
-      store = left_again c.args.asked c.args.device _ _ _ _ c.in_ok-manager.manager c.as_ref.ensures.value begun.origin begun.fresh begun.unchanged c.hand_back-in-Err.ensures;
+      network = unheard_so (network_of g.N.Network c.args.network.now) (network_of g.N.Network c.listen.new.self)
+          out.same out.listens out.gate_faults;
+      store = left_again c.args.asked c.args.device _ _ _ _ c.in_ok-manager.manager c.as_ref.ensures.value begun.origin
+          begun.fresh begun.unchanged c.hand_back-in-Err.ensures;
     }))

@@ -6,13 +6,21 @@ use Rattle.am_workers.proofs.worker.dismiss.Given as goal
 abbrev pub invariant-loop-worker : goal.invariant-loop-worker
 invariant-loop-worker g l =
     record {
-      desks : l.desks.items ++ map (λ w. w.desk) l.workers.items ≡ l.initial.desks.items ++ map (λ w. w.desk) l.initial.workers.items;
-      told : all_released (g.N.Network.listening l.network) (map (λ w. record { links = g.N.Gate.Acceptor.links w.gate; faults = g.N.Gate.Acceptor.faults w.gate }) l.workers.items)
-          ≡ all_released (g.N.Network.listening l.initial.network) (map (λ w. record { links = g.N.Gate.Acceptor.links w.gate; faults = g.N.Gate.Acceptor.faults w.gate }) l.initial.workers.items);
+      desks : l.desks.items ++ map (λ w. w.desk) l.workers.items ≡ l.initial.desks.items
+          ++ map (λ w. w.desk) l.initial.workers.items;
+      told : all_released (g.N.Network.listening l.network) (map (λ w. record
+          { links = g.N.Gate.Acceptor.links w.gate; faults = g.N.Gate.Acceptor.faults w.gate }) l.workers.items)
+          ≡ all_released (g.N.Network.listening l.initial.network)
+          (map (λ w. record { links = g.N.Gate.Acceptor.links w.gate; faults = g.N.Gate.Acceptor.faults w.gate })
+          l.initial.workers.items);
       listens : g.N.Network.listens l.network ≡ g.N.Network.listens l.initial.network;
       faults : g.N.Network.faults l.network ≡ g.N.Network.faults l.initial.network;
-      gate_faults : faults_raised (g.N.Network.gate_faults l.network) (map (λ w. record { links = g.N.Gate.Acceptor.links w.gate; faults = g.N.Gate.Acceptor.faults w.gate }) l.workers.items)
-          ≡ faults_raised (g.N.Network.gate_faults l.initial.network) (map (λ w. record { links = g.N.Gate.Acceptor.links w.gate; faults = g.N.Gate.Acceptor.faults w.gate }) l.initial.workers.items);
+      gate_faults : faults_raised (g.N.Network.gate_faults l.network)
+          (map (λ w. record { links = g.N.Gate.Acceptor.links w.gate; faults = g.N.Gate.Acceptor.faults w.gate })
+          l.workers.items)
+          ≡ faults_raised (g.N.Network.gate_faults l.initial.network)
+          (map (λ w. record { links = g.N.Gate.Acceptor.links w.gate; faults = g.N.Gate.Acceptor.faults w.gate })
+          l.initial.workers.items);
       may : MayReleaseAll (g.N.Network.listening l.network) (length l.workers.items);
       room : vec_len l.desks + length l.workers.items ≤ vec_capacity l.desks;
     }

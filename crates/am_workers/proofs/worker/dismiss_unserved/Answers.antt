@@ -16,8 +16,10 @@ loop-unserved-init g c =
       faults = refl;
       gate_faults = refl;
       new = subst (λ gs. (k : ℕ) (gate : g.row.N-Gate.Denot) → slice_get gs k ≡ Some gate
-          → IsNewGate (record { links = g.N.Gate.Acceptor.links gate; faults = g.N.Gate.Acceptor.faults gate })) (sym c.from_vec-left.ensures.items) c.requires.new;
-      may = subst (MayReleaseAll (g.N.Network.listening c.args.network.now)) (c.args.gates.ok.0 ∙ sym (ap length c.from_vec-left.ensures.items)) c.requires.may;
+          → IsNewGate (record { links = g.N.Gate.Acceptor.links gate; faults = g.N.Gate.Acceptor.faults gate }))
+          (sym c.from_vec-left.ensures.items) c.requires.new;
+      may = subst (MayReleaseAll (g.N.Network.listening c.args.network.now))
+          (c.args.gates.ok.0 ∙ sym (ap length c.from_vec-left.ensures.items)) c.requires.may;
     }
 
 pub loop-unserved-preserved : goal.loop-unserved-preserved
@@ -32,13 +34,15 @@ loop-unserved-preserved g c =
     record {
       done = inv.done ++ seen ∷ [];
       fresh = all_more IsNewGate inv.done seen inv.fresh fresh;
-      count = let long = ap length begins in let before = inv.count in omega (arith, long, before, length-append inv.done (seen ∷ []));
+      count = let long = ap length begins in let before = inv.count in omega
+          (arith, long, before, length-append inv.done (seen ∷ []));
       told = out.told ∙ ap (λ t. released t seen) inv.told ∙ sym (released_more _ inv.done seen);
       listens = out.listens ∙ inv.listens;
       faults = out.faults ∙ inv.faults;
       gate_faults = out.calm fresh.0 ∙ inv.gate_faults;
       new = λ k other at. inv.new (suc k) other (ap (λ gs. slice_get gs (suc k)) begins ∙ at);
-      may = may_rest _ _ _ _ out.told (subst (λ gs. MayReleaseAll (g.N.Network.listening c.loop-unserved.network) (length gs)) begins inv.may);
+      may = may_rest _ _ _ _ out.told (subst (λ gs. MayReleaseAll (g.N.Network.listening c.loop-unserved.network)
+          (length gs)) begins inv.may);
     }
 
 pub returns : goal.returns
@@ -50,7 +54,8 @@ returns g c =
           let none = c.in_default.ensures.cases.0 in
           let here = c.loop-unserved.left.ok.0 in
           let all = inv.count in
-          let long : length c.from_vec-left.result.items ≡ vec_len c.args.gates = ap length c.from_vec-left.ensures.items ∙ sym c.args.gates.ok.0 in
+          let long : length c.from_vec-left.result.items ≡ vec_len c.args.gates = ap length
+          c.from_vec-left.ensures.items ∙ sym c.args.gates.ok.0 in
           omega (arith, none, here, all, long);
       fresh = inv.fresh;
       told = inv.told;

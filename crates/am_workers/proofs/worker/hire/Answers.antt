@@ -33,5 +33,6 @@ loop-desk-preserved g c =
       clocks = subst (All P) (sym pushed.items) (All-push P so_far _ inv.clocks c.another.ensures.same);
       count = let both = inv.count in omega (arith, both, long, wide);
       buffered = let both = inv.buffered in omega (arith, both, long, deep);
-      room = let before = inv.room in let more = pushed.len in let same = pushed.capacity in omega (arith, before, more, same, long);
+      room = let before = inv.room in let more = pushed.len in let same = pushed.capacity in omega
+          (arith, before, more, same, long);
     }

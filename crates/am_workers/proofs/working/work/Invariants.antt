@@ -1,11 +1,11 @@
-use Rattle.std.proofs.Common.{◌≡◌, List, length, min}
+use Rattle.std.proofs.Common.{◌≡◌, List, min}
 use Rattle.std.specs.Prelude.{IfSome}
 use Rattle.am_network.specs.Links.{AreBack}
-use Rattle.am_workers.specs.Work.{HasServed, Service, WorkerView}
+use Rattle.am_workers.specs.Work.{HasServed, Service, WorkerView, ended_in}
 use Rattle.am_workers.proofs.WorkLemmas.{IsShort}
 use Rattle.am_workers.proofs.working.work.Given as goal
 
--- the links so far were served, fewer than are asked for, and are back, and no call of the gate failed
+-- the links so far were served and are back, fewer were ended than are asked for, and no call of the gate failed
 abbrev pub invariant-loop : goal.invariant-loop
 invariant-loop g l =
     let first : WorkerView = record {
@@ -22,7 +22,7 @@ invariant-loop g l =
       services : List Service;
       has : HasServed first now services;
       calm : now.gate.faults ≡ first.gate.faults;
-      served : l.served ≡ min 18446744073709551615 (length services);
-      short : IsShort l.most (length services);
+      served : l.served ≡ min 18446744073709551615 (ended_in services);
+      short : IsShort l.most (ended_in services);
       back : IfSome now.gate.links AreBack;
     }

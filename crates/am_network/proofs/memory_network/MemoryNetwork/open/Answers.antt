@@ -5,11 +5,13 @@ use Rattle.am_network.proofs.memory_network.MemoryNetwork.open.Goals as goal
 
 -- there are as many rooms as gates
 pub open_gates-requires-clause-rooms : goal.open_gates-requires-clause-rooms
-open_gates-requires-clause-rooms c = (rooms_are c.args.gates c.self.inside.coming.items _ _ c.from_vec.ensures.items c.in_ok-rooms.ensures).0
+open_gates-requires-clause-rooms c = (rooms_are c.args.gates c.self.inside.coming.items _ _ c.from_vec.ensures.items
+    c.in_ok-rooms.ensures).0
 
 pub open_gates-requires-clause-capacity : goal.open_gates-requires-clause-capacity
 open_gates-requires-clause-capacity c =
-    let count : length c.from_vec.result.items ≡ c.args.gates = (rooms_are c.args.gates c.self.inside.coming.items _ _ c.from_vec.ensures.items c.in_ok-rooms.ensures).1 in
+    let count : length c.from_vec.result.items ≡ c.args.gates = (rooms_are c.args.gates c.self.inside.coming.items _ _
+    c.from_vec.ensures.items c.in_ok-rooms.ensures).1 in
     let none = c.in_ok-made.ensures.len in
     let room = c.in_ok-made.ensures.exact in
     omega arith
@@ -20,7 +22,8 @@ returns-clause-exact c =
     let inside = c.self.inside in
     let coming = inside.coming.items in
     let count = (rooms_are c.args.gates coming _ _ c.from_vec.ensures.items c.in_ok-rooms.ensures).1 in
-    let rest : c.open_gates.new.coming.items ≡ drop c.args.gates coming = c.open_gates.ensures.rest ∙ ap (λ n. drop n coming) count in
+    let rest : c.open_gates.new.coming.items ≡ drop c.args.gates coming = c.open_gates.ensures.rest
+    ∙ ap (λ n. drop n coming) count in
     let seen : _ → _ → NetworkInMemory = λ left released. record {
       coming = left;
       port = c.args.port;
@@ -41,4 +44,5 @@ returns-clause-made c =
     let count = (rooms_are c.args.gates coming _ _ c.from_vec.ensures.items c.in_ok-rooms.ensures).1 in
     c.open_gates.ensures.made
     ∙ (ap (λ made. made ++ gates_of (length c.from_vec.result.items) coming) c.in_ok-made.ensures.items
-    ∙ (ap (λ n. gates_of n coming) count ∙ ap (λ (network : NetworkInMemory). gates_of c.args.gates network.coming) c.self.view_is))
+    ∙ (ap (λ n. gates_of n coming) count ∙ ap (λ (network : NetworkInMemory). gates_of c.args.gates network.coming)
+    c.self.view_is))

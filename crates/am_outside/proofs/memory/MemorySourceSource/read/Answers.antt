@@ -8,4 +8,5 @@ pub returns-clause-given : goal.returns-clause-given
 returns-clause-given c =
     given_grows c.self.inside.bytes _ _ c.self.inside.at c.copy_front-count.result
     (ap (λ (r : Reading). r.given) c.self.view_is)
-    (c.copy_front-count.ensures.copied ∙ ap (λ rest. take c.copy_front-count.result rest) (c.rest_from.ensures ∙ ap (λ bytes. drop c.self.inside.at bytes) c.as_slice.ensures))
+    (c.copy_front-count.ensures.copied ∙ ap (λ rest. take c.copy_front-count.result rest)
+    (c.rest_from.ensures ∙ ap (λ bytes. drop c.self.inside.at bytes) c.as_slice.ensures))

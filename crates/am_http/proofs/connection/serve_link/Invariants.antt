@@ -1,15 +1,18 @@
-use Rattle.std.proofs.Common.{◌*◌}
+use Rattle.std.proofs.Common.{◌*◌, ◌≤◌}
 use Rattle.am_http.specs.Links.{Link, IsSameLink, link_of, streams_of}
 use Rattle.am_http.specs.Sessions.{Going, GivesAtMost}
-use Rattle.am_http.proofs.connection.serve_connection.Given as goal
+use Rattle.am_http.proofs.connection.serve_link.Given as goal
 
 -- the connection goes on: so far each frame was answered, and what is left is told
 abbrev pub invariant-loop-answered : goal.invariant-loop-answered
 invariant-loop-answered g l =
-    let first : Link = link_of (g.D.Desk.view l.initial.desk) (streams_of g.S.Source g.W.Sink g.C.Clock l.initial.source l.initial.sink l.initial.clock) in
-    let link : Link = link_of (g.D.Desk.view l.desk) (streams_of g.S.Source g.W.Sink g.C.Clock l.source l.sink l.clock) in
+    let first : Link = link_of (g.D.Desk.view l.initial.desk) (streams_of g.S.Source g.W.Sink g.C.Clock l.initial.source
+    l.initial.sink l.initial.clock) in
+    let link : Link = link_of (g.D.Desk.view l.desk) (streams_of g.S.Source g.W.Sink g.C.Clock l.source l.sink l.clock)
+    in
     record {
       going : Going first (record { link = link; window = l.buffers.window }) l.answered;
       gives : GivesAtMost (73728 * l.answered) first.source.left link.source.left;
       same : IsSameLink first link;
+      waits : g.S.Source.waits l.initial.source ≤ g.S.Source.waits l.source;
     }

@@ -1,0 +1,17 @@
+use Rattle.std.proofs.Common.{Some, refl, ap, subst, inr}
+use Rattle.std.specs.Option.{option_map}
+use Rattle.am_network.specs.Links.{HandsOut, Links}
+use Rattle.am_network_resting.specs.Gates.{HasParkedOnly, ends_view, links_of}
+use Rattle.am_network_resting.proofs.Handing.{hands_first}
+use Rattle.am_network_resting.proofs.resting_gate.RestingGateAcceptor.accept.Goals as goal
+
+-- counting the call left the links as they were, and it isn't refused, so that not only parked links are to come
+pub returns-clause-next : goal.returns-clause-next
+returns-clause-next c =
+    subst (λ (links : Links). HandsOut (Some links) (Some (links_of c.hand_first.new.self))
+    (option_map ends_view c.hand_first.result)) (ap links_of c.in_ok-count_call.ensures.exact) (
+    hands_first c.count_call.new.self c.hand_first.new.self _ c.hand_first.result
+    (λ only. absurd (let failed = c.in_ok-count_call.ensures.fails.1
+    (inr (c.has_parked_only-refused.ensures.1 (subst HasParkedOnly c.in_ok-count_call.ensures.exact only))) in cc))
+    refl c.hand_first.ensures.answer c.hand_first.ensures.exact c.hand_first.ensures.unused
+    )

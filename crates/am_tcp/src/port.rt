@@ -1,0 +1,340 @@
+//! A port, with its connections.
+ghost use Rattle.std.specs.Prelude.{◌≡◌, IfOk, IfSome};
+ghost use Rattle.am_tcp.specs.Places.{IsLocal};
+
+use crate::faults::{is_of_peer, is_shortage};
+use crate::limits::Limits;
+use crate::link::{TcpReader, TcpWriter, open};
+use crate::table::{Link, Table, Turn};
+use mio::unix::SourceFd;
+use mio::{Interest, Poll, Token};
+use os::EpollEvent;
+use std::alloc::Global;
+use std::io::{self, ErrorKind};
+use std::marker::Copy;
+use std::net::{TcpListener, TcpStream};
+use std::os::fd::{AsRawFd, RawFd};
+use std::rt::Clock as Time;
+use std::sync::{Mutex, Wait};
+use std::time::Instant;
+
+/// How many connections a worker accepts one after the other.
+const MOST_ACCEPTED: u32 = 64;
+
+/// A port, at which connections arrive, with those that no worker has. All its workers wait side by side for what the
+/// system reports, so that each report wakes one of them: that a request came over a connection, or the listener has a
+/// new one.
+#[derive(Drop)]
+pub(crate) struct Port<R> {
+    alloc: Global,
+    limits: Limits,
+    listener: TcpListener,
+    poll: Poll,
+    table: Mutex<Table<R>>,
+}
+
+// The number by which the system reports a descriptor.
+fn key_of(descriptor: RawFd) -> usize {
+    usize::try_from(descriptor).unwrap_or(usize::MAX)
+}
+
+// Has the system report a descriptor when something comes over it.
+fn watch(poll: &Poll, descriptor: RawFd) -> io::Result<()> {
+    let token = Token(key_of(descriptor));
+    poll.registry()
+        .register(&mut SourceFd(&descriptor), token, Interest::READABLE)
+}
+
+// Has it report the descriptor again, if something is there.
+fn watch_again(poll: &Poll, descriptor: RawFd) -> io::Result<()> {
+    let token = Token(key_of(descriptor));
+    poll.registry()
+        .reregister(&mut SourceFd(&descriptor), token, Interest::READABLE)
+}
+
+// What the system reports next, if it does so in time. Unlike `Poll::poll`, many may wait so at once.
+fn next_report(poll: &Poll, millis: u64) -> Option<usize> {
+    let mut events = [EpollEvent { events: 0, data: 0 }];
+    let millis = i32::try_from(millis).unwrap_or(i32::MAX);
+    if os::epoll_wait(poll.as_raw_fd(), &mut events, millis) == 0 {
+        return None;
+    }
+    usize::try_from(events[0].data).ok()
+}
+
+impl<R: Time + Wait + Copy + Drop> Port<R> {
+    /// A port, whose listener doesn't wait.
+    pub(crate) fn new(
+        alloc: Global,
+        limits: Limits,
+        listener: TcpListener,
+        poll: Poll,
+    ) -> io::Result<Port<R>> {
+        watch(&poll, listener.as_raw_fd())?;
+        Ok(Port {
+            alloc,
+            limits,
+            listener,
+            poll,
+            table: Mutex::new(Table::new(alloc)),
+        })
+    }
+
+    // A link of a connection that was accepted, which has its place.
+    fn admit(&self, rt: R, stream: TcpStream) -> io::Result<Link<R>>
+        ensures { IfOk result (λ link. (link.reader.faults ≡ 0) × (link.writer.faults ≡ 0)) }
+    {
+        let (reader, writer) = open(rt, self.alloc, &self.limits, stream)?;
+        let link = Link {
+            reader,
+            writer,
+            answered: 0,
+            is_leaving: false,
+            is_reported: false,
+            since: Instant::now(&rt)?,
+            limit: self.limits.request,
+        };
+        self.table.lock(&rt).admit(link.key())?;
+        Ok(link)
+    }
+
+    // Ends the link that waits longest, and answers whether there was one.
+    fn make_place(&self, rt: R) -> io::Result<bool> {
+        let now = Instant::now(&rt)?;
+        let mut table = self.table.lock(&rt);
+        match table.take_longest(now) {
+            Some(link) => {
+                table.free(link.key());
+                drop(link);
+                Ok(true)
+            }
+            None => {
+                table.lack(now);
+                Ok(false)
+            }
+        }
+    }
+
+    // Accepts the next connection, if one is there. One that breaks before is left out: it is no fault of the port. A full
+    // table of open files is none either: then the link ends that waits longest, or connections wait with the system for
+    // a moment.
+    fn accept(&self, rt: R) -> io::Result<Option<Link<R>>>
+        ensures { IfOk result (λ next. IfSome next (λ link. (link.reader.faults ≡ 0) × (link.writer.faults ≡ 0))) }
+    {
+        for _ in 0..u64::MAX {
+            match self.listener.accept() {
+                Ok((stream, _)) => {
+                    if let Ok(link) = self.admit(rt, stream) {
+                        return Ok(Some(link));
+                    }
+                }
+                Err(error) if error.kind() == ErrorKind::WouldBlock => return Ok(None),
+                Err(error) if is_of_peer(&error) => {}
+                Err(error) if is_shortage(&error) => {
+                    if !self.make_place(rt)? {
+                        return Ok(None);
+                    }
+                }
+                Err(error) => return Err(error),
+            }
+        }
+        Ok(None)
+    }
+
+    // Accepts the connections that are there, and keeps them until they are reported.
+    fn accept_all(&self, rt: R) -> io::Result<()> {
+        for _ in 0..MOST_ACCEPTED {
+            let Some(link) = self.accept(rt)? else {
+                return Ok(());
+            };
+            let descriptor = link.reader.descriptor();
+            self.keep(rt, link);
+            if watch(&self.poll, descriptor).is_err() {
+                self.drop_at(rt, key_of(descriptor));
+            }
+        }
+        watch_again(&self.poll, self.listener.as_raw_fd())
+    }
+
+    // Ends the link of that number.
+    fn drop_at(&self, rt: R, key: usize) {
+        let mut table = self.table.lock(&rt);
+        drop(table.take(key));
+        table.free(key);
+    }
+
+    // Keeps a link. What was reported while a worker had it is reported again.
+    fn keep(&self, rt: R, link: Link<R>) {
+        let descriptor = link.reader.descriptor();
+        let mut table = self.table.lock(&rt);
+        if table.keep(link) {
+            let _ = watch_again(&self.poll, descriptor);
+        }
+    }
+
+    // Ends a link, whose two ends these are.
+    fn close(&self, rt: R, reader: TcpReader<R>, writer: TcpWriter<R>) {
+        self.table.lock(&rt).free(key_of(reader.descriptor()));
+        drop(reader);
+        drop(writer);
+    }
+
+    // Ends a link.
+    fn drop_link(&self, rt: R, link: Link<R>) {
+        self.table.lock(&rt).free(link.key());
+        drop(link);
+    }
+
+    // Looks at a link, and hands it out if its request is there or its time is over.
+    fn look_at(&self, rt: R, mut link: Link<R>) -> io::Result<Option<Link<R>>> {
+        link.is_reported = false;
+        if link.is_leaving {
+            self.look_at_leaving(rt, link)?;
+            return Ok(None);
+        }
+        if link.reader.is_whole() {
+            return Ok(Some(link));
+        }
+        link.hurry(&self.limits);
+        if link.is_over(Instant::now(&rt)?) {
+            link.reader.give_up();
+            return Ok(Some(link));
+        }
+        self.keep(rt, link);
+        Ok(None)
+    }
+
+    // Ends a link whose peer was told the end, unless something may still come.
+    fn look_at_leaving(&self, rt: R, link: Link<R>) -> io::Result<()> {
+        if link.reader.is_drained() || link.is_over(Instant::now(&rt)?) {
+            self.drop_link(rt, link);
+        } else {
+            self.keep(rt, link);
+        }
+        Ok(())
+    }
+
+    // Waits for what comes next, and answers a link that is to be looked at.
+    fn next_seen(&self, rt: R) -> io::Result<Option<Link<R>>> {
+        let now = Instant::now(&rt)?;
+        let turn = self.table.lock(&rt).turn(now);
+        let millis = match turn {
+            Turn::Look(link) => return Ok(Some(link)),
+            Turn::Accept => {
+                self.accept_all(rt)?;
+                return Ok(None);
+            }
+            Turn::Wait(millis) => millis,
+        };
+        match next_report(&self.poll, millis) {
+            None => Ok(None),
+            Some(key) if key == key_of(self.listener.as_raw_fd()) => {
+                self.accept_all(rt)?;
+                Ok(None)
+            }
+            Some(key) => Ok(self.table.lock(&rt).take(key)),
+        }
+    }
+
+    /// The next link whose request is there, whose peer ended it or whose time is over.
+    pub(crate) fn next(&self, rt: R) -> io::Result<Link<R>> {
+        for _ in rt.forever() {
+            if let Some(link) = self.next_seen(rt)? {
+                if let Some(link) = self.look_at(rt, link)? {
+                    return Ok(link);
+                }
+            }
+        }
+        unreachable!()
+    }
+
+    // Waits for what comes next, for those alone whose peer was told the end. The others are looked at later.
+    fn settle(&self, rt: R) -> io::Result<()> {
+        match self.next_seen(rt)? {
+            Some(link) if link.is_leaving => self.look_at_leaving(rt, link),
+            Some(mut link) => {
+                link.is_reported = true;
+                self.keep(rt, link);
+                Ok(())
+            }
+            None => Ok(()),
+        }
+    }
+
+    /// The next connection that arrives, whatever came over it.
+    pub(crate) fn next_new(&self, rt: R) -> io::Result<Link<R>>
+        ensures { IfOk result (λ link. (link.reader.faults ≡ 0) × (link.writer.faults ≡ 0)) }
+    {
+        for _ in rt.forever() {
+            match self.accept(rt)? {
+                Some(link) => {
+                    if watch(&self.poll, link.reader.descriptor()).is_ok() {
+                        return Ok(link);
+                    }
+                    self.drop_link(rt, link);
+                }
+                None => self.settle(rt)?,
+            }
+        }
+        unreachable!()
+    }
+
+    /// Keeps a link, of which so many requests were answered, until its next one is there. Answers whether it does so.
+    pub(crate) fn park(
+        &self,
+        rt: R,
+        mut reader: TcpReader<R>,
+        writer: TcpWriter<R>,
+        answered: u32,
+    ) -> bool {
+        let Ok(now) = Instant::now(&rt) else {
+            self.close(rt, reader, writer);
+            return false;
+        };
+        reader.shrink();
+        let mut link = Link {
+            reader,
+            writer,
+            answered,
+            is_leaving: false,
+            is_reported: false,
+            since: now,
+            limit: self.limits.idle,
+        };
+        link.hurry(&self.limits);
+        self.keep(rt, link);
+        true
+    }
+
+    /// Ends a link. Its peer is told the end first, and has some time to end its own side.
+    pub(crate) fn finish(&self, rt: R, reader: TcpReader<R>, writer: TcpWriter<R>) {
+        match Instant::now(&rt) {
+            Ok(now) if reader.leave() => self.keep(
+                rt,
+                Link {
+                    reader,
+                    writer,
+                    answered: 0,
+                    is_leaving: true,
+                    is_reported: false,
+                    since: now,
+                    limit: self.limits.end,
+                },
+            ),
+            _ => self.close(rt, reader, writer),
+        }
+    }
+
+    /// Lets the peers that were told the end have the rest of their time.
+    pub(crate) fn finish_all(&self, rt: R) -> io::Result<()> {
+        let began = Instant::now(&rt)?;
+        for _ in 0..u64::MAX {
+            let is_over = began.elapsed(&rt)? >= self.limits.end;
+            if is_over || !self.table.lock(&rt).has_leaving() {
+                break;
+            }
+            self.settle(rt)?;
+        }
+        Ok(())
+    }
+}
