@@ -17,7 +17,8 @@ use Rattle.am_audit_callers.specs.Laws.{CallersFollow, KeysAreKnown}
 use Rattle.am_audit_calls.specs.Replays.{Advances, GoesOnWith, Replay, ShowsKept, call_with, state_of}
 
 -- the entry of a call that is kept
-entry_is : (state : State) (call : Call) (entry : Entry) → IsEntryOf state call true entry → entry ≡ entry_of call entry.uid true
+entry_is : (state : State) (call : Call) (entry : Entry) → IsEntryOf state call true entry → entry
+    ≡ entry_of call entry.uid true
 entry_is state call entry is = λ i. record {
   desk = is.desk i;
   uid = entry.uid;
@@ -40,27 +41,33 @@ all_three a b c first second third = cc
 -- the reply to a stored call is that of its step
 stored_reply : (state : State) (history : List Entry) (call : Call) (uid : ℕ) → uid_of state call.key ≡ Some uid
     → may_change state call.now call.request ≡ true → has_room history call.weight ≡ true
-    → reply_to state history call true (uid_of state call.key) ≡ (act (after_due state call.now) history uid call.request).0
+    → reply_to state history call true (uid_of state call.key) ≡ (act (after_due state call.now) history uid
+    call.request).0
 stored_reply state history call uid known may room =
     ap (reply_to state history call true) known
-    ∙ ap (λ b. cond b (cond (has_room history call.weight) (step state history (entry_of call uid true)).0 (Refused HistoryFull)) (act state history uid call.request).0) may
+    ∙ ap (λ b. cond b (cond (has_room history call.weight) (step state history (entry_of call uid true)).0
+    (Refused HistoryFull)) (act state history uid call.request).0) may
     ∙ ap (λ b. cond b (step state history (entry_of call uid true)).0 (Refused HistoryFull)) room
 
 -- the callers behind a call
 pub callers_behind : CallersFollow → (before : Replay) (after : List Entry) (call : Call) (shown : Shown)
     → ShowsKept before call (record { start = before.start; history = after }) shown
     → callers_of (replay before.start after)
-    ≡ cond shown.stored (followed (callers_of (state_of before)) (change_of call.request) shown.reply) (callers_of (state_of before))
+    ≡ cond shown.stored (followed (callers_of (state_of before)) (change_of call.request) shown.reply)
+    (callers_of (state_of before))
 callers_behind law before after call shown shows = by shown.stored shows.stored shows.follows
   where
-    by : (stored : Bool) → stored ≡ is_stored (state_of before) before.history call → Follows before.history after stored (IsEntryOf (state_of before) call true)
+    by : (stored : Bool) → stored ≡ is_stored (state_of before) before.history call
+        → Follows before.history after stored (IsEntryOf (state_of before) call true)
         → callers_of (replay before.start after)
-        ≡ cond stored (followed (callers_of (state_of before)) (change_of call.request) shown.reply) (callers_of (state_of before))
+        ≡ cond stored (followed (callers_of (state_of before)) (change_of call.request) shown.reply)
+        (callers_of (state_of before))
     by false is follows = ap (λ (h : List Entry). callers_of (replay before.start h)) follows
     by true is follows =
         let state : State = state_of before in
         let entry : Entry = follows.0 in
-        let tests = all_hold (is_some (uid_of state call.key)) (may_change state call.now call.request) (has_room before.history call.weight) (sym is) in
+        let tests = all_hold (is_some (uid_of state call.key)) (may_change state call.now call.request)
+        (has_room before.history call.weight) (sym is) in
         let due : State = after_due state call.now in
         let reply : shown.reply ≡ (act due before.history entry.uid call.request).0 =
         shows.reply ∙ stored_reply state before.history call entry.uid follows.1.uid tests.1 tests.2 in
@@ -71,7 +78,8 @@ callers_behind law before after call shown shows = by shown.stored shows.stored 
         ∙ ap (followed (callers_of state) (change_of call.request)) (sym reply)
 
 -- the history goes on with the entry if its call is stored
-pub goes_on : (before after : Replay) (key : List ℕ) (entry : Entry) (shown : Shown) → uid_of (state_of before) key ≡ Some entry.uid → entry.kept ≡ true
+pub goes_on : (before after : Replay) (key : List ℕ) (entry : Entry) (shown : Shown) → uid_of (state_of before) key
+    ≡ Some entry.uid → entry.kept ≡ true
     → ShowsKept before (call_with key entry) after shown → shown.stored ≡ true → GoesOnWith before entry after
 goes_on before after key entry shown known kept shows stored =
     let state : State = state_of before in
@@ -80,8 +88,17 @@ goes_on before after key entry shown known kept shows stored =
     let is = follows.1 in
     let uid : follows.0.uid ≡ entry.uid = same_Some _ _ (sym is.uid ∙ known) in
     let same : follows.0 ≡ entry =
-    λ i. record { desk = is.desk i; uid = uid i; now = is.now i; weight = is.weight i; request = is.request i; kept = (is.kept ∙ sym kept) i } in
-    let tests = all_hold (is_some (uid_of state key)) (may_change state entry.now entry.request) (has_room before.history entry.weight) (sym shows.stored ∙ stored) in
+    λ i. record {
+      desk = is.desk i;
+      uid = uid i;
+      now = is.now i;
+      weight = is.weight i;
+      request = is.request i;
+      kept =
+          (is.kept ∙ sym kept) i;
+    } in
+    let tests = all_hold (is_some (uid_of state key)) (may_change state entry.now entry.request)
+    (has_room before.history entry.weight) (sym shows.stored ∙ stored) in
     record {
       start = shows.start;
       history = follows.2 ∙ ap (λ (e : Entry). before.history ++ e ∷ []) same;
@@ -94,21 +111,28 @@ goes_on before after key entry shown known kept shows stored =
     }
 
 -- and the entry may not be next if it isn't
-pub stops : (before after : Replay) (key : List ℕ) (entry : Entry) (shown : Shown) → uid_of (state_of before) key ≡ Some entry.uid
-    → ShowsKept before (call_with key entry) after shown → shown.stored ≡ false → MayBeNext (state_of before) before.history entry → ⊥
+pub stops : (before after : Replay) (key : List ℕ) (entry : Entry) (shown : Shown) → uid_of (state_of before) key
+    ≡ Some entry.uid
+    → ShowsKept before (call_with key entry) after shown → shown.stored ≡ false
+    → MayBeNext (state_of before) before.history entry → ⊥
 stops before after key entry shown known shows stored next =
     let state : State = state_of before in
     let is : is_stored state before.history (call_with key entry) ≡ true =
-    all_three (is_some (uid_of state key)) (may_change state entry.now entry.request) (has_room before.history entry.weight)
+    all_three (is_some (uid_of state key)) (may_change state entry.now entry.request)
+    (has_room before.history entry.weight)
     (ap (λ (o : Option ℕ). is_some o) known) next.changes next.room in
     let no : true ≡ false = sym is ∙ sym shows.stored ∙ stored in
     cc
 
 -- what becomes of an entry whose caller's key is known
-pub advances : (before after : Replay) (key : List ℕ) (entry : Entry) (shown : Shown) (result : Option Replay) → KeysAreKnown (state_of before)
-    → Some key ≡ key_in (callers_of (state_of before)) entry.uid → entry.kept ≡ true → ShowsKept before (call_with key entry) after shown
-    → MatchOption result (shown.stored ≡ false) (λ next. (shown.stored ≡ true) × (next ≡ after)) → Advances before entry result
+pub advances : (before after : Replay) (key : List ℕ) (entry : Entry) (shown : Shown) (result : Option Replay)
+    → KeysAreKnown (state_of before)
+    → Some key ≡ key_in (callers_of (state_of before)) entry.uid → entry.kept ≡ true
+    → ShowsKept before (call_with key entry) after shown
+    → MatchOption result (shown.stored ≡ false) (λ next. (shown.stored ≡ true) × (next ≡ after))
+    → Advances before entry result
 advances before after key entry shown None keys is kept shows stored =
     stops before after key entry shown ((keys.known entry.uid key).0 (sym is)) shows stored
 advances before after key entry shown (Some next) keys is kept shows stored =
-    subst (GoesOnWith before entry) (sym stored.1) (goes_on before after key entry shown ((keys.known entry.uid key).0 (sym is)) kept shows stored.0)
+    subst (GoesOnWith before entry) (sym stored.1) (goes_on before after key entry shown
+    ((keys.known entry.uid key).0 (sym is)) kept shows stored.0)

@@ -26,7 +26,8 @@ frame_for r = record {
 asks_for : (r : Request) → IsReadAgain r → request_of (frame_for r) ≡ Ok r
 unfolding frame_for
 asks_for r again =
-    ap (λ route. asked_at route (compact_text (request_data r))) (own_route (endpoint_for r)) ∙ ap request_or again.again
+    ap (λ route. asked_at route (compact_text (request_data r))) (own_route (endpoint_for r))
+    ∙ ap request_or again.again
 
 pub read_again_is_formed : (r : Request) → IsReadAgain r → IsTrue (is_formed r)
 read_again_is_formed r again = a_read_request_is_formed (frame_for r) r (asks_for r again)

@@ -16,34 +16,41 @@ use Rattle.am_audit_calls.specs.Replays.{Replay, ShowsKept, state_of}
 
 module _ (state : State) (history : List Entry) (call : Call) where
   -- a call that isn't stored is answered the same, kept or not
-  unstored_reply : (uid : Option ℕ) → is_some uid && may_change state call.now call.request && has_room history call.weight ≡ false
+  unstored_reply : (uid : Option ℕ) → is_some uid && may_change state call.now call.request && has_room history
+      call.weight ≡ false
       → reply_to state history call false uid ≡ reply_to state history call true uid
   unstored_reply None is = refl
   unstored_reply (Some uid) is = by (may_change state call.now call.request) (has_room history call.weight) is
     where
       by : (may room : Bool) → true && may && room ≡ false
-          → cond may (cond room (step state history (entry_of call uid false)).0 (Refused HistoryFull)) (act state history uid call.request).0
-          ≡ cond may (cond room (step state history (entry_of call uid true)).0 (Refused HistoryFull)) (act state history uid call.request).0
+          → cond may (cond room (step state history (entry_of call uid false)).0 (Refused HistoryFull))
+          (act state history uid call.request).0
+          ≡ cond may (cond room (step state history (entry_of call uid true)).0 (Refused HistoryFull))
+          (act state history uid call.request).0
       by true true is = absurd cc
       by true false is = refl
       by false room is = refl
 
   -- a call that is stored and not kept is the keeper's fault
-  stored_reply : (uid : Option ℕ) → is_some uid && may_change state call.now call.request && has_room history call.weight ≡ true
+  stored_reply : (uid : Option ℕ) → is_some uid && may_change state call.now call.request && has_room history
+      call.weight ≡ true
       → reply_to state history call false uid ≡ Refused KeeperFault
   stored_reply None is = absurd cc
   stored_reply (Some uid) is = by (may_change state call.now call.request) (has_room history call.weight) is
     where
       by : (may room : Bool) → true && may && room ≡ true
-          → cond may (cond room (step state history (entry_of call uid false)).0 (Refused HistoryFull)) (act state history uid call.request).0
+          → cond may (cond room (step state history (entry_of call uid false)).0 (Refused HistoryFull))
+          (act state history uid call.request).0
           ≡ Refused KeeperFault
       by true true is = refl
       by true false is = absurd cc
       by false room is = absurd cc
 
 -- what a call shows where its row didn't fail
-pub kept_is : (before : Replay) (after : List Entry) (call : Call) (shown : Shown) → ShowsAt before.start before.history after call shown
-    → (shown.reply ≡ Refused KeeperFault → ⊥) → ShowsKept before call (record { start = before.start; history = after }) shown
+pub kept_is : (before : Replay) (after : List Entry) (call : Call) (shown : Shown)
+    → ShowsAt before.start before.history after call shown
+    → (shown.reply ≡ Refused KeeperFault → ⊥) → ShowsKept before call (record { start = before.start; history = after })
+    shown
 kept_is before after call shown shows sure =
     let both = by_kept shows.kept shown.stored shows.stored shows.reply shows.follows in record {
       start = refl;
@@ -60,9 +67,12 @@ kept_is before after call shown shows sure =
         × Follows before.history after stored (IsEntryOf (state_of before) call true)
     by_kept true stored is reply follows = (reply, follows)
     by_kept false true is reply follows =
-        absurd (sure (reply ∙ stored_reply (state_of before) before.history call (uid_of (state_of before) call.key) (sym is)))
-    by_kept false false is reply follows =
-        (reply ∙ unstored_reply (state_of before) before.history call (uid_of (state_of before) call.key) (sym is), follows)
+        absurd (sure (reply ∙ stored_reply (state_of before) before.history call (uid_of (state_of before) call.key)
+        (sym is)))
+    by_kept false false is reply follows = (
+      reply ∙ unstored_reply (state_of before) before.history call (uid_of (state_of before) call.key) (sym is),
+      follows,
+    )
 
 -- a count that stays at zero hasn't risen
 never_risen : HasRisen 0 0 → ⊥
@@ -72,7 +82,8 @@ never_risen risen = omega arith
 pub shows_kept : (start : State) (before after : List Entry) (call : Call) (answer : Result Shown NoMemory)
     → IfOk answer (λ shown. ShowsAt start before after call shown)
     → IfOk answer (λ shown. shown.reply ≡ Refused KeeperFault → HasRisen 0 0 × AddsUnkept before after)
-    → IfOk answer (λ shown. ShowsKept (record { start = start; history = before }) call (record { start = start; history = after }) shown)
+    → IfOk answer (λ shown. ShowsKept (record { start = start; history = before }) call
+    (record { start = start; history = after }) shown)
 shows_kept start before after call (Ok shown) shows fault =
     kept_is (record { start = start; history = before }) after call shown shows (λ is. never_risen (fault is).0)
 shows_kept start before after call (Err want) shows fault = tt

@@ -10,18 +10,18 @@ use Rattle.am_audit_lines.specs.Lines.{IsWritten}
 abbrev pub is_newline : ℕ → Bool
 is_newline b = b == 10
 
--- how long the first line is, with its newline if it has one
+-- the length of the first line, with its newline if it has one
 abbrev pub line_length : List ℕ → ℕ
 line_length bytes = min (position_or_len is_newline bytes + 1) (length bytes)
 
--- the first line, and what is behind it
+-- the first line, and what follows it
 abbrev pub line_in : List ℕ → List ℕ
 line_in bytes = take (line_length bytes) bytes
 
 abbrev pub behind : List ℕ → List ℕ
 behind bytes = drop (line_length bytes) bytes
 
--- how many lines there are; what is behind the last newline is one if it has bytes
+-- how many lines there are; what follows the last newline is a line if it has bytes
 abbrev pub last_line : List ℕ → ℕ
 last_line [] = 0
 last_line (b ∷ []) = if is_newline b then 0 else 1
@@ -38,12 +38,12 @@ Reads start before bytes (first ∷ others) rest =
     (0 < length bytes) × IsWritten (length before) first (line_in bytes) × MayBeNext (replay start before) before first
     × Reads start (before ++ first ∷ []) (behind bytes) others rest
 
--- the text of a history is these entries, a line each, and the history could have been made
+-- the text of a history is these entries, one in each line, and the history could have been made
 pub record IsHistory (start : State) (bytes : List ℕ) (history : List Entry) : Type 0 where
   pub reads : Reads start [] bytes history []
   pub legal : IsLegal start history
 
--- the line of that number is the first that is no entry, or one that would not be stored there
+-- the line with this number is the first that isn't an entry, or whose entry wouldn't be stored there
 pub record IsRefusedAt (start : State) (bytes : List ℕ) (line : ℕ) : Type 0 where
   pub before : List Entry
   pub rest : List ℕ

@@ -13,7 +13,7 @@ pub record Replay : Type 0 where
   pub start : State
   pub history : List Entry
 
--- the replay of entries from that origin
+-- the replay of entries from this origin
 abbrev pub replay_from : Origin → List Entry → Replay
 replay_from origin history = record { start = opening_of origin; history = history }
 
@@ -21,13 +21,27 @@ replay_from origin history = record { start = opening_of origin; history = histo
 abbrev pub state_of : Replay → State
 state_of r = replay r.start r.history
 
--- the call that code holds
+-- the call as code holds it
 abbrev pub call_held : Call → steps.Call
-call_held call = record { desk = call.desk; key = call.key.now; now = call.now; weight = call.weight; request = call.request }
+call_held call = record {
+  desk = call.desk;
+  key = call.key.now;
+  now = call.now;
+  weight = call.weight;
+  request =
+      call.request;
+}
 
 -- an entry as a call with a key
 abbrev pub call_with : List ℕ → Entry → steps.Call
-call_with key entry = record { desk = entry.desk; key = key; now = entry.now; weight = entry.weight; request = entry.request }
+call_with key entry = record {
+  desk = entry.desk;
+  key = key;
+  now = entry.now;
+  weight = entry.weight;
+  request =
+      entry.request;
+}
 
 -- a call was made at the end of the history, and this is shown of it; what is stored is kept
 pub record ShowsKept (before : Replay) (call : steps.Call) (after : Replay) (shown : Shown) : Type 0 where
@@ -37,7 +51,7 @@ pub record ShowsKept (before : Replay) (call : steps.Call) (after : Replay) (sho
   pub reply : shown.reply ≡ reply_after before.start before.history call true
   pub follows : Follows before.history after.history shown.stored (IsEntryOf (state_of before) call true)
 
--- the history went on with that entry, which may be next
+-- the history went on with this entry, which may be next
 pub record GoesOnWith (before : Replay) (entry : Entry) (after : Replay) : Type 0 where
   pub start : after.start ≡ before.start
   pub history : after.history ≡ before.history ++ entry ∷ []

@@ -20,7 +20,7 @@ fn is_newline(byte: u8) -> bool
     byte == NEWLINE
 }
 
-// How many lines are behind the last newline.
+// How many lines follow the last newline.
 fn last_line(bytes: &[u8]) -> usize
     ensures count { result ≡ last_line bytes.now }
     ensures few { result ≤ 1 }
@@ -31,7 +31,7 @@ fn last_line(bytes: &[u8]) -> usize
     }
 }
 
-/// How many lines there are. What is behind the last newline is one if it has bytes. Takes no memory.
+/// How many lines there are. What follows the last newline is a line if it has bytes. Takes no memory.
 pub fn lines_in(bytes: &[u8]) -> usize
     ensures { result ≡ lines_in bytes.now }
 {
@@ -46,7 +46,7 @@ fn newline_at(bytes: &[u8]) -> Option<usize>
     bytes.iter().position(|byte| is_newline(*byte))
 }
 
-// How long the first line is, with its newline if it has one.
+// The length of the first line, with its newline if it has one.
 fn line_length(bytes: &[u8]) -> usize
     ensures { result ≡ line_length bytes.now }
 {
@@ -56,7 +56,7 @@ fn line_length(bytes: &[u8]) -> usize
     }
 }
 
-// The first line, and what is behind it.
+// The first line, and what follows it.
 fn split_line(bytes: &[u8]) -> (&[u8], &[u8])
     ensures line { result.0.now ≡ line_in bytes.now }
     ensures rest { result.1.now ≡ behind bytes.now }
@@ -98,7 +98,7 @@ fn take_line(
 }
 
 /// The history of a sound device that the bytes of a file are, a line for each entry, or the number of the
-/// first line that is refused: it is no entry, or one that would not be stored there.
+/// first line that is refused: it isn't an entry, or its entry wouldn't be stored there.
 pub fn read_history(
     alloc: Global,
     device: Device,

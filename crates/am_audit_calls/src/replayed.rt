@@ -16,7 +16,7 @@ use am_types::{Device, Entry, NoMemory, Request, Shown, Text};
 use std::alloc::Global;
 use std::marker::Model;
 
-/// A call as it is made: on which desk, with which key, at which moment, how much its body weighs, and what it asks.
+/// A call as it is made: its desk, its key, its moment, the weight of its body, and what it asks.
 #[derive(Drop)]
 pub struct Call<'k> {
     pub desk: u32,
@@ -67,7 +67,7 @@ fn kept_call(manager: &mut Manager<NoKeeper>, call: Call<'_>) -> Result<Shown, N
     manager.step(desk, key, now, weight, request)
 }
 
-// Follows a call with that change, if it is stored.
+// Follows a call with this change, if it is stored.
 fn follow(callers: &mut Callers, change: CallerChange, shown: &Shown) -> Result<(), NoMemory>
     ensures { OnOk result (callers.new ≡ (if shown.now.stored
         then followed callers.old change shown.now.reply else callers.old)) }
@@ -80,7 +80,7 @@ fn follow(callers: &mut Callers, change: CallerChange, shown: &Shown) -> Result<
     }
 }
 
-// The replay behind a call, if the call was stored.
+// The replay after a call, if the call was stored.
 fn if_stored(after: Replayed, shown: Shown) -> Option<Replayed>
     ensures { MatchOption result (shown.stored ≡ false) (λ kept. (shown.stored ≡ true) × (kept ≡ after)) }
 {
@@ -107,7 +107,7 @@ impl Replayed {
                 return Err(error);
             }
         };
-        let manager = begin_fresh(alloc, device, NoKeeper)?;
+        let manager = begin_fresh(alloc, device, NoKeeper::new())?;
         Ok(Replayed {
             alloc,
             manager,
@@ -123,7 +123,7 @@ impl Replayed {
         self.manager.length()
     }
 
-    /// The key of the caller with that uid, after the entries so far. Takes no memory.
+    /// The key of the caller with this uid, after the entries so far. Takes no memory.
     pub fn key_of(&self, uid: u32) -> Option<&Text>
         ensures { option_copied result ≡ key_in (callers_of (state_of self.now)) uid }
     {
@@ -138,7 +138,7 @@ impl Replayed {
         keys_are_exact();
     }
 
-    // A copy of the key of the caller with that uid.
+    // A copy of the key of the caller with this uid.
     fn key_copied(&self, uid: u32) -> Result<Option<Text>, NoMemory>
         ensures { IfOk result (λ key. key ≡ key_in (callers_of (state_of self.now)) uid) }
     {
@@ -190,7 +190,7 @@ impl Replayed {
         Ok((replayed, shown))
     }
 
-    // The entry as a call with that key.
+    // The entry as a call with this key.
     fn call_of(self, key: &Text, entry: &Entry) -> Result<(Replayed, Shown), NoMemory>
         requires formed { IsTrue (is_formed entry.now.request) }
         ensures shown { IfOk result (λ done. ShowsKept self (call_with key.now entry.entry.now) done.0 done.1) }

@@ -52,30 +52,37 @@ nests at e = omega (arith, shallow e.request)
 -- a text that reads as a value is that value's
 value_is : (text : List ℕ) (value : Data) → IsUtf8 text → read text ≡ Some value → value_of text ≡ Ok value
 unfolding value_of json_of
-value_is text value utf8 h = ap (λ b. cond b (json_of (read text)) (Err NotJson)) (is_utf8-from_IsUtf8 text utf8) ∙ ap json_of h
+value_is text value utf8 h = ap (λ b. cond b (json_of (read text)) (Err NotJson)) (is_utf8-from_IsUtf8 text utf8)
+    ∙ ap json_of h
 
 -- the text that is written for an entry's value is the entry's
 pub written_is : (text : String Global) (value : Data) (at : ℕ) (e : Entry) → value ≡ entry_data at e
-    → (has_float value ≡ false → string_bytes text ≡ compact_text value) → (depth value ≤ max_depth → read (string_bytes text) ≡ Some value)
+    → (has_float value ≡ false → string_bytes text ≡ compact_text value)
+    → (depth value ≤ max_depth → read (string_bytes text) ≡ Some value)
     → IsTextOf at e (string_bytes text)
 written_is text value at e is compact reads =
     let P : Data → Type 0 = λ d. depth d ≤ max_depth in
     record {
-      value = value_is (string_bytes text) (entry_data at e) (IsUtf8-string_bytes text) (reads (subst P (sym is) (nests at e)) ∙ ap Some is);
+      value = value_is (string_bytes text) (entry_data at e) (IsUtf8-string_bytes text)
+          (reads (subst P (sym is) (nests at e)) ∙ ap Some is);
       compact = compact (ap has_float is ∙ no_float at e) ∙ ap compact_text is;
     }
 
 -- a request that is read again is read of the text of its value
-reread : (endpoint : Endpoint) (text : List ℕ) (value : Data) (request : Request) → endpoint ≡ endpoint_for request → value ≡ request_data request
+reread : (endpoint : Endpoint) (text : List ℕ) (value : Data) (request : Request) → endpoint ≡ endpoint_for request
+    → value ≡ request_data request
     → IsReadAgain request → (has_float value ≡ false → text ≡ compact_text value)
     → (request_of endpoint text ≡ Ok request) × (text ≡ compact_text (request_data request))
 reread endpoint text value request at is again compact =
-    let own : text ≡ compact_text (request_data request) = compact (ap has_float is ∙ request_none request) ∙ ap compact_text is in
+    let own : text ≡ compact_text (request_data request) = compact (ap has_float is ∙ request_none request)
+    ∙ ap compact_text is in
     (ap (λ e. request_of e text) at ∙ ap (request_of (endpoint_for request)) own ∙ again.again, own)
 
 -- so what is found where it was read is that request
-pub found_is : (endpoint : Endpoint) (text : List ℕ) (value : Data) (read request : Request) (result : Result (Option Request) NoMemory)
-    → endpoint ≡ endpoint_for request → value ≡ request_data request → IsReadAgain request → (has_float value ≡ false → text ≡ compact_text value)
+pub found_is : (endpoint : Endpoint) (text : List ℕ) (value : Data) (read request : Request)
+    (result : Result (Option Request) NoMemory)
+    → endpoint ≡ endpoint_for request → value ≡ request_data request → IsReadAgain request
+    → (has_float value ≡ false → text ≡ compact_text value)
     → request_of endpoint text ≡ Ok read
     → (text ≡ compact_text (request_data read) → HasFewRows read → IfOk result (λ found. found ≡ Some read))
     → IfOk result (λ found. found ≡ Some request)
@@ -83,14 +90,16 @@ found_is endpoint text value read request result at is again compact reads finds
     let both = reread endpoint text value request at is again compact in
     let same : read ≡ request = ok_is (sym reads ∙ both.0) in
     let P : Request → Type 0 = λ r. IfOk result (λ found. found ≡ Some r) in
-    subst P same (finds (both.1 ∙ ap (λ r. compact_text (request_data r)) (sym same)) (subst HasFewRows (sym same) again.few))
+    subst P same (finds (both.1 ∙ ap (λ r. compact_text (request_data r)) (sym same))
+    (subst HasFewRows (sym same) again.few))
   where
     ok_is : {x y : Request} → ◌≡◌ {A = Result Request WireFault} (Ok x) (Ok y) → x ≡ y
     ok_is e = cc
 
 -- and it is read
 pub not_refused : (endpoint : Endpoint) (text : List ℕ) (value : Data) (request : Request) (fault : WireFault)
-    → endpoint ≡ endpoint_for request → value ≡ request_data request → IsReadAgain request → (has_float value ≡ false → text ≡ compact_text value)
+    → endpoint ≡ endpoint_for request → value ≡ request_data request → IsReadAgain request
+    → (has_float value ≡ false → text ≡ compact_text value)
     → request_of endpoint text ≡ Err fault → ⊥
 not_refused endpoint text value request fault at is again compact fails =
     let both = reread endpoint text value request at is again compact in
@@ -98,10 +107,13 @@ not_refused endpoint text value request fault at is again compact fails =
     cc
 
 -- the route that the value of an entry says, and its request
-pub route_said : (value : Data) (at : ℕ) (e : Entry) → value ≡ entry_data at e → option_and_then as_str (get (codes "route") value) ≡ Some (path_of (endpoint_for e.request))
-route_said value at e is = ap (λ v. option_and_then as_str (get (codes "route") v)) is ∙ ap (option_and_then as_str) (says at e).route
+pub route_said : (value : Data) (at : ℕ) (e : Entry) → value ≡ entry_data at e
+    → option_and_then as_str (get (codes "route") value) ≡ Some (path_of (endpoint_for e.request))
+route_said value at e is = ap (λ v. option_and_then as_str (get (codes "route") v)) is
+    ∙ ap (option_and_then as_str) (says at e).route
 
-pub request_said : (value : Data) (at : ℕ) (e : Entry) → value ≡ entry_data at e → get (codes "request") value ≡ Some (request_data e.request)
+pub request_said : (value : Data) (at : ℕ) (e : Entry) → value ≡ entry_data at e → get (codes "request") value
+    ≡ Some (request_data e.request)
 request_said value at e is = ap (get (codes "request")) is ∙ (says at e).request
 
 pub some_is : {A : Type 0} {x y : A} → ◌≡◌ {A = Option A} (Some x) (Some y) → x ≡ y

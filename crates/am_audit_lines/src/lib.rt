@@ -1,4 +1,4 @@
-//! The lines of a history file: each is an entry as the history is shown, or none.
+//! The lines of a history file: each is an entry, as the history is shown, or isn't one.
 #![tactic(auto)]
 
 mod line;

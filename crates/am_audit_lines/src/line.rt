@@ -13,8 +13,8 @@ use am_wire_fields::json_value;
 use serde_json::Value;
 use std::alloc::Global;
 
-/// The entry of that number that a line with its newline is; none if it isn't the compact text of an entry
-/// that was kept and whose request is read again by its route.
+/// The entry with this number that a line with its newline is; none if it isn't the compact text of an entry
+/// that was kept and whose request its route reads again.
 pub fn read_line(alloc: Global, at: u64, line: &[u8]) -> Result<Option<Entry>, NoMemory>
     ensures { IfOk result (λ found. Tells at line.now found) }
 {
@@ -37,7 +37,7 @@ pub fn read_line(alloc: Global, at: u64, line: &[u8]) -> Result<Option<Entry>, N
     }
 }
 
-// The entry that the text says, whatever its number and however it is written. Some texts say none.
+// The entry that the text gives, with any number and written in any way. Some texts give none.
 fn entry_said(alloc: Global, text: &[u8]) -> Result<Option<Entry>, NoMemory>
     ensures whole { IfOk result (λ found. IfSome found IsWhole) }
     ensures finds { (at : ℕ) (entry : Said) → IsTextOf at entry text.now → IsWhole entry
@@ -50,7 +50,7 @@ fn entry_said(alloc: Global, text: &[u8]) -> Result<Option<Entry>, NoMemory>
     }
 }
 
-// The entry that the value says. Some values say none.
+// The entry that the value gives. Some values give none.
 fn entry_in(alloc: Global, value: &Value) -> Result<Option<Entry>, NoMemory>
     ensures whole { IfOk result (λ found. IfSome found IsWhole) }
     ensures finds { (at : ℕ) (entry : Said) → view value.now ≡ entry_data at entry → IsWhole entry

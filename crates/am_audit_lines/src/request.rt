@@ -20,7 +20,7 @@ use am_wire_routes::{Endpoint, endpoint_of};
 use serde_json::Value;
 use std::alloc::Global;
 
-/// How many rows the filter of a receiver to be registered has at most.
+/// The most rows that the filter of a receiver to be registered may have.
 const MOST_ROWS: usize = 64;
 
 // Whether the endpoint has the path.
@@ -67,7 +67,7 @@ pub fn has_few_rows(request: &Request) -> bool
         && types <= MOST_ROWS - schemes - authorities - paths
 }
 
-// The request that was read of a body, if that is the text that is written for it.
+// The request that was read from a body, if the body is the text that is written for it.
 fn if_written(alloc: Global, request: Request, body: &str) -> Result<Option<Request>, NoMemory>
     requires { request_of (endpoint_for request) body.now ≡ Ok request }
     ensures again { IfOk result (λ found. IfSome found IsReadAgain) }
@@ -91,7 +91,7 @@ fn if_written(alloc: Global, request: Request, body: &str) -> Result<Option<Requ
     }
 }
 
-// The request that the value of a body says at an endpoint, if it is its own value.
+// The request that the value of a body gives at an endpoint, if the value is the request's own.
 fn request_at(alloc: Global, endpoint: Endpoint, said: &Value) -> Result<Option<Request>, NoMemory>
     ensures again { IfOk result (λ found. IfSome found IsReadAgain) }
     ensures finds { (request : Request) → endpoint ≡ endpoint_for request → view said.now ≡ request_data request
@@ -112,7 +112,7 @@ fn route_in(value: &Value) -> Option<&str>
     value.get("route").and_then(Value::as_str)
 }
 
-/// The request that the value of an entry says at its route; some say none.
+/// The request that the value of an entry gives at its route; some give none.
 pub(crate) fn request_in(alloc: Global, value: &Value) -> Result<Option<Request>, NoMemory>
     ensures again { IfOk result (λ found. IfSome found IsReadAgain) }
     ensures finds { (at : ℕ) (entry : Entry) → view value.now ≡ entry_data at entry → IsReadAgain entry.request
@@ -130,7 +130,7 @@ pub(crate) fn request_in(alloc: Global, value: &Value) -> Result<Option<Request>
     request_at(alloc, endpoint, said)
 }
 
-/// Whether two requests, which bodies were read as, are the same one. The second has few rows.
+/// Whether two requests that were read from bodies are the same. The second has few rows.
 pub fn is_same_request(alloc: Global, one: &Request, other: &Request) -> Result<bool, NoMemory>
     requires one { IsReadable one.now }
     requires other { IsReadable other.now }

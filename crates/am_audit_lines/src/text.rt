@@ -3,6 +3,7 @@ ghost use Rattle.std.specs.Prelude.{◌≡◌, ◌↔◌, IsTrue, IfOk, string_b
 ghost use Rattle.serde_json.specs.View.{view};
 ghost use Rattle.serde_json.specs.Read.{max_depth};
 ghost use Rattle.am_wire_values.specs.Replies.{entry_data};
+ghost use Rattle.am_wire_values.specs.Requests.{request_data};
 ghost use Rattle.am_audit_lines.specs.Lines.{IsTextOf};
 
 use am_types::{Entry, NoMemory};
@@ -11,12 +12,12 @@ use am_wire_values::request_value;
 use serde_json::{Value, json};
 use std::alloc::{AllocError, Global};
 
-// An entry with its number, as a value.
+// An entry with its number, as a value; that of its request is given.
 #[tactic(auto, unfolding(am_wire_values::specs::Replies::entry_data))]
-fn entry_value(alloc: Global, at: u64, entry: &Entry) -> Result<Value, AllocError>
+fn entry_value(alloc: Global, at: u64, entry: &Entry, request: Value) -> Result<Value, AllocError>
+    requires { view request ≡ request_data entry.now.request }
     ensures { IfOk result (λ value. view value ≡ entry_data at entry.entry.now) }
 {
-    let request = request_value(alloc, &entry.request)?;
     json!(in alloc; {
         "at": at,
         "desk": entry.desk,
@@ -29,7 +30,7 @@ fn entry_value(alloc: Global, at: u64, entry: &Entry) -> Result<Value, AllocErro
     })
 }
 
-/// Whether the text is that of the entry with that number.
+/// Whether the text is the text of the entry with this number.
 pub(crate) fn is_text_of(
     alloc: Global,
     at: u64,
@@ -38,6 +39,7 @@ pub(crate) fn is_text_of(
 ) -> Result<bool, NoMemory>
     ensures { IfOk result (λ is. IsTrue is ↔ IsTextOf at entry.entry.now text.now) }
 {
-    let written = entry_value(alloc, at, entry)?.to_string(alloc)?;
+    let request = request_value(alloc, &entry.request)?;
+    let written = entry_value(alloc, at, entry, request)?.to_string(alloc)?;
     Ok(written.as_bytes() == text)
 }

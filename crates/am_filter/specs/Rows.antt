@@ -13,20 +13,32 @@ abbrev pub listed : {X : Type 0} → Option X → List X
 listed None = []
 listed (Some x) = x ∷ []
 
--- the rules, with those of one more row behind them
+-- the rules, followed by those of one more row
 abbrev pub with_paths : List PathRule → Paths → List PathRule
 with_paths rules paths =
-    (((rules ++ listed (option_map Literal paths.literal)) ++ listed (option_map Prefix paths.prefix)) ++ listed (option_map Suffix paths.suffix)) ++ listed (option_map Pattern paths.pattern)
+    (((rules ++ listed (option_map Literal paths.literal)) ++ listed (option_map Prefix paths.prefix))
+    ++ listed (option_map Suffix paths.suffix)) ++ listed (option_map Pattern paths.pattern)
 
--- one more row: schemes stand sorted, each once, all else in the order read
+-- one more row: schemes are sorted, each once, and everything else is in the order read
 abbrev pub with_row : DataRows → DataRow → DataRows
 with_row rows row =
-    record { schemes = with_optional rows.schemes row.scheme; authorities = rows.authorities ++ listed row.authority; paths = with_paths rows.paths row.paths; types = rows.types ++ listed row.mime }
+    record {
+      schemes = with_optional rows.schemes row.scheme;
+      authorities = rows.authorities
+          ++ listed row.authority;
+      paths = with_paths rows.paths row.paths;
+      types = rows.types ++ listed row.mime;
+    }
 
 -- no rows
 abbrev pub no_rows : DataRows
 no_rows = record { schemes = []; authorities = []; paths = []; types = [] }
 
--- rows that are being merged, as the rows that they are
+-- rows that are being merged, as the rows that they represent
 abbrev pub merged : Merging → DataRows
-merged rows = record { schemes = rows.schemes.keys; authorities = rows.authorities.items; paths = rows.paths.items; types = rows.types.items }
+merged rows = record {
+  schemes = rows.schemes.keys;
+  authorities = rows.authorities.items;
+  paths = rows.paths.items;
+  types = rows.types.items;
+}

@@ -6,6 +6,7 @@ ghost use Rattle.am_model.specs.MimeTypes.{goes_with, is_any, is_any_type, passe
 ghost use Rattle.am_model.specs.Paths.{passes_path};
 ghost use Rattle.am_model.specs.Texts.{ends_with, lowered};
 ghost use Rattle.am_filter.specs.Answers.{answer_of};
+ghost use Rattle.am_filter.specs.Patterns.{has_pattern, repeats};
 
 use crate::filter::lists;
 use am_types::{Authority, Filter, List, Mime, PathRule, Text, Uri, Why};
@@ -47,7 +48,7 @@ fn passes_type_alone(filter: &Filter, mime: &Mime) -> Result<(), Why>
     unless(passes_type(&filter.types, mime), Why::Type_)
 }
 
-/// Both: each passes, and a filter without schemes takes local content.
+/// Both: each passes, and a filter without schemes accepts local content.
 fn passes_both(filter: &Filter, uri: &Uri, mime: &Mime) -> Result<(), Why>
     ensures { result ≡ answer_of (data_why filter.now (Some uri.now) (Some mime.now)) }
 {
@@ -62,7 +63,7 @@ fn unless(holds: bool, reason: Why) -> Result<(), Why>
     if holds { Ok(()) } else { Err(reason) }
 }
 
-/// A URI beside a type passes as it does alone, or as local content where no scheme is listed.
+/// A URI with a type passes as it does alone, or as local content if no scheme is listed.
 fn passes_typed_uri(filter: &Filter, uri: &Uri) -> Result<(), Why>
     ensures { result ≡ answer_of (typed_uri_why filter.now uri.now) }
 {
@@ -89,7 +90,7 @@ fn passes_uri(filter: &Filter, uri: &Uri) -> Result<(), Why>
     unless(passes_paths(filter, uri), Why::Path)
 }
 
-/// Some authority passes, where one is listed.
+/// Some authority passes, if any is listed.
 fn passes_authorities(authorities: &List<Authority>, uri: &Uri) -> bool
     ensures { result ≡ passes_authorities authorities.now uri.now }
 {
@@ -105,7 +106,7 @@ fn some_authority_passes(authorities: &List<Authority>, uri: &Uri) -> bool
         .any(|authority| passes_authority(authority, uri))
 }
 
-/// Some path rule passes, where one counts: paths count only beside an authority.
+/// Some path rule passes, if there is one that counts: paths count only with an authority.
 fn passes_paths(filter: &Filter, uri: &Uri) -> bool
     ensures { result ≡ passes_paths filter.now uri.now }
 {
@@ -114,13 +115,46 @@ fn passes_paths(filter: &Filter, uri: &Uri) -> bool
         || some_path_passes(&filter.paths, &uri.path)
 }
 
+/// Some rule passes. A pattern costs most, so a pattern that is also an earlier rule isn't tested again.
 fn some_path_passes(paths: &List<PathRule>, path: &Text) -> bool
     ensures { result ≡ list_any (λ rule. passes_path rule path.now) paths.now }
 {
-    paths.as_slice().iter().any(|rule| passes_path(rule, path))
+    let rules = paths.as_slice();
+    for (i, rule) in rules.iter().enumerate() {
+        if !repeats(&rules[..i], rule) && passes_path(rule, path) {
+            return true;
+        }
+    }
+    false
 }
 
-/// The URI has a host, and it is the authority's; and so is the port.
+/// The rule is a pattern that is also an earlier rule.
+fn repeats(earlier: &[PathRule], rule: &PathRule) -> bool
+    ensures { result ≡ repeats earlier.now rule.now }
+{
+    match rule {
+        PathRule::Pattern(glob) => some_has_pattern(earlier, glob.text()),
+        _ => false,
+    }
+}
+
+fn some_has_pattern(rules: &[PathRule], pattern: &Text) -> bool
+    ensures { result ≡ list_any (has_pattern pattern.now) rules.now }
+{
+    rules.iter().any(|rule| has_pattern(rule, pattern))
+}
+
+/// The rule is this pattern.
+fn has_pattern(rule: &PathRule, pattern: &Text) -> bool
+    ensures { result ≡ has_pattern pattern.now rule.now }
+{
+    match rule {
+        PathRule::Pattern(glob) => glob.text() == pattern,
+        _ => false,
+    }
+}
+
+/// The URI has a host, and its host and port match those of the authority.
 fn passes_authority(authority: &Authority, uri: &Uri) -> bool
     ensures { result ≡ passes_authority authority.now uri.now.host uri.now.port }
 {
@@ -150,14 +184,14 @@ fn ends_with(text: &[u8], end: &[u8]) -> bool
     text.len() >= end.len() && text[text.len() - end.len()..].eq_ignore_ascii_case(end)
 }
 
-/// The filter has no port, or the URI's.
+/// The filter has no port, or it has the URI's.
 fn has_port(listed: Option<u32>, port: Option<u32>) -> bool
     ensures { result ≡ has_port listed port }
 {
     listed.is_none() || listed == port
 }
 
-/// Whether some listed type goes with this one. Takes no memory.
+/// Whether some listed type matches this one. Takes no memory.
 pub fn passes_type(types: &List<Mime>, mime: &Mime) -> bool
     ensures { result ≡ passes_type types.now mime.now }
 {
@@ -174,21 +208,21 @@ fn goes_with(mime: &Mime, other: &Mime) -> bool
     shares_main(mime, other) || is_any_type(mime) || is_any_type(other)
 }
 
-/// The main parts are the same, and the sub parts are the same or one stands for every other.
+/// The main parts are the same, and the sub parts are the same or one of them covers every other.
 fn shares_main(mime: &Mime, other: &Mime) -> bool
     ensures { result ≡ shares_main mime.now other.now }
 {
     mime.main == other.main && (mime.sub == other.sub || is_any(&mime.sub) || is_any(&other.sub))
 }
 
-/// Whether the type stands for every other. Takes no memory.
+/// Whether the type covers every other type. Takes no memory.
 pub fn is_any_type(mime: &Mime) -> bool
     ensures { result ≡ is_any_type mime.now }
 {
     is_any(&mime.main) && is_any(&mime.sub)
 }
 
-/// A part that stands for every other.
+/// A part that covers every other part.
 fn is_any(part: &Text) -> bool
     ensures { result ≡ is_any part.now }
 {

@@ -32,7 +32,7 @@ fn same_uris(a: &Option<Uri>, b: &Option<Uri>) -> bool
     }
 }
 
-/// Each text of either list stands in the other.
+/// Each text of either list is in the other.
 fn same_sets(a: &List<Text>, b: &List<Text>) -> bool
     ensures { result ≡ are_same_set a.now b.now }
 {

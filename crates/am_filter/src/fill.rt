@@ -1,4 +1,4 @@
-//! What one intent fills in of another.
+//! What one intent fills in from another.
 ghost use Rattle.std.specs.Prelude.{◌≡◌, ◌||◌, ◌↔◌, ◌+◌, ◌≤◌, IfOk, Ok, Err, length, nat_lt};
 ghost use Rattle.std.specs.List.{insert};
 ghost use Rattle.am_model.specs.Intents.{fill_in, filled, filled_categories, filled_mime, filled_uri, has_key, or_other, place_extra, united_extras, united_flags};
@@ -10,9 +10,9 @@ use std::alloc::{AllocError, Global};
 const MOST_EXTRAS: usize = 64;
 
 /// The intent with what it lacks taken from the other. Action, identifier and package are taken
-/// where it has none; URI and type together, where it has neither; categories where it has none;
-/// the component never. Flags are united, and an extra is added where its key is absent.
-/// `ExtrasFull` comes exactly where there would be more than 64 extras. (AOSP, `Intent.fillIn`;
+/// if it has none; URI and type together, if it has neither; categories if it has none;
+/// the component never. Flags are united, and an extra is added if its key is absent.
+/// `ExtrasFull` comes exactly if there would be more than 64 extras. (AOSP, `Intent.fillIn`;
 /// the extras: own.)
 #[tactic(auto, unfolding(am_model::specs::Intents::fill_in))]
 pub fn fill_in(alloc: Global, kept: &Intent, other: &Intent) -> Result<Intent, FillFault>
@@ -41,7 +41,7 @@ fn filled(alloc: Global, kept: &Intent, other: &Intent) -> Result<Intent, AllocE
     }
 }
 
-/// Puts into the intent all of the first with what it lacks.
+/// Writes all of `kept` into the intent, with what it lacks taken from `other`.
 fn fill(alloc: Global, intent: &mut Intent, kept: &Intent, other: &Intent) -> Result<(), AllocError>
     ensures { IfOk result (λ done. intent.new ≡ filled kept.now other.now) }
 {
@@ -57,7 +57,7 @@ fn fill(alloc: Global, intent: &mut Intent, kept: &Intent, other: &Intent) -> Re
     Ok(())
 }
 
-/// The first where it is there, else the second.
+/// The first if it is present, otherwise the second.
 fn text(kept: &Option<Text>, other: &Option<Text>) -> Result<Option<Text>, AllocError>
     ensures { IfOk result (λ text. text ≡ or_other kept.now other.now) }
 {
@@ -67,7 +67,7 @@ fn text(kept: &Option<Text>, other: &Option<Text>) -> Result<Option<Text>, Alloc
     }
 }
 
-/// The URI, taken where there is neither URI nor type.
+/// The URI, taken if there is neither URI nor type.
 fn uri(kept: &Intent, other: &Intent) -> Result<Option<Uri>, AllocError>
     ensures { IfOk result (λ uri. uri ≡ filled_uri kept.now.uri kept.now.mime other.now.uri) }
 {
@@ -78,7 +78,7 @@ fn uri(kept: &Intent, other: &Intent) -> Result<Option<Uri>, AllocError>
     }
 }
 
-/// The type, taken where there is neither URI nor type.
+/// The type, taken if there is neither URI nor type.
 fn mime(kept: &Intent, other: &Intent) -> Result<Option<Mime>, AllocError>
     ensures { IfOk result (λ mime. mime ≡ filled_mime kept.now.uri kept.now.mime other.now.mime) }
 {
@@ -89,7 +89,7 @@ fn mime(kept: &Intent, other: &Intent) -> Result<Option<Mime>, AllocError>
     }
 }
 
-/// The categories, taken where there are none.
+/// The categories, taken if there are none.
 #[tactic(auto, using(crate::proofs::Unions::same_list))]
 fn categories(kept: &List<Text>, other: &List<Text>) -> Result<List<Text>, AllocError>
     ensures { IfOk result (λ categories. categories ≡ filled_categories kept.now other.now) }
@@ -131,7 +131,7 @@ fn is_full(kept: &List<Named>, other: &List<Named>) -> bool
     }
 }
 
-/// How many extras of the other have a key that is new.
+/// How many extras of the other have a new key.
 fn added_count(kept: &[Named], other: &[Named]) -> usize
     ensures { length kept.now + result ≡ length (united_extras kept.now other.now) }
 {
@@ -151,7 +151,7 @@ fn is_known(kept: &[Named], before: &[Named], key: &Text) -> bool
     has_key(kept, key) || has_key(before, key)
 }
 
-/// The extras, with those of the other whose keys are absent.
+/// The extras, with the other's extras whose keys are absent.
 fn united_extras(
     alloc: Global,
     kept: &List<Named>,
@@ -176,7 +176,7 @@ fn has_key(extras: &[Named], key: &Text) -> bool
     extras.iter().any(|extra| extra.key == *key)
 }
 
-/// The place in front of the first extra whose key stands behind that of the new one.
+/// The place before the first extra whose key comes after that of the new one.
 fn place_of(extras: &[Named], extra: &Named) -> usize
     ensures within { result ≤ length extras.now }
     ensures placed { insert extras.now result extra.now ≡ place_extra extra.now extras.now }

@@ -11,7 +11,7 @@ use am_types::{Filter, Intent, List, Text, Why};
 /// The category that an implicit start needs.
 const DEFAULT_CATEGORY: &str = "android.intent.category.DEFAULT";
 
-/// Whether the intent passes the filter, which must list the default category where that is
+/// Whether the intent passes the filter, which must list the default category if that is
 /// needed. An error is the first of the tests on action, scheme, host, path, type and category
 /// that fails. (AOSP, `IntentFilter.match`; hosts by ASCII case: own.) Takes no memory.
 pub fn passes(filter: &Filter, intent: &Intent, need_default: bool) -> Result<(), Why>
@@ -27,7 +27,7 @@ pub fn passes(filter: &Filter, intent: &Intent, need_default: bool) -> Result<()
     Ok(())
 }
 
-/// The filter lists some action, and the intent's, if it has one.
+/// The filter lists some action, and lists the intent's action if the intent has one.
 fn passes_action(listed: &List<Text>, action: &Option<Text>) -> bool
     ensures { result ≡ passes_action listed.now action.now }
 {
@@ -37,14 +37,14 @@ fn passes_action(listed: &List<Text>, action: &Option<Text>) -> bool
     }
 }
 
-/// The filter lists each category of the intent, and the default one where that is needed.
+/// The filter lists each category of the intent, and the default one if that is needed.
 fn passes_categories(listed: &List<Text>, categories: &List<Text>, need_default: bool) -> bool
     ensures { result ≡ passes_categories listed.now categories.now need_default }
 {
     lists_all(listed, categories) && (!need_default || lists_default(listed))
 }
 
-/// Whether each text of the second list stands in the first. Takes no memory.
+/// Whether each text of the second list is in the first. Takes no memory.
 pub fn lists_all(texts: &List<Text>, wanted: &List<Text>) -> bool
     ensures { result ≡ list_all (λ text. lists texts.now text) wanted.now }
 {

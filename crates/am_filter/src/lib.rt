@@ -1,5 +1,5 @@
 //! The filter test, how the data rows of a filter merge, when two intents are the same for a filter, and what one
-//! fills in of another.
+//! intent fills in from another.
 #![tactic(auto)]
 
 mod data;

@@ -7,7 +7,7 @@ use am_uri::with_optional;
 use std::alloc::{AllocError, Global};
 use std::collections::BTreeSet;
 
-/// The path rules of a data row: one of each kind at most.
+/// The path rules of a data row: at most one of each kind.
 #[derive(Drop)]
 pub struct Paths {
     /// The whole path.
@@ -82,7 +82,7 @@ fn with_one<T: Drop>(items: Vec<T>, item: Option<T>) -> Result<Vec<T>, AllocErro
     Ok(items)
 }
 
-/// The rules, with those of one more row behind them.
+/// The rules, followed by those of one more row.
 fn with_paths(rules: Vec<PathRule>, paths: Paths) -> Result<Vec<PathRule>, AllocError>
     ensures { IfOk result (λ all. all.items ≡ with_paths rules.items paths) }
 {
@@ -113,12 +113,12 @@ fn with_row(rows: Merging, row: DataRow) -> Result<Merging, AllocError>
     })
 }
 
-/// The rows of a filter, merged in their order: schemes stand sorted by bytes, each once, all else in the order of the
-/// rows, repeats included.
+/// Merges the rows of a filter in their order: schemes are sorted by bytes, each once, and everything else is in the
+/// order of the rows, repeats included.
 ///
 /// # Errors
 ///
-/// Only want of memory.
+/// Only if memory runs out.
 pub fn merge_rows(alloc: Global, rows: Vec<DataRow>) -> Result<DataRows, AllocError>
     ensures { IfOk result (λ all. all ≡ fold with_row no_rows rows.items) }
 {

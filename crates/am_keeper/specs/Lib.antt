@@ -3,3 +3,4 @@ pub mod Places
 pub mod Keeping
 pub mod Memory
 pub mod Shelf
+pub mod Asking

@@ -1,20 +1,20 @@
-//! Rows that are put together one at a time.
+//! Rows that are collected one at a time.
 ghost use Rattle.std.specs.Prelude.{◌≡◌, IfOk, OnOk, OnErr};
 ghost use Rattle.am_keeper.specs.Rows.{IsInOrder, no_rows, with_row};
 
 use crate::rank::put_in;
-use crate::{PackageRow, RightRow, Row, Rows};
+use crate::{GrantRow, LinkRow, PackageRow, Row, Rows};
 use am_types::List;
 use std::alloc::{AllocError, Global};
 use std::marker::Model;
 use std::vec::VecCloneMethods;
 
-/// Rows to which further ones are put. Contracts see it as these rows.
+/// Rows to which more rows can be put. Contracts see a builder as its rows.
 #[derive(Drop)]
 pub struct RowsBuilder {
     packages: Vec<PackageRow>,
-    grants: Vec<RightRow>,
-    links: Vec<RightRow>,
+    grants: Vec<GrantRow>,
+    links: Vec<LinkRow>,
 }
 
 impl Model for RowsBuilder {
@@ -39,7 +39,7 @@ fn copied<T: Clone + Drop>(alloc: Global, rows: &[T]) -> Result<Vec<T>, AllocErr
 }
 
 impl RowsBuilder {
-    /// No rows. Takes no memory.
+    /// A builder without rows. Takes no memory.
     pub fn new(alloc: Global) -> Self
         ensures { result ≡ no_rows }
     {
@@ -50,7 +50,7 @@ impl RowsBuilder {
         }
     }
 
-    /// A copy of these rows.
+    /// A builder with a copy of these rows.
     pub fn from_rows(alloc: Global, rows: &Rows) -> Result<Self, AllocError>
         requires { IsInOrder rows.now }
         ensures { IfOk result (λ copy. copy ≡ rows.now) }
@@ -62,7 +62,7 @@ impl RowsBuilder {
         })
     }
 
-    /// Puts the row in the place of the one with its key, or adds it. Without memory all stays.
+    /// Replaces the row with the same key, or adds this one. If memory runs out, nothing changes.
     pub fn put(&mut self, row: Row) -> Result<(), AllocError>
         ensures ok { OnOk result (self.new ≡ with_row self.old row) }
         ensures err { OnErr result (self.new ≡ self.old) }
@@ -74,7 +74,7 @@ impl RowsBuilder {
         }
     }
 
-    /// The rows. Takes no memory.
+    /// Returns the rows. Takes no memory.
     pub fn finish(self) -> Rows
         ensures rows { result ≡ self }
         ensures in_order { IsInOrder result }

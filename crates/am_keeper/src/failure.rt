@@ -2,7 +2,7 @@ use std::alloc::{AllocError, AllocFailed};
 use std::error::Error;
 use std::fmt;
 
-/// Why a keeper or a store didn't do what it was asked for.
+/// Why a keeper or a store didn't do what it was asked to do.
 #[derive(Clone, Copy, Debug, PartialEq, Eq)]
 pub enum KeepFail {
     /// The store failed, and the count of faults rose.

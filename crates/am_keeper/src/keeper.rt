@@ -3,73 +3,126 @@ ghost use Rattle.std.specs.Prelude.{◌≡◌, ◌≢◌, ◌↔◌, ◌⊎◌, 
 ghost use Rattle.std.specs.Option.{option_copied};
 ghost use Rattle.am_outside.specs.Counts.{HasRisen};
 ghost use Rattle.am_keeper.specs.declared.rows.Rows.{Rows as Told};
-ghost use Rattle.am_keeper.specs.Rows.{IsInOrder, no_rows, with_row};
-ghost use Rattle.am_keeper.specs.Keeping.{Puts, TellsAsBefore, raised_by, rows_after};
+ghost use Rattle.am_keeper.specs.declared.rows.Row.TheVariants.{Package, Grant, Link};
+ghost use Rattle.am_keeper.specs.Rows.{IsInOrder, no_rows};
+ghost use Rattle.am_keeper.specs.Keeping.{IsAsked, raised_by, rows_after};
 
-use crate::{KeepFail, Row, Rows};
+use crate::{GrantRow, KeepFail, LinkRow, PackageRow, Rows};
 use am_types::Text;
 
-/// What puts rows into a store. A clause on rows says something where the store is honest: it has
-/// returned what was written into it.
+/// Puts rows into a store. A clause about rows applies only if the store is honest, that is, if it
+/// has returned what was written into it.
 pub trait Keeper: Drop {
-    /// Its rows, which it tells always or never.
+    /// Its rows. A keeper tells its rows either always or never.
     ghost rows: { Self → Option Told };
 
-    /// The place of its rows in the store, which no call changes.
+    /// The place of its rows in the store. No call changes it.
     ghost place: { Self → Option (Items ℕ) };
 
-    /// Its store is honest so far. A call may find that it is not.
+    /// Its store has been honest so far. A call may find that it isn't.
     ghost is_honest: { Self → Type 0 };
 
-    /// Its store is honest for good, which no call changes.
+    /// Its store is honest for good. No call changes this.
     ghost stays_honest: { Self → Type 0 };
 
-    /// How many faults there were. It stays at the greatest 64-bit number.
+    /// How many faults there were. The count stops at the greatest 64-bit number.
     ghost faults: { Self → ℕ };
 
-    /// Puts the row in the place of the one with its key, or adds it. The key of a package's row is its uid, that of a
-    /// grant's the uid and the permission, that of a link's the uid and the host.
-    fn put(&mut self, row: &Row) -> Result<(), KeepFail>
-        ensures rows { is_honest self.new → Puts (λ told. with_row told row.now) (rows self.old) (rows self.new) result }
-        ensures tells { TellsAsBefore (rows self.old) (rows self.new) }
-        ensures place { place self.new ≡ place self.old }
-        ensures was_honest { is_honest self.new → is_honest self.old }
-        ensures for_good { stays_honest self.new ↔ stays_honest self.old }
-        ensures never_falls { faults self.old ≤ faults self.new }
-        ensures failed { result ≡ Err KeepFail.Failed → HasRisen (faults self.old) (faults self.new) }
-        ensures only_failed { result ≢ Err KeepFail.Failed → faults self.new ≡ faults self.old };
+    /// How many puts there were, whatever they returned. The count stops at the greatest 64-bit number.
+    ghost puts: { Self → ℕ };
+
+    /// Replaces the row with the same uid, or adds this one.
+    fn put_package(&mut self, row: &PackageRow) -> Result<(), KeepFail>
+        ensures asked { IsAsked (Package row.now)
+            (record {
+              rows = rows self.old;
+              place = place self.old;
+              honest = is_honest self.old;
+              for_good = stays_honest self.old;
+              faults = faults self.old;
+              puts = puts self.old;
+            })
+            (record {
+              rows = rows self.new;
+              place = place self.new;
+              honest = is_honest self.new;
+              for_good = stays_honest self.new;
+              faults = faults self.new;
+              puts = puts self.new;
+            }) result };
+
+    /// Replaces the row with the same uid and permission, or adds this one.
+    fn put_grant(&mut self, row: &GrantRow) -> Result<(), KeepFail>
+        ensures asked { IsAsked (Grant row.now)
+            (record {
+              rows = rows self.old;
+              place = place self.old;
+              honest = is_honest self.old;
+              for_good = stays_honest self.old;
+              faults = faults self.old;
+              puts = puts self.old;
+            })
+            (record {
+              rows = rows self.new;
+              place = place self.new;
+              honest = is_honest self.new;
+              for_good = stays_honest self.new;
+              faults = faults self.new;
+              puts = puts self.new;
+            }) result };
+
+    /// Replaces the row with the same uid and host, or adds this one.
+    fn put_link(&mut self, row: &LinkRow) -> Result<(), KeepFail>
+        ensures asked { IsAsked (Link row.now)
+            (record {
+              rows = rows self.old;
+              place = place self.old;
+              honest = is_honest self.old;
+              for_good = stays_honest self.old;
+              faults = faults self.old;
+              puts = puts self.old;
+            })
+            (record {
+              rows = rows self.new;
+              place = place self.new;
+              honest = is_honest self.new;
+              for_good = stays_honest self.new;
+              faults = faults self.new;
+              puts = puts self.new;
+            }) result };
 
     ghost honest_by_nature: { (keeper : Self) → stays_honest keeper → is_honest keeper };
 }
 
-/// A keeper at work, and the rows that were there when it came.
+/// A keeper at work, and the rows that it was handed out with.
 #[derive(Drop)]
 pub struct Attached<K> {
     pub keeper: K,
     pub rows: Rows,
 }
 
-/// What keeps rows under paths, and hands out a keeper for those at a path.
+/// Keeps rows under paths, and hands out a keeper for the rows at a path.
 pub trait Store {
     type Kept: Keeper;
 
-    /// Whether it tells its rows, which no call changes.
+    /// Whether it tells its rows. No call changes this.
     ghost tells: { Self → Bool };
 
-    /// The rows at a path, where it tells its rows. There are none at a path without rows.
+    /// The rows at a path, if it tells its rows. At a path without rows this is empty.
     ghost rows_at: { Self → Items ℕ → Told };
 
-    /// The paths for which `attach` answered a keeper, where it tells its rows.
+    /// The paths for which `attach` returned a keeper, if it tells its rows.
     ghost has_attached: { Self → Items ℕ → Type 0 };
 
-    /// How many calls of `attach` failed. It stays at the greatest 64-bit number.
+    /// How many calls of `attach` failed. The count stops at the greatest 64-bit number.
     ghost failed_attaches: { Self → ℕ };
 
-    /// How many faults the keepers had that came back. It stays at the greatest 64-bit number.
+    /// How many faults there were in all keepers that came back. The count stops at the greatest
+    /// 64-bit number.
     ghost keeper_faults: { Self → ℕ };
 
-    /// Hands out a keeper for the rows at the path, or for no rows at all without a path, and makes
-    /// room for what it brings back.
+    /// Hands out a keeper for the rows at the path, or for no rows if there is no path, and makes
+    /// room for what the keeper brings back.
     fn attach(&mut self, path: Option<&Text>) -> Result<Attached<Self::Kept>, KeepFail>
         ensures tells { tells self.new ≡ tells self.old }
         ensures same_rows { IsTrue (tells self.old) → (at : Items ℕ) → rows_at self.new at ≡ rows_at self.old at }
@@ -88,7 +141,7 @@ pub trait Store {
         ensures only_failed { result ≢ Err KeepFail.Failed → failed_attaches self.new ≡ failed_attaches self.old }
         ensures keepers { keeper_faults self.new ≡ keeper_faults self.old };
 
-    /// Takes a keeper back with its rows, without memory.
+    /// Takes a keeper back with its rows. Takes no memory.
     fn detach(&mut self, keeper: Self::Kept)
         requires { IsTrue (tells self.old) → (at : Items ℕ) → Self.Kept.place keeper ≡ Some at → has_attached self.old at }
         ensures tells { tells self.new ≡ tells self.old }
@@ -98,6 +151,6 @@ pub trait Store {
         ensures failed_attaches { failed_attaches self.new ≡ failed_attaches self.old }
         ensures keepers { keeper_faults self.new ≡ raised_by (Self.Kept.faults keeper) (keeper_faults self.old) };
 
-    /// A store that tells its rows has honest keepers, which tell theirs.
+    /// If a store tells its rows, its keepers are honest and tell theirs.
     ghost honest_where_told: { (store : Self) → IsTrue (tells store) → (keeper : Self.Kept) → Self.Kept.is_honest keeper × IsTrue (is_some (Self.Kept.rows keeper)) };
 }

@@ -2,6 +2,7 @@
 //! keepers out, and both of them in memory.
 #![tactic(auto)]
 
+mod asking;
 mod builder;
 mod failure;
 mod keeper;
@@ -11,9 +12,10 @@ mod rank;
 mod rows;
 mod store;
 
+pub use asking::put_row;
 pub use builder::RowsBuilder;
 pub use failure::KeepFail;
 pub use keeper::{Attached, Keeper, Store};
 pub use memory::MemoryKeeper;
-pub use rows::{PackageRow, RightRow, Row, Rows};
+pub use rows::{GrantRow, LinkRow, PackageRow, Row, Rows};
 pub use store::{MemoryStore, StoredRows};

@@ -6,7 +6,7 @@ use crate::{Row, Rows, RowsBuilder};
 use std::alloc::{AllocError, Global};
 use std::marker::Model;
 
-/// Rows, and what was put to them since. Contracts see it as the rows that this makes.
+/// Rows, and what was put into them since. Contracts see this as the resulting rows.
 #[derive(Drop)]
 pub(crate) struct Logged {
     first: Rows,
@@ -47,7 +47,7 @@ impl Logged {
         }
     }
 
-    /// Puts the row. Without memory all stays.
+    /// Puts the row. If memory runs out, nothing changes.
     #[tactic(auto, using(crate::proofs::Replays::with_all_push))]
     pub fn put(&mut self, row: Row) -> Result<(), AllocError>
         ensures ok { OnOk result (self.new ≡ with_row self.old row) }

@@ -1,16 +1,17 @@
-//! A keeper in memory, whose calls fail where it is told to.
+//! A keeper in memory that can be told which of its calls fail.
 ghost use Rattle.std.specs.Prelude.{◌≡◌, ◌≢◌, ◌↔◌, ◌≤◌, [], None, Err, IsTrue, IfOk};
-ghost use Rattle.am_keeper.specs.Rows.{IsInOrder, with_row};
-ghost use Rattle.am_keeper.specs.Memory.{fails_at, one_more, fresh_keeper, after_put};
+ghost use Rattle.am_keeper.specs.declared.rows.Row.TheVariants.{Package, Grant, Link};
+ghost use Rattle.am_keeper.specs.Rows.{IsInOrder};
+ghost use Rattle.am_keeper.specs.Memory.{IsPut, fails_at, one_more, fresh_keeper, after_put};
 
 use crate::logged::Logged;
-use crate::{KeepFail, Keeper, Row, Rows};
+use crate::{GrantRow, KeepFail, Keeper, LinkRow, PackageRow, Row, Rows};
 use am_outside::is_failing;
 use am_types::{List, NoMemory, Text};
 use std::alloc::Global;
 use std::marker::Model;
 
-/// A keeper in memory. The calls with the numbers that it was given fail, and no others.
+/// A keeper in memory. The calls whose numbers it was given fail, and no others.
 #[derive(Drop)]
 pub struct MemoryKeeper {
     rows: Logged,
@@ -44,7 +45,7 @@ impl MemoryKeeper {
         }
     }
 
-    /// A keeper of these rows at a place, none of whose calls fails.
+    /// A keeper of these rows at a place. None of its calls fail.
     pub(crate) fn at(alloc: Global, rows: Rows, place: Option<Text>) -> Self
         requires { IsInOrder rows }
         ensures { result ≡ fresh_keeper rows place [] }
@@ -66,7 +67,7 @@ impl MemoryKeeper {
         Ok(self.rows.rows()?)
     }
 
-    /// What it holds, its place and its count of faults.
+    /// Its rows, its place and its count of faults.
     pub(crate) fn into_parts(self) -> (Logged, Option<Text>, u64)
         ensures { result ≡ (self.told, self.place, self.faults) }
     {
@@ -109,16 +110,31 @@ impl Keeper for MemoryKeeper {
 
     ghost faults = { λ k. k.faults };
 
+    ghost puts = { λ k. k.calls };
+
     ghost honest_by_nature = { λ k h. h };
 
-    fn put(&mut self, row: &Row) -> Result<(), KeepFail>
-        ensures exact { self.new ≡ after_put self.old (with_row self.old.told row.now) result }
-        ensures fails { (result ≡ Err KeepFail.Failed) ↔ IsTrue (fails_at self.old.failing (one_more self.old.calls)) }
-        ensures never_falls { self.old.faults ≤ self.new.faults }
-        ensures only_failed { result ≢ Err KeepFail.Failed → self.new.faults ≡ self.old.faults }
+    fn put_package(&mut self, row: &PackageRow) -> Result<(), KeepFail>
+        ensures exact { IsPut (Package row.now) self.old self.new result }
     {
         self.count_call()?;
-        self.rows.put(row.clone()?)?;
+        self.rows.put(Row::Package(row.clone()?))?;
+        Ok(())
+    }
+
+    fn put_grant(&mut self, row: &GrantRow) -> Result<(), KeepFail>
+        ensures exact { IsPut (Grant row.now) self.old self.new result }
+    {
+        self.count_call()?;
+        self.rows.put(Row::Grant(row.clone()?))?;
+        Ok(())
+    }
+
+    fn put_link(&mut self, row: &LinkRow) -> Result<(), KeepFail>
+        ensures exact { IsPut (Link row.now) self.old self.new result }
+    {
+        self.count_call()?;
+        self.rows.put(Row::Link(row.clone()?))?;
         Ok(())
     }
 }

@@ -1,13 +1,13 @@
-//! The order in which rows of a kind stand, and where one goes among the others.
+//! The order of the rows of a kind, and where a row goes among the others.
 ghost use Rattle.std.specs.Prelude.{◌≡◌, ◌≤◌, ◌<◌, length, IsTrue, IfOk, IfErr, OnOk, OnErr};
 ghost use Rattle.am_keeper.specs.Rows.{rises, put_in};
 ghost use Rattle.am_keeper.specs.Places.{IsPlaceOf, IsGapFor};
 
-use crate::{PackageRow, RightRow};
+use crate::{GrantRow, LinkRow, PackageRow};
 use std::alloc::AllocError;
 use std::cmp::Ordering;
 
-/// Rows of one kind, which stand in an order.
+/// Rows of one kind, which have an order.
 pub(crate) trait Ranked: Drop {
     ghost use Rattle.std.specs.Prelude.{◌≡◌};
     ghost use Rattle.std.specs.declared.cmp.Ordering.{Ordering as Order};
@@ -15,7 +15,7 @@ pub(crate) trait Ranked: Drop {
 
     ghost order: { Self → Self → Order };
 
-    /// How this row stands to another one.
+    /// How this row compares with another one.
     fn rank(&self, other: &Self) -> Ordering
         ensures { result ≡ order self.now other.now };
 
@@ -35,25 +35,43 @@ impl Ranked for PackageRow {
     }
 }
 
-impl Ranked for RightRow {
+impl Ranked for GrantRow {
     ghost use Rattle.std.specs.Cmp.{on_total, then_total, nat_cmp_total};
     ghost use Rattle.std.specs.Cmp.Lexicographic.{nat_list_cmp_total};
-    ghost use Rattle.am_keeper.specs.Rows.{by_right};
+    ghost use Rattle.am_keeper.specs.Rows.{by_grant};
 
-    ghost order = { by_right };
+    ghost order = { by_grant };
 
-    ghost total = { then_total (on_total (λ row. row.uid) nat_cmp_total) (on_total (λ row. row.text) nat_list_cmp_total) };
+    ghost total = { then_total (on_total (λ row. row.uid) nat_cmp_total) (on_total (λ row. row.permission) nat_list_cmp_total) };
 
-    // The texts are compared only where the uids are the same.
+    // The permissions are compared only if the uids are the same.
     fn rank(&self, other: &Self) -> Ordering {
         match self.uid.cmp(&other.uid) {
-            Ordering::Equal => self.text.cmp(&other.text),
+            Ordering::Equal => self.permission.cmp(&other.permission),
             decided => decided,
         }
     }
 }
 
-/// Where the row that ties with this one stands, or where this one would go.
+impl Ranked for LinkRow {
+    ghost use Rattle.std.specs.Cmp.{on_total, then_total, nat_cmp_total};
+    ghost use Rattle.std.specs.Cmp.Lexicographic.{nat_list_cmp_total};
+    ghost use Rattle.am_keeper.specs.Rows.{by_link};
+
+    ghost order = { by_link };
+
+    ghost total = { then_total (on_total (λ row. row.uid) nat_cmp_total) (on_total (λ row. row.host) nat_list_cmp_total) };
+
+    // The hosts are compared only if the uids are the same.
+    fn rank(&self, other: &Self) -> Ordering {
+        match self.uid.cmp(&other.uid) {
+            Ordering::Equal => self.host.cmp(&other.host),
+            decided => decided,
+        }
+    }
+}
+
+/// The place of the row that ties with this one, or the place where this one would go.
 fn place_of<T: Ranked>(rows: &[T], row: &T) -> Result<usize, usize>
     requires { IsTrue (rises T.order rows.now) }
     ensures found { IfOk result (IsPlaceOf T.order row.now rows.now) }
@@ -62,7 +80,7 @@ fn place_of<T: Ranked>(rows: &[T], row: &T) -> Result<usize, usize>
     rows.binary_search_by(|kept| kept.rank(row))
 }
 
-/// Puts a row in the place of the one that ties with it, or adds it. Without memory all stays.
+/// Replaces the row that ties with this one, or adds this one. If memory runs out, nothing changes.
 pub(crate) fn put_in<T: Ranked>(rows: &mut Vec<T>, row: T) -> Result<(), AllocError>
     requires { IsTrue (rises T.order rows.old.items) }
     ensures ok { OnOk result (rows.new.items ≡ put_in T.order row rows.old.items) }

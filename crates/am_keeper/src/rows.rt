@@ -9,9 +9,9 @@ use std::alloc::AllocError;
 pub struct PackageRow {
     pub uid: u32,
     pub name: Text,
-    /// What its calls carry. Empty where the package is gone.
+    /// The key that its calls carry. Empty if the package is gone.
     pub key: Text,
-    /// Its manifest. Empty where the package is gone.
+    /// The text of its manifest. Empty if the package is gone.
     pub text: Text,
     /// Whether it was uninstalled.
     pub gone: bool,
@@ -25,21 +25,37 @@ impl Clone for PackageRow {
     }
 }
 
-/// A right of a uid, to a permission or to the web links of a host, that was given, or taken away.
+/// A permission that was given to a uid, or taken away.
 #[derive(Drop)]
-pub struct RightRow {
+pub struct GrantRow {
     pub uid: u32,
-    /// The permission, or the host.
-    pub text: Text,
-    /// Whether it is held.
+    pub permission: Text,
+    /// Whether the uid holds it.
     pub held: bool,
 }
 
-impl Clone for RightRow {
+impl Clone for GrantRow {
     ghost is_clone = { λ x y. y ≡ x };
 
-    fn clone(&self) -> Result<RightRow, AllocError> {
-        copy_parts!(self, RightRow: value(text); uid held)
+    fn clone(&self) -> Result<GrantRow, AllocError> {
+        copy_parts!(self, GrantRow: value(permission); uid held)
+    }
+}
+
+/// A host whose web links a uid is approved for, or is no longer approved for.
+#[derive(Drop)]
+pub struct LinkRow {
+    pub uid: u32,
+    pub host: Text,
+    /// Whether the uid is approved for it.
+    pub approved: bool,
+}
+
+impl Clone for LinkRow {
+    ghost is_clone = { λ x y. y ≡ x };
+
+    fn clone(&self) -> Result<LinkRow, AllocError> {
+        copy_parts!(self, LinkRow: value(host); uid approved)
     }
 }
 
@@ -47,10 +63,8 @@ impl Clone for RightRow {
 #[derive(Drop)]
 pub enum Row {
     Package(PackageRow),
-    /// Of a permission.
-    Grant(RightRow),
-    /// Of a host, for whose web links the package is approved.
-    Link(RightRow),
+    Grant(GrantRow),
+    Link(LinkRow),
 }
 
 impl Clone for Row {
@@ -65,13 +79,13 @@ impl Clone for Row {
     }
 }
 
-/// All rows, in the order of uid, then of permission or host by bytes. Each uid has one package
-/// row at most, each uid and permission one grant row, each uid and host one link row.
+/// All rows, ordered by uid, then by the bytes of the permission or host. There is at most one
+/// package row per uid, one grant row per uid and permission, and one link row per uid and host.
 #[derive(Drop)]
 pub struct Rows {
     pub packages: List<PackageRow>,
-    pub grants: List<RightRow>,
-    pub links: List<RightRow>,
+    pub grants: List<GrantRow>,
+    pub links: List<LinkRow>,
 }
 
 impl Clone for Rows {

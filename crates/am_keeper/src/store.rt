@@ -29,14 +29,14 @@ pub(crate) struct Slot {
     pub rows: Option<Logged>,
 }
 
-/// Whether some slot is for this path.
+/// Whether there is a slot for this path.
 fn has_slot(slots: &[Slot], path: &Text) -> bool
     ensures { result ≡ has_slot slots.now path.now }
 {
     slots.iter().any(|slot| slot.path == *path)
 }
 
-/// Where the first slot for this path stands.
+/// The index of the first slot for this path.
 fn place_for(slots: &[Slot], path: &Text) -> Option<usize>
     ensures { result ≡ position (λ slot. same_text slot.path path.now) slots.now }
 {
@@ -55,7 +55,7 @@ fn rows_back<'a>(slots: &'a [Slot], path: &Text) -> Option<&'a Logged>
     None
 }
 
-/// The rows at this path that were there from the start.
+/// The rows that were at this path from the start.
 fn rows_in_places(alloc: Global, places: &[StoredRows], path: &Text) -> Result<Rows, AllocError>
     requires { ArePlaces places.now }
     ensures rows { IfOk result (λ rows. rows ≡ rows_in_places places.now path.now) }
@@ -69,7 +69,7 @@ fn rows_in_places(alloc: Global, places: &[StoredRows], path: &Text) -> Result<R
     Ok(RowsBuilder::new(alloc).finish())
 }
 
-/// Makes a slot for this path, where there is none yet.
+/// Makes a slot for this path if there is none yet.
 fn make_room(slots: &mut Vec<Slot>, path: &Text) -> Result<(), AllocError>
     ensures rows { (at : Items ℕ) (otherwise : Told) → rows_in_slots slots.new.items at otherwise ≡ rows_in_slots slots.old.items at otherwise }
     ensures ok { OnOk result ((at : Items ℕ) → IsTrue (has_slot slots.new.items at) ↔ (IsTrue (has_slot slots.old.items at) ⊎ (path.now ≡ at))) }
@@ -96,7 +96,7 @@ fn keep(slots: &mut Vec<Slot>, place: &Text, rows: Logged)
     }
 }
 
-/// A store in memory. The attaches with the numbers that it was given fail, and no others.
+/// A store in memory. The calls of `attach` whose numbers it was given fail, and no others.
 #[derive(Drop)]
 pub struct MemoryStore {
     places: List<StoredRows>,
@@ -126,8 +126,8 @@ impl Model for MemoryStore {
 }
 
 impl MemoryStore {
-    /// A store with these rows. Of places with the same path the first one counts. The calls of
-    /// `attach` with the numbers in `failing`, counted from 1, fail. Takes no memory.
+    /// A store with these rows. If several places have the same path, the first one counts. The
+    /// calls of `attach` with the numbers in `failing`, counted from 1, fail. Takes no memory.
     pub fn new(alloc: Global, places: List<StoredRows>, failing: List<u32>) -> Self
         requires { ArePlaces places }
         ensures { result ≡ fresh_shelf places failing }
@@ -143,7 +143,7 @@ impl MemoryStore {
         }
     }
 
-    /// Counts an attach, and tells whether it is to fail.
+    /// Counts a call of `attach`, and tells whether it is to fail.
     fn count_attach(&mut self) -> Result<(), KeepFail>
         ensures exact { self.new ≡ after_attach self.old self.old.slots result }
         ensures fails { (result ≡ Err KeepFail.Failed) ↔ IsTrue (fails_at self.old.failing (one_more self.old.attaches)) }
@@ -169,7 +169,7 @@ impl MemoryStore {
         }
     }
 
-    /// A keeper of the rows at a path, or of none.
+    /// A keeper of the rows at a path, or of no rows without a path.
     fn keeper_for(&self, path: Option<&Text>) -> Result<Attached<MemoryKeeper>, AllocError>
         ensures keeper { IfOk result (λ attached. attached.keeper ≡ fresh_keeper attached.rows (option_copied path.entry) []) }
         ensures pathless { IfOk result (λ attached. option_copied path.entry ≡ None → attached.rows ≡ no_rows) }

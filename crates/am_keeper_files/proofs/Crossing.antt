@@ -36,4 +36,8 @@ pub file_keeper_send : IsSend the_row
 file_keeper_send =
     let stored : IsSend (store.the_row files on_disk) = store_crossing.the_send files on_disk files_send in
     recorded_send (Struct (shape the_type)) _ _ the_type.to_one
-    (struct_send (shape the_type) (keeper_crossing.the_field_send (store.the_row files on_disk) (pages.ghosts files on_disk pages.no_dict) stored, tt))
+    (struct_send (shape the_type) (
+      keeper_crossing.the_field_send (store.the_row files on_disk)
+          (pages.ghosts files on_disk pages.no_dict) stored,
+      tt,
+    ))

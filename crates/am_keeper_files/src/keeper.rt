@@ -1,12 +1,12 @@
 //! The keeper that the store hands out.
 ghost use Rattle.std.specs.Prelude.{◌≡◌};
 
-use am_keeper::{KeepFail, Keeper, Row};
+use am_keeper::{GrantRow, KeepFail, Keeper, LinkRow, PackageRow};
 use am_keeper_sql::SqlKeeper;
 use am_types::drop_parts;
 
-/// A keeper over a database in a file, or in memory without a place. It is the keeper inside, as a type without
-/// parameters, which may go to another thread.
+/// A keeper over a database in a file, or in memory if it has no place. It is the keeper inside, as a type without
+/// parameters, and may go to another thread.
 pub struct FileKeeper {
     pub(crate) keeper: SqlKeeper,
 }
@@ -42,9 +42,19 @@ impl Keeper for FileKeeper {
 
     ghost faults = { λ k. k.keeper.faults };
 
+    ghost puts = { λ k. k.keeper.puts };
+
     ghost honest_by_nature = { λ k h. h.honest };
 
-    fn put(&mut self, row: &Row) -> Result<(), KeepFail> {
-        self.keeper.put(row)
+    fn put_package(&mut self, row: &PackageRow) -> Result<(), KeepFail> {
+        self.keeper.put_package(row)
+    }
+
+    fn put_grant(&mut self, row: &GrantRow) -> Result<(), KeepFail> {
+        self.keeper.put_grant(row)
+    }
+
+    fn put_link(&mut self, row: &LinkRow) -> Result<(), KeepFail> {
+        self.keeper.put_link(row)
     }
 }

@@ -9,7 +9,7 @@ use std::alloc::Global;
 use std::fs::OpenOptions;
 use std::os::unix::fs::OpenOptionsExt;
 
-/// The kept rows of databases: in the file at a place, or in memory without a place.
+/// The kept rows of databases: in the file at a place, or in memory if there is no place.
 #[derive(Drop)]
 pub struct SqlStore {
     rt: HostRuntime,
@@ -30,8 +30,8 @@ impl SqlStore {
     }
 }
 
-// Makes the file if it isn't there, for its owner alone: it holds the keys of packages. Its log is given the same mode.
-// Where it can't be made here, it can't be made by the attach either, which tells.
+// Makes the file if it isn't there, only for its owner: it holds the keys of packages. Its log gets the same mode.
+// If it can't be made here, the attach can't make it either, and says so.
 fn make_private(rt: &HostRuntime, path: &Text) {
     let _made = OpenOptions::new()
         .write(true)
@@ -78,7 +78,7 @@ impl Store for SqlStore {
     fn detach(&mut self, keeper: FileKeeper) {
         let keeper = keeper.inside();
         self.keeper_faults = self.keeper_faults.saturating_add(keeper.faults());
-        // Where the close fails, the log beside the file has the rows that the file lacks.
+        // If the close fails, the log beside the file has the rows that the file lacks.
         let _closed = keeper.close();
     }
 

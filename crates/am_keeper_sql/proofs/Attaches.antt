@@ -23,19 +23,23 @@ use Rattle.am_keeper_sql.proofs.Rising.{rising_found}
 pub opened_settled : (s : State) → Opens s → IsSettled s
 opened_settled s h = record { settled = h.clean; autocommit = h.autocommit }
 
-pub opened_rising : (image : Image) (s : State) → Opens s → IsLive s → FindsIn image s → s.now.schema ≡ kept_schema → HasRisingRows s.now.trees
+pub opened_rising : (image : Image) (s : State) → Opens s → IsLive s → FindsIn image s → s.now.schema ≡ kept_schema
+    → HasRisingRows s.now.trees
 opened_rising image s h live found has =
-    rising_found image s.now.trees (subst (λ (db : Database). AreFoundIn image db.trees) (sym h.clean) found.reads) (subst (λ schema. IsSound schema s.now.trees) has (live h.is_open).0)
+    rising_found image s.now.trees (subst (λ (db : Database). AreFoundIn image db.trees) (sym h.clean) found.reads)
+    (subst (λ schema. IsSound schema s.now.trees) has (live h.is_open).0)
 
 -- an empty database has no table
 pub blank_rising : (s : State) → s.now.schema ≡ no_schema → s.now.schema ≡ kept_schema → HasRisingRows s.now.trees
-blank_rising s blank has = absurd (let none : [] ≡ kept ∷ [] = ap (λ schema. schema.tables) (sym blank) ∙ ap (λ schema. schema.tables) has in cc)
+blank_rising s blank has = absurd (let none : [] ≡ kept ∷ [] = ap (λ schema. schema.tables) (sym blank)
+    ∙ ap (λ schema. schema.tables) has in cc)
 
 pub memory_is_honest : (conn : Held MemStore) → IsHonest (state over_memory conn)
 unfolding doubt
 memory_is_honest conn = record { clean = refl; live = refl }
 
-pub honest_in_memory : {F : Type 0} (g : Ghosts F) (database : Connected F) → IsInMemory database → IsHonestForGood g database
+pub honest_in_memory : {F : Type 0} (g : Ghosts F) (database : Connected F) → IsInMemory database
+    → IsHonestForGood g database
 honest_in_memory g (Memory conn) h = record { in_memory = tt; honest = memory_is_honest conn }
 honest_in_memory g (File conn) h = absurd h
 

@@ -18,7 +18,8 @@ use Rattle.am_keeper_sql.proofs.Failures.{more_then, then_more}
 
 -- the two schemas differ
 pub one_table : (schema : Schema) → schema ≡ kept_schema → schema ≡ no_schema → ⊥
-one_table schema has none = let e : kept ∷ [] ≡ [] = ap (λ (s : Schema). s.tables) (sym has) ∙ ap (λ (s : Schema). s.tables) none in absurd cc
+one_table schema has none = let e : kept ∷ [] ≡ [] = ap (λ (s : Schema). s.tables) (sym has)
+    ∙ ap (λ (s : Schema). s.tables) none in absurd cc
 
 module _ (old mid : State) (begun : Begins old mid) where
   pub has_rows : (rows : Rows) → told_in mid.now.trees ≡ Some rows → HasRows old.now rows
@@ -38,15 +39,22 @@ module _ (old mid : State) (begun : Begins old mid) where
   ]
 
 -- what a selection told of a connection that it left as it was
-module _ (mid new : State) (rows : Rows) (holds : HoldsTable mid.now) (told : told_in mid.now.trees ≡ Some rows) (seen : StaysSeen mid new) where
+module _ (mid new : State) (rows : Rows) (holds : HoldsTable mid.now) (told : told_in mid.now.trees ≡ Some rows)
+    (seen : StaysSeen mid new) where
   pub told_then : told_in new.now.trees ≡ Some rows
   told_then = ap (λ (d : Database). told_in d.trees) seen.same ∙ told
 
   pub keeps_then : Keeps new
-  keeps_then = record { settled = seen.settled; holds = subst HoldsTable (sym seen.same) holds; read = subst IsSome (sym told_then) refl }
+  keeps_then = record {
+    settled = seen.settled;
+    holds = subst HoldsTable (sym seen.same) holds;
+    read = subst IsSome
+        (sym told_then) refl;
+  }
 
 -- why a connection that was just opened couldn't begin
-pub fails_late : (old mid new : State) → Lasts old mid → Lasts mid new → (IsHonest mid → Begins old mid) → (IsTrue mid.is_open → FailsToTell mid new) → HasCleanDisk mid → IsTrue old.is_open
+pub fails_late : (old mid new : State) → Lasts old mid → Lasts mid new → (IsHonest mid → Begins old mid)
+    → (IsTrue mid.is_open → FailsToTell mid new) → HasCleanDisk mid → IsTrue old.is_open
     → MoreFaults old.faults new.faults ⊎ ((rows : Rows) → HasRows old.now rows → ⊥)
 fails_late old mid new p q begun fails clean live = elim (p.closes clean live) [
   | inl open' ↦ elim (fails open') [

@@ -43,7 +43,12 @@ use Rattle.am_keeper_sql.proofs.Texts.{create_text, create_is, create_plain, sel
 -- ---- what every call keeps
 
 pub lasts_of : (old new : State) (P : _) → Survives old new P → Lasts old new
-lasts_of old new P s = record { clean = λ clean. omega (arith, s.clean, clean); counts = s.counts; limit = s.limit; closes = s.closes }
+lasts_of old new P s = record {
+  clean = λ clean. omega (arith, s.clean, clean);
+  counts = s.counts;
+  limit = s.limit;
+  closes = s.closes;
+}
 
 pub lasts_same : (s : State) → Lasts s s
 lasts_same s = record { clean = λ clean. clean; counts = omega arith; limit = refl; closes = λ clean live. inl live }
@@ -70,7 +75,11 @@ lasts_then a b c p q = record {
   counts = omega (arith, p.counts, q.counts);
   limit = q.limit ∙ p.limit;
   closes = λ clean live. elim (p.closes (q.clean clean) live) [
-    | inl open' ↦ elim (q.closes clean open') [ inl still ↦ inl still | inr more ↦ inr (then_more a.faults b.faults c.faults p.counts more) ]
+    | inl open' ↦ elim (q.closes clean open') [
+      | inl still ↦ inl still
+      | inr more ↦ inr
+          (then_more a.faults b.faults c.faults p.counts more)
+    ]
     | inr more ↦ inr (more_then a.faults b.faults c.faults more q.counts)
   ];
 }
@@ -99,13 +108,15 @@ module _ (old new : State) (e : Error) (live : IsTrue old.is_open) where
   by_store never (cause.Broken, is, h, rolled, told) = absurd (true≢false (sym live ∙ h))
   by_store never (cause.Unstorable, is, h, rolled, told) = absurd (never h)
 
-  not_refused : (sql : List ℕ) (given : Row) → IsOne sql (length given) (understood old.now.schema sql) → IsNoStatement old sql given e → ⊥
+  not_refused : (sql : List ℕ) (given : Row) → IsOne sql (length given) (understood old.now.schema sql)
+      → IsNoStatement old sql given e → ⊥
   not_refused sql given one (inl (fault, is, named)) = subst (IsOne sql (length given)) is one
   not_refused sql given one (inr (c, is, inl (long, named))) = long (subst (IsOne sql (length given)) is one).0
   not_refused sql given one (inr (c, is, inr (inl (other, named)))) = other (subst (IsOne sql (length given)) is one).1
   not_refused sql given one (inr (c, is, inr (inr (clock, named)))) = clock (subst (IsOne sql (length given)) is one).2
 
-  pub unrun : (sql : List ℕ) (given : Row) → IsOne sql (length given) (understood old.now.schema sql) → IsNotRun old new sql given e → FailsOnly old new e
+  pub unrun : (sql : List ℕ) (given : Row) → IsOne sql (length given) (understood old.now.schema sql)
+      → IsNotRun old new sql given e → FailsOnly old new e
   unfolding IsNotRun
   unrun sql given one (inl h) = absurd (not_refused sql given one h.0)
   unrun sql given one (inr h) = by_store (λ x. x) h
@@ -120,20 +131,24 @@ never_read : (db : Database) (limit : Option ℕ) (e : Error) → db.schema ≡ 
 never_read db limit e has none h = by (subst (λ k. RefusesToRead limit k db [] e) select_is.0 h)
   where
     by : RefusesQuery limit db (record { lets = []; body = select_query }) [] e → ⊥
-    by (inl (named, refused)) = true≢false (sym select_accepted ∙ subst (λ s. accepts_program s [] select_query [] ≡ false) has refused)
+    by (inl (named, refused)) = true≢false (sym select_accepted ∙ subst
+        (λ s. accepts_program s [] select_query [] ≡ false) has refused)
     by (inr (inl (named, inl group))) = group
     by (inr (inl (named, inr (k, x, low, same, never)))) = never
     by (inr (inr (named, limited))) = absurd (let e = subst IsSome none limited in cc)
 
-pub select_fails : (old new : State) (e : Error) → old.now.schema ≡ kept_schema → IsTrue old.is_open → old.step_limit ≡ None → FailsToQuery select_text [] old new e → FailsOnly old new e
+pub select_fails : (old new : State) (e : Error) → old.now.schema ≡ kept_schema → IsTrue old.is_open → old.step_limit
+    ≡ None → FailsToQuery select_text [] old new e → FailsOnly old new e
 unfolding FailsToQuery
-select_fails old new e has live none (inl not) = unrun old new e live select_text [] (subst (λ s. IsOne select_text 0 (understood s select_text)) (sym has) select_one) not
+select_fails old new e has live none (inl not) = unrun old new e live select_text []
+    (subst (λ s. IsOne select_text 0 (understood s select_text)) (sym has) select_one) not
 select_fails old new e has live none (inr (c, it, shows)) =
     let known : Ok c ≡ understood kept_schema select_text = sym it.is ∙ ap (λ s. understood s select_text) has in
     let bare = subst IsPlain (sym known) select_plain in
     let params : timed [] c.formats it.now ≡ [] = ap (λ formats. timed [] formats it.now) bare.1 in
     let it' = subst (FailsToShow old new select_text c (timed [] c.formats it.now) e) bare.0 shows in
-    let db : it'.0 ≡ old.now = subst (λ b. IsSourceOf b old.now it'.0) (ap (λ s. reads_listing s select_text) has ∙ select_is.1) it'.1 in
+    let db : it'.0 ≡ old.now = subst (λ b. IsSourceOf b old.now it'.0)
+    (ap (λ s. reads_listing s select_text) has ∙ select_is.1) it'.1 in
     let read : RefusesToRead old.step_limit (command_of (understood kept_schema select_text)) it'.0 [] e =
     subst₂ (λ k given. RefusesToRead old.step_limit k it'.0 given e) (ap command_of known) params it'.2 in
     absurd (never_read it'.0 old.step_limit e (ap (λ (d : Database). d.schema) db ∙ has) none read)
@@ -150,7 +165,8 @@ create_silent = refl
 
 ascii : (bytes : List ℕ) → list_all (λ b. nat_lt b 128) bytes ≡ true → IsAscii bytes
 ascii [] h i = omega arith
-ascii (b ∷ bytes) h zero = let low = (and_parts (nat_lt b 128) (list_all (λ x. nat_lt x 128) bytes) h).0 in grind (arith, nat_tests, low)
+ascii (b ∷ bytes) h zero = let low = (and_parts (nat_lt b 128) (list_all (λ x. nat_lt x 128) bytes) h).0 in grind
+    (arith, nat_tests, low)
 ascii (b ∷ bytes) h (suc i) = ascii bytes (and_parts (nat_lt b 128) (list_all (λ x. nat_lt x 128) bytes) h).1 i
 
 create_utf8 : IsUtf8 create_text
@@ -180,18 +196,28 @@ not_refusing : (reason : Refusal) → RefusesTable no_schema create_text reason 
 not_refusing (why.Invalid e) h = absurd (let both = sym h ∙ create_is.2 in cc)
 not_refusing why.NameTaken (table, defined, inl used) = unused table.name used
 not_refusing why.NameTaken (table, defined, inr (index, there, used)) = unused index.name used
-not_refusing why.BadName (table, defined, inl odd) = odd (subst (λ (t : Table). IsUtf8 t.name) (sym (same_kept table defined)) name_utf8)
-not_refusing why.BadName (table, defined, inr (reserved, own)) = true≢false (sym (subst (λ (t : Table). is_reserved t.name ≡ true) (same_kept table defined) reserved) ∙ not_reserved)
-not_refusing why.TooBig (table, defined, inl many) = (let few = subst (λ (t : Table). 65536 ≤ next_tree no_schema + length t.uniques) (same_kept table defined) many in omega (arith, few))
-not_refusing why.TooBig (table, defined, inr (inl big)) = (let few = subst (λ (t : Table). 2 ^ 64 ≤ table_reals t) (same_kept table defined) big in omega (arith, few))
-not_refusing why.TooBig (table, defined, inr (inr (key, there, big))) = few (subst (λ (t : Table). Has t.uniques key × (2 ^ 64 ≤ index_reals (table_reals t) key)) (same_kept table defined) (there, big))
+not_refusing why.BadName (table, defined, inl odd) = odd (subst (λ (t : Table). IsUtf8 t.name)
+    (sym (same_kept table defined)) name_utf8)
+not_refusing why.BadName (table, defined, inr (reserved, own)) = true≢false
+    (sym (subst (λ (t : Table). is_reserved t.name ≡ true) (same_kept table defined) reserved) ∙ not_reserved)
+not_refusing why.TooBig (table, defined, inl many) = (let few = subst
+    (λ (t : Table). 65536 ≤ next_tree no_schema + length t.uniques) (same_kept table defined) many in omega
+    (arith, few))
+not_refusing why.TooBig (table, defined, inr (inl big)) = (let few = subst (λ (t : Table). 2 ^ 64 ≤ table_reals t)
+    (same_kept table defined) big in omega (arith, few))
+not_refusing why.TooBig (table, defined, inr (inr (key, there, big))) = few
+    (subst (λ (t : Table). Has t.uniques key × (2 ^ 64 ≤ index_reals (table_reals t) key)) (same_kept table defined)
+    (there, big))
   where
     few : Has kept.uniques key × (2 ^ 64 ≤ index_reals (table_reals kept) key) → ⊥
-    few (inl is, big) = (let small = subst (λ k. 2 ^ 64 ≤ index_reals (table_reals kept) k) is big in omega (arith, small, no_reals))
+    few (inl is, big) = (let small = subst (λ k. 2 ^ 64 ≤ index_reals (table_reals kept) k) is big in omega
+        (arith, small, no_reals))
     few (inr never, big) = never
-not_refusing why.BadKey (table, defined, unformed) = true≢false (subst (λ t. is_formed t ≡ false) (same_kept table defined) unformed)
+not_refusing why.BadKey (table, defined, unformed) = true≢false (subst (λ t. is_formed t ≡ false)
+    (same_kept table defined) unformed)
 not_refusing why.BadText (table, defined, unfit) =
-    true≢false (sym fitting ∙ subst (λ (t : Table). is_fit (Text (codes "table")) (Text t.name) (Text t.name) (Text create_text) ≡ false) (same_kept table defined) unfit)
+    true≢false (sym fitting ∙ subst (λ (t : Table). is_fit (Text (codes "table")) (Text t.name) (Text t.name)
+    (Text create_text) ≡ false) (same_kept table defined) unfit)
 not_refusing (why.Violates rule) h = h
 
 -- it is none of the commands on transactions
@@ -204,21 +230,27 @@ unmisplaced old e (inr (named, name, inr back, h)) = absurd (let e = back in cc)
 
 never_makes : (db : Database) (stop : Option Error) → db.schema ≡ no_schema → MakesTable create_text db (Err stop) → ⊥
 never_makes db None has (table, defined, long) =
-    (let short = subst (λ (t : Table). 10 ^ 9 ≤ 2 * length t.name + length create_text + 200) (same_kept table defined) long in omega (arith, short))
+    (let short = subst (λ (t : Table). 10 ^ 9 ≤ 2 * length t.name + length create_text + 200) (same_kept table defined)
+    long in omega (arith, short))
 never_makes db (Some e) has (inl (odd, named)) = odd create_utf8
-never_makes db (Some e) has (inr (reason, refuses, named)) = not_refusing reason (subst (λ s. RefusesTable s create_text reason) has refuses)
+never_makes db (Some e) has (inr (reason, refuses, named)) = not_refusing reason
+    (subst (λ s. RefusesTable s create_text reason) has refuses)
 
-never_does : (limit : Option ℕ) (mode : Mode) (params : Row) (db : Database) (stop : Option Error) → db.schema ≡ no_schema → Does limit mode params db create_text None CreateTable (Err stop) → ⊥
+never_does : (limit : Option ℕ) (mode : Mode) (params : Row) (db : Database) (stop : Option Error) → db.schema
+    ≡ no_schema → Does limit mode params db create_text None CreateTable (Err stop) → ⊥
 never_does limit mode params db stop has (inl (halt, inl (first, makes, is), same)) = never_makes db first has makes
 never_does limit mode params db stop has (inl (halt, inr (after, made, counted), same)) =
-    let schema : after.schema ≡ kept_schema = made.is ∙ ap (λ s. created s made.table) has ∙ ap (created no_schema) (same_kept made.table made.defined) in
+    let schema : after.schema ≡ kept_schema = made.is ∙ ap (λ s. created s made.table) has
+    ∙ ap (created no_schema) (same_kept made.table made.defined) in
     let plain : lacks_sequence after.schema ≡ false = ap lacks_sequence schema in
     absurd (let e = rw plain at counted in cc)
 never_does limit mode params db stop has (inr (after, made, gives)) = absurd (let e = gives in cc)
 
-pub create_fails : (old new : State) (e : Error) → old.now.schema ≡ no_schema → IsTrue old.is_open → Executes create_text [] old new (Err e) → FailsOnly old new e
+pub create_fails : (old new : State) (e : Error) → old.now.schema ≡ no_schema → IsTrue old.is_open
+    → Executes create_text [] old new (Err e) → FailsOnly old new e
 unfolding ExecutesIn
-create_fails old new e has live (inl not) = unrun old new e live create_text [] (subst (λ s. IsOne create_text 0 (understood s create_text)) (sym has) create_one) not
+create_fails old new e has live (inl not) = unrun old new e live create_text []
+    (subst (λ s. IsOne create_text 0 (understood s create_text)) (sym has) create_one) not
 create_fails old new e has live (inr (c, it, ran)) =
     let known : Ok c ≡ understood no_schema create_text = sym it.is ∙ ap (λ s. understood s create_text) has in
     let bare = subst IsPlain (sym known) create_plain in
@@ -226,10 +258,12 @@ create_fails old new e has live (inr (c, it, ran)) =
     let params = timed [] c.formats it.now in
     let command : c.command ≡ CreateTable = ap command_of known ∙ create_is.0 in
     let text : text_of create_text c ≡ create_text = ap (statement_of create_text) known ∙ create_is.1 in
-    let never = λ (stop : Option Error) (h : Does old.step_limit (mode_of old) params old.now (text_of create_text c) c.returning c.command (Err stop)).
+    let never = λ (stop : Option Error) (h : Does old.step_limit (mode_of old) params old.now (text_of create_text c)
+    c.returning c.command (Err stop)).
     never_does old.step_limit (mode_of old) params old.now stop has
     (subst₂ (λ t k. Does old.step_limit (mode_of old) params old.now t None k (Err stop)) text command
-    (subst (λ returning. Does old.step_limit (mode_of old) params old.now (text_of create_text c) returning c.command (Err stop)) bare.0 h)) in
+    (subst (λ returning. Does old.step_limit (mode_of old) params old.now (text_of create_text c) returning c.command
+    (Err stop)) bare.0 h)) in
     let it' : RunsCommand old new create_text c params (Err e) = rw silent at ran in
     elim it' [
       | inl (inl misplaced, same) ↦ absurd (unmisplaced old e (subst (λ k. IsMisplaced old k e) command misplaced))

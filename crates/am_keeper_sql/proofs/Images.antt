@@ -28,7 +28,8 @@ use Rattle.am_keeper_sql.proofs.Begins.{one_table}
 same_schema : (trees : Trees) (s t : Schema) → IsSound s trees → IsSound t trees → s ≡ t
 same_schema trees s t p q = lists_once (trees catalog_tree) s t p.lists q.lists
 
-same_has : (s t : Schema) (trees : Trees) (a b : Rows) → s ≡ t → HasRows (record { schema = s; trees = trees }) a → HasRows (record { schema = t; trees = trees }) b → a ≡ b
+same_has : (s t : Schema) (trees : Trees) (a b : Rows) → s ≡ t → HasRows (record { schema = s; trees = trees }) a
+    → HasRows (record { schema = t; trees = trees }) b → a ≡ b
 same_has s t trees a b same (inl x) (inl y) = same_Some _ _ (sym x.1 ∙ y.1)
 same_has s t trees a b same (inl x) (inr y) = absurd (one_table t (sym same ∙ x.0) y.0)
 same_has s t trees a b same (inr x) (inl y) = absurd (one_table t y.0 (sym same ∙ x.0))
@@ -43,7 +44,8 @@ module _ (image : Image) where
   same_rows a b f (inl h) =
       let trees = f.held h.trees h.held in
       let schema = same_schema h.trees f.schema h.schema (subst (IsSound f.schema) trees f.sound) h.sound in
-      same_has f.schema h.schema h.trees a b schema (subst (λ (t : Trees). HasRows (record { schema = f.schema; trees = t }) a) trees f.has) h.has
+      same_has f.schema h.schema h.trees a b schema (subst (λ (t : Trees). HasRows
+      (record { schema = f.schema; trees = t }) a) trees f.has) h.has
   same_rows a b f (inr (new, none)) = by f.has
     where
       by : HasRows (record { schema = f.schema; trees = f.trees }) a → a ≡ b
@@ -61,25 +63,39 @@ module _ (image : Image) where
     sound = (live opens.is_open).0
 
     pub finds : (rows : Rows) → HasRows s.now rows → FindsRows image rows
-    finds rows has = record { trees = s.now.trees; schema = s.now.schema; found = reads; held = holds; sound = sound; has = has }
+    finds rows has = record {
+      trees = s.now.trees;
+      schema = s.now.schema;
+      found = reads;
+      held = holds;
+      sound = sound;
+      has = has;
+    }
 
     -- a database without rows of a keeper was not made of an image that holds some
     pub not_held : ((rows : Rows) → HasRows s.now rows → ⊥) → (rows : Rows) → HoldsRows image rows → ⊥
     not_held never rows (inl h) =
         let trees = holds h.trees h.held in
         let schema = same_schema h.trees s.now.schema h.schema (subst (IsSound s.now.schema) trees sound) h.sound in
-        never rows (subst₂ (λ (sch : Schema) (t : Trees). HasRows (record { schema = sch; trees = t }) rows) (sym schema) (sym trees) h.has)
-    not_held never rows (inr (new, none)) = never rows (inr (empty_schema s.now.trees s.now.schema sound (new.empty s.now.trees reads), none))
+        never rows (subst₂ (λ (sch : Schema) (t : Trees). HasRows (record { schema = sch; trees = t }) rows)
+        (sym schema) (sym trees) h.has)
+    not_held never rows (inr (new, none)) = never rows (inr (
+      empty_schema s.now.trees s.now.schema sound
+          (new.empty s.now.trees reads),
+      none,
+    ))
 
 pub some_fault : (old new : ℕ) → MoreFaults old new → 1 ≤ new
 some_fault old new h = grind (arith, h)
 
 -- an open that failed for another cause than memory
-pub open_refused : {D : Type 0} {g : Ghosts D} (image : Image) (files : Files D) (left : Leftover D g) (e : Error) → image_of g files ≡ image → e ≢ SqliteFailure OutOfMemory
+pub open_refused : {D : Type 0} {g : Ghosts D} (image : Image) (files : Files D) (left : Leftover D g) (e : Error)
+    → image_of g files ≡ image → e ≢ SqliteFailure OutOfMemory
     → FailsToOpenFiles files left e → IsRefused image left
 open_refused image files left e is other (inl memory) = absurd (other memory)
 open_refused {D} {g} image files left e is other (inr (inl (named, never))) =
-    inr (inr (λ rows h. never (subst (λ (i : Image). ((db : Trees) × HoldsDatabase i db) ⊎ IsNothing i) (sym is) (wanted rows h))))
+    inr (inr (λ rows h. never (subst (λ (i : Image). ((db : Trees) × HoldsDatabase i db) ⊎ IsNothing i) (sym is)
+    (wanted rows h))))
   where
     wanted : (rows : Rows) → HoldsRows image rows → ((db : Trees) × HoldsDatabase image db) ⊎ IsNothing image
     wanted rows (inl h) = inl (h.trees, h.held)

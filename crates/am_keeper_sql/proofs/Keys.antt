@@ -44,11 +44,12 @@ some_is (Some x) h = (x, refl)
 -- a kept row has a number, a number and a text as its key
 pub key_shape : (row : Kept) → (k : ℤ) × (u : ℤ) × (w : List ℕ) × (key_of row ≡ Int k ∷ Int u ∷ Text w ∷ [])
 key_shape (Package row) = (pos 0, pos row.uid, [], refl)
-key_shape (Grant row) = (pos 1, pos row.uid, row.text, refl)
-key_shape (Link row) = (pos 2, pos row.uid, row.text, refl)
+key_shape (Grant row) = (pos 1, pos row.uid, row.permission, refl)
+key_shape (Link row) = (pos 2, pos row.uid, row.host, refl)
 
 -- the key of a row that says a kept row
-pub key_said : (r : Row) → IsSome (row_said (values_of r)) → (k : ℤ) × (u : ℤ) × (w : List ℕ) × (key (values_of r) ≡ Int k ∷ Int u ∷ Text w ∷ [])
+pub key_said : (r : Row) → IsSome (row_said (values_of r)) → (k : ℤ) × (u : ℤ) × (w : List ℕ)
+    × (key (values_of r) ≡ Int k ∷ Int u ∷ Text w ∷ [])
 key_said r says =
     let row = some_is _ says in
     let shape = key_shape row.0 in
@@ -58,24 +59,31 @@ equal_same : (how : Collation) (a b : Value) → a ≡ b → is_null b ≡ false
 equal_same how a b same p = subst (λ v. equal how v b ≡ true) (sym same) (equal_itself how b p)
 
 -- rows of one key agree on it
-pub agree_same : (o : Order) (a b : Row) → key (values_of a) ≡ key (values_of b) → IsSome (row_said (values_of b)) → agree o places a places b ≡ true
+pub agree_same : (o : Order) (a b : Row) → key (values_of a) ≡ key (values_of b) → IsSome (row_said (values_of b))
+    → agree o places a places b ≡ true
 agree_same o a b same says =
     let it = key_said b says in
-    and_from _ _ (equal_same _ (column a 1) (column b 1) (ap (λ k. column k 0) same) (ap (λ k. is_null (column k 0)) it.3))
-    (and_from _ _ (equal_same _ (column a 2) (column b 2) (ap (λ k. column k 1) same) (ap (λ k. is_null (column k 1)) it.3))
-    (and_from _ _ (equal_same _ (column a 3) (column b 3) (ap (λ k. column k 2) same) (ap (λ k. is_null (column k 2)) it.3)) refl))
+    and_from _ _ (equal_same _ (column a 1) (column b 1) (ap (λ k. column k 0) same)
+    (ap (λ k. is_null (column k 0)) it.3))
+    (and_from _ _ (equal_same _ (column a 2) (column b 2) (ap (λ k. column k 1) same)
+    (ap (λ k. is_null (column k 1)) it.3))
+    (and_from _ _ (equal_same _ (column a 3) (column b 3) (ap (λ k. column k 2) same)
+    (ap (λ k. is_null (column k 2)) it.3)) refl))
 
 same_int : (m n : ℤ) → equal Binary (Int m) (Int n) ≡ true → Int m ≡ Int n
-same_int m n h = ap Int (exact_signed m n (sym (value_cmp-Int m n) ∙ tied_is _ (sym (equal_is Binary (Int m) (Int n) refl refl) ∙ h)))
+same_int m n h = ap Int (exact_signed m n (sym (value_cmp-Int m n)
+    ∙ tied_is _ (sym (equal_is Binary (Int m) (Int n) refl refl) ∙ h)))
 
 same_text : (s t : List ℕ) → equal Binary (Text s) (Text t) ≡ true → Text s ≡ Text t
-same_text s t h = ap Text (exact_bytes s t (sym (value_cmp-Text s t) ∙ tied_is _ (sym (equal_is Binary (Text s) (Text t) refl refl) ∙ h)))
+same_text s t h = ap Text (exact_bytes s t (sym (value_cmp-Text s t)
+    ∙ tied_is _ (sym (equal_is Binary (Text s) (Text t) refl refl) ∙ h)))
 
 equal_at : (a b c d : Value) → a ≡ c → b ≡ d → equal Binary a b ≡ true → equal Binary c d ≡ true
 equal_at a b c d p q h = rw (← p, ← q) h
 
 -- and rows that agree on it have one key
-pub agree_key : (a b : Row) → IsSome (row_said (values_of a)) → IsSome (row_said (values_of b)) → agree plain places a places b ≡ true → key (values_of a) ≡ key (values_of b)
+pub agree_key : (a b : Row) → IsSome (row_said (values_of a)) → IsSome (row_said (values_of b))
+    → agree plain places a places b ≡ true → key (values_of a) ≡ key (values_of b)
 agree_key a b says also h =
     let p = key_said a says in
     let q = key_said b also in
@@ -83,9 +91,12 @@ agree_key a b says also h =
     let parts = and_parts _ _ bare in
     let more = and_parts _ _ parts.1 in
     let last = and_parts _ _ more.1 in
-    let one : Int p.0 ≡ Int q.0 = same_int p.0 q.0 (equal_at _ _ _ _ (ap (λ k. column k 0) p.3) (ap (λ k. column k 0) q.3) parts.0) in
-    let two : Int p.1 ≡ Int q.1 = same_int p.1 q.1 (equal_at _ _ _ _ (ap (λ k. column k 1) p.3) (ap (λ k. column k 1) q.3) more.0) in
-    let three : Text p.2 ≡ Text q.2 = same_text p.2 q.2 (equal_at _ _ _ _ (ap (λ k. column k 2) p.3) (ap (λ k. column k 2) q.3) last.0) in
+    let one : Int p.0 ≡ Int q.0 = same_int p.0 q.0 (equal_at _ _ _ _ (ap (λ k. column k 0) p.3)
+    (ap (λ k. column k 0) q.3) parts.0) in
+    let two : Int p.1 ≡ Int q.1 = same_int p.1 q.1 (equal_at _ _ _ _ (ap (λ k. column k 1) p.3)
+    (ap (λ k. column k 1) q.3) more.0) in
+    let three : Text p.2 ≡ Text q.2 = same_text p.2 q.2 (equal_at _ _ _ _ (ap (λ k. column k 2) p.3)
+    (ap (λ k. column k 2) q.3) last.0) in
     p.3 ∙ rw (one, two, three) refl ∙ sym q.3
 
 module _ (db : Database) (holds : HoldsTable db) (says : AllSay (shown_in db.trees)) where
@@ -96,21 +107,27 @@ module _ (db : Database) (holds : HoldsTable db) (says : AllSay (shown_in db.tre
   sound = subst (λ s. IsSound s db.trees) holds.schema holds.sound
 
   pub says_at : (r : Row) → Has (db.trees 0) r → IsSome (row_said (values_of r))
-  says_at r h = all_has (λ r. IsSome (row_said (values_of r))) (db.trees 0) r (all_from_map (λ values. IsSome (row_said values)) values_of (db.trees 0) says) h
+  says_at r h = all_has (λ r. IsSome (row_said (values_of r))) (db.trees 0) r
+      (all_from_map (λ values. IsSome (row_said values)) values_of (db.trees 0) says) h
 
   pub keyed_at : (r : Row) → Has (db.trees 0) r → IsTrue (is_int (rowid r))
   keyed_at r h = all_has (λ r. IsTrue (is_int (rowid r))) (db.trees 0) r holds.rising.1 h
 
-  each : (x y : Row) → Has (db.trees 0) x → Has (db.trees 0) y → value_cmp (rowid x) (rowid y) ≡ Less → Apart (values_of x) (values_of y)
+  each : (x y : Row) → Has (db.trees 0) x → Has (db.trees 0) y → value_cmp (rowid x) (rowid y) ≡ Less
+      → Apart (values_of x) (values_of y)
   each x y hx hy below same =
       let unique = keys_are_unique kept_schema db.trees kept 0 places y sound (inl refl) refl hy in
-      let clash = and_from _ _ (agree_same plain x y same (says_at y hy)) (differ_below (rowid x) (rowid y) (not_null _ (keyed_at x hx)) (not_null _ (keyed_at y hy)) below) in
-      true≢false (sym (some_from (λ other. agree plain places other places y && differ (rowid other) (rowid y)) (db.trees 0) x hx clash) ∙ unique)
+      let clash = and_from _ _ (agree_same plain x y same (says_at y hy))
+      (differ_below (rowid x) (rowid y) (not_null _ (keyed_at x hx)) (not_null _ (keyed_at y hy)) below) in
+      true≢false (sym (some_from (λ other. agree plain places other places y && differ (rowid other) (rowid y))
+      (db.trees 0) x hx clash) ∙ unique)
 
-  apart_in : (part : List Row) → ((r : Row) → Has part r → Has (db.trees 0) r) → IsTable part → IsAscending (λ a b. Apart (values_of a) (values_of b)) part
+  apart_in : (part : List Row) → ((r : Row) → Has part r → Has (db.trees 0) r) → IsTable part
+      → IsAscending (λ a b. Apart (values_of a) (values_of b)) part
   apart_in [] within up = tt
   apart_in (x ∷ part) within up = (
-    all_from _ part (λ y h. each x y (within x (inl refl)) (within y (inr h)) (all_has (λ y. value_cmp (rowid x) (rowid y) ≡ Less) part y up.0 h)),
+    all_from _ part (λ y h. each x y (within x (inl refl)) (within y (inr h))
+        (all_has (λ y. value_cmp (rowid x) (rowid y) ≡ Less) part y up.0 h)),
     apart_in part (λ r h. within r (inr h)) up.1,
   )
 

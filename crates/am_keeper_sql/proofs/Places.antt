@@ -28,7 +28,8 @@ use Rattle.am_keeper_sql.proofs.Permuted.{swapped}
 
 -- ---- SQL's equality of two values that are not NULL
 
-pub equal_is : (how : Collation) (a b : Value) → is_null a ≡ false → is_null b ≡ false → equal how a b ≡ is_eq (collated how a b)
+pub equal_is : (how : Collation) (a b : Value) → is_null a ≡ false → is_null b ≡ false → equal how a b
+    ≡ is_eq (collated how a b)
 unfolding binary
 equal_is how a b p q = by (is_eq (collated how a b)) refl
   where
@@ -48,7 +49,8 @@ differ_below a b p q below = rw (p, q, below)
 -- a row whose rowid is free is put among the others
 pub placed : (new : Row) (rows : List Row) → is_taken rows new ≡ false → IsPermutation (new ∷ rows) (put_row new rows)
 placed new [] free = IsPermutation-refl (new ∷ [])
-placed new (r ∷ rows) free = by (value_cmp (rowid r) (rowid new)) (or_parts _ _ free).0 (placed new rows (or_parts _ _ free).1)
+placed new (r ∷ rows) free = by (value_cmp (rowid r) (rowid new)) (or_parts _ _ free).0
+    (placed new rows (or_parts _ _ free).1)
   where
     by : (o : Ordering) → is_eq o ≡ false → IsPermutation (new ∷ rows) (put_row new rows)
         → IsPermutation (new ∷ r ∷ rows) (match_ordering o (r ∷ put_row new rows) (new ∷ rows) (new ∷ r ∷ rows))
@@ -64,8 +66,10 @@ tied_is Greater h = absurd (true≢false (sym h))
 untied : (o : Ordering) → o ≡ Less → is_eq o ≡ false
 untied o h = rw h refl
 
-keeps_all : (p : Row → Bool) (rows : List Row) → AllByRecursion (λ r. p r ≡ false) rows → filter (λ r. not (p r)) rows ≡ rows
-keeps_all p rows none = filter_all (λ r. not (p r)) rows (all_weaker (λ r. p r ≡ false) (λ r. not (p r) ≡ true) (λ r h. ap not h) rows none)
+keeps_all : (p : Row → Bool) (rows : List Row) → AllByRecursion (λ r. p r ≡ false) rows → filter (λ r. not (p r)) rows
+    ≡ rows
+keeps_all p rows none = filter_all (λ r. not (p r)) rows (all_weaker (λ r. p r ≡ false) (λ r. not (p r) ≡ true)
+    (λ r h. ap not h) rows none)
 
 module _ (id : ℤ) (r : Row) (here : rowid r ≡ Int id) where
   own : has_rowid id r ≡ true
@@ -76,10 +80,12 @@ module _ (id : ℤ) (r : Row) (here : rowid r ≡ Int id) where
   before x below = ap is_eq (ap (value_cmp (rowid x)) (sym here) ∙ below)
 
   -- and so has what stands behind it
-  behind : (rows : List Row) → AllByRecursion (λ y. value_cmp (rowid r) (rowid y) ≡ Less) rows → AllByRecursion (λ y. has_rowid id y ≡ false) rows
+  behind : (rows : List Row) → AllByRecursion (λ y. value_cmp (rowid r) (rowid y) ≡ Less) rows
+      → AllByRecursion (λ y. has_rowid id y ≡ false) rows
   behind rows above = later_rowids (Int id) r rows (rw (here, tied_itself value_cmp_total (Int id)) refl) above
 
-  above_first : (x : Row) (rows : List Row) → r ≡ x → AllByRecursion (λ y. value_cmp (rowid x) (rowid y) ≡ Less) rows → AllByRecursion (λ y. value_cmp (rowid r) (rowid y) ≡ Less) rows
+  above_first : (x : Row) (rows : List Row) → r ≡ x → AllByRecursion (λ y. value_cmp (rowid x) (rowid y) ≡ Less) rows
+      → AllByRecursion (λ y. value_cmp (rowid r) (rowid y) ≡ Less) rows
   above_first x rows same = subst (λ z. AllByRecursion (λ y. value_cmp (rowid z) (rowid y) ≡ Less) rows) (sym same)
 
   -- the rows are this one and those with other rowids
@@ -87,17 +93,20 @@ module _ (id : ℤ) (r : Row) (here : rowid r ≡ Int id) where
   taken_out [] up h = absurd h
   taken_out (x ∷ xs) up (inl same) =
       let others = behind xs (above_first x xs same up.0) in
-      subst (λ z. IsPermutation (r ∷ without_rowid id (z ∷ xs)) (z ∷ xs)) same (rw (own, keeps_all (has_rowid id) xs others) (IsPermutation-refl (r ∷ xs)))
+      subst (λ z. IsPermutation (r ∷ without_rowid id (z ∷ xs)) (z ∷ xs)) same
+      (rw (own, keeps_all (has_rowid id) xs others) (IsPermutation-refl (r ∷ xs)))
   taken_out (x ∷ xs) up (inr later) =
       let off = before x (all_has (λ y. value_cmp (rowid x) (rowid y) ≡ Less) xs r up.0 later) in
-      rw off (IsPermutation-trans _ _ _ (swapped r x (without_rowid id xs)) (IsPermutation-cons x _ _ (taken_out xs up.1 later)))
+      rw off (IsPermutation-trans _ _ _ (swapped r x (without_rowid id xs))
+      (IsPermutation-cons x _ _ (taken_out xs up.1 later)))
 
   -- and no other row has its rowid
   one_found : (rows : List Row) → IsTable rows → Has rows r → filter (has_rowid id) rows ≡ r ∷ []
   one_found [] up h = absurd h
   one_found (x ∷ xs) up (inl same) =
       let others = behind xs (above_first x xs same up.0) in
-      subst (λ z. filter (has_rowid id) (z ∷ xs) ≡ r ∷ []) same (rw own (ap (λ more. r ∷ more) (filter_none (has_rowid id) xs others)))
+      subst (λ z. filter (has_rowid id) (z ∷ xs) ≡ r ∷ []) same (rw own
+      (ap (λ more. r ∷ more) (filter_none (has_rowid id) xs others)))
   one_found (x ∷ xs) up (inr later) =
       let off = before x (all_has (λ y. value_cmp (rowid x) (rowid y) ≡ Less) xs r up.0 later) in
       rw off (one_found xs up.1 later)
@@ -109,10 +118,13 @@ not_null (Real x) h = refl
 not_null (Text t) h = refl
 not_null (Blob b) h = refl
 
-pub one_met : (id : ℤ) (r : Row) (rows : List Row) → rowid r ≡ Int id → IsTable rows → AllByRecursion (λ y. IsTrue (is_int (rowid y))) rows → Has rows r
+pub one_met : (id : ℤ) (r : Row) (rows : List Row) → rowid r ≡ Int id → IsTable rows
+    → AllByRecursion (λ y. IsTrue (is_int (rowid y))) rows → Has rows r
     → filter (λ y. equal Binary (rowid y) (Int id) && true) rows ≡ r ∷ []
 one_met id r rows here up keyed h =
-    filter_same (λ y. equal Binary (rowid y) (Int id) && true) (has_rowid id) rows (all_weaker _ (λ y. (equal Binary (rowid y) (Int id) && true) ≡ has_rowid id y) same rows keyed) ∙ one_found id r here rows up h
+    filter_same (λ y. equal Binary (rowid y) (Int id) && true) (has_rowid id) rows
+    (all_weaker _ (λ y. (equal Binary (rowid y) (Int id) && true) ≡ has_rowid id y) same rows keyed)
+    ∙ one_found id r here rows up h
   where
     alone : (b : Bool) → (b && true) ≡ b
     alone true = refl

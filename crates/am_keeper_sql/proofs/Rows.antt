@@ -12,12 +12,13 @@ use Rattle.sqlite.specs.declared.types.Value.TheVariants.{Null, Int, Real, Text,
 use Rattle.sqlite.specs.Order.{Row, column}
 use Rattle.sqlite_value.proofs.KeyLemmas.{then_tied}
 use Rattle.am_keeper.specs.declared.rows.PackageRow.{PackageRow}
-use Rattle.am_keeper.specs.declared.rows.RightRow.{RightRow}
+use Rattle.am_keeper.specs.declared.rows.GrantRow.{GrantRow}
+use Rattle.am_keeper.specs.declared.rows.LinkRow.{LinkRow}
 use Rattle.am_keeper.specs.declared.rows.Row.{Row as Kept}
 use Rattle.am_keeper.specs.declared.rows.Row.TheVariants.{Package, Grant, Link}
 use Rattle.am_keeper.specs.declared.rows.Rows.{Rows}
-use Rattle.am_keeper.specs.Rows.{by_uid, by_right, with_row}
-use Rattle.am_keeper.proofs.InOrder.{by_uid-total, by_right-total}
+use Rattle.am_keeper.specs.Rows.{by_uid, by_grant, by_link, with_row}
+use Rattle.am_keeper.proofs.InOrder.{by_uid-total, by_grant-total, by_link-total}
 use Rattle.am_rows.specs.declared.Cell.{Cell}
 use Rattle.am_rows.specs.declared.Cell.TheVariants.{Whole, Words}
 use Rattle.am_rows.specs.Cells.{◌>>=◌, row_in}
@@ -28,8 +29,8 @@ use Rattle.am_keeper_sql.proofs.Commutes.{put_in-tied, put_in-apart}
 -- the kind, the uid and the word of a kept row
 abbrev pub key_of : Kept → Row
 key_of (Package row) = Int (pos 0) ∷ Int (pos row.uid) ∷ Text [] ∷ []
-key_of (Grant row) = Int (pos 1) ∷ Int (pos row.uid) ∷ Text row.text ∷ []
-key_of (Link row) = Int (pos 2) ∷ Int (pos row.uid) ∷ Text row.text ∷ []
+key_of (Grant row) = Int (pos 1) ∷ Int (pos row.uid) ∷ Text row.permission ∷ []
+key_of (Link row) = Int (pos 2) ∷ Int (pos row.uid) ∷ Text row.host ∷ []
 
 -- the same of values
 abbrev pub key : Row → Row
@@ -52,11 +53,13 @@ value_of-cell_in (Text t) c h = elim (cases_Bool (is_utf8 t)) [
 value_of-cell_in (Blob b) c h = absurd (let e = h in cc)
 
 -- a chain that gave something gave it through each step
-pub through : {A B : Type 0} (o : Option A) (f : A → Option B) (b : B) → (o >>= f) ≡ Some b → (a : A) × (o ≡ Some a) × (f a ≡ Some b)
+pub through : {A B : Type 0} (o : Option A) (f : A → Option B) (b : B) → (o >>= f) ≡ Some b → (a : A) × (o ≡ Some a)
+    × (f a ≡ Some b)
 through None f b h = absurd (let e = h in cc)
 through (Some a) f b h = (a, refl, h)
 
-pub mapped : {A B : Type 0} (o : Option A) (f : A → B) (b : B) → option_map f o ≡ Some b → (a : A) × (o ≡ Some a) × (f a ≡ b)
+pub mapped : {A B : Type 0} (o : Option A) (f : A → B) (b : B) → option_map f o ≡ Some b → (a : A) × (o ≡ Some a)
+    × (f a ≡ b)
 mapped None f b h = absurd (let e = h in cc)
 mapped (Some a) f b h = (a, refl, (let e = h in cc))
 
@@ -65,7 +68,8 @@ cells_in-are [] cells h = let same : [] ≡ cells = (let e = h in cc) in ap (map
 cells_in-are (v ∷ vs) cells h =
     let first = through (cell_in v) _ cells h in
     let rest = mapped (cells_in vs) _ cells first.2 in
-    let both : value_of first.0 ∷ map value_of rest.0 ≡ v ∷ vs = rw (value_of-cell_in v first.0 first.1, cells_in-are vs rest.0 rest.1) in
+    let both : value_of first.0 ∷ map value_of rest.0 ≡ v ∷ vs = rw
+    (value_of-cell_in v first.0 first.1, cells_in-are vs rest.0 rest.1) in
     ap (map value_of) (sym rest.2) ∙ both
 
 -- values that say a kept row are its values
@@ -80,22 +84,38 @@ said-values values cells h = ap (λ o. o >>= row_in) h
 pub key-said : (values : Row) (row : Kept) → row_said values ≡ Some row → key values ≡ key_of row
 key-said values row h = ap key (values_for-said values row h) ∙ key-values_for row
 
--- two rights that tie are of one uid and text
-same_right : (x y : RightRow) → by_right x y ≡ Equal → (x.uid ≡ y.uid) × (x.text ≡ y.text)
-same_right x y tie = let parts = then_tied (nat_cmp x.uid y.uid) _ tie in (exact_unsigned x.uid y.uid parts.0, exact_bytes x.text y.text parts.1)
+-- two grants that tie are of one uid and permission
+same_grant : (x y : GrantRow) → by_grant x y ≡ Equal → (x.uid ≡ y.uid) × (x.permission ≡ y.permission)
+same_grant x y tie = let parts = then_tied (nat_cmp x.uid y.uid) _ tie in
+    (exact_unsigned x.uid y.uid parts.0, exact_bytes x.permission y.permission parts.1)
 
--- and those of one uid and text tie
-right_tie : (x y : RightRow) → x.uid ≡ y.uid → x.text ≡ y.text → by_right x y ≡ Equal
-right_tie x y uid text = let ties = tied_itself by_right-total y in rw (uid, text) ties
+-- and those of one uid and permission tie
+grant_tie : (x y : GrantRow) → x.uid ≡ y.uid → x.permission ≡ y.permission → by_grant x y ≡ Equal
+grant_tie x y uid permission = let ties = tied_itself by_grant-total y in rw (uid, permission) ties
+
+-- two links that tie are of one uid and host
+same_link : (x y : LinkRow) → by_link x y ≡ Equal → (x.uid ≡ y.uid) × (x.host ≡ y.host)
+same_link x y tie = let parts = then_tied (nat_cmp x.uid y.uid) _ tie in
+    (exact_unsigned x.uid y.uid parts.0, exact_bytes x.host y.host parts.1)
+
+-- and those of one uid and host tie
+link_tie : (x y : LinkRow) → x.uid ≡ y.uid → x.host ≡ y.host → by_link x y ≡ Equal
+link_tie x y uid host = let ties = tied_itself by_link-total y in rw (uid, host) ties
 
 same_package : (x y : PackageRow) → by_uid x y ≡ Equal → key_of (Package x) ≡ key_of (Package y)
 same_package x y tie = let uid : x.uid ≡ y.uid = exact_unsigned x.uid y.uid tie in rw uid
 
 -- rows of two keys are put in either order
-pub with_row-apart : (rows : Rows) (a b : Kept) → (key_of a ≡ key_of b → ⊥) → with_row (with_row rows a) b ≡ with_row (with_row rows b) a
-with_row-apart rows (Package x) (Package y) apart = ap (λ all. record rows { packages = all }) (put_in-apart by_uid by_uid-total x y (λ tie. apart (same_package x y tie)) rows.packages)
-with_row-apart rows (Grant x) (Grant y) apart = ap (λ all. record rows { grants = all }) (put_in-apart by_right by_right-total x y (λ tie. let same = same_right x y tie in apart (rw (same.0, same.1))) rows.grants)
-with_row-apart rows (Link x) (Link y) apart = ap (λ all. record rows { links = all }) (put_in-apart by_right by_right-total x y (λ tie. let same = same_right x y tie in apart (rw (same.0, same.1))) rows.links)
+pub with_row-apart : (rows : Rows) (a b : Kept) → (key_of a ≡ key_of b → ⊥) → with_row (with_row rows a) b
+    ≡ with_row (with_row rows b) a
+with_row-apart rows (Package x) (Package y) apart = ap (λ all. record rows { packages = all })
+    (put_in-apart by_uid by_uid-total x y (λ tie. apart (same_package x y tie)) rows.packages)
+with_row-apart rows (Grant x) (Grant y) apart = ap (λ all. record rows { grants = all })
+    (put_in-apart by_grant by_grant-total x y (λ tie. let same = same_grant x y tie in apart (rw (same.0, same.1)))
+    rows.grants)
+with_row-apart rows (Link x) (Link y) apart = ap (λ all. record rows { links = all })
+    (put_in-apart by_link by_link-total x y (λ tie. let same = same_link x y tie in apart (rw (same.0, same.1)))
+    rows.links)
 with_row-apart rows (Package x) (Grant y) apart = refl
 with_row-apart rows (Package x) (Link y) apart = refl
 with_row-apart rows (Grant x) (Package y) apart = refl
@@ -110,11 +130,11 @@ with_row-tied rows (Package x) (Package y) same =
     let tie : by_uid x y ≡ Equal = rw (uid, tied_itself nat_cmp_total y.uid) in
     ap (λ all. record rows { packages = all }) (put_in-tied by_uid by_uid-total y x tie rows.packages)
 with_row-tied rows (Grant x) (Grant y) same =
-    let tie = right_tie x y (let e = same in cc) (let e = same in cc) in
-    ap (λ all. record rows { grants = all }) (put_in-tied by_right by_right-total y x tie rows.grants)
+    let tie = grant_tie x y (let e = same in cc) (let e = same in cc) in
+    ap (λ all. record rows { grants = all }) (put_in-tied by_grant by_grant-total y x tie rows.grants)
 with_row-tied rows (Link x) (Link y) same =
-    let tie = right_tie x y (let e = same in cc) (let e = same in cc) in
-    ap (λ all. record rows { links = all }) (put_in-tied by_right by_right-total y x tie rows.links)
+    let tie = link_tie x y (let e = same in cc) (let e = same in cc) in
+    ap (λ all. record rows { links = all }) (put_in-tied by_link by_link-total y x tie rows.links)
 with_row-tied rows (Package x) (Grant y) same = absurd (let e = same in cc)
 with_row-tied rows (Package x) (Link y) same = absurd (let e = same in cc)
 with_row-tied rows (Grant x) (Package y) same = absurd (let e = same in cc)
@@ -123,5 +143,6 @@ with_row-tied rows (Link x) (Package y) same = absurd (let e = same in cc)
 with_row-tied rows (Link x) (Grant y) same = absurd (let e = same in cc)
 
 -- what is read from the cells of values is what these say
-pub row_said_from : (values : Row) (cells : List Cell) (row : Kept) → cells_in values ≡ Some cells → row_in cells ≡ Some row → row_said values ≡ Some row
+pub row_said_from : (values : Row) (cells : List Cell) (row : Kept) → cells_in values ≡ Some cells → row_in cells
+    ≡ Some row → row_said values ≡ Some row
 row_said_from values cells row h k = said-values values cells h ∙ k

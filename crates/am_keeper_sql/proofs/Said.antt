@@ -32,7 +32,8 @@ pub told_all : (rows : Rows) (list : List Row) → AllSay list → told_from row
 told_all rows [] all = refl
 told_all rows (values ∷ more) all = by (row_said values) all.0 (λ row. told_all (with_row rows row) more all.1)
   where
-    by : (o : Option Kept) → IsSome o → ((row : Kept) → told_from (with_row rows row) more ≡ Some (said_from (with_row rows row) more))
+    by : (o : Option Kept) → IsSome o → ((row : Kept) → told_from (with_row rows row) more
+        ≡ Some (said_from (with_row rows row) more))
         → (o >>= (λ row. told_from (with_row rows row) more)) ≡ Some (said_from (with_said rows o) more)
     by None h rest = absurd (let e = h in cc)
     by (Some row) h rest = rest row
@@ -42,7 +43,8 @@ pub all_told : (rows : Rows) (list : List Row) → IsSome (told_from rows list) 
 all_told rows [] h = tt
 all_told rows (values ∷ more) h = by (row_said values) refl h (λ row. all_told (with_row rows row) more)
   where
-    by : (o : Option Kept) → row_said values ≡ o → IsSome (o >>= (λ row. told_from (with_row rows row) more)) → ((row : Kept) → IsSome (told_from (with_row rows row) more) → AllSay more)
+    by : (o : Option Kept) → row_said values ≡ o → IsSome (o >>= (λ row. told_from (with_row rows row) more))
+        → ((row : Kept) → IsSome (told_from (with_row rows row) more) → AllSay more)
         → AllSay (values ∷ more)
     by None is h rest = absurd (let e = h in cc)
     by (Some row) is h rest = (subst IsSome (sym is) refl, rest row h)

@@ -27,16 +27,19 @@ no_text_cell t odd = elim (cases_Bool (is_utf8 t)) [
 ]
 
 -- one more value is read
-pub cells_pushed : (values : Row) (cells : List Cell) (v : Value) (c : Cell) → cells_in values ≡ Some cells → cell_in v ≡ Some c → cells_in (values ++ v ∷ []) ≡ Some (cells ++ c ∷ [])
+pub cells_pushed : (values : Row) (cells : List Cell) (v : Value) (c : Cell) → cells_in values ≡ Some cells → cell_in v
+    ≡ Some c → cells_in (values ++ v ∷ []) ≡ Some (cells ++ c ∷ [])
 cells_pushed [] cells v c h k = let none : cells ≡ [] = (let e = h in cc) in rw (k, none)
 cells_pushed (first ∷ values) cells v c h k =
     let head = through (cell_in first) _ cells h in
     let rest = mapped (cells_in values) _ cells head.2 in
-    ap (λ o. o >>= (λ x. option_map (λ cs. x ∷ cs) (cells_in (values ++ v ∷ [])))) head.1 ∙ ap (option_map (λ cs. head.0 ∷ cs)) (cells_pushed values rest.0 v c rest.1 k)
+    ap (λ o. o >>= (λ x. option_map (λ cs. x ∷ cs) (cells_in (values ++ v ∷ [])))) head.1
+    ∙ ap (option_map (λ cs. head.0 ∷ cs)) (cells_pushed values rest.0 v c rest.1 k)
     ∙ ap (λ cs. Some (cs ++ c ∷ [])) rest.2
 
 -- a value that is no cell
-pub cell_missing : (values : Row) (at : ℕ) → at < length values → cell_in (column values at) ≡ None → cells_in values ≡ None
+pub cell_missing : (values : Row) (at : ℕ) → at < length values → cell_in (column values at) ≡ None → cells_in values
+    ≡ None
 cell_missing [] at low h = absurd (omega arith)
 cell_missing (v ∷ values) zero low h = rw h
 cell_missing (v ∷ values) (suc at) low h = by (cell_in v) (cell_missing values at (omega arith) h)
@@ -45,10 +48,12 @@ cell_missing (v ∷ values) (suc at) low h = by (cell_in v) (cell_missing values
     by None rest = refl
     by (Some c) rest = rw rest
 
-pub row_unread : (values : Row) (at : ℕ) (e : KeepFail) → at < length values → IsRead {X = Cell} (cell_in (column values at)) (Err e) → IsRead {X = List Cell} (cells_in values) (Err e)
+pub row_unread : (values : Row) (at : ℕ) (e : KeepFail) → at < length values
+    → IsRead {X = Cell} (cell_in (column values at)) (Err e) → IsRead {X = List Cell} (cells_in values) (Err e)
 row_unread values at Failed low h = cell_missing values at low h
 row_unread values at NoMemory low h = tt
 
-pub row_unsaid : (values : Row) (e : KeepFail) → IsRead {X = List Cell} (cells_in values) (Err e) → IsRead {X = Kept} (row_said values) (Err e)
+pub row_unsaid : (values : Row) (e : KeepFail) → IsRead {X = List Cell} (cells_in values) (Err e)
+    → IsRead {X = Kept} (row_said values) (Err e)
 row_unsaid values Failed h = ap (λ o. o >>= row_in) h
 row_unsaid values NoMemory h = tt

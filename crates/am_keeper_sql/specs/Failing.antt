@@ -22,7 +22,7 @@ pub record Lasts (old new : State) : Type 0 where
   pub limit : new.step_limit ≡ old.step_limit
   pub closes : HasCleanDisk new → IsTrue old.is_open → IsTrue new.is_open ⊎ MoreFaults old.faults new.faults
 
--- a statement failed for memory, or since the disk had a fault
+-- a statement failed because memory ran out, or because the disk had a fault
 abbrev pub FailsOnly : State → State → Error → Type 0
 FailsOnly old new e = (e ≡ SqliteFailure OutOfMemory) ⊎ MoreFaults old.faults new.faults
 
@@ -33,20 +33,22 @@ pub record IsReady (s : State) : Type 0 where
   pub unlimited : s.step_limit ≡ None
   pub rising : s.now.schema ≡ kept_schema → HasRisingRows s.now.trees
 
--- no next row was given, or one that says no kept row
+-- no next row was given, or one that isn't a kept row
 abbrev pub FailsToMove : {S : Type 0} → Ghosts S → Held S → Held S → Type 0
 FailsToMove g old new =
     ((e : Error) × (e ≢ SqliteFailure OutOfMemory) × FailsToAdvance g old new e)
-    ⊎ ((values : Row) × Advances g old new (Some values) × IsUnchanged (state g old) (state g new) × (row_said values ≡ None))
+    ⊎ ((values : Row) × Advances g old new (Some values) × IsUnchanged (state g old) (state g new)
+    × (row_said values ≡ None))
 
--- the disk had a fault, or a row of the table says no kept row
+-- the disk had a fault, or a row of the table isn't a kept row
 abbrev pub FailsToTell : State → State → Type 0
 FailsToTell old new = MoreFaults old.faults new.faults ⊎ (told_in old.now.trees ≡ None)
 
 -- the table was there and nothing changed, or nothing was there and the table was made, without a row
 abbrev pub Begins : State → State → Type 0
-Begins old new = ((old.now.schema ≡ kept_schema) × (new.now ≡ old.now)) ⊎ ((old.now.schema ≡ no_schema) × (new.now.trees 0 ≡ []))
+Begins old new = ((old.now.schema ≡ kept_schema) × (new.now ≡ old.now)) ⊎
+    ((old.now.schema ≡ no_schema) × (new.now.trees 0 ≡ []))
 
--- the disk had a fault, or the database has no rows of a keeper
+-- the disk had a fault, or the database doesn't hold a keeper's rows
 abbrev pub FailsToBegin : State → State → Type 0
 FailsToBegin old new = MoreFaults old.faults new.faults ⊎ ((rows : Rows) → ¬ HasRows old.now rows)

@@ -1,4 +1,4 @@
--- What a keeper holds true of its database.
+-- What holds for a keeper's database.
 use Rattle.std.specs.Prelude.{◌≡◌, false, IsTrue, IsSome, unwrap_or, ⊤}
 use Rattle.sqlite.specs.Store.{Ghosts}
 use Rattle.sqlite.specs.Steps.{over_memory}
@@ -35,7 +35,7 @@ pub record HoldsTable (db : Database) : Type 0 where
   pub sound : IsDatabase db
   pub rising : HasRisingRows db.trees
 
--- the database is settled, and each row of its table says a kept row
+-- the database is settled, and each row of its table is a kept row
 pub record Keeps (s : State) : Type 0 where
   pub settled : IsSettled s
   pub holds : HoldsTable s.now
@@ -56,11 +56,11 @@ abbrev pub IsInMemory : {F : Type 0} → Connected F → Type 0
 IsInMemory (Memory conn) = ⊤
 IsInMemory (File conn) = ⊥
 
--- the rows that a keeper tells: those of its table, or none at all while one of them isn't read
+-- the rows that a keeper tells: those of its table, or none at all if one of them can't be read
 abbrev pub told_by : State → Rows
 told_by s = unwrap_or (told_in s.now.trees) no_rows
 
--- the keeper is in memory, which returns what was written and which no fault shuts
+-- the keeper is in memory, which returns what was written and isn't shut by any fault
 pub record IsHonestForGood {F : Type 0} (g : Ghosts F) (database : Connected F) : Type 0 where
   pub in_memory : IsInMemory database
   pub honest : IsHonest (state_of g database)

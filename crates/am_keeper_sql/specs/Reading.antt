@@ -1,4 +1,4 @@
--- What a selection puts that is read one row at a time.
+-- What is put when a selection is read one row at a time.
 use Rattle.std.specs.Prelude.{◌≡◌, Bool, true, false, Option, Some, None, Result, Ok, Err, ⊤}
 use Rattle.sqlite.specs.Store.{Ghosts}
 use Rattle.sqlite.specs.Order.{Row}
@@ -11,13 +11,13 @@ use Rattle.am_keeper.specs.declared.rows.Rows.{Rows}
 use Rattle.am_keeper.specs.Rows.{with_row}
 use Rattle.am_keeper_sql.specs.Told.{row_said}
 
--- what is there is read, and it fails exactly where there is nothing to be read; memory may run out
+-- what is there is read, and `Failed` comes only if there is nothing to be read; memory may run out
 abbrev pub IsRead : {X : Type 0} → Option X → Result X KeepFail → Type 0
 IsRead wanted (Ok x) = wanted ≡ Some x
 IsRead wanted (Err Failed) = wanted ≡ None
 IsRead wanted (Err NoMemory) = ⊤
 
--- one more row is given, and the kept row that it says was put
+-- one more row is given, and the kept row that it describes was put
 pub record PutsNext {S : Type 0} (g : Ghosts S) (old new : Held S) (was now : Rows) : Type 0 where
   pub values : Row
   pub row : Kept

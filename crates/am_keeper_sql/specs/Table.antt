@@ -14,14 +14,23 @@ use Rattle.sqlite_catalog.specs.Listing.{automatic}
 
 -- a column of this type that is never NULL
 abbrev pub column_of : List ℕ → Kind → Column
-column_of name kind = record { name = name; kind = kind; is_strict = true; not_null = true; default = Null; collation = Binary }
+column_of name kind = record {
+  name = name;
+  kind = kind;
+  is_strict = true;
+  not_null = true;
+  default = Null;
+  collation =
+      Binary;
+}
 
 -- the table of the kept rows, whose key is kind, uid and word
 abbrev pub kept : Table
 kept = record {
   name = codes "kept";
   tree = 0;
-  columns = column_of (codes "kind") Integer ∷ column_of (codes "uid") Integer ∷ column_of (codes "word") Text ∷ column_of (codes "name") Text
+  columns = column_of (codes "kind") Integer ∷ column_of (codes "uid") Integer ∷ column_of (codes "word") Text
+      ∷ column_of (codes "name") Text
       ∷ column_of (codes "access") Text ∷ column_of (codes "manifest") Text ∷ column_of (codes "truth") Integer ∷ [];
   key = None;
   primary = 1 ∷ 2 ∷ 3 ∷ [];
@@ -38,7 +47,7 @@ kept = record {
 abbrev pub kept_index : Index
 kept_index = automatic kept 0 (1 ∷ 2 ∷ 3 ∷ []) 1
 
--- the schema with this table alone
+-- the schema with only this table
 abbrev pub kept_schema : Schema
 kept_schema = record { tables = kept ∷ []; indexes = kept_index ∷ []; views = [] }
 
@@ -46,6 +55,6 @@ kept_schema = record { tables = kept ∷ []; indexes = kept_index ∷ []; views 
 abbrev pub no_schema : Schema
 no_schema = record { tables = []; indexes = []; views = [] }
 
--- the seven values of a row, behind its rowid
+-- the seven values of a row, after its rowid
 abbrev pub values_of : Row → Row
 values_of r = column r 1 ∷ column r 2 ∷ column r 3 ∷ column r 4 ∷ column r 5 ∷ column r 6 ∷ column r 7 ∷ []

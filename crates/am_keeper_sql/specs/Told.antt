@@ -35,19 +35,19 @@ abbrev pub cells_in : Row → Option (List Cell)
 cells_in [] = Some []
 cells_in (v ∷ vs) = cell_in v >>= (λ c. option_map (λ cs. c ∷ cs) (cells_in vs))
 
--- the kept row that values say, if they say one
+-- the kept row that values describe, if they describe one
 abbrev pub row_said : Row → Option Kept
 row_said values = cells_in values >>= row_in
 
--- these rows with those put that the lists of values say, one after the other, if each list says one
+-- these rows after the rows that the lists of values describe were put, one after the other, if each list describes one
 abbrev pub told_from : Rows → List Row → Option Rows
 told_from rows [] = Some rows
 told_from rows (values ∷ more) = row_said values >>= (λ row. told_from (with_row rows row) more)
 
--- what the rows of the table show, less their rowids
+-- what the rows of the table show, without their rowids
 abbrev pub shown_in : Trees → List Row
 shown_in trees = map values_of (trees 0)
 
--- the kept rows that the table tells, if each of its rows says one
+-- the kept rows that the table tells, if each of its rows describes one
 abbrev pub told_in : Trees → Option Rows
 told_in trees = told_from no_rows (shown_in trees)

@@ -37,6 +37,7 @@ fn in_memory<S: Start>(
         database: Database::Memory(conn),
         place: None,
         faults: 0,
+        puts: 0,
         alloc,
     };
     Ok(Attached { keeper, rows })
@@ -74,17 +75,18 @@ fn in_file<S: Start>(
         database: Database::File(conn),
         place: Some(place),
         faults: 0,
+        puts: 0,
         alloc,
     };
     Ok(Attached { keeper, rows })
 }
 
-/// Attaches to the rows in the file at a path, or to none in memory without one. `start` stands
-/// for what the file and its log hold: the rows are those that its table says. A file that is new
-/// gets the table. If it fails, what is left of the files comes with it, once the system has opened
-/// them: their disk had a fault, a limit was met, or they hold something else than the one table
-/// and its rows. The file is kept in WAL, and one process has it at a time. A journal that another
-/// program left is a fault until that program has recovered the file.
+/// Attaches to the rows in the file at the path, or to no rows in memory if there is no path.
+/// `start` represents what the file and its log hold: the rows are those of its table. A new file
+/// gets the table. If this fails once the system has opened the files, it also returns what is left
+/// of them: their disk had a fault, a limit was met, or they hold something other than the one table
+/// and its rows. The file is kept in WAL mode, and one process has it at a time. A journal that
+/// another program left is a fault until that program has recovered the file.
 pub fn attach_from<S: Start>(
     rt: &HostRuntime,
     alloc: Global,
@@ -118,8 +120,8 @@ pub fn attach_from<S: Start>(
     }
 }
 
-/// The same at a start of which nothing is known: what its clauses say of the file's rows they say of a file that was
-/// new, or empty.
+/// The same with a start about which nothing is known: its clauses about the file's rows apply to a file that was new
+/// or empty.
 pub fn attach_sql(
     rt: &HostRuntime,
     alloc: Global,

@@ -1,4 +1,4 @@
-//! Rows of the database as kept rows, and back.
+//! Turns rows of the database into kept rows, and back.
 ghost use Rattle.std.specs.Prelude.{◌≡◌, Some, None, IsSome, Err, IfOk, IfErr, OnOk};
 ghost use Rattle.sqlite.specs.Held.{state};
 ghost use Rattle.sqlite.specs.State.{HasCleanDisk, IsUnchanged};
@@ -70,7 +70,7 @@ fn cells_of(alloc: Global, row: &sqlite::Row) -> Result<List<Cell>, KeepFail>
     Ok(List::new(cells))
 }
 
-/// The kept row that cells say. It fails exactly where they say none.
+/// Reads a kept row from cells. Fails if and only if they describe none, or memory runs out.
 fn row_in(cells: &List<Cell>) -> Result<Row, KeepFail>
     ensures read { IsRead (row_in cells.now) result }
     ensures memory { result ≡ Err KeepFail.NoMemory → IsSome (row_in cells.now) }
@@ -82,7 +82,7 @@ fn row_in(cells: &List<Cell>) -> Result<Row, KeepFail>
     }
 }
 
-/// The kept row that a row of the database says. It fails exactly where that says none.
+/// Reads a kept row from a row of the database. Fails if and only if it describes none, or memory runs out.
 fn kept_row(alloc: Global, row: &sqlite::Row) -> Result<Row, KeepFail>
     ensures { IsRead (row_said row.now) result }
 {
@@ -93,7 +93,7 @@ fn kept_row(alloc: Global, row: &sqlite::Row) -> Result<Row, KeepFail>
     row_in(&cells)
 }
 
-/// Puts the kept row that the next row of the selection says. It answers false where there is none.
+/// Puts the kept row that the next row of the selection describes. Returns false if there is no next row.
 pub(crate) fn put_next<S: Alter>(
     alloc: Global,
     found: &mut sqlite::Rows<'_, S>,

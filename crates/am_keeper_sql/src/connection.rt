@@ -1,4 +1,4 @@
-//! What a keeper asks of a connection, over any store.
+//! What a keeper does with a connection, over any store.
 ghost use Rattle.std.specs.Prelude.{◌≡◌, ◌≢◌, ◌⊎◌, [], Some, Err, IsTrue, IfOk, IfErr, OnOk, OnErr};
 ghost use Rattle.sqlite_disk.specs.Disk.{MoreFaults};
 ghost use Rattle.sqlite_trees.specs.View.{IsClean};
@@ -19,7 +19,7 @@ use am_rows::row_cells;
 use sqlite::{Alter, Connection, Error, ErrorCode};
 use std::alloc::Global;
 
-/// Out of memory, or else a fault.
+/// `NoMemory` if the error is out of memory, else `Failed`.
 pub(crate) fn fail(error: Error) -> KeepFail
     ensures told { result ≡ told_as error }
     ensures failed { result ≡ KeepFail.Failed → error ≢ Error.SqliteFailure ErrorCode.OutOfMemory }
@@ -30,7 +30,7 @@ pub(crate) fn fail(error: Error) -> KeepFail
     }
 }
 
-/// Makes the table where nothing is there yet. Anything but the one table is a fault.
+/// Makes the table if nothing is there yet. Anything other than the one table is a fault.
 pub(crate) fn prepare<S: Alter>(conn: &mut Connection<S>) -> Result<(), KeepFail>
     ensures honest { IsHonest (state S.Store conn.new) → IsHonest (state S.Store conn.old) }
     ensures ready { IsHonest (state S.Store conn.new) → IsSettled (state S.Store conn.old)
@@ -55,8 +55,8 @@ pub(crate) fn prepare<S: Alter>(conn: &mut Connection<S>) -> Result<(), KeepFail
     }
 }
 
-/// Makes the table if nothing is there yet, and reads its rows. If that fails, the store is given
-/// back: it had a fault, or its database has no rows of a keeper, or memory ran out.
+/// Makes the table if nothing is there yet, and reads its rows. If that fails, returns the store:
+/// it had a fault, or its database doesn't hold a keeper's rows, or memory ran out.
 pub(crate) fn begin<S: Alter + Drop>(
     alloc: Global,
     mut conn: Connection<S>,

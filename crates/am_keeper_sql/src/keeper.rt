@@ -1,14 +1,14 @@
 //! The keeper.
 ghost use Rattle.std.specs.Prelude.{◌≡◌, ◌≢◌, ◌↔◌, ◌≤◌, Some, Err, IsOk, IfOk};
 ghost use Rattle.am_keeper.specs.Rows.{IsInOrder, with_row};
-ghost use Rattle.am_keeper.specs.Keeping.{Puts};
+ghost use Rattle.am_keeper.specs.Keeping.{Puts, raised_by};
 ghost use Rattle.am_keeper_sql.specs.Faults.{faults_after};
 ghost use Rattle.am_keeper_sql.specs.Told.{told_in};
 ghost use Rattle.am_keeper_sql.specs.Honest.{IsHonest, Keeps, IsInMemory, IsHonestForGood, state_of, told_by};
 
 use crate::connection;
 use crate::database::Database;
-use am_keeper::{KeepFail, Keeper, Row, Rows};
+use am_keeper::{GrantRow, KeepFail, Keeper, LinkRow, PackageRow, Row, Rows};
 use am_types::{Text, drop_parts};
 use sqlite::{Alter, File, FileStore};
 use sqlite_disk::Disk;
@@ -25,32 +25,40 @@ fn count_fault<T>(faults: &mut u64, done: &Result<T, KeepFail>)
     }
 }
 
+/// Counts a put, whatever its result will be.
+fn count_put(puts: &mut u64)
+    ensures { puts.new ≡ raised_by 1 puts.old }
+{
+    *puts = puts.saturating_add(1);
+}
+
 /// A keeper over a SQL database, in memory or in a file over a store `F`. Its store is honest as
 /// long as the disk returns what was written and no fault has shut the connection; memory is
-/// honest for good. After a fault that shut it every further call is a fault.
+/// honest for good. After a fault has shut the connection, every further call is a fault.
 pub struct SqlKeeper<F: Alter = FileStore<File>> {
     pub(crate) database: Database<F>,
     pub(crate) place: Option<Text>,
     pub(crate) faults: u64,
+    pub(crate) puts: u64,
     pub(crate) alloc: Global,
     ghost keeps: { ∥ (IsHonest (state_of F.Store database) → Keeps (state_of F.Store database)) ∥₁ },
 }
 
 impl<F: Alter + Drop> Drop for SqlKeeper<F> {
     fn drop(self) {
-        drop_parts!(self, SqlKeeper: database place faults alloc);
+        drop_parts!(self, SqlKeeper: database place faults puts alloc);
     }
 }
 
 impl<F: Alter> SqlKeeper<F> {
-    /// How many faults there were. It stays at the greatest 64-bit number. Takes no memory.
+    /// How many faults there were. The count stops at the greatest 64-bit number. Takes no memory.
     pub fn faults(&self) -> u64
         ensures { result ≡ self.now.faults }
     {
         self.faults
     }
 
-    /// The rows now, if each row of the table is one; else it fails. The keeper is unchanged but for its count of faults.
+    /// The current rows. Fails if a row of the table isn't a kept row. Only the keeper's count of faults may change.
     pub fn told(&mut self) -> Result<Rows, KeepFail>
         ensures rows { IsHonest (state_of F.Store self.new.database)
             → IfOk result (λ rows. told_in (state_of F.Store self.new.database).now.trees ≡ Some rows) }
@@ -60,6 +68,7 @@ impl<F: Alter> SqlKeeper<F> {
         ensures for_good { IsHonestForGood F.Store self.new.database ↔ IsHonestForGood F.Store self.old.database }
         ensures in_order { IfOk result IsInOrder }
         ensures place { self.new.place ≡ self.old.place }
+        ensures puts { self.new.puts ≡ self.old.puts }
         ensures counts { self.new.faults ≡ faults_after self.old.faults result }
         ensures never_falls { self.old.faults ≤ self.new.faults }
     {
@@ -76,6 +85,7 @@ impl<F: Alter> SqlKeeper<F> {
         ensures honest { IsHonest (state_of F.Store self.new.database) → IsHonest (state_of F.Store self.old.database) }
         ensures for_good { IsHonestForGood F.Store self.new.database ↔ IsHonestForGood F.Store self.old.database }
         ensures place { self.new.place ≡ self.old.place }
+        ensures puts { self.new.puts ≡ self.old.puts }
         ensures counts { self.new.faults ≡ faults_after self.old.faults result }
         ensures never_falls { self.old.faults ≤ self.new.faults }
         ensures only_failed { result ≢ Err KeepFail.Failed → self.new.faults ≡ self.old.faults }
@@ -97,15 +107,37 @@ impl<F: Alter + Drop> Keeper for SqlKeeper<F> {
 
     ghost faults = { λ k. k.faults };
 
+    ghost puts = { λ k. k.puts };
+
     ghost honest_by_nature = { λ k h. h.honest };
 
-    fn put(&mut self, row: &Row) -> Result<(), KeepFail> {
-        self.put_row(row)
+    fn put_package(&mut self, row: &PackageRow) -> Result<(), KeepFail> {
+        count_put(&mut self.puts);
+        let row = Row::Package(row.clone()?);
+        let done = self.put_row(&row);
+        drop(row);
+        done
+    }
+
+    fn put_grant(&mut self, row: &GrantRow) -> Result<(), KeepFail> {
+        count_put(&mut self.puts);
+        let row = Row::Grant(row.clone()?);
+        let done = self.put_row(&row);
+        drop(row);
+        done
+    }
+
+    fn put_link(&mut self, row: &LinkRow) -> Result<(), KeepFail> {
+        count_put(&mut self.puts);
+        let row = Row::Link(row.clone()?);
+        let done = self.put_row(&row);
+        drop(row);
+        done
     }
 }
 
 impl<D: Disk + Drop> SqlKeeper<FileStore<D>> {
-    /// Ends the connection, so that the file alone holds the rows. Without a file it does nothing.
+    /// Ends the connection, so that only the file itself holds the rows. Does nothing if there is no file.
     pub fn close(self) -> Result<(), KeepFail>
         ensures { IsInMemory self.database → IsOk result }
     {
@@ -113,6 +145,7 @@ impl<D: Disk + Drop> SqlKeeper<FileStore<D>> {
             database,
             place: _,
             faults: _,
+            puts: _,
             alloc: _,
         } = self;
         match database {

@@ -8,7 +8,7 @@ use sqlite_schema::code::Terms;
 use sqlite_schema::schema::{Column, Index, Kind, Schema, Stamps, Table};
 use sqlite_value::keys::Collation;
 
-/// Whether the column has this name and type, is never NULL and has no further rule.
+/// Whether the column has this name and type, is never NULL and has no other rule.
 fn is_column(column: &Column, name: &str, kind: Kind) -> bool
     ensures { IsTrue result ↔ (column.now ≡ column_of name.now kind) }
 {

@@ -1,4 +1,4 @@
-//! The one table of a store, and the three texts.
+//! The one table of a store, and its three SQL statements.
 ghost use Rattle.std.specs.Prelude.{◌≡◌, [], Some, None, Err, IsTrue, IfOk, IfErr, OnOk, OnErr};
 ghost use Rattle.sqlite.specs.Held.{state};
 ghost use Rattle.sqlite.specs.State.{HasCleanDisk};
@@ -35,7 +35,7 @@ pub(crate) fn create<S: Alter>(conn: &mut Connection<S>) -> Result<usize, Error>
     )
 }
 
-/// Puts the kept row that the values say. A refusal changes nothing.
+/// Puts the kept row that the values describe. If this fails, nothing changes.
 pub(crate) fn upsert<S: Alter>(
     conn: &mut Connection<S>,
     values: &[ValueRef<'_>],
@@ -54,8 +54,8 @@ pub(crate) fn upsert<S: Alter>(
     )
 }
 
-/// The kept rows, selected in the order of kind, uid and word. The database stays as it was. It
-/// fails if the disk had a fault, or if a row of the table says no kept row.
+/// Selects the kept rows in the order of kind, uid and word. The database stays as it was. This
+/// fails if the disk had a fault, or if a row of the table isn't a kept row.
 pub(crate) fn select<S: Alter>(alloc: Global, conn: &mut Connection<S>) -> Result<Rows, KeepFail>
     ensures honest { IsHonest (state S.Store conn.new) → IsHonest (state S.Store conn.old) }
     ensures told { IsHonest (state S.Store conn.new) → HoldsTable (state S.Store conn.old).now

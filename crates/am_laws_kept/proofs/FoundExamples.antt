@@ -31,35 +31,48 @@ given =
 pub rights_are_kept :
     rows_after start no_rows given
     ≡ record no_rows {
-      grants = record { uid = 10000; text = codes "p.X"; held = true } ∷ [];
-      links = record { uid = 10001; text = codes "a.org"; held = true } ∷ [];
+      grants = record { uid = 10000; permission = codes "p.X"; held = true } ∷ [];
+      links = record { uid = 10001; host = codes "a.org"; approved = true } ∷ [];
     }
 unfolding act grant link
 rights_are_kept = refl
 
 -- an app can't give itself a permission, and has no row
-pub a_refusal_keeps_none : rows_after start no_rows (entry 10000 0 (asks.Grant (codes "com.one") (codes "p.X") true) ∷ []) ≡ no_rows
+pub a_refusal_keeps_none : rows_after start no_rows (entry 10000 0 (asks.Grant (codes "com.one") (codes "p.X") true)
+    ∷ []) ≡ no_rows
 unfolding act grant
 a_refusal_keeps_none = refl
 
 -- nor has what the keeper didn't put
-pub a_fault_keeps_none : rows_after start no_rows (record (entry system_uid 0 (asks.Grant (codes "com.one") (codes "p.X") true)) { kept = false } ∷ []) ≡ no_rows
+pub a_fault_keeps_none : rows_after start no_rows (record (entry system_uid 0
+    (asks.Grant (codes "com.one") (codes "p.X") true)) { kept = false } ∷ []) ≡ no_rows
 a_fault_keeps_none = refl
 
 -- a permission that is taken back stands in the place where it was given
 pub the_last_word_is_kept :
     rows_after start no_rows
-    (entry system_uid 0 (asks.Grant (codes "com.one") (codes "p.X") true) ∷ entry system_uid 0 (asks.Grant (codes "com.one") (codes "p.X") false) ∷ [])
-    ≡ record no_rows { grants = record { uid = 10000; text = codes "p.X"; held = false } ∷ [] }
+    (entry system_uid 0 (asks.Grant (codes "com.one") (codes "p.X") true)
+    ∷ entry system_uid 0 (asks.Grant (codes "com.one") (codes "p.X") false) ∷ [])
+    ≡ record no_rows { grants = record { uid = 10000; permission = codes "p.X"; held = false } ∷ [] }
 unfolding act grant
 the_last_word_is_kept = refl
 
 -- a stop has no row, and a removal the row of a package that is gone
 abbrev removed : List Entry
-removed = entry system_uid 0 (asks.ForceStop (codes "com.one")) ∷ entry system_uid 0 (asks.Uninstall (codes "com.two")) ∷ []
+removed = entry system_uid 0 (asks.ForceStop (codes "com.one")) ∷ entry system_uid 0 (asks.Uninstall (codes "com.two"))
+    ∷ []
 
 abbrev removed_rows : Rows
-removed_rows = record no_rows { packages = record { uid = 10001; name = codes "com.two"; key = []; text = []; gone = true } ∷ [] }
+removed_rows = record no_rows {
+  packages = record {
+    uid = 10001;
+    name = codes "com.two";
+    key = [];
+    text = [];
+    gone =
+        true;
+  } ∷ [];
+}
 
 pub a_removal_is_kept : rows_after start no_rows removed ≡ removed_rows
 unfolding act uninstall force_stop
@@ -74,6 +87,9 @@ the_other_isnt_stopped = refl
 
 -- which is all that it has otherwise than the state after those calls
 pub the_rest_is_the_same :
-    kept_of (replay start removed) ≡ record (kept_of start) { packages = as_stopped (app 10000 (codes "com.one") (codes "k1") [] ∷ []) }
+    kept_of (replay start removed) ≡ record (kept_of start) {
+      packages = as_stopped
+          (app 10000 (codes "com.one") (codes "k1") [] ∷ []);
+    }
 unfolding act uninstall force_stop
 the_rest_is_the_same = refl

@@ -33,7 +33,8 @@ use Rattle.am_laws_kept.specs.Found.{OpensAs, with_kept}
 use Rattle.am_laws_kept.proofs.KeptSteps.{grant_is_found, installation_is_found, link_is_found, removal_is_found}
 use Rattle.am_laws_kept.proofs.OtherRequests.{other_stays}
 
-module _ (device : Device) (kept : Rows) (state : State) (sound : IsSound device) (order : IsInOrder kept) (whole : IsSoundState state) (opens : OpensAs device kept state)
+module _ (device : Device) (kept : Rows) (state : State) (sound : IsSound device) (order : IsInOrder kept)
+    (whole : IsSoundState state) (opens : OpensAs device kept state)
     (caller : ℕ) where
   -- with a row, unless the answer refuses, the device opens as the state that is left
   abbrev IsFound : Option Row → Reply × State → Type 0
@@ -44,78 +45,100 @@ module _ (device : Device) (kept : Rows) (state : State) (sound : IsSound device
   refused_is_found row rule = opens
 
   -- either of two answers
-  either_is_found : (row : Option Row) (test : Bool) (first second : Reply × State) → (test ≡ true → IsFound row first) → (test ≡ false → IsFound row second) → IsFound row (cond test first second)
+  either_is_found : (row : Option Row) (test : Bool) (first second : Reply × State) → (test ≡ true → IsFound row first)
+      → (test ≡ false → IsFound row second) → IsFound row (cond test first second)
   either_is_found row true first second one other = one refl
   either_is_found row false first second one other = other refl
 
   -- an answer for the system and the root alone
-  admin_is_found : (row : Option Row) (next : Reply × State) → IsFound row next → IsFound row (for_admin state caller next)
-  admin_is_found row next found = either_is_found row (is_privileged caller) next (refused state rules.AdminOnly) (λ is. found) (λ is. refused_is_found row rules.AdminOnly)
+  admin_is_found : (row : Option Row) (next : Reply × State) → IsFound row next
+      → IsFound row (for_admin state caller next)
+  admin_is_found row next found = either_is_found row (is_privileged caller) next (refused state rules.AdminOnly)
+      (λ is. found) (λ is. refused_is_found row rules.AdminOnly)
 
   -- an answer for the package of a name, whose row it is
   package_is_found : (name : List ℕ) (row_for : Package → Row) (next : Package → Reply × State)
-      → ((owner : Package) → package_named state.board.packages name ≡ Some owner → IsFound (Some (row_for owner)) (next owner))
+      → ((owner : Package) → package_named state.board.packages name ≡ Some owner
+      → IsFound (Some (row_for owner)) (next owner))
       → IsFound (option_map row_for (package_named state.board.packages name)) (for_package state name next)
   package_is_found name row_for next found = by (package_named state.board.packages name) refl
     where
-      by : (named : Option Package) → package_named state.board.packages name ≡ named → IsFound (option_map row_for named) (for_found state named next)
+      by : (named : Option Package) → package_named state.board.packages name ≡ named
+          → IsFound (option_map row_for named) (for_found state named next)
       by None is = refused_is_found None rules.NoPackage
       by (Some owner) is = found owner is
 
   -- a package whose manifest was read
-  read_is_found : (text key : List ℕ) (manifest : Result Manifest ManifestFault) → manifest_of text ≡ manifest → IsTrue (is_formed (asks.Install text key))
+  read_is_found : (text key : List ℕ) (manifest : Result Manifest ManifestFault) → manifest_of text ≡ manifest
+      → IsTrue (is_formed (asks.Install text key))
       → IsFound (installed_row state.next_uid text key manifest) (install_read state key manifest)
   read_is_found text key (Err fault) is formed = refused_is_found None (rules.BadManifest fault)
   read_is_found text key (Ok manifest) is formed =
-      either_is_found row (is_name_used state.board.packages manifest.«package» || is_key_used state key) (refused state rules.Installed) _
+      either_is_found row (is_name_used state.board.packages manifest.«package» || is_key_used state key)
+      (refused state rules.Installed) _
       (λ used. refused_is_found row rules.Installed)
       (λ unused. either_is_found row (is_full state) (refused state (rules.OverLimit limits.Packages)) _
       (λ full. refused_is_found row (rules.OverLimit limits.Packages))
       (λ room.
       let parts = neither (is_name_used state.board.packages manifest.«package») (is_key_used state key) unused in
-      installation_is_found device kept state sound order whole opens caller (asks.Install text key) text key manifest is parts.0 parts.1 room formed))
+      installation_is_found device kept state sound order whole opens caller (asks.Install text key) text key manifest
+      is parts.0 parts.1 room formed))
     where
       row : Option Row
       row = installed_row state.next_uid text key (Ok manifest)
 
   -- each request that has a row kept
-  keeping_is_found : (before : List Entry) (request : Request) → keeps_row request ≡ true → IsTrue (is_formed request) → IsFound (row_of state request) (act state before caller request)
+  keeping_is_found : (before : List Entry) (request : Request) → keeps_row request ≡ true → IsTrue (is_formed request)
+      → IsFound (row_of state request) (act state before caller request)
   unfolding act install uninstall grant link
   keeping_is_found before (asks.Install text key) keeps formed =
-      admin_is_found _ (install_read state key (manifest_of text)) (read_is_found text key (manifest_of text) refl formed)
+      admin_is_found _ (install_read state key (manifest_of text))
+      (read_is_found text key (manifest_of text) refl formed)
   keeping_is_found before (asks.Uninstall name) keeps formed =
       admin_is_found _ (for_package state name (λ (owner : Package). done (without state owner.uid)))
       (package_is_found name gone_row (λ (owner : Package). done (without state owner.uid))
       (λ owner is.
-      removal_is_found device kept state sound order whole opens caller (asks.Uninstall name) owner.uid owner.name (named_is_live state.board.packages name owner is)))
+      removal_is_found device kept state sound order whole opens caller (asks.Uninstall name) owner.uid owner.name
+      (named_is_live state.board.packages name owner is)))
   keeping_is_found before (asks.Grant name permission held) keeps formed =
       admin_is_found _ (for_package state name (λ (owner : Package). grant_to state owner.uid permission held))
       (package_is_found name row_for (λ (owner : Package). grant_to state owner.uid permission held)
-      (λ owner is. either_is_found (Some (row_for owner)) (too_many_grants state.board.grants owner.uid permission held) (refused state (rules.OverLimit limits.Grants)) _
+      (λ owner is. either_is_found (Some (row_for owner)) (too_many_grants state.board.grants owner.uid permission held)
+      (refused state (rules.OverLimit limits.Grants)) _
       (λ many. refused_is_found (Some (row_for owner)) (rules.OverLimit limits.Grants))
-      (λ room. grant_is_found device kept state sound order whole opens caller (asks.Grant name permission held) owner.uid permission held
+      (λ room. grant_is_found device kept state sound order whole opens caller (asks.Grant name permission held)
+      owner.uid permission held
       (named_is_live state.board.packages name owner is) room)))
     where
       row_for : Package → Row
-      row_for owner = kinds.Grant (record { uid = owner.uid; text = permission; held = held })
+      row_for owner = kinds.Grant (record { uid = owner.uid; permission = permission; held = held })
   keeping_is_found before (asks.Link name host approved) keeps formed =
       admin_is_found _ (for_package state name (λ (owner : Package). link_to state owner.uid host approved))
       (package_is_found name row_for (λ (owner : Package). link_to state owner.uid host approved)
-      (λ owner is. either_is_found (Some (row_for owner)) (too_many_links state.board.links owner.uid host approved) (refused state (rules.OverLimit limits.Links)) _
+      (λ owner is. either_is_found (Some (row_for owner)) (too_many_links state.board.links owner.uid host approved)
+      (refused state (rules.OverLimit limits.Links)) _
       (λ many. refused_is_found (Some (row_for owner)) (rules.OverLimit limits.Links))
-      (λ room. link_is_found device kept state sound order whole opens caller (asks.Link name host approved) owner.uid host approved formed
+      (λ room. link_is_found device kept state sound order whole opens caller (asks.Link name host approved) owner.uid
+      host approved formed
       (named_is_live state.board.packages name owner is) room)))
     where
       row_for : Package → Row
-      row_for owner = kinds.Link (record { uid = owner.uid; text = host; held = approved })
+      row_for owner = kinds.Link (record { uid = owner.uid; host = host; approved = approved })
   keeping_is_found before _ keeps formed = absurd cc
 
   -- each request
   pub act_is_found : (before : List Entry) (request : Request) → IsTrue (is_formed request)
-      → OpensAs device (with_kept kept (cond (asks_keeper state before caller request) (row_of state request) None)) (act state before caller request).1
+      → OpensAs device (with_kept kept (cond (asks_keeper state before caller request) (row_of state request) None))
+      (act state before caller request).1
   act_is_found before request formed = by (keeps_row request) refl
     where
       by : (keeps : Bool) → keeps_row request ≡ keeps
-          → OpensAs device (with_kept kept (cond (cond keeps (cond (is_refusal (act state before caller request).0) false true) false) (row_of state request) None)) (act state before caller request).1
+          → OpensAs device (with_kept kept (cond (cond keeps (cond (is_refusal (act state before caller request).0)
+          false true) false) (row_of state request) None)) (act state before caller request).1
       by true is = keeping_is_found before request is formed
-      by false is = record { found = opens.found; opens = opens.opens; same = opens.same ∙ sym (other_stays state caller before request is) }
+      by false is = record {
+        found = opens.found;
+        opens = opens.opens;
+        same = opens.same
+            ∙ sym (other_stays state caller before request is);
+      }

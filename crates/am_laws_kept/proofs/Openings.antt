@@ -36,9 +36,13 @@ kept_after device rows read = record {
   root_key = read.root_key;
 }
 
-completed_is_kept : (device : Device) (rows : Rows) (read : State) → kept_of (completed device rows read) ≡ kept_after device rows read
+completed_is_kept : (device : Device) (rows : Rows) (read : State) → kept_of (completed device rows read)
+    ≡ kept_after device rows read
 completed_is_kept device rows read =
-    ap (λ (b : Board). kept_of (record read { board = b; next_uid = uid_after (uids_of device.packages ++ row_uids rows) })) (rights_after read.board rows)
+    ap (λ (b : Board). kept_of (record read {
+      board = b;
+      next_uid = uid_after (uids_of device.packages ++ row_uids rows);
+    })) (rights_after read.board rows)
 
 -- the packages that are read at an opening, which finds what is kept of a state
 pub record ReadsAs (device : Device) (rows : Rows) (state : State) : Type 0 where
@@ -47,7 +51,8 @@ pub record ReadsAs (device : Device) (rows : Rows) (state : State) : Type 0 wher
   pub same : kept_after device rows read ≡ kept_of state
 
 -- an opening has read packages
-pub opening_reads : (device : Device) (rows : Rows) (state : State) → OpensAs device rows state → ReadsAs device rows state
+pub opening_reads : (device : Device) (rows : Rows) (state : State) → OpensAs device rows state
+    → ReadsAs device rows state
 unfolding opening_with
 opening_reads device rows state opens = by (after_rows (opening device) rows.packages) refl opens.opens
   where
@@ -56,24 +61,35 @@ opening_reads device rows state opens = by (after_rows (opening device) rows.pac
     complete read is (Some owner) e = absurd cc
     complete read is None e =
         let same : completed device rows read ≡ opens.found = cc in
-        record { read = read; reads = is; same = sym (completed_is_kept device rows read) ∙ ap kept_of same ∙ opens.same }
+        record {
+          read = read;
+          reads = is;
+          same = sym (completed_is_kept device rows read) ∙ ap kept_of same
+              ∙ opens.same;
+        }
 
-    by : (read : Result State (List ℕ)) → after_rows (opening device) rows.packages ≡ read → opened device rows read ≡ Ok opens.found → ReadsAs device rows state
+    by : (read : Result State (List ℕ)) → after_rows (opening device) rows.packages ≡ read → opened device rows read
+        ≡ Ok opens.found → ReadsAs device rows state
     by (Err name) is e = absurd cc
-    by (Ok read) is e = complete read is (find (has_too_many (completed device rows read).board) (completed device rows read).board.packages) e
+    by (Ok read) is e = complete read is (find (has_too_many (completed device rows read).board)
+        (completed device rows read).board.packages) e
 
 -- a uid that has few grants hasn't too many, and so with links
-few_grants : (board : Board) (uid : ℕ) → AreFew (rights_granted board.grants) → nat_lt 256 (count_by (λ (g : Grant). g.uid == uid) board.grants) ≡ false
+few_grants : (board : Board) (uid : ℕ) → AreFew (rights_granted board.grants)
+    → nat_lt 256 (count_by (λ (g : Grant). g.uid == uid) board.grants) ≡ false
 few_grants board uid few =
     let all : count_by (λ (r : ℕ × List ℕ). r.0 == uid) (rights_granted board.grants) ≤ 256 = few uid in
     le-ltb 256 (count_by (λ (g : Grant). g.uid == uid) board.grants)
-    (subst (λ (n : ℕ). n ≤ 256) (counted of_grant uid board.grants ∙ length-filter (λ (g : Grant). g.uid == uid) board.grants) all)
+    (subst (λ (n : ℕ). n ≤ 256) (counted of_grant uid board.grants
+    ∙ length-filter (λ (g : Grant). g.uid == uid) board.grants) all)
 
-few_links : (board : Board) (uid : ℕ) → AreFew (rights_approved board.links) → nat_lt 256 (count_by (λ (l : Link). l.uid == uid) board.links) ≡ false
+few_links : (board : Board) (uid : ℕ) → AreFew (rights_approved board.links)
+    → nat_lt 256 (count_by (λ (l : Link). l.uid == uid) board.links) ≡ false
 few_links board uid few =
     let all : count_by (λ (r : ℕ × List ℕ). r.0 == uid) (rights_approved board.links) ≤ 256 = few uid in
     le-ltb 256 (count_by (λ (l : Link). l.uid == uid) board.links)
-    (subst (λ (n : ℕ). n ≤ 256) (counted of_link uid board.links ∙ length-filter (λ (l : Link). l.uid == uid) board.links) all)
+    (subst (λ (n : ℕ). n ≤ 256) (counted of_link uid board.links ∙ length-filter (λ (l : Link). l.uid == uid)
+    board.links) all)
 
 -- none is found where the test fails of each
 none_found : {X : Type 0} (p : X → Bool) → ((x : X) → p x ≡ false) → (xs : List X) → find p xs ≡ None
@@ -81,11 +97,13 @@ none_found p never [] = refl
 none_found p never (x ∷ xs) = ap (λ b. cond b (Some x) (find p xs)) (never x) ∙ none_found p never xs
 
 -- packages that were read are complete with the rights of a sound state
-pub reading_opens : (device : Device) (rows : Rows) (state : State) → IsSoundState state → ReadsAs device rows state → OpensAs device rows state
+pub reading_opens : (device : Device) (rows : Rows) (state : State) → IsSoundState state → ReadsAs device rows state
+    → OpensAs device rows state
 unfolding opening_with
 reading_opens device rows state sound reading = record {
   found = found;
-  opens = ap (opened device rows) reading.reads ∙ ap (unless_too_many found) (none_found (has_too_many found.board) few found.board.packages);
+  opens = ap (opened device rows) reading.reads ∙ ap (unless_too_many found)
+      (none_found (has_too_many found.board) few found.board.packages);
   same = kept;
 }
   where
@@ -98,11 +116,14 @@ reading_opens device rows state sound reading = record {
     few : (owner : Package) → has_too_many (completed device rows reading.read).board owner ≡ false
     few owner =
         ap (λ b. b || nat_lt 256 (count_by (λ (l : Link). l.uid == owner.uid) found.board.links))
-        (few_grants found.board owner.uid (subst (λ (gs : List Grant). AreFew (rights_granted gs)) (sym (ap (λ (k : Kept). k.grants) kept)) sound.grants.few))
-        ∙ few_links found.board owner.uid (subst (λ (ls : List Link). AreFew (rights_approved ls)) (sym (ap (λ (k : Kept). k.links) kept)) sound.links.few)
+        (few_grants found.board owner.uid (subst (λ (gs : List Grant). AreFew (rights_granted gs))
+        (sym (ap (λ (k : Kept). k.grants) kept)) sound.grants.few))
+        ∙ few_links found.board owner.uid (subst (λ (ls : List Link). AreFew (rights_approved ls))
+        (sym (ap (λ (k : Kept). k.links) kept)) sound.links.few)
 
 -- packages in rising order of their uids
-all_above : (uid : ℕ) (owner : Package) (ps : List Package) → owner.uid ≡ uid → Above uid ps → AllByRecursion (λ p. before_package owner p ≡ true) ps
+all_above : (uid : ℕ) (owner : Package) (ps : List Package) → owner.uid ≡ uid → Above uid ps
+    → AllByRecursion (λ p. before_package owner p ≡ true) ps
 all_above uid owner [] same above = tt
 all_above uid owner (p ∷ ps) same above =
     (let less : uid < p.uid = above.0 in lt-ltb owner.uid p.uid (omega arith), all_above uid owner ps same above.1)
@@ -115,7 +136,8 @@ ascends_from (p ∷ ps) rise = (all_above p.uid p ps refl rise.0, ascends_from p
 pub device_is_read : (device : Device) → IsSound device → IsRead (opening device)
 device_is_read device sound = record {
   packages = ascends_from device.packages (rises device.packages sound.packages.rising);
-  below = all_weaker IsSoundPackage (λ (p : Package). eqb p.uid no_uid ≡ false) not_greatest device.packages (recursion_from_All IsSoundPackage device.packages sound.packages.each);
+  below = all_weaker IsSoundPackage (λ (p : Package). eqb p.uid no_uid ≡ false) not_greatest device.packages
+      (recursion_from_All IsSoundPackage device.packages sound.packages.each);
   grants = sound.grants.order;
   links = sound.links.order;
 }

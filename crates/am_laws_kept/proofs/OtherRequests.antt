@@ -37,7 +37,8 @@ use Rattle.am_laws.proofs.Cases.{start_cases, service_cases, send_cases, use_cas
 use Rattle.am_laws_kept.specs.Found.{as_stopped, kept_of}
 
 -- packages are the same once each is stopped, whether one of them was stopped or not
-stopped_same : (packages : List Package) (uid : ℕ) (stopped : Bool) → as_stopped (with_stopped packages uid stopped) ≡ as_stopped packages
+stopped_same : (packages : List Package) (uid : ℕ) (stopped : Bool) → as_stopped (with_stopped packages uid stopped)
+    ≡ as_stopped packages
 stopped_same [] uid stopped = refl
 stopped_same (p ∷ ps) uid stopped = by (eqb p.uid uid) (stopped_same ps uid stopped)
   where
@@ -52,8 +53,10 @@ module _ (state : State) (caller : ℕ) where
   Stays after = kept_of after ≡ kept_of state
 
   -- where a package is stopped, or not any more
-  stopped_stays : (uid : ℕ) (stopped : Bool) → Stays (with_packages state (with_stopped state.board.packages uid stopped))
-  stopped_stays uid stopped = ap (λ (ps : List Package). record (kept_of state) { packages = ps }) (stopped_same state.board.packages uid stopped)
+  stopped_stays : (uid : ℕ) (stopped : Bool) → Stays (with_packages state
+      (with_stopped state.board.packages uid stopped))
+  stopped_stays uid stopped = ap (λ (ps : List Package). record (kept_of state) { packages = ps })
+      (stopped_same state.board.packages uid stopped)
 
   -- where an instance is ended or not, a delivery finished or not, a token made or not, the records changed or not
   end_stays : (left : Result Tasks TaskFault) → Stays (after_end state left).1
@@ -75,57 +78,82 @@ module _ (state : State) (caller : ℕ) where
   -- where a token is lent
   lent_stays : (creator : ℕ) (intent : Intent) (kind : Kind) → Stays (lend state creator intent kind).1
   lent_stays creator intent kinds.Activity =
-      start_cases Stays state creator (in_new_task intent) refl None (λ component found landed is admits placed. stopped_stays found.0 false)
-  lent_stays creator intent kinds.Service = service_cases Stays state creator intent refl (λ component found is admits. stopped_stays found.0 false)
+      start_cases Stays state creator (in_new_task intent) refl None
+      (λ component found landed is admits placed. stopped_stays found.0 false)
+  lent_stays creator intent kinds.Service = service_cases Stays state creator intent refl
+      (λ component found is admits. stopped_stays found.0 false)
   lent_stays creator intent kinds.Receiver = send_cases Stays state creator intent refl None None (λ unprotected. refl)
 
   -- each request that has no row kept
-  pub other_stays : (before : List Entry) (request : Request) → keeps_row request ≡ false → Stays (act state before caller request).1
-  unfolding act finish_activity back stop_service register unregister finish pending_get pending_cancel pending_give force_stop advance
+  pub other_stays : (before : List Entry) (request : Request) → keeps_row request ≡ false
+      → Stays (act state before caller request).1
+  unfolding act finish_activity back stop_service register unregister finish pending_get pending_cancel pending_give
+      force_stop advance
   other_stays before (asks.Query kind intent default_only) keeps = refl
   other_stays before (asks.Explain kind intent name permission shown) keeps = refl
   other_stays before (asks.Start intent source) keeps =
-      start_cases Stays state caller intent refl source (λ component found landed is admits placed. stopped_stays found.0 false)
+      start_cases Stays state caller intent refl source (λ component found landed is admits placed. stopped_stays
+      found.0 false)
   other_stays before (asks.FinishActivity instance) keeps = end_stays (tasks.finish state.tasks instance caller)
   other_stays before asks.Back keeps = admin_leaves Stays state caller (back state) refl refl
   other_stays before asks.ListTasks keeps = refl
-  other_stays before (asks.StartService intent) keeps = service_cases Stays state caller intent refl (λ component found is admits. stopped_stays found.0 false)
+  other_stays before (asks.StartService intent) keeps = service_cases Stays state caller intent refl
+      (λ component found is admits. stopped_stays found.0 false)
   other_stays before (asks.StopService component) keeps = by (declared state.board.packages kinds.Service component)
     where
       by : (found : Option (ℕ × Decl)) → Stays (stop_maybe state caller component found).1
       by None = refl
       by (Some found) =
           unless_leaves Stays state (stopped_rule (running state.services component)) _ refl
-          (unless_leaves Stays state (gate_rule state caller found) (done (record state { services = filter (λ (service : Service). not (is_service component service)) state.services })) refl refl)
+          (unless_leaves Stays state (gate_rule state caller found)
+          (done (record state {
+            services = filter (λ (service : Service). not (is_service component service))
+                state.services;
+          })) refl refl)
   other_stays before asks.Services keeps = refl
-  other_stays before (asks.Send intent permission ordered) keeps = send_cases Stays state caller intent refl permission ordered (λ unprotected. refl)
+  other_stays before (asks.Send intent permission ordered) keeps = send_cases Stays state caller intent refl permission
+      ordered (λ unprotected. refl)
   other_stays before (asks.Register filter permission) keeps =
-      either_leaves Stays (nat_le 64 (count_of state.board.registered caller)) (refused state (rules.OverLimit limits.Registered)) _ refl refl
-  other_stays before (asks.Unregister number) keeps = by (find (λ (r : Registration). r.number == number) state.board.registered)
+      either_leaves Stays (nat_le 64 (count_of state.board.registered caller))
+      (refused state (rules.OverLimit limits.Registered)) _ refl refl
+  other_stays before (asks.Unregister number) keeps = by (find (λ (r : Registration). r.number == number)
+      state.board.registered)
     where
       by : (found : Option Registration) → Stays (unregister_found state caller found).1
       by None = refl
-      by (Some found) = either_leaves Stays (found.uid == caller) (done (taken_back state found)) (refused state rules.NotYours) refl refl
+      by (Some found) = either_leaves Stays (found.uid == caller) (done (taken_back state found))
+          (refused state rules.NotYours) refl refl
   other_stays before asks.Inbox keeps = refl
-  other_stays before (asks.Finish delivery answer) keeps = finish_stays (sending.finish state.broadcasts delivery caller answer state.moment)
+  other_stays before (asks.Finish delivery answer) keeps = finish_stays
+      (sending.finish state.broadcasts delivery caller answer state.moment)
   other_stays before (asks.PendingGet kind code intent flags) keeps =
-      get_stays (pendings.get state.pendings (record { creator = caller; kind = kind; code = code; intent = intent; flags = flags }))
+      get_stays (pendings.get state.pendings (record {
+        creator = caller;
+        kind = kind;
+        code = code;
+        intent = intent;
+        flags = flags;
+      }))
   other_stays before (asks.PendingSend token fill) keeps =
-      use_cases Stays state caller token fill refl (λ after left same stays. stays) (λ used is. lent_stays used.creator used.intent used.kind)
+      use_cases Stays state caller token fill refl (λ after left same stays. stays)
+      (λ used is. lent_stays used.creator used.intent used.kind)
   other_stays before (asks.PendingCancel token) keeps = change_stays (pendings.cancel state.pendings token caller)
   other_stays before (asks.PendingGive token name) keeps =
-      package_leaves Stays state name (λ (to : Package). after_change state (pendings.give state.pendings token caller to.uid)) refl
+      package_leaves Stays state name (λ (to : Package). after_change state
+      (pendings.give state.pendings token caller to.uid)) refl
       (λ to is. change_stays (pendings.give state.pendings token caller to.uid))
   other_stays before (asks.Install text key) keeps = absurd cc
   other_stays before (asks.Uninstall name) keeps = absurd cc
   other_stays before (asks.Grant name permission held) keeps = absurd cc
   other_stays before (asks.Link name host approved) keeps = absurd cc
   other_stays before (asks.ForceStop name) keeps =
-      admin_leaves Stays state caller _ refl (package_leaves Stays state name _ refl (λ owner is. stopped_stays owner.uid true))
+      admin_leaves Stays state caller _ refl (package_leaves Stays state name _ refl
+      (λ owner is. stopped_stays owner.uid true))
   other_stays before asks.Tick keeps = admin_leaves Stays state caller (done state) refl refl
   other_stays before (asks.Advance more) keeps =
       admin_leaves Stays state caller (advance state more) refl
-      (either_leaves Stays (nat_le (state.moment + more) 4611686018427387904) (advanced (at_moment state (state.moment + more)))
+      (either_leaves Stays (nat_le (state.moment + more) 4611686018427387904)
+      (advanced (at_moment state (state.moment + more)))
       (refused state (rules.OverLimit limits.Moment)) refl refl)
   other_stays before (asks.History from) keeps = admin_leaves Stays state caller _ refl refl
   other_stays before asks.Status keeps = admin_leaves Stays state caller _ refl refl

@@ -40,14 +40,16 @@ not_before_itself Equal e is = cc
 not_before_itself Greater e is = cc
 
 -- two rights of which one stands before the other aren't the same
-pub right_apart : (uid : ℕ) (text : List ℕ) (r s : Right) → right_cmp r s ≡ Less → is_right uid text r ≡ true → is_right uid text s ≡ false
+pub right_apart : (uid : ℕ) (text : List ℕ) (r s : Right) → right_cmp r s ≡ Less → is_right uid text r ≡ true
+    → is_right uid text s ≡ false
 right_apart uid text r s less is = by (is_right uid text s) refl
   where
     by : (b : Bool) → is_right uid text s ≡ b → b ≡ false
     by false also = refl
     by true also =
         let same : s ≡ r = sym (right_is uid text s also) ∙ right_is uid text r is in
-        absurd (not_before_itself (right_cmp r r) (right_total.antisymm r r) (subst (λ (x : Right). right_cmp r x ≡ Less) same less))
+        absurd (not_before_itself (right_cmp r r) (right_total.antisymm r r)
+        (subst (λ (x : Right). right_cmp r x ≡ Less) same less))
 
 -- rights that tie are the same
 pub right_ties : (r s : Right) → right_cmp r s ≡ Equal → r ≡ s
@@ -62,9 +64,11 @@ abbrev has_right : List Right → ℕ → List ℕ → Bool
 has_right rights uid text = has_right_of (λ (r : Right). r) rights uid text
 
 -- rights that all stand behind one don't have it
-behind_all : (uid : ℕ) (text : List ℕ) (r : Right) (rights : List Right) → is_right uid text r ≡ true → AllByRecursion (λ s. right_cmp r s ≡ Less) rights → has_right rights uid text ≡ false
+behind_all : (uid : ℕ) (text : List ℕ) (r : Right) (rights : List Right) → is_right uid text r ≡ true
+    → AllByRecursion (λ s. right_cmp r s ≡ Less) rights → has_right rights uid text ≡ false
 behind_all uid text r rights is all =
-    none_is (is_right uid text) rights (all_weaker (λ s. right_cmp r s ≡ Less) (λ s. is_right uid text s ≡ false) (λ s less. right_apart uid text r s less is) rights all)
+    none_is (is_right uid text) rights (all_weaker (λ s. right_cmp r s ≡ Less) (λ s. is_right uid text s ≡ false)
+    (λ s less. right_apart uid text r s less is) rights all)
 
 -- rights in order are the same where each of them has what the other has
 pub same_rights : (xs ys : List Right) → IsStrictlySortedBy right_cmp xs → IsStrictlySortedBy right_cmp ys
@@ -83,7 +87,8 @@ same_rights (x ∷ xs) (y ∷ ys) up down same = by (right_cmp x y) refl (λ res
     second : is_right y.0 y.1 y || has_right ys y.0 y.1 ≡ true
     second = or_left (is_right y.0 y.1 y) (has_right ys y.0 y.1) (right_itself y)
 
-    left : x ≡ y → (uid : ℕ) (text : List ℕ) (b : Bool) → is_right uid text x ≡ b → has_right xs uid text ≡ has_right ys uid text
+    left : x ≡ y → (uid : ℕ) (text : List ℕ) (b : Bool) → is_right uid text x ≡ b → has_right xs uid text
+        ≡ has_right ys uid text
     left tie uid text true is =
         let also : is_right uid text y ≡ true = subst (λ (r : Right). is_right uid text r ≡ true) tie is in
         behind_all uid text x xs is up.0 ∙ sym (behind_all uid text y ys also down.0)
@@ -91,15 +96,19 @@ same_rights (x ∷ xs) (y ∷ ys) up down same = by (right_cmp x y) refl (λ res
         let also : is_right uid text y ≡ false = subst (λ (r : Right). is_right uid text r ≡ false) tie is in
         sym (ap (λ b. b || has_right xs uid text) is) ∙ same uid text ∙ ap (λ b. b || has_right ys uid text) also
 
-    by : (o : Ordering) → right_cmp x y ≡ o → (((uid : ℕ) (text : List ℕ) → has_right xs uid text ≡ has_right ys uid text) → xs ≡ ys) → x ∷ xs ≡ y ∷ ys
+    by : (o : Ordering) → right_cmp x y ≡ o → (((uid : ℕ) (text : List ℕ) → has_right xs uid text
+        ≡ has_right ys uid text) → xs ≡ ys) → x ∷ xs ≡ y ∷ ys
     by Less less rest =
-        absurd (false≢true (sym (behind_all x.0 x.1 x (y ∷ ys) (right_itself x) (less, all_less x y ys less down.0)) ∙ sym (same x.0 x.1) ∙ first))
+        absurd (false≢true (sym (behind_all x.0 x.1 x (y ∷ ys) (right_itself x) (less, all_less x y ys less down.0))
+        ∙ sym (same x.0 x.1) ∙ first))
     by Equal tie rest =
         let it : x ≡ y = right_ties x y tie in
-        ap (λ (r : Right). r ∷ xs) it ∙ ap (λ (l : List Right). y ∷ l) (rest (λ uid text. left it uid text (is_right uid text x) refl))
+        ap (λ (r : Right). r ∷ xs) it ∙ ap (λ (l : List Right). y ∷ l)
+        (rest (λ uid text. left it uid text (is_right uid text x) refl))
     by Greater more rest =
         let less : right_cmp y x ≡ Less = right_total.antisymm y x ∙ ap ordering_reverse more in
-        absurd (false≢true (sym (behind_all y.0 y.1 y (x ∷ xs) (right_itself y) (less, all_less y x xs less up.0)) ∙ same y.0 y.1 ∙ second))
+        absurd (false≢true (sym (behind_all y.0 y.1 y (x ∷ xs) (right_itself y) (less, all_less y x xs less up.0))
+        ∙ same y.0 y.1 ∙ second))
 
 module _ {X : Type 0} (as_right : X → Right) (before : X → X → Bool) where
   -- it is the right of a uid and a text
@@ -125,15 +134,18 @@ module _ {X : Type 0} (as_right : X → Right) (before : X → X → Bool) where
   or_is false b = refl
 
   -- what is given is had, what is taken isn't, and all else is as before
-  pub has_given : (x : X) (held : Bool) (xs : List X) (uid : ℕ) (text : List ℕ) → has (given x held xs) uid text ≡ cond (is_at uid text x) held (has xs uid text)
+  pub has_given : (x : X) (held : Bool) (xs : List X) (uid : ℕ) (text : List ℕ) → has (given x held xs) uid text
+      ≡ cond (is_at uid text x) held (has xs uid text)
   has_given x true xs uid text = by (has xs (as_right x).0 (as_right x).1) refl (is_at uid text x) refl
     where
       by : (b : Bool) → has xs (as_right x).0 (as_right x).1 ≡ b → (c : Bool) → is_at uid text x ≡ c
           → has (cond b xs (inserted before x xs)) uid text ≡ cond c true (has xs uid text)
-      by true listed true is = subst (λ (r : Right). has xs r.0 r.1 ≡ true) (sym (right_is uid text (as_right x) is)) listed
+      by true listed true is = subst (λ (r : Right). has xs r.0 r.1 ≡ true) (sym (right_is uid text (as_right x) is))
+          listed
       by true listed false is = refl
       by false listed c is =
-          any_inserted before (is_at uid text) x xs ∙ or_is (is_at uid text x) (has xs uid text) ∙ ap (λ b. cond b true (has xs uid text)) is
+          any_inserted before (is_at uid text) x xs ∙ or_is (is_at uid text x) (has xs uid text)
+          ∙ ap (λ b. cond b true (has xs uid text)) is
   has_given x false xs uid text = by (is_at uid text x) refl
     where
       keeps : X → Bool
@@ -142,17 +154,22 @@ module _ {X : Type 0} (as_right : X → Right) (before : X → X → Bool) where
       by : (c : Bool) → is_at uid text x ≡ c → has (filter keeps xs) uid text ≡ cond c false (has xs uid text)
       by true is =
           any_out (is_at uid text) keeps
-          (λ y also. not_from_true _ (subst (λ (r : Right). is_at r.0 r.1 y ≡ true) (right_is uid text (as_right x) is) also)) xs
-      by false is = any_left (is_at uid text) keeps (λ y also. not_from_false _ (apart y also (is_at (as_right x).0 (as_right x).1 y) refl)) xs
+          (λ y also. not_from_true _ (subst (λ (r : Right). is_at r.0 r.1 y ≡ true) (right_is uid text (as_right x) is)
+          also)) xs
+      by false is = any_left (is_at uid text) keeps (λ y also. not_from_false _
+          (apart y also (is_at (as_right x).0 (as_right x).1 y) refl)) xs
         where
           apart : (y : X) → is_at uid text y ≡ true → (b : Bool) → is_at (as_right x).0 (as_right x).1 y ≡ b → b ≡ false
           apart y also false same = refl
           apart y also true same =
-              let it : as_right x ≡ (uid, text) = right_is (as_right x).0 (as_right x).1 (as_right y) same ∙ sym (right_is uid text (as_right y) also) in
-              absurd (false≢true (sym is ∙ subst (λ (r : Right). is_right r.0 r.1 (as_right x) ≡ true) it (right_itself (as_right x))))
+              let it : as_right x ≡ (uid, text) = right_is (as_right x).0 (as_right x).1 (as_right y) same
+              ∙ sym (right_is uid text (as_right y) also) in
+              absurd (false≢true (sym is ∙ subst (λ (r : Right). is_right r.0 r.1 (as_right x) ≡ true) it
+              (right_itself (as_right x))))
 
   -- no right of a uid is had where they were left out, and all others are
-  pub has_without : (xs : List X) (gone uid : ℕ) (text : List ℕ) → has (filter (λ y. not ((as_right y).0 == gone)) xs) uid text ≡ cond (eqb uid gone) false (has xs uid text)
+  pub has_without : (xs : List X) (gone uid : ℕ) (text : List ℕ) → has (filter (λ y. not ((as_right y).0 == gone)) xs)
+      uid text ≡ cond (eqb uid gone) false (has xs uid text)
   has_without xs gone uid text = by (eqb uid gone) refl
     where
       keeps : X → Bool
@@ -162,5 +179,7 @@ module _ {X : Type 0} (as_right : X → Right) (before : X → X → Bool) where
       its y is = ap (λ (r : Right). r.0) (right_is uid text (as_right y) is)
 
       by : (c : Bool) → eqb uid gone ≡ c → has (filter keeps xs) uid text ≡ cond c false (has xs uid text)
-      by true is = any_out (is_at uid text) keeps (λ y also. not_from_true _ (subst (λ (u : ℕ). eqb u gone ≡ true) (its y also) is)) xs
-      by false is = any_left (is_at uid text) keeps (λ y also. not_from_false _ (subst (λ (u : ℕ). eqb u gone ≡ false) (its y also) is)) xs
+      by true is = any_out (is_at uid text) keeps (λ y also. not_from_true _
+          (subst (λ (u : ℕ). eqb u gone ≡ true) (its y also) is)) xs
+      by false is = any_left (is_at uid text) keeps (λ y also. not_from_false _
+          (subst (λ (u : ℕ). eqb u gone ≡ false) (its y also) is)) xs

@@ -13,7 +13,7 @@ use Rattle.am_history.specs.Kept.{row_of}
 use Rattle.am_history.specs.Opening.{opening_with}
 use Rattle.am_history.specs.Steps.{after_due, asks_keeper, step}
 
--- packages as they are once each is stopped
+-- the packages, each of them stopped
 abbrev pub as_stopped : List Package → List Package
 as_stopped packages = map (λ (p : Package). record p { stopped = true }) packages
 
@@ -26,7 +26,7 @@ pub record Kept : Type 0 where
   pub system_key : List ℕ
   pub root_key : Option (List ℕ)
 
--- that of a state
+-- what is kept of that state
 abbrev pub kept_of : State → Kept
 kept_of state = record {
   packages = as_stopped state.board.packages;
@@ -43,7 +43,7 @@ pub record OpensAs (device : Device) (rows : Rows) (state : State) : Type 0 wher
   pub opens : opening_with device rows ≡ Ok found
   pub same : kept_of found ≡ kept_of state
 
--- the row that an entry has kept after the entries `before`: that of its request, if it was accepted
+-- the row that an entry has kept after the entries `before`: the row of its request, if it was accepted
 abbrev pub row_kept : State → List Entry → Entry → Option Row
 row_kept state before entry =
     if entry.kept && asks_keeper (after_due state entry.now) before entry.uid entry.request
@@ -55,13 +55,13 @@ abbrev pub with_kept : Rows → Option Row → Rows
 with_kept rows None = rows
 with_kept rows (Some row) = with_row rows row
 
--- the rows with those put that these entries have kept, where the entries `before` came first
+-- the rows after those that these entries have kept were put, if the entries `before` came first
 abbrev pub rows_after_from : State → List Entry → Rows → List Entry → Rows
 rows_after_from state before rows [] = rows
 rows_after_from state before rows (first ∷ others) =
     rows_after_from (step state before first).1 (before ++ first ∷ [])
     (with_kept rows (row_kept state before first)) others
 
--- the rows with those put that the entries of a history have kept
+-- the rows after those that the entries of a history have kept were put
 abbrev pub rows_after : State → Rows → List Entry → Rows
 rows_after opening rows history = rows_after_from opening [] rows history

@@ -12,7 +12,7 @@ use Rattle.am_history.specs.History.{replay}
 use Rattle.am_laws_state.specs.Sound.{IsSoundState}
 use Rattle.am_laws_kept.specs.Found.{OpensAs, row_kept, rows_after, with_kept}
 
--- a sound device that opens with rows opens also with those that a history of formed requests has kept since, and
+-- a sound device that opens with rows also opens with those that a history of formed requests has kept since, and
 -- what is kept of the state after that history is found
 abbrev pub KeptIsFound : Type 0
 KeptIsFound =
@@ -20,11 +20,12 @@ KeptIsFound =
     → opening_with device rows ≡ Ok opening → All (λ (entry : Entry). IsTrue (is_formed entry.request)) history
     → OpensAs device (rows_after opening rows history) (replay opening history)
 
--- with the row that a formed entry has kept the device opens as the state after it
+-- with the row that a formed entry has kept, the device opens as the state after it
 abbrev pub StepIsFound : Type 0
 StepIsFound =
     (device : Device) (rows : Rows) (state : State) (before : List Entry) (entry : Entry)
-    → IsSound device → IsInOrder rows → IsSoundState state → IsTrue (is_formed entry.request) → OpensAs device rows state
+    → IsSound device → IsInOrder rows → IsSoundState state → IsTrue (is_formed entry.request)
+    → OpensAs device rows state
     → OpensAs device (with_kept rows (row_kept state before entry)) (step state before entry).1
 
 -- the row that an entry has kept leaves the rows in order
@@ -33,7 +34,7 @@ RowsStayInOrder =
     (rows : Rows) (state : State) (before : List Entry) (entry : Entry) → IsInOrder rows
     → IsInOrder (with_kept rows (row_kept state before entry))
 
--- one more entry puts the row that it has kept to those of the entries before it
+-- one more entry puts the row that it has kept into those of the entries before it
 abbrev pub RowsFollow : Type 0
 RowsFollow =
     (opening : State) (rows : Rows) (history : List Entry) (entry : Entry)

@@ -20,7 +20,7 @@ use am_types::{
 use std::alloc::Global;
 use std::sync::ledger::Ledger;
 
-/// How many receivers a uid may have registered.
+/// How many registered receivers a uid may have.
 const MOST_REGISTERED: usize = 64;
 
 /// What a caller broadcasts: an intent, what a receiver of it must hold, and how it starts if it is ordered.
@@ -31,10 +31,10 @@ pub struct Message<'a> {
     pub ordered: Option<&'a Ordered>,
 }
 
-/// Broadcasts an intent at a moment, once the deadlines are handled that are due then: to all receivers at once,
-/// or to one after the other if it is ordered. The answer tells the broadcast's number and who it was offered to.
-/// Refusals in this order: `ProtectedAction` if the action is protected and the caller neither the system nor the
-/// root; `OverLimit` of `Broadcasts` if the caller has 64 live ones, and of `Receivers` if more than 1,024 are
+/// Broadcasts an intent at a moment, after handling the deadlines that are due then: to all receivers at once, or
+/// to one after the other if it is ordered. The answer gives the broadcast's number and who it was offered to.
+/// Refusals in this order: `ProtectedAction` if the action is protected and the caller is neither the system nor
+/// the root; `OverLimit` of `Broadcasts` if the caller has 64 live ones, and of `Receivers` if more than 1,024 are
 /// admitted. A step is a full test of a filter, or a reading of a deadline. After `NoMemory` all is as before.
 pub fn send<L: Ledger>(
     alloc: Global,
@@ -90,8 +90,8 @@ fn send_to<L: Ledger>(
     }
 }
 
-/// Registers a receiver of the caller under the next number, and answers that. `permission` is what a sender must
-/// hold. Refused: `OverLimit` of `Registered` if the caller has 64. After `NoMemory` all is as before.
+/// Registers a receiver of the caller under the next number, and answers that number. `permission` is what a
+/// sender must hold. Refused by `OverLimit` of `Registered` if the caller has 64. After `NoMemory` all is as before.
 pub fn register(
     board: &mut Board,
     next: &mut u64,
@@ -112,14 +112,15 @@ pub fn register(
         return Ok(Reply::Refused(Rule::OverLimit(Limit::Registered)));
     }
     let number = *next;
-    let receiver = receiver_with(number, caller, filter, permission)?;
-    board.register(receiver)?;
+    let copy = filter.clone()?;
+    let held = permission_of(permission)?;
+    board.register(number, caller, copy, held)?;
     *next = number + 1;
     Ok(Reply::Registered(number))
 }
 
-/// Takes a registered receiver of the caller back at a moment, once the deadlines are handled that are due then;
-/// no broadcast is for it any more. Refusals: `NoReceiver` if none of that number is registered; `NotYours` if it
+/// Takes a registered receiver of the caller back at a moment, after handling the deadlines that are due then. No
+/// broadcast goes to it any longer. Refusals: `NoReceiver` if none with that number is registered; `NotYours` if it
 /// is another uid's. A step is a reading of a deadline. Takes no memory.
 pub fn unregister<L: Ledger>(
     board: &mut Board,
@@ -146,10 +147,10 @@ pub fn unregister<L: Ledger>(
     }
 }
 
-/// Finishes a delivery to the caller, or takes its result of an ordered broadcast, at a moment, once the deadlines
-/// are handled that are due then. Refusals: `NoDelivery` if none of that number stands; `NotYours` if it is another
-/// uid's; `NotOrdered` if the answer sets an outcome or aborts, and it isn't an ordered delivery. A step is a reading
-/// of a deadline. It takes memory only where the answer sets an outcome; after `NoMemory` all is as before.
+/// Finishes a delivery to the caller, or takes the result of the caller's ordered broadcast, at a moment, after
+/// handling the deadlines that are due then. Refusals: `NoDelivery` if there is none with that number; `NotYours` if
+/// it is another uid's; `NotOrdered` if the answer sets an outcome or aborts, and it isn't an ordered delivery. A step
+/// is a reading of a deadline. Takes memory only if the answer sets an outcome. After `NoMemory` all is as before.
 pub fn finish<L: Ledger>(
     queues: &mut Queues,
     by: Caller,
@@ -182,7 +183,7 @@ fn count_of(registered: &List<Registration>, uid: u32) -> usize
         .count()
 }
 
-/// Whose the registered receiver of that number is, if there is one.
+/// The uid of the registered receiver with that number, if there is one.
 fn holder_of(registered: &List<Registration>, number: u64) -> Option<u32>
     ensures { result ≡ option_map (λ (r : Registration). r.uid)
         (find (λ (r : Registration). r.number == number) registered.now) }
@@ -195,7 +196,7 @@ fn holder_of(registered: &List<Registration>, number: u64) -> Option<u32>
     None
 }
 
-/// The permission, if there is one, copied.
+/// A copy of the permission, if there is one.
 fn permission_of(permission: Option<&Text>) -> Result<Option<Text>, NoMemory>
     ensures { IfOk result (λ copy. copy ≡ option_copied permission.entry) }
 {
@@ -205,27 +206,7 @@ fn permission_of(permission: Option<&Text>) -> Result<Option<Text>, NoMemory>
     }
 }
 
-/// A receiver that is to be registered.
-fn receiver_with(
-    number: u64,
-    uid: u32,
-    filter: &Filter,
-    permission: Option<&Text>,
-) -> Result<Registration, NoMemory>
-    ensures { IfOk result (λ made. made
-        ≡ record { number = number; uid = uid; filter = filter.now; permission = option_copied permission.entry }) }
-{
-    let permission = permission_of(permission)?;
-    let filter = filter.clone()?;
-    Ok(Registration {
-        number,
-        uid,
-        filter,
-        permission,
-    })
-}
-
-/// The answer, copied; without an outcome that takes no memory.
+/// A copy of the answer. Takes no memory if there is no outcome.
 fn answer_of(answer: &Answer) -> Result<Answer, NoMemory>
     ensures same { IfOk result (λ copy. copy ≡ answer.now) }
     ensures calm { answer.now.set ≡ None → IsOk result }

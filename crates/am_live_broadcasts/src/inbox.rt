@@ -10,7 +10,7 @@ use am_types::{NoMemory, Reply, Steps};
 use std::mem;
 use std::sync::ledger::Ledger;
 
-/// What waits for the caller once the deadlines are handled that are due at the moment of the call. A step is a
+/// What waits for the caller after the deadlines that are due at the moment of the call are handled. A step is a
 /// reading of a deadline. After `NoMemory` all is as before.
 pub fn inbox_at<L: Ledger>(
     queues: &mut Queues,

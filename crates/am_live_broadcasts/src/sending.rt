@@ -1,4 +1,4 @@
-//! A broadcast that is to be sent: to whom, and what it needs of the caller's intent.
+//! A broadcast that is to be sent: who it goes to, and what it needs from the caller's intent.
 ghost use Rattle.std.specs.Prelude.{◌≡◌, ◌≢◌, ◌≤◌, ◌&&◌, not, Ok, Err, None, IfOk, IfErr, IfNone, IfSome};
 ghost use Rattle.std.specs.Option.{option_copied};
 ghost use Rattle.am_model.specs.Broadcasts.{expired};
@@ -19,14 +19,14 @@ use std::alloc::Global;
 use std::mem;
 use std::sync::ledger::Ledger;
 
-/// The text is listed.
+/// Whether the text is listed.
 fn lists(texts: &[Text], text: &Text) -> bool
     ensures { result ≡ lists texts.now text.now }
 {
     texts.iter().any(|listed| *listed == *text)
 }
 
-/// The action is there and is protected.
+/// Whether there is an action and it is protected.
 fn is_protected(protected: &List<Text>, action: &Option<Text>) -> bool
     ensures { result ≡ is_protected protected.now action.now }
 {
@@ -36,7 +36,7 @@ fn is_protected(protected: &List<Text>, action: &Option<Text>) -> bool
     }
 }
 
-/// The action is protected, and the caller is neither the system nor the root.
+/// Whether the action is protected, and the caller is neither the system nor the root.
 pub(crate) fn is_withheld(protected: &List<Text>, action: &Option<Text>, caller: u32) -> bool
     ensures { result ≡ is_protected protected.now action.now && not (is_privileged caller) }
 {
@@ -59,7 +59,7 @@ fn admitted(alloc: Global, offered: &[Receiving]) -> Result<List<Spot>, NoMemory
     Ok(List::new(spots))
 }
 
-/// How an ordered broadcast starts, if it is one, copied.
+/// A copy of how an ordered broadcast starts, if it is one.
 fn ordered_of(ordered: Option<&Ordered>) -> Result<Option<Ordered>, NoMemory>
     ensures { IfOk result (λ copy. copy ≡ option_copied ordered.entry) }
 {
@@ -109,8 +109,8 @@ pub(crate) fn send_rule(fault: SendFault) -> Option<Rule>
     }
 }
 
-/// Sends a broadcast once the deadlines are handled that are due at its moment, and answers its number.
-/// A refusal leaves these deadlines handled; after `NoMemory` all is as before.
+/// Sends a broadcast after handling the deadlines that are due at its moment, and returns its number.
+/// After a refusal these deadlines are still handled; after `NoMemory` all is as before.
 pub(crate) fn send_at<L: Ledger>(
     queues: &mut Queues,
     call: Sending,
@@ -127,7 +127,7 @@ pub(crate) fn send_at<L: Ledger>(
     if !queues.due(call.now, steps) {
         return queues.send(call);
     }
-    // First on a copy, since handled deadlines can't be taken back.
+    // This works on a copy, since handled deadlines can't be undone.
     let Ok(mut copy) = queues.copy() else {
         drop(call);
         return Err(SendFault::NoMemory);

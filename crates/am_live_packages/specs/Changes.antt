@@ -1,4 +1,4 @@
--- What a call on packages changes once its row is kept: what is planned, how that is prepared, and what it comes to.
+-- What a call on packages changes once its row is kept: what is planned, how it is prepared, and what its result is.
 use Rattle.std.specs.Prelude.{◌≡◌, ◌<◌, ℕ, ◌+◌, Bool, true, false, not, ◌&&◌, ◌==◌, List, [], ◌∷◌, ◌++◌, length, if◌then◌else◌, Some}
 use Rattle.std.specs.List.{count_by}
 use Rattle.am_types.specs.declared.device.Grant.{Grant}
@@ -29,7 +29,7 @@ use Rattle.am_live_packages.specs.declared.known.Known.{Known}
 use Rattle.am_types.specs.declared.device.RightKind.{RightKind}
 use Rattle.am_types.specs.declared.device.RightKind.TheVariants.{Permission, Host}
 
--- a state of which that is known
+-- a state about which this is known
 abbrev pub with_known : State → Known → State
 with_known state known = record state {
   system_key = known.system_key.now;
@@ -38,7 +38,7 @@ with_known state known = record state {
   next_uid = known.next_uid;
 }
 
--- the state with one more package, behind the others
+-- the state with one more package, after the others
 abbrev pub with_package : State → Package → State
 with_package state «package» = with_packages state (state.board.packages ++ «package» ∷ [])
 
@@ -68,15 +68,15 @@ right_request Host name text held = asks.Link name text held
 
 -- the row of a right that a uid is given, or that is taken
 abbrev pub right_row : RightKind → ℕ → List ℕ → Bool → Row
-right_row Permission uid text held = rows.Grant (record { uid = uid; text = text; held = held })
-right_row Host uid text held = rows.Link (record { uid = uid; text = text; held = held })
+right_row Permission uid text held = rows.Grant (record { uid = uid; permission = text; held = held })
+right_row Host uid text held = rows.Link (record { uid = uid; host = text; approved = held })
 
 -- the limit of how many rights of the kind a package may have
 abbrev pub right_limit : RightKind → Limit
 right_limit Permission = limits.Grants
 right_limit Host = limits.Links
 
--- what a change is answered, and the state that it leaves
+-- the answer to a change, and the state that it leaves
 abbrev pub changed : Change → State → Reply × State
 changed (changes.Install «package») state =
     (replies.Installed «package».uid, record (with_package state «package») { next_uid = state.next_uid + 1 })
@@ -91,7 +91,7 @@ prepared (changes.Right right) state =
     if right.is_new then with_right state right.kind right.uid right.text true else state
 
 -- a package can be installed: there are fewer than 256, it has the next uid, which isn't the last one and no other
--- package's, and with it the packages are installed as they have to be
+-- package's, and with it the packages are installed as they must be
 pub record IsInstallable («package» : Package) (state : State) : Type 0 where
   pub room : length state.board.packages < 256
   pub uid : «package».uid ≡ state.next_uid
@@ -99,11 +99,12 @@ pub record IsInstallable («package» : Package) (state : State) : Type 0 where
   pub new : is_package_uid state.board.packages «package».uid ≡ false
   pub installed : AreInstalled (state.board.packages ++ «package» ∷ [])
 
--- a change fits a state: a package can be installed, and a right is new exactly if it is given and wasn't held
+-- a change fits a state: a package can be installed, and a right is new if and only if it is given and wasn't held
 abbrev pub Fits : Change → State → Type 0
 Fits (changes.Install «package») state = IsInstallable «package» state
 Fits (changes.Uninstall uid) state = Unit {0}
-Fits (changes.Right right) state = right.is_new ≡ (right.held && not (is_held state.board right.kind right.uid right.text))
+Fits (changes.Right right) state = right.is_new ≡ (right.held && not
+    (is_held state.board right.kind right.uid right.text))
 
 -- the state is one that a change fits, and for which it was prepared
 pub record IsPrepared (change : Change) (state : State) : Type 0 where
@@ -114,16 +115,17 @@ pub record IsPrepared (change : Change) (state : State) : Type 0 where
 -- at each moment the request is refused by the rule
 abbrev pub IsRefusedBy : Rule → State → ℕ → Request → Type 0
 IsRefusedBy rule state caller request =
-    (moment : ℕ) (before : List Entry) → act (at_moment state moment) before caller request ≡ refused (at_moment state moment) rule
+    (moment : ℕ) (before : List Entry) → act (at_moment state moment) before caller request
+    ≡ refused (at_moment state moment) rule
 
--- at each moment the request comes to the change, which fits the state, and the row is the one that it has kept
+-- at each moment the request makes the change, which fits the state, and the row is the one that it has kept
 pub record IsAccepted (change : Change) (row : Row) (state : State) (caller : ℕ) (request : Request) : Type 0 where
   pub done : (moment : ℕ) (before : List Entry)
       → act (at_moment state moment) before caller request ≡ changed change (at_moment state moment)
   pub kept : row_of state request ≡ Some row
   pub fits : Fits change state
 
--- that is what is planned for the request of a caller
+-- this is the plan for the request of a caller
 abbrev pub IsPlanOf : Plan → State → ℕ → Request → Type 0
 IsPlanOf (plans.Refused rule) state caller request = IsRefusedBy rule state caller request
 IsPlanOf (plans.Accepted change row) state caller request = IsAccepted change row state caller request

@@ -1,10 +1,10 @@
-//! What a plan reads of the live state.
+//! What a plan reads from the live state.
 
 use am_resolve::Board;
 use am_types::Text;
 use std::alloc::Global;
 
-/// What a plan has to know of a device: the keys of its system and its root, its board and the next uid; with the
+/// What a plan has to know about a device: the keys of its system and its root, its board and the next uid; with the
 /// allocator.
 #[derive(Drop)]
 pub struct Known<'a> {

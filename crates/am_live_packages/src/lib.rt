@@ -1,4 +1,4 @@
-//! Calls on packages that have a row kept: what is planned for them, and what they change.
+//! Calls on packages that keep a row: what is planned for them, and what they change.
 #![tactic(auto)]
 
 mod change;

@@ -1,4 +1,4 @@
-//! What is planned for calls that have a row kept.
+//! What is planned for calls that keep a row.
 ghost use Rattle.std.specs.Prelude.{◌≡◌, ◌==◌, ◌&&◌, ◌||◌, not, true, nat_le, count_by, IfOk, IsTrue};
 ghost use Rattle.am_manifest.specs.Manifests.{manifest_of};
 ghost use Rattle.am_model.specs.Boards.{is_linked};
@@ -13,7 +13,7 @@ ghost use Rattle.am_live_packages.specs.Changes.{IsPlanOf, count_held, is_held, 
 use crate::{Change, Known, Plan, RightChange};
 use am_gates::{is_granted, is_privileged};
 use am_installed::Right;
-use am_keeper::{PackageRow, RightRow, Row};
+use am_keeper::{GrantRow, LinkRow, PackageRow, Row};
 use am_live_gate::is_key_used;
 use am_manifest::read_package;
 use am_types::{
@@ -28,11 +28,11 @@ const MOST_PACKAGES: usize = 256;
 const MOST_RIGHTS: usize = 256;
 
 impl Known<'_> {
-    /// Plans what a call comes to that has a row kept, and what its row is. It only reads the state. Refusals
-    /// in the order of the definitions: `AdminOnly` for other callers than the system and the root; then for
-    /// an installation `BadManifest`, `Installed` if the name or the key is in use, and `OverLimit` of
-    /// `Packages` at 256 or if no uid is left; for the others `NoPackage`, and `OverLimit` of `Grants` or
-    /// `Links` for one more than 256 of a package.
+    /// Plans what a call that keeps a row does, and what its row is. This only reads the state. Refusals, in
+    /// the order of the definitions: `AdminOnly` for callers other than the system and the root; then, for an
+    /// installation, `BadManifest`, `Installed` if the name or the key is in use, and `OverLimit` of `Packages`
+    /// if there are 256 or no uid is left; for the others, `NoPackage`, and `OverLimit` of `Grants` or `Links`
+    /// for one more than 256 of a package.
     pub fn plan(&self, caller: u32, request: &Request) -> Result<Plan, NoMemory>
         requires { IsTrue (keeps_row request.now) }
         ensures { IfOk result (λ plan. (state : State) → IsSoundState (with_known state self.now)
@@ -101,7 +101,7 @@ impl Known<'_> {
         })
     }
 
-    /// A package has the name, or a caller the key.
+    /// Whether a package has the name, or a caller has the key.
     fn is_used(&self, name: &Text, key: &Text) -> bool
         ensures { (state : State) → result
             ≡ (is_name_used self.now.board.now.packages name.now || is_key_used (with_known state self.now) key.now) }
@@ -110,14 +110,14 @@ impl Known<'_> {
             || is_key_used(self.system_key, self.root_key, self.board.packages(), key)
     }
 
-    /// No package can be added any more: there are 256, or no uid is left.
+    /// Whether no more packages can be added: there are 256, or no uid is left.
     fn is_full(&self) -> bool
         ensures { (state : State) → result ≡ is_full (with_known state self.now) }
     {
         self.board.packages().as_slice().len() >= MOST_PACKAGES || self.next_uid == u32::MAX
     }
 
-    /// Plans that the package of the name goes.
+    /// Plans the removal of the package with the name.
     fn plan_uninstall(&self, caller: u32, name: &Text) -> Result<Plan, NoMemory>
         requires { IsTrue (is_privileged caller) }
         ensures { IfOk result (λ plan. (state : State) →
@@ -131,7 +131,7 @@ impl Known<'_> {
         Ok(Plan::Accepted { change, row })
     }
 
-    /// Plans that the package of the name is given a right, or that it is taken.
+    /// Plans that a right is given to the package with the name, or taken from it.
     fn plan_right(
         &self,
         caller: u32,
@@ -167,14 +167,14 @@ impl Known<'_> {
         })
     }
 
-    /// The right is given, and the uid doesn't have it.
+    /// Whether the right is given, and the uid doesn't have it.
     fn is_new_right(&self, kind: RightKind, uid: u32, text: &Text, held: bool) -> bool
         ensures { result ≡ (held && not (is_held self.now.board.now kind uid text.now)) }
     {
         held && !self.has_right(kind, uid, text)
     }
 
-    /// The uid has the right.
+    /// Whether the uid has the right.
     fn has_right(&self, kind: RightKind, uid: u32, text: &Text) -> bool
         ensures { result ≡ is_held self.now.board.now kind uid text.now }
     {
@@ -184,7 +184,7 @@ impl Known<'_> {
         }
     }
 
-    /// The right is new, and the uid has as many of the kind as it may.
+    /// Whether the right is new, and the uid has as many of the kind as it may.
     fn is_right_too_many(&self, kind: RightKind, uid: u32, is_new: bool) -> bool
         ensures { result ≡ (is_new && nat_le 256 (count_held self.now.board.now kind uid)) }
     {
@@ -202,7 +202,7 @@ impl Known<'_> {
     }
 }
 
-/// A package has the name.
+/// Whether a package has the name.
 fn is_name_used(packages: &List<Package>, name: &Text) -> bool
     ensures { result ≡ is_name_used packages.now name.now }
 {
@@ -212,7 +212,7 @@ fn is_name_used(packages: &List<Package>, name: &Text) -> bool
         .any(|installed| installed.name == *name)
 }
 
-/// The package of a manifest that was read, with its uid and key. It is stopped.
+/// The package of a manifest that was read, with its uid and key, stopped.
 fn package_of(uid: u32, key: &Text, manifest: Manifest) -> Result<Package, NoMemory>
     ensures { IfOk result (λ made. made ≡ record {
       uid = uid;
@@ -267,10 +267,17 @@ fn right_row(kind: RightKind, uid: u32, text: &Text, held: bool) -> Result<Row, 
     ensures { IfOk result (λ row. row ≡ right_row kind uid text.now held) }
 {
     let text = text.clone()?;
-    let row = RightRow { uid, text, held };
     match kind {
-        RightKind::Permission => Ok(Row::Grant(row)),
-        RightKind::Host => Ok(Row::Link(row)),
+        RightKind::Permission => Ok(Row::Grant(GrantRow {
+            uid,
+            permission: text,
+            held,
+        })),
+        RightKind::Host => Ok(Row::Link(LinkRow {
+            uid,
+            host: text,
+            approved: held,
+        })),
     }
 }
 
@@ -284,7 +291,7 @@ fn right_limit(kind: RightKind) -> Limit
     }
 }
 
-/// The uid is approved for the host.
+/// Whether the uid is approved for the host.
 fn is_linked(links: &List<Link>, uid: u32, host: &Text) -> bool
     ensures { result ≡ is_linked links.now uid host.now }
 {

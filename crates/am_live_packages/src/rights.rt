@@ -6,7 +6,7 @@ use crate::RightChange;
 use am_resolve::Board;
 use am_types::{NoMemory, RightKind};
 
-/// The uid has the right, or doesn't any more; taking it away takes no memory. Without memory all is as before.
+/// Gives the uid the right, or takes it away, which takes no memory. If memory runs out, all is as before.
 pub fn set_right(board: &mut Board, right: &RightChange, held: bool) -> Result<(), NoMemory>
     ensures set { OnOk result (board.new ≡ with_held board.old right.now.kind right.now.uid right.now.text held) }
     ensures same { OnErr result (board.new ≡ board.old) }
@@ -19,7 +19,7 @@ pub fn set_right(board: &mut Board, right: &RightChange, held: bool) -> Result<(
     }
 }
 
-/// The uid doesn't have the right any more. Takes no memory.
+/// Takes the right away from the uid. Takes no memory.
 pub fn take_right(board: &mut Board, right: &RightChange)
     ensures taken { board.new ≡ with_held board.old right.now.kind right.now.uid right.now.text false }
     ensures count { length board.new.packages ≡ length board.old.packages }
@@ -27,7 +27,7 @@ pub fn take_right(board: &mut Board, right: &RightChange)
     let _taken = set_right(board, right, false);
 }
 
-/// The uid doesn't have the right any more, unless it is to be held. Takes no memory.
+/// Takes the right away from the uid, unless it is to be held. Takes no memory.
 pub fn take_unless_held(board: &mut Board, right: &RightChange)
     ensures taken { board.new ≡ (if right.now.held then board.old
         else with_held board.old right.now.kind right.now.uid right.now.text false) }

@@ -17,11 +17,13 @@ use Rattle.am_opening.specs.Openings.{Refuses}
 use Rattle.am_machine.specs.Beginnings.{BeginsWith, IsWant}
 
 -- without rows none is refused
-pub only_want : {X : Type 0} (begun : Result X BeginFault) (device : Device) (rows : Rows) → IsSound device → rows ≡ no_rows
+pub only_want : {X : Type 0} (begun : Result X BeginFault) (device : Device) (rows : Rows) → IsSound device → rows
+    ≡ no_rows
     → IfErr begun (λ fault. Refuses fault (opening_with device rows)) → IfErr begun IsWant
 only_want (Ok manager) device rows sound none refuses = tt
 only_want (Err (faults.Rows name)) device rows sound none refuses =
-    let opens : opening_with device rows ≡ Ok (opening device) = ap (opening_with device) none ∙ no_rows_open_the_device device sound in
+    let opens : opening_with device rows ≡ Ok (opening device) = ap (opening_with device) none
+    ∙ no_rows_open_the_device device sound in
     absurd cc
 only_want (Err faults.NoMemory) device rows sound none refuses = tt
 
@@ -29,11 +31,29 @@ module _ {K : Type 0} where
   -- a manager that is begun without rows begins with the device's own state
   begins_with : (begun : Result (Managed K) BeginFault) (manager : Managed K) (device : Device) (rows : Rows)
       (place : Option (List ℕ)) (keeper : K) → IsSound device → rows ≡ no_rows → begun ≡ Ok manager
-      → IfOk begun (λ m. m ≡ record { origin = record { device = device; rows = rows; place = place }; history = []; spare = 0; keeper = keeper })
+      → IfOk begun (λ m. m ≡ record {
+        origin = record { device = device; rows = rows; place = place };
+        history = [];
+        spare = 0;
+        keeper = keeper;
+      })
       → BeginsWith device manager
   begins_with begun manager device rows place keeper sound none is begins =
-      let made : manager ≡ record { origin = record { device = device; rows = rows; place = place }; history = []; spare = 0; keeper = keeper } =
-      subst (λ (b : Result (Managed K) BeginFault). IfOk b (λ m. m ≡ record { origin = record { device = device; rows = rows; place = place }; history = []; spare = 0; keeper = keeper })) is begins in
+      let made : manager ≡ record {
+        origin = record { device = device; rows = rows; place = place };
+        history = [];
+        spare
+            = 0;
+        keeper = keeper;
+      } =
+      subst (λ (b : Result (Managed K) BeginFault). IfOk b (λ m. m
+      ≡ record {
+        origin = record { device = device; rows = rows; place = place };
+        history = [];
+        spare = 0;
+        keeper =
+            keeper;
+      })) is begins in
       record {
         of_device = ap (λ (m : Managed K). m.origin.device) made;
         start = ap (λ (m : Managed K). opening_of m.origin) made
@@ -43,9 +63,16 @@ module _ {K : Type 0} where
       }
 
   -- the manager that began is such a one
-  pub begins_if : (begun : Result (Managed K) BeginFault) (result : Result (Managed K) NoMemory) (device : Device) (rows : Rows)
-      (place : Option (List ℕ)) (keeper : K) → IsSound device → rows ≡ no_rows → IfOk result (λ manager. begun ≡ Ok manager)
-      → IfOk begun (λ m. m ≡ record { origin = record { device = device; rows = rows; place = place }; history = []; spare = 0; keeper = keeper })
+  pub begins_if : (begun : Result (Managed K) BeginFault) (result : Result (Managed K) NoMemory) (device : Device)
+      (rows : Rows)
+      (place : Option (List ℕ)) (keeper : K) → IsSound device → rows ≡ no_rows
+      → IfOk result (λ manager. begun ≡ Ok manager)
+      → IfOk begun (λ m. m ≡ record {
+        origin = record { device = device; rows = rows; place = place };
+        history = [];
+        spare = 0;
+        keeper = keeper;
+      })
       → IfOk result (λ manager. BeginsWith device manager)
   begins_if begun (Ok manager) device rows place keeper sound none is begins =
       begins_with begun manager device rows place keeper sound none is begins

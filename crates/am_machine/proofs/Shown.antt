@@ -18,14 +18,19 @@ pub kept_shows : (start : State) (history : List Entry) (call : Call) (entry : E
     → entry ≡ entry_of call entry.uid true → uid_of (replay start history) call.key ≡ Some entry.uid
     → may_change (replay start history) entry.now entry.request ≡ true → has_room history entry.weight ≡ true
     → ShowsAt start history (history ++ with_kept entry kept ∷ []) call
-    (record { at = length history; stored = true; reply = (step (replay start history) history (with_kept entry kept)).0 })
+    (record {
+      at = length history;
+      stored = true;
+      reply = (step (replay start history) history (with_kept entry kept)).0;
+    })
 kept_shows start history call entry kept is known changes room = record {
   kept = kept;
   at = refl;
   stored = sym (all_three _ _ _ (ap (λ o. is_some o) known) changing roomy);
   reply = ap (λ (e : Entry). (step state history e).0) is_entry
       ∙ sym (ap (reply_to state history call kept) known
-      ∙ ap (λ b. if b then (if has_room history call.weight then (step state history (entry_of call entry.uid kept)).0 else Refused HistoryFull) else (act state history entry.uid call.request).0) changing
+      ∙ ap (λ b. if b then (if has_room history call.weight then (step state history (entry_of call entry.uid kept)).0
+      else Refused HistoryFull) else (act state history entry.uid call.request).0) changing
       ∙ ap (λ b. if b then (step state history (entry_of call entry.uid kept)).0 else Refused HistoryFull) roomy);
   follows = (
     with_kept entry kept,

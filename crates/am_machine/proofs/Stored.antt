@@ -28,7 +28,8 @@ room_is : (history : List Entry) (weight : ℕ) → has_room history weight ≡ 
 room_is history weight room = grind (arith, room)
 
 -- the manager with the entry of a call holds what that call left
-pub holds_more : (origin : Origin) (live after : State) (history : List Entry) (weight : ℕ) (entry : Entry) (reply : Reply)
+pub holds_more : (origin : Origin) (live after : State) (history : List Entry) (weight : ℕ) (entry : Entry)
+    (reply : Reply)
     → Holds origin live history weight → IsTrue (has_uid (replay (opening_of origin) history) entry.uid)
     → IsTrue (may_change (replay (opening_of origin) history) entry.now entry.request)
     → IsTrue (has_room history entry.weight)
@@ -44,18 +45,21 @@ holds_more origin live after history weight entry reply holds caller changes roo
     caller = caller;
     changes = changes;
     room = room;
-    kept = subst (λ (state : State). IsTrue (entry.kept || asks_keeper (after_due state entry.now) history entry.uid entry.request)) (sym holds.replayed) kept;
+    kept = subst (λ (state : State). IsTrue (entry.kept || asks_keeper (after_due state entry.now) history entry.uid
+        entry.request)) (sym holds.replayed) kept;
   });
   weighed = ap (λ (n : ℕ). n + entry.weight) holds.weighed ∙ sym (sum_by_push (λ (e : Entry). e.weight) history entry);
   most = subst (λ (n : ℕ). n + entry.weight ≤ 536870912) (sym holds.weighed) (room_is history entry.weight room).1;
   few = few (length-append history (entry ∷ [])) (room_is history entry.weight room).0;
 }
   where
-    few : length (history ++ entry ∷ []) ≡ length history + 1 → length history < 1048576 → length (history ++ entry ∷ []) ≤ 1048576
+    few : length (history ++ entry ∷ []) ≡ length history + 1 → length history < 1048576
+        → length (history ++ entry ∷ []) ≤ 1048576
     few is below = omega (arith, is, below)
 
 -- its keeper counted one more fault if the row wasn't kept, and tells it if it was
-pub holds_kept_more : {K : Type 0} (g : Ghosts K) (origin : Origin) (live after : State) (history : List Entry) (entry : Entry) (reply : Reply) (old new : K)
+pub holds_kept_more : {K : Type 0} (g : Ghosts K) (origin : Origin) (live after : State) (history : List Entry)
+    (entry : Entry) (reply : Reply) (old new : K)
     → HoldsKept g origin history old → replay (opening_of origin) history ≡ live → length history ≤ 1048576
     → step live history entry ≡ (reply, after) → GoesOn g old new
     → (g.is_honest new → g.rows new ≡ told_after live entry.request reply (g.rows old))
@@ -83,30 +87,38 @@ holds_kept_more g origin live after history entry reply old new holds replayed f
         omega (arith, more, unkept, rises, count_by-le-length is_unkept history)
 
 -- what holds of a manager's parts after a call that is stored
-pub stored_more : {K : Type 0} (g : Ghosts K) (device : Device) (rows : Rows) (live after : State) (history : List Entry) (weight : ℕ) (entry : Entry) (reply : Reply) (old new : K)
+pub stored_more : {K : Type 0} (g : Ghosts K) (device : Device) (rows : Rows) (live after : State)
+    (history : List Entry) (weight : ℕ) (entry : Entry) (reply : Reply) (old new : K)
     → Holds (record { device = device; rows = rows; place = g.place old }) live history weight
     × HoldsKept g (record { device = device; rows = rows; place = g.place old }) history old
-    → IsTrue (has_uid live entry.uid) → IsTrue (may_change live entry.now entry.request) → IsTrue (has_room history entry.weight)
+    → IsTrue (has_uid live entry.uid) → IsTrue (may_change live entry.now entry.request)
+    → IsTrue (has_room history entry.weight)
     → IsTrue (entry.kept || asks_keeper (after_due live entry.now) history entry.uid entry.request)
     → step live history entry ≡ (reply, after)
     → GoesOn g old new → (g.is_honest new → g.rows new ≡ told_after live entry.request reply (g.rows old))
     → (entry.kept ≡ false → HasRisen (g.faults old) (g.faults new))
-    → Holds (record { device = device; rows = rows; place = g.place new }) after (history ++ entry ∷ []) (weight + entry.weight)
+    → Holds (record { device = device; rows = rows; place = g.place new }) after (history ++ entry ∷ [])
+    (weight + entry.weight)
     × HoldsKept g (record { device = device; rows = rows; place = g.place new }) (history ++ entry ∷ []) new
-stored_more g device rows live after history weight entry reply old new holds caller changes room asked does goes put risen =
+stored_more g device rows live after history weight entry reply old new holds caller changes room asked does goes put
+    risen =
     let origin : Origin = record { device = device; rows = rows; place = g.place old } in
     let before : Holds origin live history weight = holds.0 in (
-      subst (λ (place : Option (List ℕ)). Holds (record { device = device; rows = rows; place = place }) after (history ++ entry ∷ []) (weight + entry.weight)) (sym goes.place)
+      subst (λ (place : Option (List ℕ)). Holds (record { device = device; rows = rows; place = place }) after
+          (history ++ entry ∷ []) (weight + entry.weight)) (sym goes.place)
           (holds_more origin live after history weight entry reply before
           (subst (λ (state : State). IsTrue (has_uid state entry.uid)) (sym before.replayed) caller)
           (subst (λ (state : State). IsTrue (may_change state entry.now entry.request)) (sym before.replayed) changes)
           room asked does),
-      subst (λ (place : Option (List ℕ)). HoldsKept g (record { device = device; rows = rows; place = place }) (history ++ entry ∷ []) new) (sym goes.place)
-          (holds_kept_more g origin live after history entry reply old new holds.1 before.replayed before.few does goes put risen),
+      subst (λ (place : Option (List ℕ)). HoldsKept g (record { device = device; rows = rows; place = place })
+          (history ++ entry ∷ []) new) (sym goes.place)
+          (holds_kept_more g origin live after history entry reply old new holds.1 before.replayed before.few does goes
+          put risen),
     )
 
 -- a manager that begins without entries holds the state in which it begins
-pub holds_at_opening : (origin : Origin) (live : State) (history : List Entry) → IsSound origin.device → opening_of origin ≡ live
+pub holds_at_opening : (origin : Origin) (live : State) (history : List Entry) → IsSound origin.device
+    → opening_of origin ≡ live
     → history ≡ [] → Holds origin live history 0
 holds_at_opening origin live history sound opens none =
     subst (λ (h : List Entry). Holds origin live h 0) (sym none)
@@ -118,21 +130,28 @@ pub none_kept : {K : Type 0} (g : Ghosts K) (origin : Origin) (history : List En
     → HoldsKept g origin history keeper
 none_kept g origin history keeper none tells =
     subst (λ (h : List Entry). HoldsKept g origin h keeper) (sym none)
-    (record { unkept = omega arith; found = λ (honest : g.is_honest keeper) (told : Rows) (is : g.rows keeper ≡ Some told). sym (tells honest told is) })
+    (record {
+      unkept = omega arith;
+      found = λ (honest : g.is_honest keeper) (told : Rows)
+          (is : g.rows keeper ≡ Some told). sym (tells honest told is);
+    })
 
 -- a reply of a stored call is the fault of a keeper only if its row wasn't kept
-pub fault_is_unkept : (state : State) (history : List Entry) (entry : Entry) → (step state history entry).0 ≡ Refused KeeperFault
+pub fault_is_unkept : (state : State) (history : List Entry) (entry : Entry) → (step state history entry).0
+    ≡ Refused KeeperFault
     → entry.kept ≡ false
 fault_is_unkept state history entry = by entry.kept
   where
-    by : (b : Bool) → (if b then act (after_due state entry.now) history entry.uid entry.request else (Refused KeeperFault, after_due state entry.now)).0 ≡ Refused KeeperFault
+    by : (b : Bool) → (if b then act (after_due state entry.now) history entry.uid entry.request else
+        (Refused KeeperFault, after_due state entry.now)).0 ≡ Refused KeeperFault
         → b ≡ false
     by true is = absurd (act_never_faults (after_due state entry.now) history entry.uid entry.request is)
     by false is = refl
 
 -- what only the system and the root may ask is answered by the one or the other reply, in the same state
 pub one_state : (privileged : Bool) (reply : Reply) (state : State)
-    → ◌≡◌ {A = Reply × State} (if privileged then (reply, state) else (Refused AdminOnly, state)) (if privileged then reply else Refused AdminOnly, state)
+    → ◌≡◌ {A = Reply × State} (if privileged then (reply, state) else (Refused AdminOnly, state))
+    (if privileged then reply else Refused AdminOnly, state)
 one_state true reply state = refl
 one_state false reply state = refl
 

@@ -1,4 +1,4 @@
--- A manager that begins with a device alone.
+-- A manager that begins with nothing but a device.
 use Rattle.std.specs.Prelude.{◌≡◌, []}
 use Rattle.am_types.specs.declared.device.Device.{Device}
 use Rattle.am_opening.specs.declared.opened.BeginFault.{BeginFault}

@@ -1,5 +1,5 @@
 -- What a call does to a manager's keeper.
-use Rattle.std.specs.Prelude.{◌≡◌, ◌≤◌, ◌↔◌, Bool, true, false, List, [], ◌∷◌, ◌++◌, Option, Some, None, if◌then◌else◌}
+use Rattle.std.specs.Prelude.{◌≡◌, ◌≤◌, ◌↔◌, ◌⊎◌, ◌&&◌, ◌||◌, not, ℕ, Bool, true, false, List, [], ◌∷◌, ◌++◌, Option, Some, None, if◌then◌else◌}
 use Rattle.std.specs.Option.{option_map}
 use Rattle.am_types.specs.declared.history.Entry.{Entry}
 use Rattle.am_types.specs.declared.request.Request.{Request}
@@ -11,9 +11,9 @@ use Rattle.am_keeper.specs.declared.keeper.Keeper.{Ghosts}
 use Rattle.am_keeper.specs.declared.rows.Row.{Row}
 use Rattle.am_keeper.specs.declared.rows.Rows.{Rows}
 use Rattle.am_keeper.specs.Rows.{with_row}
-use Rattle.am_keeper.specs.Keeping.{TellsAsBefore}
+use Rattle.am_keeper.specs.Keeping.{TellsAsBefore, raised_by}
 use Rattle.am_history.specs.State.{State}
-use Rattle.am_history.specs.Steps.{is_refusal}
+use Rattle.am_history.specs.Steps.{is_refusal, keeps_row}
 use Rattle.am_history.specs.Kept.{row_of}
 use Rattle.am_machine.specs.Managed.{Managed}
 
@@ -27,7 +27,7 @@ pub record GoesOn {K : Type 0} (g : Ghosts K) (old new : K) : Type 0 where
   pub never_falls : g.faults old ≤ g.faults new
 
 module _ {K : Type 0} where
-  -- a keeper that is honest tells the rows that it told
+  -- a keeper that is honest tells the same rows as before
   abbrev pub TellsSame : Ghosts K → K → K → Type 0
   TellsSame g old new = g.is_honest new → g.rows new ≡ g.rows old
 
@@ -36,7 +36,7 @@ abbrev pub with_any : Option Row → Rows → Rows
 with_any None rows = rows
 with_any (Some row) rows = with_row rows row
 
--- what a keeper tells after a call that is made in a state and gets that reply: its row is put, if it has one and isn't
+-- what a keeper tells after a call that was made in a state and got that reply: its row is put, if it has one and isn't
 -- refused
 abbrev pub told_after : State → Request → Reply → Option Rows → Option Rows
 told_after state request reply told =
@@ -51,14 +51,34 @@ abbrev pub AddsUnkept : List Entry → List Entry → Type 0
 AddsUnkept before after = (entry : Entry) × (entry.kept ≡ false) × (after ≡ before ++ entry ∷ [])
 
 module _ {K : Type 0} where
-  -- a call that is refused, by another rule than that of the keeper's fault, leaves the whole keeper as it was
+  -- a call that is refused, except because of the keeper's fault, leaves the whole keeper as it was
   abbrev pub IsUnasked : Reply → K → K → Type 0
   IsUnasked reply old new = is_refusal reply ≡ true → (reply ≡ Refused KeeperFault → ⊥) → new ≡ old
 
-  -- a call that isn't answered by the keeper's fault leaves the count of its faults as it was
+  -- a call that isn't answered by the keeper's fault leaves the keeper's count of faults as it was
   abbrev pub CountsNone : Ghosts K → Reply → K → K → Type 0
   CountsNone g reply old new = (reply ≡ Refused KeeperFault → ⊥) → g.faults new ≡ g.faults old
 
   -- and the keeper counted a fault for it
   abbrev pub IsFault : Ghosts K → Managed K → Managed K → Type 0
   IsFault g old new = HasRisen (g.faults old.keeper) (g.faults new.keeper) × AddsUnkept old.history new.history
+
+-- the reply of a call whose row the keeper didn't keep
+abbrev pub is_keeper_fault : Reply → Bool
+is_keeper_fault (Refused KeeperFault) = true
+is_keeper_fault _ = false
+
+-- the keeper is asked for a call with this answer: the call keeps a row, and is accepted, or refused by the keeper's
+-- fault
+abbrev pub is_asked : Request → Reply → Bool
+is_asked request reply = (not (is_refusal reply) || is_keeper_fault reply) && keeps_row request
+
+module _ {K : Type 0} where
+  -- such a call makes exactly one put, and every other call none
+  abbrev pub AsksOnce : Ghosts K → Request → Reply → K → K → Type 0
+  AsksOnce g request reply old new = g.puts new ≡ (if is_asked request reply then raised_by 1 (g.puts old) else g.puts
+      old)
+
+  -- a call that isn't made, because memory ran out, makes one put or none
+  abbrev pub AsksAtMostOnce : Ghosts K → K → K → Type 0
+  AsksAtMostOnce g old new = (g.puts new ≡ g.puts old) ⊎ (g.puts new ≡ raised_by 1 (g.puts old))

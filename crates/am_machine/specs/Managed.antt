@@ -9,7 +9,7 @@ use Rattle.am_history.specs.History.{replay, weight_of, IsLegal}
 use Rattle.am_history.specs.Desks.{Origin, opening_of}
 use Rattle.am_laws_kept.specs.Found.{rows_after}
 
--- a manager: where it comes from, the calls that it stored since, how many more it has room for at once, and its keeper
+-- a manager: where it comes from, the calls that it has stored since, how many more it has room for, and its keeper
 pub record Managed (K : Type 0) : Type 0 where
   pub origin : Origin
   pub history : List Entry
@@ -35,8 +35,8 @@ pub record Holds (origin : Origin) (live : State) (history : List Entry) (weight
   pub most : weight ≤ 536870912
   pub few : length history ≤ 1048576
 
--- each entry whose row wasn't kept stands for a fault that the keeper counted, and a keeper that is honest and tells its
--- rows tells those that the history has kept
+-- for each entry whose row wasn't kept the keeper counted a fault, and a keeper that is honest and tells its rows tells
+-- those that the history has kept
 pub record HoldsKept {K : Type 0} (g : Ghosts K) (origin : Origin) (history : List Entry) (keeper : K) : Type 0 where
   pub unkept : count_by is_unkept history ≤ g.faults keeper
   pub found : g.is_honest keeper → (told : Rows) → g.rows keeper ≡ Some told

@@ -1,4 +1,4 @@
-//! What the requests do to the live state, and what they are answered.
+//! What the requests do to the live state, and the replies to them.
 ghost use Rattle.std.specs.Prelude.{◌≡◌, false, if◌then◌else◌, IfOk, OnErr, IsOk, IsTrue};
 ghost use Rattle.am_types.specs.declared.reply.Reply.TheVariants.{Plain, Refused};
 ghost use Rattle.am_types.specs.declared.rule.Rule.TheVariants.{AdminOnly};
@@ -12,7 +12,7 @@ use am_types::{Entry, NoMemory, Reply, Request, Rule, Steps};
 use std::alloc::Global;
 use std::sync::ledger::Ledger;
 
-/// What a call is answered at its moment, and what it does to the state. After `NoMemory`
+/// The reply to a call at its moment, and what the call does to the state. After `NoMemory`
 /// the state is as before.
 pub(crate) fn act<L: Ledger>(
     alloc: Global,
@@ -72,7 +72,7 @@ pub(crate) fn act<L: Ledger>(
     }
 }
 
-/// The answer to a tick, which lets time pass and does nothing more.
+/// The answer to a tick, which only lets time pass.
 fn tick(caller: u32) -> Reply
     ensures { result ≡ (if is_privileged caller then Plain else Refused AdminOnly) }
 {

@@ -20,7 +20,7 @@ pub(crate) fn is_changing(request: &Request) -> bool
     }
 }
 
-/// Whether the request has a row kept.
+/// Whether a row is to be kept for the request.
 pub(crate) fn keeps_row(request: &Request) -> bool
     ensures { result ≡ keeps_row request.now }
 {

@@ -19,7 +19,7 @@ fn no_rows(alloc: Global) -> Rows
     RowsBuilder::new(alloc).finish()
 }
 
-// The manager that began, if memory sufficed.
+// The manager that began, unless memory ran out.
 fn begun<K: Keeper>(manager: Result<Manager<K>, BeginFault>) -> Result<Manager<K>, NoMemory>
     requires { IfErr manager IsWant }
     ensures { IfOk result (λ begun. manager ≡ Ok begun) }

@@ -1,14 +1,14 @@
-//! What is read of the history.
+//! Reading the history.
 ghost use Rattle.std.specs.Prelude.{◌≡◌, IfOk};
 ghost use Rattle.am_history.specs.Steps.{page};
 
 use am_types::{Entry, List, NoMemory};
 use std::alloc::Global;
 
-/// How many entries a page has at most.
+/// The most entries that a page may have.
 const PAGE: usize = 64;
 
-/// The entries from that number on, as many as a page has.
+/// The entries from this number on, at most a page of them.
 pub(crate) fn page(alloc: Global, history: &[Entry], from: u64) -> Result<List<Entry>, NoMemory>
     ensures { IfOk result (λ entries. entries ≡ page history.now from) }
 {

@@ -1,32 +1,32 @@
-//! Calls that have a row kept: what they change is prepared, then the keeper is asked.
+//! Calls for which a row is kept: what they change is prepared, then the keeper is asked.
 ghost use Rattle.std.specs.Prelude.{◌≡◌, ◌≢◌, ◌≤◌, ◌||◌, List as Items, true, false, if◌then◌else◌, IfOk, OnErr, IsTrue, Err};
 ghost use Rattle.am_types.specs.declared.history.Entry.{Entry};
 ghost use Rattle.am_types.specs.declared.reply.Reply.TheVariants.{Refused};
 ghost use Rattle.am_types.specs.declared.rule.Rule.TheVariants.{KeeperFault};
 ghost use Rattle.am_outside.specs.Counts.{HasRisen};
 ghost use Rattle.am_keeper.specs.declared.failure.KeepFail.TheVariants.{Failed, NoMemory as Want};
-ghost use Rattle.am_keeper.specs.Keeping.{Puts};
+ghost use Rattle.am_keeper.specs.Keeping.{Puts, raised_by};
 ghost use Rattle.am_keeper.specs.Rows.{with_row};
 ghost use Rattle.std.specs.Option.{option_map};
 ghost use Rattle.am_history.specs.Steps.{asks_keeper, after_due, at_moment, keeps_row, step};
 ghost use Rattle.am_laws_state.specs.Sound.{IsSoundState};
 ghost use Rattle.am_live_packages.specs.Changes.{Fits, changed};
-ghost use Rattle.am_machine.specs.Keeping.{CountsNone, GoesOn, IsUnasked, TellsSame, told_after, with_kept};
+ghost use Rattle.am_machine.specs.Keeping.{AsksAtMostOnce, AsksOnce, CountsNone, GoesOn, IsUnasked, TellsSame, told_after, with_kept};
 
-use am_keeper::{KeepFail, Keeper, Row};
+use am_keeper::{KeepFail, Keeper, Row, put_row};
 use am_live::{Change, Live, Plan};
 use am_types::{Entry, NoMemory, Reply, Rule, Steps};
 use std::sync::ledger::Ledger;
 
-/// What a call that is stored is answered.
+/// The answer to a call that is stored.
 #[derive(Drop)]
 pub(crate) struct Answered {
     pub(crate) reply: Reply,
-    /// False where its row couldn't be kept, so that it changed nothing.
+    /// False if its row couldn't be kept: then it changed nothing.
     pub(crate) kept: bool,
 }
 
-/// What a call with a row is answered, and what it does to the state and the keeper. After `NoMemory` the state
+/// The answer to a call with a row, and what it does to the state and the keeper. After `NoMemory` the state
 /// and the rows are as before.
 pub(crate) fn keep<K: Keeper, L: Ledger>(
     live: &mut Live,
@@ -50,6 +50,9 @@ pub(crate) fn keep<K: Keeper, L: Ledger>(
     ensures unasked { IfOk result (λ answered. IsUnasked answered.reply keeper.old keeper.new) }
     ensures counts { IfOk result (λ answered. CountsNone K.Keeper answered.reply keeper.old keeper.new) }
     ensures uncounted { OnErr result (K.faults keeper.new ≡ K.faults keeper.old) }
+    ensures asks { IfOk result
+        (λ answered. AsksOnce K.Keeper call.entry.now.request answered.reply keeper.old keeper.new) }
+    ensures at_most { OnErr result (AsksAtMostOnce K.Keeper keeper.old keeper.new) }
 {
     let moment = live.moment_after(call.now);
     let planned = live.plan(call.uid, &call.request)?;
@@ -88,6 +91,8 @@ fn make<K: Keeper, L: Ledger>(
         HasRisen (K.faults keeper.old) (K.faults keeper.new)) }
     ensures counts { IfOk result (λ answered. answered.kept ≡ true → K.faults keeper.new ≡ K.faults keeper.old) }
     ensures uncounted { OnErr result (K.faults keeper.new ≡ K.faults keeper.old) }
+    ensures asks { IfOk result (λ answered. K.puts keeper.new ≡ raised_by 1 (K.puts keeper.old)) }
+    ensures at_most { OnErr result (AsksAtMostOnce K.Keeper keeper.old keeper.new) }
 {
     if let Err(error) = live.prepare(&change) {
         drop(change);
@@ -107,7 +112,7 @@ fn make<K: Keeper, L: Ledger>(
     })
 }
 
-// A row wasn't kept: a call is answered so if the keeper failed, and isn't made if memory ran out.
+// A row wasn't kept: the call is answered by that if the keeper failed, and isn't made if memory ran out.
 fn unkept<L: Ledger>(
     live: &mut Live,
     fail: KeepFail,
@@ -132,13 +137,14 @@ fn unkept<L: Ledger>(
     }
 }
 
-// Asks the keeper to put the row.
+// Asks the keeper once to put the row.
 fn put<K: Keeper>(keeper: &mut K, row: &Row) -> Result<(), KeepFail>
     ensures rows { K.is_honest keeper.new →
         Puts (λ told. with_row told row.now) (K.rows keeper.old) (K.rows keeper.new) result }
     ensures keeper { GoesOn K.Keeper keeper.old keeper.new }
+    ensures puts { K.puts keeper.new ≡ raised_by 1 (K.puts keeper.old) }
     ensures failed { result ≡ Err Failed → HasRisen (K.faults keeper.old) (K.faults keeper.new) }
     ensures only_failed { result ≢ Err Failed → K.faults keeper.new ≡ K.faults keeper.old }
 {
-    keeper.put(row)
+    put_row(keeper, row)
 }

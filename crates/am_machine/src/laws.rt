@@ -1,5 +1,5 @@
-//! What holds of a manager after its history, whatever its calls were. These functions do nothing: their contracts say
-//! what is so.
+//! What holds of a manager after its history, whatever its calls were. These functions do nothing: their contracts are
+//! the laws.
 ghost use Rattle.std.specs.Prelude.{◌≡◌, ℕ, ◌+◌, ◌≤◌, true, ◌++◌, ◌⊎◌, All, [], ◌∷◌, length};
 ghost use Rattle.am_types.specs.declared.history.Entry.{Entry};
 ghost use Rattle.am_history.specs.Desks.{opening_of};
@@ -36,7 +36,7 @@ impl<K: Keeper> Manager<K> {
         ensures rises { (next : Entry) → (state_after self.now.origin self.now.history).moment
             ≤ (state_after self.now.origin (self.now.history ++ next ∷ [])).moment }
     {
-        // Its device is sound: contracts see that where a part of it is.
+        // Its device is sound: contracts see that when a part of it is read.
         let _live = &self.live;
         states_are_sound();
         numbers_follow();
@@ -47,7 +47,7 @@ impl<K: Keeper> Manager<K> {
     /// Whoever has or had one of its broadcasts was sent it by an entry of its history, and was admitted then. Each of
     /// its activity instances was made and given its intent, also by the next entry, by starts that the gate admitted,
     /// and each of its running services was started as often as it says, each time by an entry that the gate admitted.
-    /// Of a pending intent that was sent the caller is its creator. Takes no memory.
+    /// When a pending intent is sent, the caller is its creator. Takes no memory.
     pub fn reaches_the_admitted(&self)
         ensures receivers { AreSentByEntries (opening_of self.now.origin) self.now.history
             (state_after self.now.origin self.now.history).broadcasts }
@@ -68,7 +68,7 @@ impl<K: Keeper> Manager<K> {
 
     /// Whatever the next entry adds is a deed of that entry itself, which was admitted in the state at its moment: a
     /// delivery of a normal broadcast, to which it gave its number; an activity instance, or a new intent of one; one
-    /// more start of a service. Where it is answered that a start landed, that start was its own, also if the instance
+    /// more start of a service. If its answer is that a start landed, that start was its own, also if the instance
     /// had that intent already. What is due at its moment adds nothing. Takes no memory.
     pub fn adds_by_deeds(&self)
         ensures adds { (next : Entry) → Adds (state_after self.now.origin self.now.history) next

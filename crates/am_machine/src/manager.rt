@@ -19,8 +19,8 @@ use std::alloc::Global;
 use std::hash::RandomState;
 use std::marker::Model;
 
-/// The activity manager of one device. Contracts see where it comes from, its history, for how many more
-/// calls it has room at once, and its keeper.
+/// The activity manager of one device. Contracts see where it comes from, its history, how many more
+/// calls it has room for, and its keeper.
 pub struct Manager<K: Keeper> {
     pub(crate) alloc: Global,
     opened: Opened,
@@ -59,7 +59,7 @@ impl<K: Keeper> Drop for Manager<K> {
 }
 
 /// A manager of a sound device over a keeper and the rows that were there when it came, with no history. It
-/// keeps the allocator for its later calls. Refused by `Rows` with the name of the first row with which the
+/// keeps the allocator for its later calls. It is refused by `Rows`, with the name of the first row with which the
 /// device can't be opened.
 pub fn begin<K: Keeper>(
     alloc: Global,
@@ -82,7 +82,7 @@ pub fn begin<K: Keeper>(
     begin_keyed(alloc, device, attached, None)
 }
 
-/// The same, where what callers choose is hashed under the keys that were drawn, if some were. Draw them where callers
+/// The same, but what callers choose is hashed under the keys that were drawn, if some were. Draw them if callers
 /// aren't trusted: without them a caller can make its own look-ups, and those of others, slow.
 pub fn begin_keyed<K: Keeper>(
     alloc: Global,
@@ -145,7 +145,7 @@ fn open_live(
 }
 
 impl<K: Keeper> Manager<K> {
-    /// Makes room for the entries of that many calls at once.
+    /// Makes room for the entries of so many further calls.
     pub fn reserve(&mut self, calls: usize) -> Result<(), NoMemory>
         ensures room { OnOk result (calls ≤ self.new.spare) }
         ensures grows { self.old.spare ≤ self.new.spare }

@@ -1,4 +1,4 @@
-//! The device and the rows that a manager was opened with, for contracts alone.
+//! The device and the rows that a manager was opened with, only for contracts.
 ghost use Rattle.std.specs.Prelude.{◌≡◌};
 ghost use Rattle.std.specs.Borrow.{ftrue};
 ghost use Rattle.am_types.specs.declared.device.Device.{Device};
@@ -8,7 +8,7 @@ use am_keeper::Rows;
 use am_types::Device;
 use std::marker::Model;
 
-/// Names the device and the rows that a manager was opened with. Contracts alone read it: it takes no bytes.
+/// Names the device and the rows that a manager was opened with. Only contracts read it: it takes no bytes.
 #[derive(Drop)]
 pub struct Opened {
     pub ghost device: { Device },
@@ -25,7 +25,7 @@ unsafe impl Send for Opened {}
 unsafe impl Sync for Opened {}
 
 impl Opened {
-    /// Names that device and these rows. Takes no memory.
+    /// Names this device and these rows. Takes no memory.
     pub fn with(_device: &Device, _rows: &Rows) -> Opened
         ensures { (result.device ≡ _device.now) × (result.rows ≡ _rows.now) }
     {

@@ -1,4 +1,4 @@
-//! What is read of the live state and of the history, also as time passes.
+//! Reading the live state and the history, also as time passes.
 ghost use Rattle.std.specs.Prelude.{◌≡◌, ℕ, false, if◌then◌else◌, IfOk, OnErr, IsOk, IsTrue};
 ghost use Rattle.am_types.specs.declared.reply.Reply.TheVariants.{Entries, Refused};
 ghost use Rattle.am_types.specs.declared.request.Request.TheVariants as asks;
@@ -15,7 +15,7 @@ use am_types::{Entry, Intent, Kind, NoMemory, Reply, Request, Rule, Steps, Text}
 use std::alloc::Global;
 use std::sync::ledger::Ledger;
 
-/// What a request is answered that changes nothing.
+/// The answer to a request that changes nothing.
 pub(crate) fn read<L: Ledger>(
     alloc: Global,
     live: &Live,
@@ -34,7 +34,7 @@ pub(crate) fn read<L: Ledger>(
     }
 }
 
-/// What a request is answered that changes nothing but by the time that passes: what is due at the moment is handled.
+/// The answer to a request that changes nothing, except that time passes: what is due at the moment is handled.
 /// After `NoMemory` the state is as before.
 pub(crate) fn read_at<L: Ledger>(
     alloc: Global,
@@ -79,7 +79,7 @@ fn status(live: &Live, history: &[Entry], caller: u32) -> Reply
     }
 }
 
-/// What a request is answered that changes nothing, and whose answer depends neither on broadcasts nor on
+/// The answer to a request that changes nothing, and whose answer depends neither on broadcasts nor on
 /// the moment.
 fn steady<L: Ledger>(
     alloc: Global,
@@ -114,7 +114,7 @@ fn steady<L: Ledger>(
     }
 }
 
-/// Whom an intent of the caller reaches, or of the one that has the name, and why not the others.
+/// Whom an intent of the caller, or of the one with that name, reaches, and why not the others.
 fn explained<L: Ledger>(
     live: &Live,
     caller: u32,

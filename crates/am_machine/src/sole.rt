@@ -13,7 +13,7 @@ use std::marker::Model;
 #[derive(Drop)]
 pub struct SoleDesk<K: Keeper> {
     manager: Manager<K>,
-    // How many entries the manager had when it was handed over. Contracts alone read it.
+    // How many entries the manager had when it was handed over. Only contracts read it.
     handed: u64,
 }
 
@@ -29,7 +29,7 @@ impl<K: Keeper> Model for SoleDesk<K> {
 }
 
 impl<K: Keeper> SoleDesk<K> {
-    /// The desk of that manager. Takes no memory.
+    /// The desk of this manager. Takes no memory.
     pub fn new(manager: Manager<K>) -> SoleDesk<K>
         ensures made { result ≡ record { managed = manager; handed = manager.history } }
         ensures legal { IsLegal (opening_of manager.origin) manager.history }

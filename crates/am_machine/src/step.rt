@@ -9,7 +9,7 @@ ghost use Rattle.am_history.specs.State.{uid_of, has_uid};
 ghost use Rattle.am_history.specs.Numbers.{HasNumbers};
 ghost use Rattle.am_history.specs.Steps.{Call, after_due, asks_keeper, is_calm, is_formed, keeps_row, step};
 ghost use Rattle.am_laws_state.specs.Sound.{IsSoundState};
-ghost use Rattle.am_machine.specs.Keeping.{CountsNone, GoesOn, IsFault, IsUnasked, TellsSame, told_after, with_kept};
+ghost use Rattle.am_machine.specs.Keeping.{AsksAtMostOnce, AsksOnce, CountsNone, GoesOn, IsFault, IsUnasked, TellsSame, told_after, with_kept};
 
 use crate::acts::act;
 use crate::class::{is_changing, keeps_row};
@@ -23,22 +23,23 @@ use std::alloc::Global;
 use std::marker::Brand;
 use std::sync::ledger::{Blank, Ledger};
 
-/// How many entries a history has at most.
+/// The most entries that a history may have.
 const MOST: usize = 1_048_576;
 
-/// How much the bodies of the stored requests weigh at most, in bytes.
+/// The most that the bodies of the stored requests may weigh together, in bytes.
 const MOST_WEIGHT: u64 = 536_870_912;
 
 impl<K: Keeper> Manager<K> {
-    /// One call: `desk` is the number of the desk that it is made on, `key` the caller's, `now` the moment
+    /// One call: `desk` is the number of the desk that it is made on, `key` the caller's key, `now` the moment
     /// in milliseconds, and `weight` the length of the request's body in bytes. The request has the form
     /// that a body is read as. A call that may change the state is stored, and so is a read at a moment at
     /// which some deadline is due. The keeper is asked for the row of an installation, a removal, a grant
     /// or a link that nothing else refuses, and the row is put if the call is accepted. If the keeper
     /// fails, the call is stored, answered by `KeeperFault`, and changes nothing but the moment. A call that
-    /// something else refuses leaves the whole keeper as it was, the count of its faults too. After
-    /// `NoMemory` the state and the history are as before, and so are the rows of an honest keeper and its
-    /// count.
+    /// something else refuses leaves the whole keeper as it was, also its count of faults. A call that
+    /// keeps a row and is accepted, or refused by the keeper's fault, makes exactly one put, and any other
+    /// call none. After `NoMemory` the state and the history are as before, and so are the rows of an honest
+    /// keeper and its count of faults, and it was asked at most once.
     pub fn step(
         &mut self,
         desk: u32,
@@ -64,6 +65,8 @@ impl<K: Keeper> Manager<K> {
         ensures unasked { IfOk result (λ shown. IsUnasked shown.reply self.old.keeper self.new.keeper) }
         ensures counts { IfOk result (λ shown. CountsNone K.Keeper shown.reply self.old.keeper self.new.keeper) }
         ensures uncounted { OnErr result (K.faults self.new.keeper ≡ K.faults self.old.keeper) }
+        ensures asks { IfOk result (λ shown. AsksOnce K.Keeper request shown.reply self.old.keeper self.new.keeper) }
+        ensures at_most { OnErr result (AsksAtMostOnce K.Keeper self.old.keeper self.new.keeper) }
         ensures fault { IfOk result (λ shown. shown.reply ≡ Refused KeeperFault → IsFault K.Keeper self.old self.new) }
         ensures spare { IfOk result (λ shown. self.old.spare ≤ self.new.spare + (if shown.stored then 1 else 0)) }
         ensures room { OnErr result (self.old.spare ≤ self.new.spare) }
@@ -110,6 +113,9 @@ impl<K: Keeper> Manager<K> {
         ensures unasked { IfOk result (λ shown. IsUnasked shown.reply self.old.keeper self.new.keeper) }
         ensures counts { IfOk result (λ shown. CountsNone K.Keeper shown.reply self.old.keeper self.new.keeper) }
         ensures uncounted { OnErr result (K.faults self.new.keeper ≡ K.faults self.old.keeper) }
+        ensures asks { IfOk result
+            (λ shown. AsksOnce K.Keeper entry.request shown.reply self.old.keeper self.new.keeper) }
+        ensures at_most { OnErr result (AsksAtMostOnce K.Keeper self.old.keeper self.new.keeper) }
         ensures fault { IfOk result (λ shown. shown.reply ≡ Refused KeeperFault → IsFault K.Keeper self.old self.new) }
         ensures spare { IfOk result (λ shown. self.old.spare ≤ self.new.spare + (if shown.stored then 1 else 0)) }
         ensures room { OnErr result (self.old.spare ≤ self.new.spare) }
@@ -165,7 +171,7 @@ impl<K: Keeper> Manager<K> {
         is_changing(&call.request) || self.live.is_due(call.now, steps)
     }
 
-    // What is shown of a call that is not stored.
+    // What is shown of a call that isn't stored.
     fn unstored(&self, reply: Reply) -> Shown
         ensures { result ≡ record { at = length self.now.history; stored = false; reply = reply } }
     {
@@ -184,7 +190,7 @@ impl<K: Keeper> Manager<K> {
     }
 }
 
-// What a stored call is answered, and what it does to the state and the keeper.
+// The answer to a stored call, and what it does to the state and the keeper.
 fn answer<K: Keeper, L: Ledger>(
     alloc: Global,
     live: &mut Live,
@@ -210,6 +216,9 @@ fn answer<K: Keeper, L: Ledger>(
     ensures unasked { IfOk result (λ answered. IsUnasked answered.reply keeper.old keeper.new) }
     ensures counts { IfOk result (λ answered. CountsNone K.Keeper answered.reply keeper.old keeper.new) }
     ensures uncounted { OnErr result (K.faults keeper.new ≡ K.faults keeper.old) }
+    ensures asks { IfOk result
+        (λ answered. AsksOnce K.Keeper call.entry.now.request answered.reply keeper.old keeper.new) }
+    ensures at_most { OnErr result (AsksAtMostOnce K.Keeper keeper.old keeper.new) }
     ensures calm { IsTrue (is_calm call.entry.now.request) → IsOk result }
 {
     if keeps_row(&call.request) {

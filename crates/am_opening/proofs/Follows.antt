@@ -9,7 +9,8 @@ use Rattle.std.proofs.lemmas.List.Sums.{fold_more}
 use Rattle.am_types.specs.declared.device.Package.{Package}
 use Rattle.am_types.specs.declared.device.Grant.{Grant}
 use Rattle.am_types.specs.declared.device.Link.{Link}
-use Rattle.am_keeper.specs.declared.rows.RightRow.{RightRow}
+use Rattle.am_keeper.specs.declared.rows.GrantRow.{GrantRow}
+use Rattle.am_keeper.specs.declared.rows.LinkRow.{LinkRow}
 use Rattle.am_keeper.specs.Rows.{leads, rises}
 use Rattle.am_types.specs.declared.device.RightKind.TheVariants.{Permission, Host}
 use Rattle.am_model.specs.Boards.{is_package_uid}
@@ -18,18 +19,20 @@ use Rattle.am_model.specs.Rights.{Right, before_right, grant_of, has_right, link
 use Rattle.am_model.specs.Sound.{right_cmp, rights_approved, rights_granted}
 use Rattle.am_model.proofs.Rights.{less_from, with_in_order}
 use Rattle.am_laws.proofs.Tests.{both}
-use Rattle.am_opening.specs.Merging.{is_live, is_right, place_right, with_right, merge_one, merge_if, after_right, of_row}
+use Rattle.am_opening.specs.Merging.{is_live, is_right, place_right, with_right, merge_one, merge_if, after_right, of_grant_row, of_link_row}
 use Rattle.am_opening.specs.Openings.{grants_after, links_after}
 use Rattle.am_opening.proofs.Merged.{AllBefore, before_next, merged, merged_before}
 
 -- rights stay in order
-sorted_with : (rights : List Right) (r : Right) (held : Bool) → IsStrictlySortedBy right_cmp rights → IsStrictlySortedBy right_cmp (with_right rights r held)
+sorted_with : (rights : List Right) (r : Right) (held : Bool) → IsStrictlySortedBy right_cmp rights
+    → IsStrictlySortedBy right_cmp (with_right rights r held)
 sorted_with rights r held sorted =
     subst (λ (l : List Right). IsStrictlySortedBy right_cmp l) (map-id (with_right rights r held))
     (with_in_order (λ (s : Right). s) (λ uid text. (uid, text)) (λ u t. refl) rights r.0 r.1 held
     (subst (λ (l : List Right). IsStrictlySortedBy right_cmp l) (sym (map-id rights)) sorted))
 
--- rows of some kind, of each of which it is known what its right is, whether it is held, and whether its package is there
+-- rows of some kind, of each of which it is known what its right is, whether it is held, and whether its package is
+-- there
 module _ {R : Type 0} (right : R → Right) (held live : R → Bool) where
   -- the rights after a row
   abbrev follow : List Right → R → List Right
@@ -51,9 +54,11 @@ module _ {R : Type 0} (right : R → Right) (held live : R → Bool) where
   Rise (row ∷ rows) = Precedes (right row) rows × Rise rows
 
   -- rows that rise by an order that is the one of their rights
-  pub rise : (order : R → R → Ordering) → ((x y : R) → order x y ≡ right_cmp (right x) (right y)) → (rows : List R) → rises order rows ≡ true → Rise rows
+  pub rise : (order : R → R → Ordering) → ((x y : R) → order x y ≡ right_cmp (right x) (right y)) → (rows : List R)
+      → rises order rows ≡ true → Rise rows
   rise order same [] up = tt
-  rise order same (x ∷ rows) up = let parts = both (leads order x rows) (rises order rows) up in (by rows parts.0, rise order same rows parts.1)
+  rise order same (x ∷ rows) up = let parts = both (leads order x rows) (rises order rows) up in
+      (by rows parts.0, rise order same rows parts.1)
     where
       by : (rows : List R) → leads order x rows ≡ true → Precedes (right x) rows
       by [] first = tt
@@ -72,7 +77,8 @@ module _ {R : Type 0} (right : R → Right) (held live : R → Bool) where
       by [] = tt
       by (row ∷ rows) = tt
 
-  stays_sorted : (rights : List Right) (rows : List R) → IsStrictlySortedBy right_cmp rights → IsStrictlySortedBy right_cmp (fold follow rights rows)
+  stays_sorted : (rights : List Right) (rows : List R) → IsStrictlySortedBy right_cmp rights
+      → IsStrictlySortedBy right_cmp (fold follow rights rows)
   stays_sorted rights [] sorted = sorted
   stays_sorted rights (row ∷ rows) sorted = stays_sorted (follow rights row) rows (by (live row))
     where
@@ -84,14 +90,17 @@ module _ {R : Type 0} (right : R → Right) (held live : R → Bool) where
   leads_next done r [] first all = tt
   leads_next done r (row ∷ rows) first all = before_next done r (right row) first all
 
-  leads_merged : (done left : List Right) (r : Right) (b : Bool) (rows : List R) → Precedes r rows → AllBefore done r → Leads ((merge_one r b (done, left)).0) rows
+  leads_merged : (done left : List Right) (r : Right) (b : Bool) (rows : List R) → Precedes r rows → AllBefore done r
+      → Leads ((merge_one r b (done, left)).0) rows
   leads_merged done left r b [] first all = tt
   leads_merged done left r b (row ∷ rows) first all = merged_before done left r (right row) b all first
 
   -- one row more
-  pub one_merged : (rights : List Right) (rows : List R) (i : ℕ) (row : R) (done left : List Right) → IsStrictlySortedBy right_cmp rights → i < length rows → row ≡ get_or rows i row
+  pub one_merged : (rights : List Right) (rows : List R) (i : ℕ) (row : R) (done left : List Right)
+      → IsStrictlySortedBy right_cmp rights → i < length rows → row ≡ get_or rows i row
       → IsMerging rights rows i done left
-      → IsMerging rights rows (i + 1) ((merge_if (live row) (right row) (held row) (done, left)).0) ((merge_if (live row) (right row) (held row) (done, left)).1)
+      → IsMerging rights rows (i + 1) ((merge_if (live row) (right row) (held row) (done, left)).0)
+      ((merge_if (live row) (right row) (held row) (done, left)).1)
   one_merged rights rows i row done left sorted within is merging = by (live row) refl
     where
       rest : drop i rows ≡ row ∷ drop (i + 1) rows
@@ -104,17 +113,21 @@ module _ {R : Type 0} (right : R → Right) (held live : R → Bool) where
       up = subst (λ (l : List R). Rise l) rest merging.rise
 
       all_sorted : IsStrictlySortedBy right_cmp (done ++ left)
-      all_sorted = subst (λ (l : List Right). IsStrictlySortedBy right_cmp l) merging.follows (stays_sorted rights (take i rows) sorted)
+      all_sorted = subst (λ (l : List Right). IsStrictlySortedBy right_cmp l) merging.follows
+          (stays_sorted rights (take i rows) sorted)
 
-      next : fold follow rights (take (i + 1) rows) ≡ cond (live row) (with_right (done ++ left) (right row) (held row)) (done ++ left)
+      next : fold follow rights (take (i + 1) rows) ≡ cond (live row) (with_right (done ++ left) (right row) (held row))
+          (done ++ left)
       next =
           fold_more follow rights rows i row within
           ∙ ap (λ (x : R). follow (fold follow rights (take i rows)) x) (sym is)
           ∙ ap (λ (l : List Right). follow l row) merging.follows
 
-      by : (b : Bool) → live row ≡ b → IsMerging rights rows (i + 1) ((merge_if b (right row) (held row) (done, left)).0) ((merge_if b (right row) (held row) (done, left)).1)
+      by : (b : Bool) → live row ≡ b → IsMerging rights rows (i + 1)
+          ((merge_if b (right row) (held row) (done, left)).0) ((merge_if b (right row) (held row) (done, left)).1)
       by true e = record {
-        follows = next ∙ ap (λ b. cond b (with_right (done ++ left) (right row) (held row)) (done ++ left)) e ∙ merged done left (right row) (held row) all_sorted before;
+        follows = next ∙ ap (λ b. cond b (with_right (done ++ left) (right row) (held row)) (done ++ left)) e
+            ∙ merged done left (right row) (held row) all_sorted before;
         leads = leads_merged done left (right row) (held row) (drop (i + 1) rows) up.0 before;
         rise = up.1;
       }
@@ -125,27 +138,34 @@ module _ {R : Type 0} (right : R → Right) (held live : R → Bool) where
       }
 
   -- all rows
-  pub all_merged : (rights : List Right) (rows : List R) (i : ℕ) (done left : List Right) → length rows ≤ i → IsMerging rights rows i done left
+  pub all_merged : (rights : List Right) (rows : List R) (i : ℕ) (done left : List Right) → length rows ≤ i
+      → IsMerging rights rows i done left
       → done ++ left ≡ fold follow rights rows
-  all_merged rights rows i done left all merging = sym merging.follows ∙ ap (λ (l : List R). fold follow rights l) (take_all i rows all)
+  all_merged rights rows i done left all merging = sym merging.follows
+      ∙ ap (λ (l : List R). fold follow rights l) (take_all i rows all)
 
 -- what is kept as rights, as a uid and a text each
 module _ {R : Type 0} (right_of : R → Right) where
-  of_placed : (r : R) (rs : List R) → map right_of (inserted (before_right right_of) r rs) ≡ place_right (right_of r) (map right_of rs)
+  of_placed : (r : R) (rs : List R) → map right_of (inserted (before_right right_of) r rs)
+      ≡ place_right (right_of r) (map right_of rs)
   of_placed r [] = refl
   of_placed r (first ∷ rs) = by (before_right right_of r first) (of_placed r rs)
     where
-      by : (b : Bool) → map right_of (inserted (before_right right_of) r rs) ≡ place_right (right_of r) (map right_of rs)
+      by : (b : Bool) → map right_of (inserted (before_right right_of) r rs)
+          ≡ place_right (right_of r) (map right_of rs)
           → map right_of (cond b (r ∷ first ∷ rs) (first ∷ inserted (before_right right_of) r rs))
-          ≡ cond b (right_of r ∷ right_of first ∷ map right_of rs) (right_of first ∷ place_right (right_of r) (map right_of rs))
+          ≡ cond b (right_of r ∷ right_of first ∷ map right_of rs)
+          (right_of first ∷ place_right (right_of r) (map right_of rs))
       by true e = refl
       by false e = ap (λ (l : List Right). right_of first ∷ l) e
 
-  of_any : (uid : ℕ) (text : List ℕ) (rs : List R) → has_right right_of rs uid text ≡ list_any (is_right (uid, text)) (map right_of rs)
+  of_any : (uid : ℕ) (text : List ℕ) (rs : List R) → has_right right_of rs uid text
+      ≡ list_any (is_right (uid, text)) (map right_of rs)
   of_any uid text [] = refl
   of_any uid text (r ∷ rs) = ap (λ b. is_right (uid, text) (right_of r) || b) (of_any uid text rs)
 
-  of_others : (uid : ℕ) (text : List ℕ) (rs : List R) → map right_of (filter (λ r. not (is_right (uid, text) (right_of r))) rs)
+  of_others : (uid : ℕ) (text : List ℕ) (rs : List R) → map right_of
+      (filter (λ r. not (is_right (uid, text) (right_of r))) rs)
       ≡ filter (λ other. not (is_right (uid, text) other)) (map right_of rs)
   of_others uid text [] = refl
   of_others uid text (r ∷ rs) = by (is_right (uid, text) (right_of r)) (of_others uid text rs)
@@ -156,41 +176,49 @@ module _ {R : Type 0} (right_of : R → Right) where
       others : List Right
       others = filter (λ other. not (is_right (uid, text) other)) (map right_of rs)
 
-      by : (b : Bool) → map right_of left ≡ others → map right_of (cond (not b) (r ∷ left) left) ≡ cond (not b) (right_of r ∷ others) others
+      by : (b : Bool) → map right_of left ≡ others → map right_of (cond (not b) (r ∷ left) left)
+          ≡ cond (not b) (right_of r ∷ others) others
       by true e = e
       by false e = ap (λ (l : List Right). right_of r ∷ l) e
 
   module _ (made : ℕ → List ℕ → R) (made_is : (uid : ℕ) (text : List ℕ) → right_of (made uid text) ≡ (uid, text)) where
     -- when one is given or taken
-    of_with : (rs : List R) (r : Right) (held : Bool) → map right_of (with_right_of right_of made rs r.0 r.1 held) ≡ with_right (map right_of rs) r held
+    of_with : (rs : List R) (r : Right) (held : Bool) → map right_of (with_right_of right_of made rs r.0 r.1 held)
+        ≡ with_right (map right_of rs) r held
     of_with rs r false = of_others r.0 r.1 rs
     of_with rs r true =
         by (has_right right_of rs r.0 r.1)
         ∙ ap (λ b. cond b (map right_of rs) (place_right r (map right_of rs))) (of_any r.0 r.1 rs)
       where
-        by : (b : Bool) → map right_of (cond b rs (inserted (before_right right_of) (made r.0 r.1) rs)) ≡ cond b (map right_of rs) (place_right r (map right_of rs))
+        by : (b : Bool) → map right_of (cond b rs (inserted (before_right right_of) (made r.0 r.1) rs))
+            ≡ cond b (map right_of rs) (place_right r (map right_of rs))
         by true = refl
         by false = of_placed (made r.0 r.1) rs ∙ ap (λ (s : Right). place_right s (map right_of rs)) (made_is r.0 r.1)
 
     -- when rows are followed
     module _ {Row : Type 0} (row_right : Row → Right) (held live : Row → Bool) where
       abbrev pub after_one : List R → Row → List R
-      after_one rs row = cond (live row) (with_right_of right_of made rs (row_right row).0 (row_right row).1 (held row)) rs
+      after_one rs row = cond (live row) (with_right_of right_of made rs (row_right row).0 (row_right row).1 (held row))
+          rs
 
-      of_followed : (rs : List R) (rows : List Row) → map right_of (fold after_one rs rows) ≡ fold (follow row_right held live) (map right_of rs) rows
+      of_followed : (rs : List R) (rows : List Row) → map right_of (fold after_one rs rows)
+          ≡ fold (follow row_right held live) (map right_of rs) rows
       of_followed rs [] = refl
       of_followed rs (row ∷ rows) =
           of_followed (after_one rs row) rows
           ∙ ap (λ (l : List Right). fold (follow row_right held live) l rows) (by (live row))
         where
-          by : (b : Bool) → map right_of (cond b (with_right_of right_of made rs (row_right row).0 (row_right row).1 (held row)) rs)
+          by : (b : Bool) → map right_of (cond b (with_right_of right_of made rs (row_right row).0 (row_right row).1
+              (held row)) rs)
               ≡ cond b (with_right (map right_of rs) (row_right row) (held row)) (map right_of rs)
           by true = of_with rs (row_right row) (held row)
           by false = refl
 
       -- and what is made of the rights that followed
-      pub made_of : ((r : R) → made (right_of r).0 (right_of r).1 ≡ r) → (rs : List R) (rows : List Row) (rights after : List Right) (all : List R) → rights ≡ map right_of rs
-          → after ≡ fold (follow row_right held live) rights rows → all ≡ map (λ (r : Right). made r.0 r.1) after → all ≡ fold after_one rs rows
+      pub made_of : ((r : R) → made (right_of r).0 (right_of r).1 ≡ r)
+          → (rs : List R) (rows : List Row) (rights after : List Right) (all : List R) → rights ≡ map right_of rs
+          → after ≡ fold (follow row_right held live) rights rows → all ≡ map (λ (r : Right). made r.0 r.1) after → all
+          ≡ fold after_one rs rows
       made_of itself rs rows rights after all from follows is =
           is
           ∙ ap (map (λ (r : Right). made r.0 r.1))
@@ -202,15 +230,23 @@ module _ {R : Type 0} (right_of : R → Right) where
           back (r ∷ rs) = (λ i. itself r i ∷ back rs i)
 
 -- grants that are made of rights that followed grant rows
-pub grants_made : (packages : List Package) (gs : List Grant) (rows : List RightRow) (rights after : List Right) (made : List Grant) → rights ≡ rights_granted gs
-    → after ≡ fold (after_right of_row (λ (row : RightRow). row.held) (is_live Permission packages)) rights rows → made ≡ map (λ (r : Right). record { uid = r.0; permission = r.1 }) after → made ≡ grants_after packages gs rows
+pub grants_made : (packages : List Package) (gs : List Grant) (rows : List GrantRow) (rights after : List Right)
+    (made : List Grant) → rights ≡ rights_granted gs
+    → after ≡ fold (after_right of_grant_row (λ (row : GrantRow). row.held)
+    (λ row. is_live Permission packages (of_grant_row row))) rights rows → made
+    ≡ map (λ (r : Right). record { uid = r.0; permission = r.1 }) after → made ≡ grants_after packages gs rows
 grants_made packages gs rows rights after made from follows is =
-    made_of of_grant grant_of (λ u t. refl) of_row (λ (row : RightRow). row.held) (is_live Permission packages)
+    made_of of_grant grant_of (λ u t. refl) of_grant_row (λ (row : GrantRow). row.held)
+    (λ row. is_live Permission packages (of_grant_row row))
     (λ g. refl) gs rows rights after made from follows is
 
 -- and links of rights that followed link rows
-pub links_made : (packages : List Package) (ks : List Link) (rows : List RightRow) (rights after : List Right) (made : List Link) → rights ≡ rights_approved ks
-    → after ≡ fold (after_right of_row (λ (row : RightRow). row.held) (is_live Host packages)) rights rows → made ≡ map (λ (r : Right). record { uid = r.0; host = r.1 }) after → made ≡ links_after packages ks rows
+pub links_made : (packages : List Package) (ks : List Link) (rows : List LinkRow) (rights after : List Right)
+    (made : List Link) → rights ≡ rights_approved ks
+    → after ≡ fold (after_right of_link_row (λ (row : LinkRow). row.approved)
+    (λ row. is_live Host packages (of_link_row row))) rights rows → made
+    ≡ map (λ (r : Right). record { uid = r.0; host = r.1 }) after → made ≡ links_after packages ks rows
 links_made packages ks rows rights after made from follows is =
-    made_of of_link link_of (λ u t. refl) of_row (λ (row : RightRow). row.held) (is_live Host packages)
+    made_of of_link link_of (λ u t. refl) of_link_row (λ (row : LinkRow). row.approved)
+    (λ row. is_live Host packages (of_link_row row))
     (λ k. refl) ks rows rights after made from follows is

@@ -45,7 +45,8 @@ apart : (r s : Right) → right_cmp r s ≡ Less → is_right r s ≡ false
 apart r s l = isnt (is_right r s) (λ e. never_itself r (subst (λ (t : Right). right_cmp r t ≡ Less) (same_is r s e) l))
 
 apart_back : (r s : Right) → right_cmp s r ≡ Less → is_right r s ≡ false
-apart_back r s l = isnt (is_right r s) (λ e. never_itself r (subst (λ (t : Right). right_cmp t r ≡ Less) (same_is r s e) l))
+apart_back r s l = isnt (is_right r s) (λ e. never_itself r (subst (λ (t : Right). right_cmp t r ≡ Less) (same_is r s e)
+    l))
 
 not_before : (r s : Right) → right_cmp s r ≡ Less → is_before r s ≡ false
 not_before r s l = before_is_less r s ∙ ap is_lt (right_total.antisymm r s) ∙ ap (λ o. is_lt (ordering_reverse o)) l
@@ -73,14 +74,18 @@ others r rights = filter (λ other. not (is_right r other)) rights
 all_kept : (r : Right) (ts : List Right) → AllBehind ts r → others r ts ≡ ts
 unfolding others
 all_kept r [] all = refl
-all_kept r (t ∷ ts) all = ap (λ b. cond (not b) (t ∷ others r ts) (others r ts)) (apart r t all.0) ∙ ap (λ l. t ∷ l) (all_kept r ts all.1)
+all_kept r (t ∷ ts) all = ap (λ b. cond (not b) (t ∷ others r ts) (others r ts)) (apart r t all.0)
+    ∙ ap (λ l. t ∷ l) (all_kept r ts all.1)
 
 -- a right that stands before is passed
-passed : (s r : Right) (rest : List Right) (held : Bool) → right_cmp s r ≡ Less → with_right (s ∷ rest) r held ≡ s ∷ with_right rest r held
+passed : (s r : Right) (rest : List Right) (held : Bool) → right_cmp s r ≡ Less → with_right (s ∷ rest) r held ≡ s
+    ∷ with_right rest r held
 unfolding others
 passed s r rest true l =
-    ap (λ b. cond (b || list_any (is_right r) rest) (s ∷ rest) (cond (is_before r s) (r ∷ s ∷ rest) (s ∷ place_right r rest))) (apart_back r s l)
-    ∙ ap (λ b. cond (list_any (is_right r) rest) (s ∷ rest) (cond b (r ∷ s ∷ rest) (s ∷ place_right r rest))) (not_before r s l)
+    ap (λ b. cond (b || list_any (is_right r) rest) (s ∷ rest) (cond (is_before r s) (r ∷ s ∷ rest)
+    (s ∷ place_right r rest))) (apart_back r s l)
+    ∙ ap (λ b. cond (list_any (is_right r) rest) (s ∷ rest) (cond b (r ∷ s ∷ rest) (s ∷ place_right r rest)))
+    (not_before r s l)
     ∙ by (list_any (is_right r) rest)
   where
     by : (b : Bool) → cond b (s ∷ rest) (s ∷ place_right r rest) ≡ s ∷ cond b rest (place_right r rest)
@@ -89,17 +94,22 @@ passed s r rest true l =
 passed s r rest false l = ap (λ b. cond (not b) (s ∷ others r rest) (others r rest)) (apart_back r s l)
 
 -- and so are several
-done_passed : (done left : List Right) (r : Right) (held : Bool) → AllBefore done r → with_right (done ++ left) r held ≡ done ++ with_right left r held
+done_passed : (done left : List Right) (r : Right) (held : Bool) → AllBefore done r → with_right (done ++ left) r held
+    ≡ done ++ with_right left r held
 done_passed [] left r held all = refl
-done_passed (s ∷ done) left r held all = passed s r (done ++ left) held all.0 ∙ ap (λ l. s ∷ l) (done_passed done left r held all.1)
+done_passed (s ∷ done) left r held all = passed s r (done ++ left) held all.0
+    ∙ ap (λ l. s ∷ l) (done_passed done left r held all.1)
 
 -- and those at the front
-front_passed : (left : List Right) (r : Right) (held : Bool) → with_right left r held ≡ front r left ++ with_right (behind_front r left) r held
+front_passed : (left : List Right) (r : Right) (held : Bool) → with_right left r held ≡ front r left
+    ++ with_right (behind_front r left) r held
 front_passed [] r held = refl
 front_passed (s ∷ left) r held = by (is_before s r) refl (front_passed left r held)
   where
-    by : (b : Bool) → is_before s r ≡ b → with_right left r held ≡ front r left ++ with_right (behind_front r left) r held
-        → with_right (s ∷ left) r held ≡ cond b (s ∷ front r left) [] ++ with_right (cond b (behind_front r left) (s ∷ left)) r held
+    by : (b : Bool) → is_before s r ≡ b → with_right left r held ≡ front r left
+        ++ with_right (behind_front r left) r held
+        → with_right (s ∷ left) r held ≡ cond b (s ∷ front r left) []
+        ++ with_right (cond b (behind_front r left) (s ∷ left)) r held
     by true e rest = passed s r left held (less s r e) ∙ ap (λ l. s ∷ l) rest
     by false e rest = refl
 
@@ -119,7 +129,8 @@ here (s ∷ more) r held sorted front = by (is_right r s) refl held
     any : Bool
     any = list_any (is_right r) more
 
-    by : (b : Bool) → is_right r s ≡ b → (held : Bool) → with_right (s ∷ more) r held ≡ if_held r held ++ cond b more (s ∷ more)
+    by : (b : Bool) → is_right r s ≡ b → (held : Bool) → with_right (s ∷ more) r held ≡ if_held r held
+        ++ cond b more (s ∷ more)
     by true e true =
         ap (λ b. cond (b || any) (s ∷ more) (cond (is_before r s) (r ∷ s ∷ more) (s ∷ place_right r more))) e
         ∙ ap (λ (x : Right). x ∷ more) (same_is r s e)
@@ -128,7 +139,8 @@ here (s ∷ more) r held sorted front = by (is_right r s) refl held
         ∙ all_kept r more (subst (λ (x : Right). AllBehind more x) (same_is r s e) sorted.0)
     by false e true =
         let l : right_cmp r s ≡ Less = behind r s front e in
-        ap (λ b. cond b (s ∷ more) (cond (is_before r s) (r ∷ s ∷ more) (s ∷ place_right r more))) (none_same r (s ∷ more) (l, all_less r s more l sorted.0))
+        ap (λ b. cond b (s ∷ more) (cond (is_before r s) (r ∷ s ∷ more) (s ∷ place_right r more)))
+        (none_same r (s ∷ more) (l, all_less r s more l sorted.0))
         ∙ ap (λ b. cond b (r ∷ s ∷ more) (s ∷ place_right r more)) (before_is_less r s ∙ ap is_lt l)
     by false e false =
         let l : right_cmp r s ≡ Less = behind r s front e in
@@ -144,7 +156,8 @@ unfolding IsStrictlySortedBy
 behind_is [] r sorted = record { sorted = sorted; first = tt }
 behind_is (s ∷ left) r sorted = by (is_before s r) refl (behind_is left r sorted.1)
   where
-    by : (b : Bool) → is_before s r ≡ b → IsBehind r (behind_front r left) → IsBehind r (cond b (behind_front r left) (s ∷ left))
+    by : (b : Bool) → is_before s r ≡ b → IsBehind r (behind_front r left)
+        → IsBehind r (cond b (behind_front r left) (s ∷ left))
     by true e rest = rest
     by false e rest = record { sorted = sorted; first = e }
 
@@ -154,17 +167,21 @@ left_sorted [] left sorted = sorted
 left_sorted (s ∷ done) left sorted = left_sorted done left sorted.1
 
 -- one more right, where those that are done stand before it
-pub merged : (done left : List Right) (r : Right) (held : Bool) → IsStrictlySortedBy right_cmp (done ++ left) → AllBefore done r
-    → with_right (done ++ left) r held ≡ ((done ++ front r left) ++ if_held r held) ++ unless_first r (behind_front r left)
+pub merged : (done left : List Right) (r : Right) (held : Bool) → IsStrictlySortedBy right_cmp (done ++ left)
+    → AllBefore done r
+    → with_right (done ++ left) r held ≡ ((done ++ front r left) ++ if_held r held)
+    ++ unless_first r (behind_front r left)
 merged done left r held sorted before =
     let rest = behind_is left r (left_sorted done left sorted) in
     done_passed done left r held before
-    ∙ ap (λ l. done ++ l) (front_passed left r held ∙ ap (λ l. front r left ++ l) (here (behind_front r left) r held rest.sorted rest.first))
+    ∙ ap (λ l. done ++ l) (front_passed left r held ∙ ap (λ l. front r left ++ l)
+    (here (behind_front r left) r held rest.sorted rest.first))
     ∙ sym (append_assoc (done ++ front r left) (if_held r held) (unless_first r (behind_front r left))
     ∙ append_assoc done (front r left) (if_held r held ++ unless_first r (behind_front r left)))
 
 -- those that stand before a right stand before one behind it
-pub before_next : (rights : List Right) (r next : Right) → right_cmp r next ≡ Less → AllBefore rights r → AllBefore rights next
+pub before_next : (rights : List Right) (r next : Right) → right_cmp r next ≡ Less → AllBefore rights r
+    → AllBefore rights next
 before_next [] r next l all = tt
 before_next (s ∷ rights) r next l all = (right_total.trans s r next all.0 l, before_next rights r next l all.1)
 

@@ -25,13 +25,15 @@ pub record AreRightsInOrder (board : Board) : Type 0 where
 abbrev InOrder : Result State (List ℕ) → Type 0
 InOrder = IfOpened (λ (state : State). AreRightsInOrder state.board)
 
-rows_ordered : (before : Result State (List ℕ)) (rows : List PackageRow) → InOrder before → InOrder (fold and_then_row before rows)
+rows_ordered : (before : Result State (List ℕ)) (rows : List PackageRow) → InOrder before
+    → InOrder (fold and_then_row before rows)
 rows_ordered before rows order =
     rows_leave (λ (state : State). AreRightsInOrder state.board) (λ (row : PackageRow). Unit {0})
     (λ state row one. record {
       grants = fewer_grants (λ (g : Grant). not (g.uid == row.uid)) state.board.grants one.grants;
       links = fewer_links (λ (l : Link). not (l.uid == row.uid)) state.board.links one.links;
-    }) (λ state row manifest asked is good one. record { grants = one.grants; links = one.links }) before rows (nothing_asked rows) order
+    }) (λ state row manifest asked is good one. record { grants = one.grants; links = one.links }) before rows
+    (nothing_asked rows) order
 
 -- the rights of a sound device that package rows opened stand in order
 pub opened_ordered : (device : Device) (next : ℕ) (rows : List PackageRow) (first : Opened) → IsSound device
@@ -39,4 +41,5 @@ pub opened_ordered : (device : Device) (next : ℕ) (rows : List PackageRow) (fi
     → AreRightsInOrder ((state_of first).board)
 opened_ordered device next rows first sound opens =
     subst InOrder opens
-    (rows_ordered (Ok (state_of (record { device = device; next_uid = next }))) rows (record { grants = sound.grants.order; links = sound.links.order }))
+    (rows_ordered (Ok (state_of (record { device = device; next_uid = next }))) rows
+    (record { grants = sound.grants.order; links = sound.links.order }))

@@ -31,17 +31,21 @@ HasKey p = IsTrue (is_access_key p.key)
 abbrev HaveKeys : Result State (List ℕ) → Type 0
 HaveKeys = IfOpened (λ (state : State). AllByRecursion HasKey state.board.packages)
 
-rows_keys : (before : Result State (List ℕ)) (rows : List PackageRow) → HaveKeys before → HaveKeys (fold and_then_row before rows)
+rows_keys : (before : Result State (List ℕ)) (rows : List PackageRow) → HaveKeys before
+    → HaveKeys (fold and_then_row before rows)
 rows_keys before rows all =
     rows_leave (λ (state : State). AllByRecursion HasKey state.board.packages) (λ (row : PackageRow). Unit {0})
     (λ state row one. all_left HasKey (λ (p : Package). not (p.uid == row.uid)) state.board.packages one)
     (λ state row manifest asked is good one.
-    all_inserted before_package HasKey (kept_package row manifest) state.board.packages ((good_parts state row manifest good).key) one)
+    all_inserted before_package HasKey (kept_package row manifest) state.board.packages
+    ((good_parts state row manifest good).key) one)
     before rows (nothing_asked rows) all
 
-opened_keys : (device : Device) (rows : Rows) (state : Result State (List ℕ)) → HaveKeys state → HaveKeys (opened device rows state)
+opened_keys : (device : Device) (rows : Rows) (state : Result State (List ℕ)) → HaveKeys state
+    → HaveKeys (opened device rows state)
 opened_keys device rows (Err name) all = tt
-opened_keys device rows (Ok state) all = by (find (has_too_many (with_rights state.board rows)) (with_rights state.board rows).packages)
+opened_keys device rows (Ok state) all = by (find (has_too_many (with_rights state.board rows))
+    (with_rights state.board rows).packages)
   where
     same : (with_rights state.board rows).packages ≡ state.board.packages
     same = ap (λ (b : Board). b.packages) (rights_are state.board rows)
@@ -56,16 +60,19 @@ unfolding opening_with
 device_keys device rows sound =
     opened_keys device rows (after_rows (opening device) rows.packages)
     (rows_keys (Ok (opening device)) rows.packages
-    (recursion_from_All HasKey device.packages (All-weaker IsSoundPackage HasKey (λ p one. one.key) device.packages sound.packages.each)))
+    (recursion_from_All HasKey device.packages (All-weaker IsSoundPackage HasKey (λ p one. one.key) device.packages
+    sound.packages.each)))
 
 -- the state has the keys of the device's system and root
 record HasOwners (device : Device) (state : State) : Type 0 where
   pub system_key : state.system_key ≡ device.system_key
   pub root_key : state.root_key ≡ device.root_key
 
-owners_stay : (device : Device) (rows : Rows) → HasOwners device (opening_of (record { device = device; rows = rows; place = None }))
+owners_stay : (device : Device) (rows : Rows) → HasOwners device (opening_of
+    (record { device = device; rows = rows; place = None }))
 owners_stay device rows =
-    opening_leaves (HasOwners device) (λ state board uid same owners. record { system_key = owners.system_key; root_key = owners.root_key })
+    opening_leaves (HasOwners device) (λ state board uid same owners. record
+    { system_key = owners.system_key; root_key = owners.root_key })
     (record { device = device; rows = rows; place = None }) (record { system_key = refl; root_key = refl })
 
 -- what a sound device opens as is sound
@@ -104,14 +111,17 @@ opened_is_sound device rows first sound fits is = record {
     owners : HasOwners device (state_of first)
     owners = subst (HasOwners device) same (owners_stay device rows)
 
-    same_owners : owner_keys first.device.system_key first.device.root_key ≡ owner_keys device.system_key device.root_key
-    same_owners = ap (λ key. owner_keys key first.device.root_key) owners.system_key ∙ ap (owner_keys device.system_key) owners.root_key
+    same_owners : owner_keys first.device.system_key first.device.root_key
+        ≡ owner_keys device.system_key device.root_key
+    same_owners = ap (λ key. owner_keys key first.device.root_key) owners.system_key
+        ∙ ap (owner_keys device.system_key) owners.root_key
 
     keys : All HasKey first.device.packages
     keys = All-from_recursion HasKey first.device.packages (subst HaveKeys is (device_keys device rows sound))
 
 -- and so is what a function answers
-pub answered_is_sound : (device : Device) (rows : Rows) (result : Result Opened BeginFault) → IsSound device → Opens result (opening_with device rows)
+pub answered_is_sound : (device : Device) (rows : Rows) (result : Result Opened BeginFault) → IsSound device
+    → Opens result (opening_with device rows)
     → IfOk result (λ first. first.next_uid ≤ no_uid) → IfOk result (λ first. IsSound first.device)
 answered_is_sound device rows (Ok first) sound opens fits = opened_is_sound device rows first sound fits opens
 answered_is_sound device rows (Err fault) sound opens fits = tt

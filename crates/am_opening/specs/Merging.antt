@@ -1,7 +1,8 @@
--- Rights that are merged with rows, where both stand in order.
+-- Rights that are merged with rows, if both are in order.
 use Rattle.std.specs.Prelude.{Bool, false, ◌&&◌, List, [], ◌∷◌, ◌++◌, if◌then◌else◌}
 use Rattle.am_types.specs.declared.device.Package.{Package}
-use Rattle.am_keeper.specs.declared.rows.RightRow.{RightRow}
+use Rattle.am_keeper.specs.declared.rows.GrantRow.{GrantRow}
+use Rattle.am_keeper.specs.declared.rows.LinkRow.{LinkRow}
 use Rattle.am_types.specs.declared.device.RightKind.{RightKind}
 use Rattle.am_types.specs.declared.device.RightKind.TheVariants.{Permission, Host}
 use Rattle.am_model.specs.Boards.{is_package_uid}
@@ -9,7 +10,7 @@ use Rattle.am_model.specs.Lists.{inserted}
 use Rattle.am_model.specs.Rights.{Right, before_right, is_right as is_right_of, with_right as with_right_of}
 use Rattle.am_model.specs.Texts.{is_same, lowered}
 
--- a right stands before another one
+-- a right comes before another one
 abbrev pub is_before : Right → Right → Bool
 is_before right other = before_right (λ (r : Right). r) right other
 
@@ -25,7 +26,7 @@ place_right right rights = inserted is_before right rights
 abbrev pub with_right : List Right → Right → Bool → List Right
 with_right rights right held = with_right_of (λ (r : Right). r) (λ uid text. (uid, text)) rights right.0 right.1 held
 
--- those at the front that stand before a right
+-- those at the front that come before a right
 abbrev pub front : Right → List Right → List Right
 front right [] = []
 front right (first ∷ others) = if is_before first right then first ∷ front right others else []
@@ -44,7 +45,7 @@ unless_first right (first ∷ others) = if is_right right first then others else
 abbrev pub if_held : Right → Bool → List Right
 if_held right held = if held then right ∷ [] else []
 
--- the first right, if there is one, stands before this one
+-- the first right, if there is one, comes before this one
 abbrev pub is_first_before : Right → List Right → Bool
 is_first_before right [] = false
 is_first_before right (first ∷ others) = is_before first right
@@ -68,11 +69,15 @@ module _ {R : Type 0} (right : R → Right) (held live : R → Bool) where
   abbrev pub after_right : List Right → R → List Right
   after_right rights row = if live row then with_right rights (right row) (held row) else rights
 
--- the right that a row is of
-abbrev pub of_row : RightRow → Right
-of_row row = (row.uid, row.text)
+-- the right that a grant row is about
+abbrev pub of_grant_row : GrantRow → Right
+of_grant_row row = (row.uid, row.permission)
 
--- a row counts: its package is there, and a host is in lower case
-abbrev pub is_live : RightKind → List Package → RightRow → Bool
-is_live Permission packages row = is_package_uid packages row.uid
-is_live Host packages row = is_package_uid packages row.uid && is_same (lowered row.text) row.text
+-- the right that a link row is about
+abbrev pub of_link_row : LinkRow → Right
+of_link_row row = (row.uid, row.host)
+
+-- the rows of a right count: its package is there, and a host is in lower case
+abbrev pub is_live : RightKind → List Package → Right → Bool
+is_live Permission packages right = is_package_uid packages right.0
+is_live Host packages right = is_package_uid packages right.0 && is_same (lowered right.1) right.1

@@ -37,7 +37,7 @@ fn rights_after(
     Ok((grants, links))
 }
 
-/// What is opened with the rights that were kept.
+/// What is opened, with the rights that were kept.
 fn with_rights(alloc: Global, opened: Opened, rows: &Rows) -> Result<Opened, NoMemory>
     requires grants { AreGrantsInOrder opened.device.grants }
     requires links { AreLinksInOrder opened.device.links }
@@ -66,8 +66,8 @@ fn with_rights(alloc: Global, opened: Opened, rows: &Rows) -> Result<Opened, NoM
     }
 }
 
-/// What is opened with the rights that were kept and the next uid, where the greatest uid of the
-/// device's packages is this.
+/// What is opened, with the rights that were kept and the next uid. `greatest` is the greatest uid
+/// of the device's packages.
 fn completed(alloc: Global, opened: Opened, greatest: u32, rows: &Rows) -> Result<Opened, NoMemory>
     requires greatest { greatest < no_uid }
     requires grants { AreGrantsInOrder opened.device.grants }
@@ -81,7 +81,7 @@ fn completed(alloc: Global, opened: Opened, greatest: u32, rows: &Rows) -> Resul
     Ok(opened)
 }
 
-/// How many rights are of the uid.
+/// How many rights the uid has.
 fn count_rights<T: Right>(rights: &[T], uid: u32) -> usize
     ensures { result ≡ count_by (λ right. (T.right_of right).0 == uid) rights.now }
 {
@@ -94,7 +94,7 @@ fn count_rights<T: Right>(rights: &[T], uid: u32) -> usize
     count
 }
 
-/// The package has more than 256 grants, or more than 256 links.
+/// Whether the package has more than 256 grants, or more than 256 links.
 fn has_too_many(device: &Device, package: &Package) -> bool
     ensures { result ≡ has_too_many (board_of device.now) «package».now }
 {
@@ -130,8 +130,8 @@ fn unless_too_many(opened: Opened) -> Result<Opened, BeginFault>
     }
 }
 
-/// What is opened, complete, unless some package has too many grants or links; the greatest uid of
-/// the device's packages is this.
+/// What is opened, complete, unless some package has too many grants or links. `greatest` is the
+/// greatest uid of the device's packages.
 pub(crate) fn opened_from(
     alloc: Global,
     opened: Opened,

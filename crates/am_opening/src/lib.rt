@@ -1,4 +1,4 @@
-//! The device that a device and the rows that were kept of it open as.
+//! Opens a device with the rows that were kept of it.
 #![tactic(auto)]
 
 mod completed;

@@ -1,21 +1,21 @@
-//! What opening a device gives.
+//! The result of opening a device.
 ghost use Rattle.std.specs.Prelude.{◌≡◌};
 
 use am_types::{Device, NoMemory, Text};
 use std::alloc::{AllocError, AllocFailed};
 
-/// A device as it opened, and the uid that the next package is given.
+/// A device after it was opened, and the uid that the next package gets.
 #[derive(Drop)]
 pub struct Opened {
     pub device: Device,
-    /// One more than the greatest uid that was ever given, also to packages that are gone.
+    /// One more than the greatest uid that was ever given, even to packages that are gone.
     pub next_uid: u32,
 }
 
-/// Why a device isn't opened with its rows.
+/// Why a device can't be opened with its rows.
 #[derive(Drop)]
 pub enum BeginFault {
-    /// The row of the package of this name is refused, or its package has more than 256 grants or
+    /// The row of the package with this name is refused, or the package has more than 256 grants or
     /// more than 256 links.
     Rows(Text),
     /// Memory ran out.

@@ -1,4 +1,4 @@
-//! A device with the rows that were kept of it.
+//! Opens a device with the rows that were kept of it.
 ghost use Rattle.std.specs.Prelude.{◌≤◌, IfOk};
 ghost use Rattle.am_keeper.specs.Rows.{IsInOrder};
 ghost use Rattle.am_model.specs.Sound.{IsSound};
@@ -32,20 +32,20 @@ fn opened_with(alloc: Global, device: Device, rows: &Rows) -> Result<Opened, Beg
     }
 }
 
-/// The device that a sound device and the rows that were kept of it open as, and the uid that is
-/// given next. That device is sound too.
+/// Opens a sound device with the rows that were kept of it. Returns the device, which is sound
+/// again, and the uid that is given next.
 ///
-/// Package rows are followed first, then those of grants and links. A package that is gone isn't
-/// there any more, with its grants and links; another one is added, stopped. A grant or link row of
-/// a package that isn't there is ignored, as is a link row whose host isn't in lower ASCII case.
+/// Package rows are applied first, then grant and link rows. A package that is gone is removed with
+/// its grants and links; any other package is added, stopped. A grant or link row of a package that
+/// isn't there is ignored, as is a link row whose host isn't in lower ASCII case.
 ///
 /// # Errors
 ///
-/// `BeginFault::Rows` names the first package row that is refused: one of the greatest uid, or one
-/// whose text is no manifest of its name, whose uid is below 10,000, whose key is none, whose uid,
-/// name or key is in use, or that would add the 257th package. If none is, it names the package of
-/// the least uid that has more than 256 grants or more than 256 links. `BeginFault::NoMemory` may come
-/// at any place.
+/// `BeginFault::Rows` names the first package row that is refused: a row with the greatest uid, or one
+/// whose text isn't a manifest with its name, whose uid is below 10,000, whose key isn't valid, whose
+/// uid, name or key is in use, or that would add the 257th package. If no row is refused, it names the
+/// package with the least uid that has more than 256 grants or more than 256 links.
+/// `BeginFault::NoMemory` may come at any point.
 pub fn open(alloc: Global, device: Device, rows: &Rows) -> Result<Opened, BeginFault>
     requires sound { IsSound device }
     requires order { IsInOrder rows.now }

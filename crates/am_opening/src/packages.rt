@@ -1,4 +1,4 @@
-//! Packages that rows add or take out.
+//! Packages that rows add or remove.
 ghost use Rattle.std.specs.Prelude.{◌≡◌, ◌<◌, IfOk, OnOk, All, Ok, Err};
 ghost use Rattle.std.specs.List.{list_any};
 ghost use Rattle.am_types.specs.declared.device.Package.{Package};
@@ -23,7 +23,7 @@ use std::alloc::{AllocError, Global};
 /// The greatest uid, which is never given.
 pub(crate) const NO_UID: u32 = 4_294_967_295;
 
-/// How many packages stand before the first of a greater uid.
+/// How many packages come before the first one with a greater uid.
 fn place_of(packages: &[Package], package: &Package) -> usize
     ensures { result ≡ place_of before_package «package».now packages.now }
 {
@@ -44,7 +44,7 @@ fn put_package(packages: &mut Vec<Package>, package: Package) -> Result<(), NoMe
     Ok(())
 }
 
-/// Takes the package of the uid out.
+/// Removes the package with the uid.
 fn drop_package(alloc: Global, packages: &mut List<Package>, uid: u32)
     ensures { packages.new ≡ without_package packages.old uid }
 {
@@ -53,7 +53,7 @@ fn drop_package(alloc: Global, packages: &mut List<Package>, uid: u32)
     *packages = List::new(items);
 }
 
-/// Takes the package of the uid out, with its grants and its links.
+/// Removes the package with the uid, its grants and its links.
 fn removed(alloc: Global, opened: Opened, uid: u32) -> Opened
     ensures { result ≡ record opened {
       device = record (opened.device) {
@@ -183,7 +183,7 @@ fn with_manifest(
     Ok(with_package(alloc, opened, package)?)
 }
 
-/// Adds the package of a row whose manifest is yet to be read.
+/// Reads the manifest of a row and adds the package, if the row is good.
 fn with_text(alloc: Global, opened: Opened, row: &PackageRow) -> Result<Opened, BeginFault>
     ensures { Opens result (with_read (state_of opened) row.now (manifest_of row.now.text)) }
 {

@@ -1,4 +1,4 @@
-//! Rights, which are a uid with a permission or a host each, in the order of uid and text.
+//! Rights in the order of uid and text. A right is a uid with a permission or a host.
 ghost use Rattle.std.specs.Prelude.{◌≡◌, ◌++◌, OnOk, take, drop};
 ghost use Rattle.am_model.specs.Rights.{rights_without};
 ghost use Rattle.am_opening.specs.Merging.{behind_front, front, is_first, is_first_before, merge_one, unless_first};
@@ -8,7 +8,7 @@ use am_types::{List, NoMemory, Text};
 use std::alloc::Global;
 use std::collections::VecDeque;
 
-/// Takes the rights of the uid out.
+/// Removes the rights of the uid.
 pub(crate) fn drop_rights<T: Right>(alloc: Global, rights: &mut List<T>, uid: u32)
     ensures { rights.new ≡ rights_without T.right_of rights.old uid }
 {
@@ -17,7 +17,7 @@ pub(crate) fn drop_rights<T: Right>(alloc: Global, rights: &mut List<T>, uid: u3
     *rights = List::new(items);
 }
 
-/// The first right that is left stands before this one.
+/// Whether the first right that is left comes before this one.
 fn is_first_before(left: &VecDeque<(u32, Text)>, uid: u32, text: &Text) -> bool
     ensures { result ≡ is_first_before (uid, text.now) left.now.items }
 {
@@ -27,7 +27,7 @@ fn is_first_before(left: &VecDeque<(u32, Text)>, uid: u32, text: &Text) -> bool
     }
 }
 
-/// The first right that is left is this one.
+/// Whether the first right that is left is this one.
 fn is_first(left: &VecDeque<(u32, Text)>, uid: u32, text: &Text) -> bool
     ensures { result ≡ is_first (uid, text.now) left.now.items }
 {
@@ -37,7 +37,7 @@ fn is_first(left: &VecDeque<(u32, Text)>, uid: u32, text: &Text) -> bool
     }
 }
 
-/// Moves the first right that is left behind those that are done.
+/// Moves the first right that is left to the end of those that are done.
 fn move_first(done: &mut Vec<(u32, Text)>, left: &mut VecDeque<(u32, Text)>) -> Result<(), NoMemory>
     ensures done { OnOk result (done.new.items ≡ done.old.items ++ take 1 left.old.items) }
     ensures left { left.new.items ≡ drop 1 left.old.items }
@@ -48,7 +48,7 @@ fn move_first(done: &mut Vec<(u32, Text)>, left: &mut VecDeque<(u32, Text)>) -> 
     Ok(())
 }
 
-/// Moves the rights that stand before this one behind those that are done.
+/// Moves the rights that come before this one to the end of those that are done.
 fn move_front(
     done: &mut Vec<(u32, Text)>,
     left: &mut VecDeque<(u32, Text)>,

@@ -32,10 +32,12 @@ not_both false h = refl
 
 -- texts that differ differ the other way round
 same_turned : (a b : List ℕ) → is_same a b ≡ false → is_same b a ≡ false
-same_turned a b e = not_both (is_same b a) (λ t. false≢true (sym e ∙ (is_same-Decides a b).1 (sym ((is_same-Decides b a).0 t))))
+same_turned a b e = not_both (is_same b a) (λ t. false≢true (sym e
+    ∙ (is_same-Decides a b).1 (sym ((is_same-Decides b a).0 t))))
 
 -- among components of other classes a class costs nothing
-nothing_in : (intent : Intent) (class : List ℕ) (ds : List Decl) → AllByRecursion (λ y. is_same class y ≡ false) (classes_of ds) → cost_in intent class ds ≡ 0
+nothing_in : (intent : Intent) (class : List ℕ) (ds : List Decl) → AllByRecursion (λ y. is_same class y ≡ false)
+    (classes_of ds) → cost_in intent class ds ≡ 0
 nothing_in intent class [] a = refl
 nothing_in intent class (d ∷ ds) a =
     ap (λ b. cond b (own intent d) 0 + cost_in intent class ds) (same_turned class d.class a.0)
@@ -43,15 +45,20 @@ nothing_in intent class (d ∷ ds) a =
     ∙ nothing_in intent class ds a.1
 
 -- a component in front of others of distinct classes doesn't change what they cost
-behind : (intent : Intent) (x : Decl) (whole ds : List Decl) → AllByRecursion (λ y. is_same x.class y ≡ false) (classes_of ds)
+behind : (intent : Intent) (x : Decl) (whole ds : List Decl) → AllByRecursion (λ y. is_same x.class y ≡ false)
+    (classes_of ds)
     → AllByRecursion (λ (d : Decl). cost_in intent d.class whole ≡ own intent d) ds
     → AllByRecursion (λ (d : Decl). cost_in intent d.class (x ∷ whole) ≡ own intent d) ds
 behind intent x whole [] a h = tt
-behind intent x whole (d ∷ ds) a h =
-    (ap (λ b. cond b (own intent x) 0 + cost_in intent d.class whole) a.0 ∙ zero-add (cost_in intent d.class whole) ∙ h.0, behind intent x whole ds a.1 h.1)
+behind intent x whole (d ∷ ds) a h = (
+  ap (λ b. cond b (own intent x) 0 + cost_in intent d.class whole) a.0 ∙ zero-add (cost_in intent d.class whole)
+      ∙ h.0,
+  behind intent x whole ds a.1 h.1,
+)
 
--- where classes are distinct, each costs what its component does
-each_own : (intent : Intent) (ds : List Decl) → AreDistinct (classes_of ds) → AllByRecursion (λ (d : Decl). cost_in intent d.class ds ≡ own intent d) ds
+-- if classes are distinct, each costs what its component does
+each_own : (intent : Intent) (ds : List Decl) → AreDistinct (classes_of ds)
+    → AllByRecursion (λ (d : Decl). cost_in intent d.class ds ≡ own intent d) ds
 unfolding IsDistinct
 each_own intent [] distinct = tt
 each_own intent (d ∷ ds) distinct = (
@@ -72,11 +79,13 @@ module _ (packages : List Package) (intent : Intent) (kind : Kind) (need_default
   abbrev what : Search
   what = record { kind = kind; intent = intent; need_default = need_default }
 
-  cost-append : (xs ys : List Hit) → cost_of packages intent (xs ++ ys) ≡ cost_of packages intent xs + cost_of packages intent ys
+  cost-append : (xs ys : List Hit) → cost_of packages intent (xs ++ ys)
+      ≡ cost_of packages intent xs + cost_of packages intent ys
   cost-append [] ys = sym (zero-add (cost_of packages intent ys))
   cost-append (x ∷ xs) ys =
       ap (λ n. cost_at intent x.component.class (package_at packages x.uid) + n) (cost-append xs ys)
-      ∙ assoc (cost_at intent x.component.class (package_at packages x.uid)) (cost_of packages intent xs) (cost_of packages intent ys)
+      ∙ assoc (cost_at intent x.component.class (package_at packages x.uid)) (cost_of packages intent xs)
+      (cost_of packages intent ys)
     where
       assoc : (a b c : ℕ) → a + (b + c) ≡ (a + b) + c
       assoc a b c = omega arith
@@ -92,64 +101,91 @@ module _ (packages : List Package) (intent : Intent) (kind : Kind) (need_default
           → cost_of packages intent (cond b (x ∷ place_hit h xs) (h ∷ x ∷ xs)) ≡ cost_of packages intent (h ∷ x ∷ xs)
       by true e =
           ap (λ n. cost_at intent x.component.class (package_at packages x.uid) + n) e
-          ∙ swap (cost_at intent x.component.class (package_at packages x.uid)) (cost_at intent h.component.class (package_at packages h.uid)) (cost_of packages intent xs)
+          ∙ swap (cost_at intent x.component.class (package_at packages x.uid))
+          (cost_at intent h.component.class (package_at packages h.uid)) (cost_of packages intent xs)
       by false e = refl
 
   cost-by_priority : (hs : List Hit) → cost_of packages intent (by_priority hs) ≡ cost_of packages intent hs
   cost-by_priority [] = refl
   cost-by_priority (h ∷ hs) =
-      cost-place h (by_priority hs) ∙ ap (λ n. cost_at intent h.component.class (package_at packages h.uid) + n) (cost-by_priority hs)
+      cost-place h (by_priority hs) ∙ ap (λ n. cost_at intent h.component.class (package_at packages h.uid) + n)
+      (cost-by_priority hs)
 
   module _ (owner : Package) (found : package_at packages owner.uid ≡ Some owner) where
     -- a hit of a component costs no more than the component
-    one : (place : ℕ) (d : Decl) (p : Option ℤ) → cost_in intent d.class owner.decls ≡ own intent d → cost_of packages intent (hit_at owner place d p) ≤ own intent d
+    one : (place : ℕ) (d : Decl) (p : Option ℤ) → cost_in intent d.class owner.decls ≡ own intent d
+        → cost_of packages intent (hit_at owner place d p) ≤ own intent d
     one place d None e = omega arith
     one place d (Some p) e =
-        let is : cost_at intent d.class (package_at packages owner.uid) ≡ own intent d = ap (cost_at intent d.class) found ∙ e in
+        let is : cost_at intent d.class (package_at packages owner.uid)
+        ≡ own intent d = ap (cost_at intent d.class) found ∙ e in
         omega (arith, is)
 
-    when : (b : Bool) (hs : List Hit) (n : ℕ) → cost_of packages intent hs ≤ n → cost_of packages intent (cond b hs []) ≤ n
+    when : (b : Bool) (hs : List Hit) (n : ℕ) → cost_of packages intent hs ≤ n
+        → cost_of packages intent (cond b hs []) ≤ n
     when true hs n h = h
     when false hs n h = omega arith
 
     of_decl : (place : ℕ) (d : Decl) (c : Option Component) → cost_in intent d.class owner.decls ≡ own intent d
         → cost_of packages intent (hit_of what owner place d c) ≤ own intent d
     of_decl place d (Some c) e = when (is_named c owner.name d.class) _ _ (one place d (Some (pos 0)) e)
-    of_decl place d None e = when (is_in intent.«package» owner) _ _ (one place d (priority_of kind intent need_default d.filters) e)
+    of_decl place d None e = when (is_in intent.«package» owner) _ _
+        (one place d (priority_of kind intent need_default d.filters) e)
 
     -- and those of some components no more than these
-    from : (position place : ℕ) (ds : List Decl) → AllByRecursion (λ (d : Decl). cost_in intent d.class owner.decls ≡ own intent d) ds
-        → cost_of packages intent (hits_from what owner place ds) ≤ size_of intent (members_from kind owner position place ds)
+    from : (position place : ℕ) (ds : List Decl) → AllByRecursion (λ (d : Decl). cost_in intent d.class owner.decls
+        ≡ own intent d) ds
+        → cost_of packages intent (hits_from what owner place ds) ≤ size_of intent
+        (members_from kind owner position place ds)
     from position place [] a = omega arith
     from position place (d ∷ ds) a =
         by (is_kind kind d.kind) d.enabled (from (position + 1) (place + 1) ds a.1) (from (position + 1) place ds a.1)
       where
         by : (k enabled : Bool)
-            → cost_of packages intent (hits_from what owner (place + 1) ds) ≤ size_of intent (members_from kind owner (position + 1) (place + 1) ds)
-            → cost_of packages intent (hits_from what owner place ds) ≤ size_of intent (members_from kind owner (position + 1) place ds)
-            → cost_of packages intent (cond k (cond enabled (hit_of what owner place d intent.component) [] ++ hits_from what owner (place + 1) ds) (hits_from what owner place ds))
-            ≤ size_of intent (cond k (cond enabled (record { owner = owner; position = position; place = place; decl = d } ∷ members_from kind owner (position + 1) (place + 1) ds) (members_from kind owner (position + 1) (place + 1) ds)) (members_from kind owner (position + 1) place ds))
+            → cost_of packages intent (hits_from what owner (place + 1) ds) ≤ size_of intent
+            (members_from kind owner (position + 1) (place + 1) ds)
+            → cost_of packages intent (hits_from what owner place ds) ≤ size_of intent
+            (members_from kind owner (position + 1) place ds)
+            → cost_of packages intent (cond k (cond enabled (hit_of what owner place d intent.component) []
+            ++ hits_from what owner (place + 1) ds) (hits_from what owner place ds))
+            ≤ size_of intent (cond k (cond enabled (record {
+              owner = owner;
+              position = position;
+              place = place;
+              decl = d;
+            } ∷ members_from kind owner (position + 1) (place + 1) ds)
+            (members_from kind owner (position + 1) (place + 1) ds))
+            (members_from kind owner (position + 1) place ds))
         by true true next other =
-            let joined = cost-append (hit_of what owner place d intent.component) (hits_from what owner (place + 1) ds) in
+            let joined = cost-append (hit_of what owner place d intent.component) (hits_from what owner (place + 1) ds)
+            in
             rw joined (add_le _ _ _ _ (of_decl place d intent.component a.0) next)
         by true false next other = next
         by false enabled next other = other
 
   size-append : (xs ys : List Member) → size_of intent (xs ++ ys) ≡ size_of intent xs + size_of intent ys
   size-append [] ys = sym (zero-add (size_of intent ys))
-  size-append (x ∷ xs) ys = ap (λ n. own intent x.decl + n) (size-append xs ys) ∙ assoc (own intent x.decl) (size_of intent xs) (size_of intent ys)
+  size-append (x ∷ xs) ys = ap (λ n. own intent x.decl + n) (size-append xs ys)
+      ∙ assoc (own intent x.decl) (size_of intent xs) (size_of intent ys)
     where
       assoc : (a b c : ℕ) → a + (b + c) ≡ (a + b) + c
       assoc a b c = omega arith
 
-  of_packages : (ps : List Package) → Found packages ps → AllByRecursion IsInstalled ps → cost_of packages intent (hits_in what ps) ≤ size_of intent (members kind ps)
+  of_packages : (ps : List Package) → Found packages ps → AllByRecursion IsInstalled ps
+      → cost_of packages intent (hits_in what ps) ≤ size_of intent (members kind ps)
   of_packages [] f i = omega arith
   of_packages (p ∷ ps) f i =
-      rw (cost-append (hits_from what p 0 p.decls) (hits_in what ps), size-append (members_from kind p 0 0 p.decls) (members kind ps))
+      rw (
+        cost-append (hits_from what p 0 p.decls) (hits_in what ps),
+        size-append (members_from kind p 0 0 p.decls)
+            (members kind ps),
+      )
       (add_le _ _ _ _ (from p f.0 0 0 p.decls (each_own intent p.decls i.0.classes)) (of_packages ps f.1 i.1))
 
-  -- narrowing what was found takes no more tests than the group has filters
-  pub narrowing_cost : AreInstalled packages → cost_of packages intent (hits packages kind intent need_default) ≤ group_size packages kind intent
+  -- narrowing what was found takes at most as many tests as the group has filters
+  pub narrowing_cost : AreInstalled packages → cost_of packages intent (hits packages kind intent need_default) ≤
+      group_size packages kind intent
   narrowing_cost installed =
       rw (cost-by_priority (hits_in what packages))
-      (of_packages packages (each_found packages (rises packages installed.rising)) (recursion_from_All IsInstalled packages installed.each))
+      (of_packages packages (each_found packages (rises packages installed.rising))
+      (recursion_from_All IsInstalled packages installed.each))

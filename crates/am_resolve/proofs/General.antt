@@ -23,19 +23,23 @@ other_uid intent hit p (d ∷ ds) e =
 
 -- in the package of its uid only the class counts
 same_uid : (intent : Intent) (hit : Hit) (p : Package) (ds : List Decl) → eqb p.uid hit.uid ≡ true
-    → list_any (λ (d : Decl). is_hit_of p d hit && list_any (takes_any_host intent) d.filters) ds ≡ is_general_in intent hit.component.class ds
+    → list_any (λ (d : Decl). is_hit_of p d hit && list_any (takes_any_host intent) d.filters) ds
+    ≡ is_general_in intent hit.component.class ds
 same_uid intent hit p [] e = refl
 same_uid intent hit p (d ∷ ds) e =
     ap (λ b. ((b && is_same d.class hit.component.class) && list_any (takes_any_host intent) d.filters)
     || list_any (λ (d : Decl). is_hit_of p d hit && list_any (takes_any_host intent) d.filters) ds) e
-    ∙ ap (λ b. (is_same d.class hit.component.class && list_any (takes_any_host intent) d.filters) || b) (same_uid intent hit p ds e)
+    ∙ ap (λ b. (is_same d.class hit.component.class && list_any (takes_any_host intent) d.filters) || b)
+    (same_uid intent hit p ds e)
 
--- behind a package no other has its uid
-none_above : (intent : Intent) (hit : Hit) (uid : ℕ) (ps : List Package) → hit.uid ≡ uid → Above uid ps → is_general ps intent hit ≡ false
+-- after a package no other has its uid
+none_above : (intent : Intent) (hit : Hit) (uid : ℕ) (ps : List Package) → hit.uid ≡ uid → Above uid ps
+    → is_general ps intent hit ≡ false
 none_above intent hit uid [] e a = refl
 none_above intent hit uid (p ∷ ps) e a =
     ap (λ b. b || is_general ps intent hit)
-    (other_uid intent hit p p.decls (differs p.uid hit.uid (let lower : uid < p.uid = a.0 in omega (arith, e, lower)) (eqb p.uid hit.uid) refl))
+    (other_uid intent hit p p.decls (differs p.uid hit.uid (let lower : uid < p.uid = a.0 in omega (arith, e, lower))
+    (eqb p.uid hit.uid) refl))
     ∙ none_above intent hit uid ps e a.1
   where
     differs : (a b : ℕ) → b < a → (c : Bool) → eqb a b ≡ c → c ≡ false
@@ -47,15 +51,18 @@ or_false true = refl
 or_false false = refl
 
 -- whether a hit takes any host is seen in the package of its uid
-pub general_at : (intent : Intent) (hit : Hit) (ps : List Package) → Rises ps → is_general ps intent hit ≡ is_general_at intent hit.component.class (package_at ps hit.uid)
+pub general_at : (intent : Intent) (hit : Hit) (ps : List Package) → Rises ps → is_general ps intent hit
+    ≡ is_general_at intent hit.component.class (package_at ps hit.uid)
 general_at intent hit [] r = refl
 general_at intent hit (p ∷ ps) r = by (eqb p.uid hit.uid) refl (general_at intent hit ps r.1)
   where
     by : (b : Bool) → eqb p.uid hit.uid ≡ b
         → is_general ps intent hit ≡ is_general_at intent hit.component.class (package_at ps hit.uid)
-        → is_general (p ∷ ps) intent hit ≡ is_general_at intent hit.component.class (cond b (Some p) (package_at ps hit.uid))
+        → is_general (p ∷ ps) intent hit ≡ is_general_at intent hit.component.class
+        (cond b (Some p) (package_at ps hit.uid))
     by true e rest =
         ap (λ b. b || is_general ps intent hit) (same_uid intent hit p p.decls e)
-        ∙ ap (λ b. is_general_in intent hit.component.class p.decls || b) (none_above intent hit p.uid ps (sym (eqb-true p.uid hit.uid e)) r.0)
+        ∙ ap (λ b. is_general_in intent hit.component.class p.decls || b)
+        (none_above intent hit p.uid ps (sym (eqb-true p.uid hit.uid e)) r.0)
         ∙ or_false (is_general_in intent hit.component.class p.decls)
     by false e rest = ap (λ b. b || is_general ps intent hit) (other_uid intent hit p p.decls e) ∙ rest

@@ -22,8 +22,10 @@ abbrev pub sort_key : Ranked → Reverse ℤ
 sort_key one = record { 0 = one.priority }
 
 -- what a stable sort by falling priority gives is that order
-pub sorted_is_in_rank : (found sorted : List Ranked) → IsSortedBy (before (λ (one : Ranked). one.priority)) sorted → IsStableBy (before (λ (one : Ranked). one.priority)) found sorted → sorted ≡ in_rank found
-sorted_is_in_rank = sorted_is_order (λ (one : Ranked). one.priority) place_ranked in_rank (λ one. refl) (λ one first others. refl) refl (λ first others. refl)
+pub sorted_is_in_rank : (found sorted : List Ranked) → IsSortedBy (before (λ (one : Ranked). one.priority)) sorted
+    → IsStableBy (before (λ (one : Ranked). one.priority)) found sorted → sorted ≡ in_rank found
+sorted_is_in_rank = sorted_is_order (λ (one : Ranked). one.priority) place_ranked in_rank (λ one. refl)
+    (λ one first others. refl) refl (λ first others. refl)
 
 module _ (board : Board) (intent : Intent) (sender : ℕ) (required : Option (List ℕ)) where
   -- what becomes of the offer
@@ -31,12 +33,14 @@ module _ (board : Board) (intent : Intent) (sender : ℕ) (required : Option (Li
   ranked = ranked_of board intent sender required
 
   -- placing what becomes of an offer is placing the offer
-  place-ranked : (offer : Offer) (others : List Offer) → place_ranked (ranked offer) (map ranked others) ≡ map ranked (place_offer offer others)
+  place-ranked : (offer : Offer) (others : List Offer) → place_ranked (ranked offer) (map ranked others)
+      ≡ map ranked (place_offer offer others)
   place-ranked offer [] = refl
   place-ranked offer (first ∷ others) = by (int_lt offer.priority first.priority) (place-ranked offer others)
     where
       by : (b : Bool) → place_ranked (ranked offer) (map ranked others) ≡ map ranked (place_offer offer others)
-          → cond b (ranked first ∷ place_ranked (ranked offer) (map ranked others)) (ranked offer ∷ ranked first ∷ map ranked others)
+          → cond b (ranked first ∷ place_ranked (ranked offer) (map ranked others))
+          (ranked offer ∷ ranked first ∷ map ranked others)
           ≡ map ranked (cond b (first ∷ place_offer offer others) (offer ∷ first ∷ others))
       by true e = ap (λ l. ranked first ∷ l) e
       by false e = refl
@@ -44,16 +48,20 @@ module _ (board : Board) (intent : Intent) (sender : ℕ) (required : Option (Li
   -- the order of what becomes of offers is the order of the offers
   in_rank-ranked : (all : List Offer) → in_rank (map ranked all) ≡ map ranked (in_order all)
   in_rank-ranked [] = refl
-  in_rank-ranked (first ∷ others) = ap (place_ranked (ranked first)) (in_rank-ranked others) ∙ place-ranked first (in_order others)
+  in_rank-ranked (first ∷ others) = ap (place_ranked (ranked first)) (in_rank-ranked others)
+      ∙ place-ranked first (in_order others)
 
   -- the registered receivers that the intent finds
-  of_registered : (rs : List Registration) → ranked_of_registered board intent sender required rs ≡ map ranked (map registered_offer (filter (finds_registered board.packages intent) rs))
+  of_registered : (rs : List Registration) → ranked_of_registered board intent sender required rs
+      ≡ map ranked (map registered_offer (filter (finds_registered board.packages intent) rs))
   of_registered [] = refl
   of_registered (r ∷ rs) = by (finds_registered board.packages intent r) (of_registered rs)
     where
-      by : (b : Bool) → ranked_of_registered board intent sender required rs ≡ map ranked (map registered_offer (filter (finds_registered board.packages intent) rs))
+      by : (b : Bool) → ranked_of_registered board intent sender required rs
+          ≡ map ranked (map registered_offer (filter (finds_registered board.packages intent) rs))
           → cond b (ranked (registered_offer r) ∷ []) [] ++ ranked_of_registered board intent sender required rs
-          ≡ map ranked (map registered_offer (cond b (r ∷ filter (finds_registered board.packages intent) rs) (filter (finds_registered board.packages intent) rs)))
+          ≡ map ranked (map registered_offer (cond b (r ∷ filter (finds_registered board.packages intent) rs)
+          (filter (finds_registered board.packages intent) rs)))
       by true e = ap (λ l. ranked (registered_offer r) ∷ l) e
       by false e = e
 
@@ -62,18 +70,26 @@ module _ (board : Board) (intent : Intent) (sender : ℕ) (required : Option (Li
       → ranked_of_hits board board.packages intent sender required hs ≡ map ranked (declared_offers board.packages hs)
   of_hits [] found = refl
   of_hits (h ∷ hs) found =
-      ap (λ d. map ranked (declared_offer h d) ++ ranked_of_hits board board.packages intent sender required hs) (sym found.0)
+      ap (λ d. map ranked (declared_offer h d) ++ ranked_of_hits board board.packages intent sender required hs)
+      (sym found.0)
       ∙ ap (λ l. map ranked (declared_offer h (declared board.packages Receiver h.component)) ++ l) (of_hits hs found.1)
-      ∙ sym (map-append ranked (declared_offer h (declared board.packages Receiver h.component)) (declared_offers board.packages hs))
+      ∙ sym (map-append ranked (declared_offer h (declared board.packages Receiver h.component))
+      (declared_offers board.packages hs))
 
   -- what becomes of each, without its priority
   of_ranked : (all : List Offer) → map receiving_of (map ranked all)
-      ≡ map (λ (offer : Offer). record { uid = offer.uid; aim = offer.aim; skip = skip_of board intent sender required offer }) all
+      ≡ map (λ (offer : Offer). record {
+        uid = offer.uid;
+        aim = offer.aim;
+        skip = skip_of board intent sender required
+            offer;
+      }) all
   of_ranked [] = refl
   of_ranked (first ∷ others) = ap (λ l. receiving_of (ranked first) ∷ l) (of_ranked others)
 
   -- what becomes of all offers, in order, is what the definition says
-  pub ranked_is_receivers : map receiving_of (in_rank (ranked_of_registered board intent sender required board.registered ++ map ranked (declared_offers board.packages (hits board.packages Receiver intent false))))
+  pub ranked_is_receivers : map receiving_of (in_rank (ranked_of_registered board intent sender required
+      board.registered ++ map ranked (declared_offers board.packages (hits board.packages Receiver intent false))))
       ≡ receivers board intent sender required
   ranked_is_receivers =
       let registered = map registered_offer (filter (finds_registered board.packages intent) board.registered) in

@@ -1,4 +1,4 @@
--- An index stands for packages whether they are stopped or not, and after one that was added is taken out again.
+-- An index represents packages whether they are stopped or not, and after an added one is removed again.
 use Rattle.std.proofs.Common.{◌≡◌, ℕ, ◌+◌, Bool, true, false, not, cond, eqb, List, [], ◌∷◌, ◌++◌, refl, sym, ap, ◌∙◌, subst, arith, Some, None, length, ◌==◌, suc}
 use Rattle.std.specs.List.{IsDistinct, slice_get}
 use Rattle.std.specs.List.Sorted.{IsStrictlyIncreasing}
@@ -24,8 +24,9 @@ use Rattle.am_index.proofs.Stands.{spots_under-cons}
 pub listable : (ps : List Package) → AreInstalled ps → CanBeListed ps
 listable ps installed = record { rising = installed.rising; few = λ k d h. (installed.each k d h).few }
 
--- a package that was added is taken out again
-pub without_last : (ps : List Package) (p : Package) → AreInstalled (ps ++ p ∷ []) → without_package (ps ++ p ∷ []) p.uid ≡ ps
+-- a package that was added is removed again
+pub without_last : (ps : List Package) (p : Package) → AreInstalled (ps ++ p ∷ [])
+    → without_package (ps ++ p ∷ []) p.uid ≡ ps
 without_last ps p installed =
     filter-append (λ (q : Package). not (eqb q.uid p.uid)) ps (p ∷ [])
     ∙ ap (λ l. without_package ps p.uid ++ l) (ap (λ b. cond (not b) (p ∷ []) []) (eq-eqb p.uid p.uid refl))
@@ -34,29 +35,40 @@ without_last ps p installed =
 
 abbrev StoppedAlike : Key → Package → Bool → List Decl → ℕ → ℕ → Type 0
 StoppedAlike key p stopped ds at n =
-    spots_where (λ m. is_under key m.owner m.decl) (members_from key.kind (record p { stopped = stopped }) at n ds) ≡ spots_where (λ m. is_under key m.owner m.decl) (members_from key.kind p at n ds)
+    spots_where (λ m. is_under key m.owner m.decl) (members_from key.kind (record p { stopped = stopped }) at n ds)
+    ≡ spots_where (λ m. is_under key m.owner m.decl) (members_from key.kind p at n ds)
 
 -- what a package has under a key doesn't depend on whether it is stopped
 spots_stopped : (key : Key) (p : Package) (stopped : Bool) (at n : ℕ) (ds : List Decl)
-    → spots_where (λ m. is_under key m.owner m.decl) (members_from key.kind (record p { stopped = stopped }) at n ds) ≡ spots_where (λ m. is_under key m.owner m.decl) (members_from key.kind p at n ds)
+    → spots_where (λ m. is_under key m.owner m.decl) (members_from key.kind (record p { stopped = stopped }) at n ds)
+    ≡ spots_where (λ m. is_under key m.owner m.decl) (members_from key.kind p at n ds)
 spots_stopped key p stopped at n [] = refl
 spots_stopped key p stopped at n (d ∷ ds) =
-    by (is_kind key.kind d.kind) d.enabled (spots_stopped key p stopped (at + 1) (n + 1) ds) (spots_stopped key p stopped (at + 1) n ds)
+    by (is_kind key.kind d.kind) d.enabled (spots_stopped key p stopped (at + 1) (n + 1) ds)
+    (spots_stopped key p stopped (at + 1) n ds)
   where
     by : (k enabled : Bool) → StoppedAlike key p stopped ds (at + 1) (n + 1) → StoppedAlike key p stopped ds (at + 1) n
         → spots_where (λ m. is_under key m.owner m.decl)
-        (cond k (cond enabled (record { owner = record p { stopped = stopped }; position = at; place = n; decl = d } ∷ members_from key.kind (record p { stopped = stopped }) (at + 1) (n + 1) ds) (members_from key.kind (record p { stopped = stopped }) (at + 1) (n + 1) ds)) (members_from key.kind (record p { stopped = stopped }) (at + 1) n ds))
+        (cond k (cond enabled (record { owner = record p { stopped = stopped }; position = at; place = n; decl = d }
+        ∷ members_from key.kind (record p { stopped = stopped }) (at + 1) (n + 1) ds)
+        (members_from key.kind (record p { stopped = stopped }) (at + 1) (n + 1) ds))
+        (members_from key.kind (record p { stopped = stopped }) (at + 1) n ds))
         ≡ spots_where (λ m. is_under key m.owner m.decl)
-        (cond k (cond enabled (record { owner = p; position = at; place = n; decl = d } ∷ members_from key.kind p (at + 1) (n + 1) ds) (members_from key.kind p (at + 1) (n + 1) ds)) (members_from key.kind p (at + 1) n ds))
-    by true true next other = ap (λ l. cond (is_under key p d) (record { uid = p.uid; position = at; place = n } ∷ l) l) next
+        (cond k (cond enabled (record { owner = p; position = at; place = n; decl = d }
+        ∷ members_from key.kind p (at + 1) (n + 1) ds) (members_from key.kind p (at + 1) (n + 1) ds))
+        (members_from key.kind p (at + 1) n ds))
+    by true true next other = ap (λ l. cond (is_under key p d) (record { uid = p.uid; position = at; place = n } ∷ l) l)
+        next
     by true false next other = next
     by false enabled next other = other
 
-under_stopped : (key : Key) (ps : List Package) (uid : ℕ) (stopped : Bool) → spots_under key (with_stopped ps uid stopped) ≡ spots_under key ps
+under_stopped : (key : Key) (ps : List Package) (uid : ℕ) (stopped : Bool)
+    → spots_under key (with_stopped ps uid stopped) ≡ spots_under key ps
 under_stopped key [] uid stopped = refl
 under_stopped key (p ∷ ps) uid stopped =
     spots_under-cons key (cond (eqb p.uid uid) (record p { stopped = stopped }) p) (with_stopped ps uid stopped)
-    ∙ ap (λ l. spots_of_package key (cond (eqb p.uid uid) (record p { stopped = stopped }) p) ++ l) (under_stopped key ps uid stopped)
+    ∙ ap (λ l. spots_of_package key (cond (eqb p.uid uid) (record p { stopped = stopped }) p) ++ l)
+    (under_stopped key ps uid stopped)
     ∙ ap (λ l. l ++ spots_under key ps) (by (eqb p.uid uid))
     ∙ sym (spots_under-cons key p ps)
   where
@@ -64,8 +76,9 @@ under_stopped key (p ∷ ps) uid stopped =
     by true = spots_stopped key p stopped 0 0 p.decls
     by false = refl
 
--- the index stands for packages whether they are stopped or not
-pub stands_stopped : (index : FilterIndex) (ps : List Package) (uid : ℕ) (stopped : Bool) → StandsFor index ps → StandsFor index (with_stopped ps uid stopped)
+-- the index represents packages whether they are stopped or not
+pub stands_stopped : (index : FilterIndex) (ps : List Package) (uid : ℕ) (stopped : Bool) → StandsFor index ps
+    → StandsFor index (with_stopped ps uid stopped)
 stands_stopped index ps uid stopped stands = record {
   rising = subst (λ (l : List ℕ). IsStrictlyIncreasing l) (sym (uids_stopped ps uid stopped)) stands.rising;
   lists = λ key. stands.lists key ∙ sym (under_stopped key ps uid stopped);
@@ -81,14 +94,18 @@ installed_alone p sound = record {
 }
 
 -- the first package of a sound device may be the only one
-pub first_alone : (ps own : List Package) (p : Package) → AreSoundPackages own → Some p ≡ slice_get own 0 → ps ≡ [] → AreInstalled (ps ++ p ∷ [])
-first_alone ps own p sound first none = subst (λ (l : List Package). AreInstalled (l ++ p ∷ [])) (sym none) (by own sound first)
+pub first_alone : (ps own : List Package) (p : Package) → AreSoundPackages own → Some p ≡ slice_get own 0 → ps ≡ []
+    → AreInstalled (ps ++ p ∷ [])
+first_alone ps own p sound first none = subst (λ (l : List Package). AreInstalled (l ++ p ∷ [])) (sym none)
+    (by own sound first)
   where
     by : (own : List Package) → AreSoundPackages own → Some p ≡ slice_get own 0 → AreInstalled (p ∷ [])
     by [] s e = absurd (let same : Some p ≡ None = e in cc)
-    by (q ∷ qs) s e = let same : p ≡ q = cc in subst (λ (x : Package). AreInstalled (x ∷ [])) (sym same) (installed_alone q (s.each 0 q (omega arith)))
+    by (q ∷ qs) s e = let same : p ≡ q = cc in subst (λ (x : Package). AreInstalled (x ∷ [])) (sym same)
+        (installed_alone q (s.each 0 q (omega arith)))
 
 -- packages of which there are none
 pub none_there : (ps : List Package) (b : Bool) → b ≡ (length ps == 0) → b ≡ true → ps ≡ []
 none_there [] b e n = refl
-none_there (p ∷ ps) b e n = absurd (let same : suc (length ps) ≡ 0 = eqb-true (length (p ∷ ps)) 0 (sym e ∙ n) in omega (arith, same))
+none_there (p ∷ ps) b e n = absurd (let same : suc (length ps) ≡ 0 = eqb-true (length (p ∷ ps)) 0 (sym e ∙ n) in omega
+    (arith, same))

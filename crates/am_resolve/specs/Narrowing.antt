@@ -1,4 +1,4 @@
--- Narrowing as it is looked up: a hit's component in its package, and the tests of filters that this takes.
+-- Narrowing as the code looks it up: a hit's component in its package, and the tests of filters that this takes.
 use Rattle.std.specs.Prelude.{ℕ, ◌+◌, Bool, false, ◌&&◌, List, [], ◌∷◌, count_by, if◌then◌else◌, Option, Some, None}
 use Rattle.std.specs.List.{list_any}
 use Rattle.am_types.specs.declared.device.Package.{Package}
@@ -15,7 +15,7 @@ abbrev pub is_general_in : Intent → List ℕ → List Decl → Bool
 is_general_in intent class decls =
     list_any (λ (decl : Decl). is_same decl.class class && list_any (takes_any_host intent) decl.filters) decls
 
--- the same in a package, if there is one
+-- the same for a package, if there is one
 abbrev pub is_general_at : Intent → List ℕ → Option Package → Bool
 is_general_at intent class None = false
 is_general_at intent class (Some owner) = is_general_in intent class owner.decls
@@ -26,12 +26,12 @@ cost_in intent class [] = 0
 cost_in intent class (first ∷ others) =
     (if is_same first.class class then count_by (in_group intent) first.filters else 0) + cost_in intent class others
 
--- the same in a package, if there is one
+-- the same for a package, if there is one
 abbrev pub cost_at : Intent → List ℕ → Option Package → ℕ
 cost_at intent class None = 0
 cost_at intent class (Some owner) = cost_in intent class owner.decls
 
--- how many at some hits
+-- how many for some hits
 abbrev pub cost_of : List Package → Intent → List Hit → ℕ
 cost_of packages intent [] = 0
 cost_of packages intent (first ∷ others) =

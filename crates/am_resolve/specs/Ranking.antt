@@ -13,7 +13,7 @@ use Rattle.am_model.specs.Receivers.{decl_in, declared_offer, finds_registered, 
 use Rattle.am_resolve.specs.declared.offers.Offer.{Offer}
 use Rattle.am_resolve.specs.declared.offers.Ranked.{Ranked}
 
--- an offer of the code, as the offer that it is
+-- an offer of the code, as the model's offer
 abbrev pub offer_of : Offer → model.Offer
 offer_of offer = record {
   uid = offer.uid;
@@ -33,13 +33,15 @@ ranked_of board intent sender required offer = record {
 -- what becomes of the offer to a registered receiver, if the intent finds it
 abbrev pub ranked_of_registration : Board → Intent → ℕ → Option (List ℕ) → Registration → List Ranked
 ranked_of_registration board intent sender required r =
-    if finds_registered board.packages intent r then ranked_of board intent sender required (registered_offer r) ∷ [] else []
+    if finds_registered board.packages intent r then ranked_of board intent sender required (registered_offer r)
+    ∷ [] else []
 
--- and of the offers to several
+-- what becomes of the offers to several
 abbrev pub ranked_of_registered : Board → Intent → ℕ → Option (List ℕ) → List Registration → List Ranked
 ranked_of_registered board intent sender required [] = []
 ranked_of_registered board intent sender required (first ∷ others) =
-    ranked_of_registration board intent sender required first ++ ranked_of_registered board intent sender required others
+    ranked_of_registration board intent sender required first ++ ranked_of_registered board intent sender required
+    others
 
 -- the enabled receiver that a package declares under a class, if there is one
 abbrev pub receiver_in : List ℕ → Option Package → Option Decl
@@ -55,19 +57,20 @@ abbrev pub ranked_of_hit : Board → List Package → Intent → ℕ → Option 
 ranked_of_hit board packages intent sender required hit =
     map (ranked_of board intent sender required) (declared_offer hit (with_uid hit.uid (decl_at packages hit)))
 
--- and of the offers to several
+-- what becomes of the offers to several
 abbrev pub ranked_of_hits : Board → List Package → Intent → ℕ → Option (List ℕ) → List Hit → List Ranked
 ranked_of_hits board packages intent sender required [] = []
 ranked_of_hits board packages intent sender required (first ∷ others) =
-    ranked_of_hit board packages intent sender required first ++ ranked_of_hits board packages intent sender required others
+    ranked_of_hit board packages intent sender required first ++ ranked_of_hits board packages intent sender required
+    others
 
--- one in front of those of no greater priority, behind the others
+-- an offer inserted before those of lesser or equal priority, and after the others
 abbrev pub place_ranked : Ranked → List Ranked → List Ranked
 place_ranked one [] = one ∷ []
 place_ranked one (first ∷ others) =
     if int_lt one.priority first.priority then first ∷ place_ranked one others else one ∷ first ∷ others
 
--- by falling priority; where it ties the order stays
+-- by falling priority; offers of equal priority keep their order
 abbrev pub in_rank : List Ranked → List Ranked
 in_rank [] = []
 in_rank (first ∷ others) = place_ranked first (in_rank others)

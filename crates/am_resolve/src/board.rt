@@ -1,4 +1,4 @@
-//! What is installed, with the index that stands for it.
+//! What is installed, with its index.
 ghost use Rattle.std.specs.Prelude.{◌≡◌, ◌∷◌, ◌++◌, ◌+◌, ◌*◌, ◌≤◌, [], not, ◌==◌, false, filter, length, IfOk, IsOk, IsSome, OnOk, OnErr, option_copied};
 ghost use Rattle.std.specs.Option.{option_map};
 ghost use Rattle.am_types.specs.declared.manifest.Kind.TheVariants.{Activity, Receiver};
@@ -18,8 +18,8 @@ use crate::top::choose;
 use am_index::FilterIndex;
 use am_installed::Installed;
 use am_types::{
-    Component, Decl, Device, Grant, Hit, Intent, Kind, Link, List, NoMemory, Package, Receiving,
-    Registration, Steps, Target, Text, drop_parts,
+    Component, Decl, Device, Filter, Grant, Hit, Intent, Kind, Link, List, NoMemory, Package,
+    Receiving, Registration, Steps, Target, Text, drop_parts,
 };
 use std::alloc::Global;
 use std::marker::Model;
@@ -49,7 +49,7 @@ impl Model for Board {
 }
 
 impl Board {
-    /// The board of a sound device on which nothing happened yet.
+    /// The board of a sound device on which nothing has happened yet.
     pub fn from_device(alloc: Global, device: Device) -> Result<Self, NoMemory>
         requires { IsSound device }
         ensures { IfOk result (λ board. board ≡ board_of device) }
@@ -68,7 +68,7 @@ impl Board {
     /// The components of the kind that the intent finds, by falling priority, then uid, then place;
     /// with `default_only` an implicit intent finds those with a filter that lists the default
     /// category. Each full test of a filter is a step: at most as many as the intent's group has
-    /// filters, and none where the intent names a component. ("Intents and intent filters".)
+    /// filters, and none if the intent names a component. ("Intents and intent filters".)
     pub fn query<L: Ledger>(
         &self,
         alloc: Global,
@@ -87,8 +87,8 @@ impl Board {
     }
 
     /// Which activity a start of the intent reaches: none, the one of greatest priority, or several
-    /// that share it. A web intent is narrowed first. Each full test of a filter is a step: at most
-    /// twice as many as the intent's group has filters, and none where the intent names a
+    /// that share it. A start of a web intent is narrowed first. Each full test of a filter is a step: at most
+    /// twice as many as the intent's group has filters, and none if the intent names a
     /// component. ("Intents and intent filters"; narrowing is (own) in detail.)
     pub fn target<L: Ledger>(
         &self,
@@ -105,10 +105,10 @@ impl Board {
         Ok(choose(left))
     }
 
-    /// Who the broadcast of the sender is offered to, by falling priority, at a tie registered
-    /// receivers by number, then the manifests' by uid and place; each with the rule by which it is
-    /// skipped. Each full test of a filter is a step: at most as many as the intent's group has
-    /// filters and one for each registered receiver, and none where the intent names a component.
+    /// Who the broadcast of the sender is offered to, by falling priority; at a tie registered
+    /// receivers come first, by number, then the manifests' by uid and place. Each comes with the rule by which
+    /// it is skipped. Each full test of a filter is a step: at most as many as the intent's group has
+    /// filters and one for each registered receiver, and none if the intent names a component.
     pub fn receivers<L: Ledger>(
         &self,
         alloc: Global,
@@ -133,7 +133,7 @@ impl Board {
         )
     }
 
-    /// An enabled component of a kind with the uid of its package, if there is one. Takes no memory.
+    /// An enabled component of a kind, in the package of a uid, if there is one. Takes no memory.
     pub fn declared(&self, component: &Component, kind: Kind) -> Option<(u32, &Decl)>
         ensures { option_map (λ found. (found.0, found.1.now)) result ≡ declared self.now.packages kind component.now }
     {
@@ -147,7 +147,7 @@ impl Board {
         self.installed.package_at(uid)
     }
 
-    /// The package of the name, if there is one. Takes no memory.
+    /// The package with this name, if there is one. Takes no memory.
     pub fn package_named(&self, name: &Text) -> Option<&Package>
         ensures { option_copied result ≡ package_named self.now.packages name.now }
     {
@@ -200,8 +200,8 @@ impl Board {
         self.installed.protected()
     }
 
-    /// Installs a package behind the others: its uid is greater than every uid there, its name is
-    /// new, and it has at most 256 components, of distinct classes. Without memory all is as before.
+    /// Installs a package after the others: its uid is greater than every uid there, its name is
+    /// new, and it has at most 256 components, of distinct classes. If memory runs out, nothing changes.
     pub fn add_package(&mut self, package: Package) -> Result<(), NoMemory>
         requires { AreInstalled (self.old.packages ++ «package» ∷ []) }
         ensures added { OnOk result (self.new ≡ record self.old { packages = self.old.packages ++ «package» ∷ [] }) }
@@ -219,7 +219,7 @@ impl Board {
         added
     }
 
-    /// Takes the package of the uid out, and nothing else. Takes no memory.
+    /// Removes the package of the uid, and nothing else. Takes no memory.
     pub fn drop_package(&mut self, uid: u32)
         ensures { self.new ≡ record self.old { packages = without_package self.old.packages uid } }
     {
@@ -227,15 +227,15 @@ impl Board {
         self.index.drop_uid(uid);
     }
 
-    /// The package of the uid is stopped, or isn't any more. Takes no memory.
+    /// Makes the package of the uid stopped, or no longer stopped. Takes no memory.
     pub fn set_stopped(&mut self, uid: u32, stopped: bool)
         ensures { self.new ≡ record self.old { packages = with_stopped self.old.packages uid stopped } }
     {
         self.installed.set_stopped(uid, stopped);
     }
 
-    /// The uid holds the permission, or doesn't any more; taking it away takes no memory. Without
-    /// memory all is as before.
+    /// Grants the permission to the uid, or takes it away; taking it away takes no memory. If memory
+    /// runs out, nothing changes.
     pub fn set_grant(&mut self, uid: u32, permission: &Text, held: bool) -> Result<(), NoMemory>
         ensures set { OnOk result (self.new ≡ record self.old { grants = with_grant self.old.grants uid permission.now held }) }
         ensures same { OnErr result (self.new ≡ self.old) }
@@ -244,8 +244,8 @@ impl Board {
         self.installed.set_grant(uid, permission, held)
     }
 
-    /// The uid is approved for the host, or isn't any more; taking it away takes no memory. Without
-    /// memory all is as before.
+    /// Approves the uid for the host, or takes the approval away; taking it away takes no memory. If memory
+    /// runs out, nothing changes.
     pub fn set_link(&mut self, uid: u32, host: &Text, approved: bool) -> Result<(), NoMemory>
         ensures set { OnOk result (self.new ≡ record self.old { links = with_link self.old.links uid host.now approved }) }
         ensures same { OnErr result (self.new ≡ self.old) }
@@ -254,29 +254,44 @@ impl Board {
         self.installed.set_link(uid, host, approved)
     }
 
-    /// Takes the grants and the links of the uid out. Takes no memory.
+    /// Removes the grants and the links of the uid. Takes no memory.
     pub fn drop_rights(&mut self, uid: u32)
         ensures { self.new ≡ record self.old { grants = grants_without self.old.grants uid; links = links_without self.old.links uid } }
     {
         self.installed.drop_rights(uid);
     }
 
-    /// Registers a receiver, in its place by number. Without memory all is as before.
-    pub fn register(&mut self, registration: Registration) -> Result<(), NoMemory>
-        ensures registered { OnOk result (self.new ≡ record self.old { registered = place_registered registration self.old.registered }) }
+    /// Registers a receiver of the uid, in its place by number. `permission` is what a sender must hold. If memory runs
+    /// out, nothing changes.
+    pub fn register(
+        &mut self,
+        number: u64,
+        uid: u32,
+        filter: Filter,
+        permission: Option<Text>,
+    ) -> Result<(), NoMemory>
+        ensures registered { OnOk result (self.new ≡ record self.old {
+          registered = place_registered
+              (record { number = number; uid = uid; filter = filter; permission = permission }) self.old.registered;
+        }) }
         ensures same { OnErr result (self.new ≡ self.old) }
     {
-        self.installed.register(registration)
+        self.installed.register(Registration {
+            number,
+            uid,
+            filter,
+            permission,
+        })
     }
 
-    /// Takes the registered receiver of the number out. Takes no memory.
+    /// Removes the registered receiver with this number. Takes no memory.
     pub fn unregister(&mut self, number: u64)
         ensures { self.new ≡ record self.old { registered = filter (λ (r : Registration). not (r.number == number)) self.old.registered } }
     {
         self.installed.unregister(number);
     }
 
-    /// Takes the registered receivers of the uid out; the others stay in their order. Takes no memory.
+    /// Removes the registered receivers of the uid; the others stay in their order. Takes no memory.
     pub fn unregister_uid(&mut self, uid: u32)
         ensures { self.new ≡ record self.old { registered = registered_without self.old.registered uid } }
     {

@@ -1,4 +1,4 @@
-//! What is known of the package of a uid.
+//! What is known about the package of a uid.
 ghost use Rattle.std.specs.Prelude.{◌≡◌, option_copied};
 ghost use Rattle.am_model.specs.Receivers.{is_for, is_stopped, is_text, name_of};
 
@@ -6,10 +6,10 @@ use am_gates::is_privileged;
 use am_installed::{Installed, package_at};
 use am_types::{Intent, Text};
 
-/// The name of the system's and the root's package.
+/// The name of the package of the system and the root.
 const SYSTEM_NAME: &str = "android";
 
-/// The intent names no package, or that of the uid. Takes no memory.
+/// The intent names no package, or names the package of the uid. Takes no memory.
 pub fn is_for(installed: &Installed, intent: &Intent, uid: u32) -> bool
     ensures { result ≡ is_for intent.now.«package» (name_of installed.now.packages uid) }
 {
@@ -19,7 +19,7 @@ pub fn is_for(installed: &Installed, intent: &Intent, uid: u32) -> bool
     }
 }
 
-/// The other text is there, and the texts are the same.
+/// The other text is present, and the texts are the same.
 fn is_text(text: &Text, other: Option<&str>) -> bool
     ensures { result ≡ is_text text.now (option_copied other.entry) }
 {

@@ -1,5 +1,5 @@
-//! A start of a web intent is narrowed to the packages that are approved for the host, else to a
-//! browser, else to what takes any host.
+//! A start of a web intent is narrowed to the packages that are approved for the host; if there are none, to a
+//! browser; if there is none either, to what takes any host.
 ghost use Rattle.std.specs.Prelude.{◌≡◌, ◌+◌, ◌≤◌, true, IsSome, if◌then◌else◌, IfOk, count_by, filter, option_copied};
 ghost use Rattle.std.specs.List.{list_all, list_any};
 ghost use Rattle.std.specs.List.Sorted.{IsStrictlyIncreasing};
@@ -37,7 +37,7 @@ fn named_host(host: &Option<Text>) -> Option<&Text>
     }
 }
 
-/// The host of a web page, if the URI is one's and has a nonempty host.
+/// The host of a web page, if the URI is the URI of one and has a nonempty host.
 fn web_host(uri: &Option<Uri>) -> Option<&Text>
     ensures { option_copied result ≡ web_host uri.now }
 {
@@ -47,7 +47,7 @@ fn web_host(uri: &Option<Uri>) -> Option<&Text>
     }
 }
 
-/// The action is to view.
+/// The action is the view action.
 fn is_view(action: &Option<Text>) -> bool
     ensures { result ≡ is_view action.now }
 {
@@ -65,7 +65,7 @@ fn is_web_category(category: &Text) -> bool
     category == "android.intent.category.BROWSABLE" || category == "android.intent.category.DEFAULT"
 }
 
-/// All categories are ones that a web intent may have.
+/// A web intent may have each of the categories.
 fn are_web_categories(categories: &List<Text>) -> bool
     ensures { result ≡ list_all is_web_category categories.now }
 {
@@ -75,7 +75,7 @@ fn are_web_categories(categories: &List<Text>) -> bool
         .all(|category| is_web_category(category))
 }
 
-/// The host of a web intent: one that asks to view a web page, by no other categories and for no
+/// The host of a web intent, which asks to view a web page, with no other categories and for no
 /// named app. Takes no memory.
 pub fn host_to_view(intent: &Intent) -> Option<&Text>
     ensures { option_copied result ≡ host_to_view intent.now }
@@ -224,7 +224,7 @@ fn keep_general<L: Ledger>(
     Ok(List::new(left))
 }
 
-/// The hits of packages that are approved for the host; where there is none, those of a browser.
+/// The hits of packages that are approved for the host; if there are none, those of a browser.
 fn web_hits<L: Ledger>(
     alloc: Global,
     installed: &Installed,
@@ -246,7 +246,7 @@ fn web_hits<L: Ledger>(
     }
 }
 
-/// The hits that are left of those found: a web intent is narrowed.
+/// The hits that are left of the hits found: a web intent's are narrowed.
 pub(crate) fn narrowed<L: Ledger>(
     alloc: Global,
     installed: &Installed,

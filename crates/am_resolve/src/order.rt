@@ -7,7 +7,7 @@ use am_types::{List, NoMemory, Receiving};
 use std::alloc::Global;
 use std::cmp::Reverse;
 
-/// By falling priority; where it ties the order stays.
+/// By falling priority; items of equal priority keep their order.
 pub(crate) fn in_order(alloc: Global, mut ranked: Vec<Ranked>) -> Result<List<Receiving>, NoMemory>
     ensures { IfOk result (λ receivings. receivings ≡ map receiving_of (in_rank ranked.items)) }
 {

@@ -20,8 +20,8 @@ use std::alloc::Global;
 use std::sync::ledger::Ledger;
 
 /// Who the broadcast is offered to, by falling priority, each with the rule by which it is skipped.
-/// At a tie registered receivers stand first, by number, then the manifests' by uid and place.
-/// `found` is what the intent finds among the manifests' receivers, and `permission` what the
+/// At a tie registered receivers come first, by number, then the manifests' by uid and place.
+/// `found` is what the intent finds among the manifests' receivers, and `permission` is what the
 /// sender requires. A step is a test of a registered receiver's filter.
 pub fn receivers<L: Ledger>(
     alloc: Global,
@@ -153,7 +153,7 @@ fn add_hit(
     add_offer(ranked, installed, intent, sender, required, offer)
 }
 
-/// The component of a hit, by the uid of its package.
+/// The component of a hit, found by the uid of its package.
 fn decl_at<'a>(packages: &'a List<Package>, hit: &Hit) -> Option<&'a Decl>
     requires { IsStrictlyIncreasing (uids_of packages.now) }
     ensures { option_copied result ≡ decl_at packages.now hit.now }

@@ -11,7 +11,7 @@ use am_installed::Installed;
 use am_types::{Aim, Grant, Intent, List, Rule, Text};
 use std::alloc::AllocError;
 
-/// The first rule by which an offer is skipped; none where the receiver is admitted. `required` is
+/// The first rule by which an offer is skipped; none if the receiver is admitted. `required` is
 /// what the sender requires.
 ///
 /// # Errors
@@ -42,7 +42,7 @@ pub fn skip_of(
     }
 }
 
-/// The receiver is one of a manifest.
+/// The receiver is a manifest's.
 fn is_declared(aim: &Aim) -> bool
     ensures { result ≡ is_declared aim.now }
 {
@@ -69,7 +69,7 @@ fn is_exempt(exempt: &List<Text>, action: &Option<Text>) -> bool
     }
 }
 
-/// The rule by which the gate refuses the sender, if it does.
+/// The rule by which the gate refuses the sender, if it does refuse.
 fn refusal(grants: &List<Grant>, sender: u32, offer: &Offer) -> Result<Option<Rule>, AllocError>
     ensures { IfOk result
         (λ refusal. refusal ≡ rule_of (verdict grants.now sender offer.now.uid offer.now.exported (option_copied offer.now.permission))) }

@@ -1,4 +1,4 @@
-//! The hits of greatest priority.
+//! The hits with the greatest priority.
 ghost use Rattle.std.specs.Prelude.{◌≡◌, length};
 ghost use Rattle.std.specs.List.{take_while};
 ghost use Rattle.std.specs.Ordering.{int_eq};
@@ -7,7 +7,7 @@ ghost use Rattle.am_model.specs.Targets.{choice, top};
 
 use am_types::{Hit, List, Target};
 
-/// How many hits in front have the priority of this one.
+/// How many hits at the front have the priority of this one.
 fn len_of(hits: &[Hit], first: &Hit) -> usize
     ensures { result ≡ length (take_while (λ (hit : Hit). int_eq hit.priority first.now.priority) hits.now) }
 {
@@ -19,7 +19,7 @@ fn len_of(hits: &[Hit], first: &Hit) -> usize
     hits.len()
 }
 
-/// How many of the hits, which stand by falling priority, share the greatest one.
+/// How many of the hits, which are ordered by falling priority, share the greatest priority.
 fn top_len(hits: &[Hit]) -> usize
     ensures { result ≡ length (top hits.now) }
 {
@@ -29,7 +29,7 @@ fn top_len(hits: &[Hit]) -> usize
     }
 }
 
-/// Those of the hits, which stand by falling priority, that share the greatest one.
+/// Those of the hits, which are ordered by falling priority, that share the greatest priority.
 fn top(found: List<Hit>) -> Vec<Hit>
     ensures { result.items ≡ top found }
 {
@@ -39,8 +39,8 @@ fn top(found: List<Hit>) -> Vec<Hit>
     hits
 }
 
-/// None, one, or several among which the user must choose, of the hits that share the greatest
-/// priority. Takes no memory.
+/// The choice among the hits that share the greatest priority: none, one, or several from which
+/// the user must choose. Takes no memory.
 pub(crate) fn choose(found: List<Hit>) -> Target
     ensures { result ≡ choice (top found) }
 {

@@ -1,6 +1,5 @@
 -- The cells of a row in a table of the columns kind, uid, word, name, access, manifest and truth.
 use Rattle.std.specs.Prelude.{◌≡◌, ℕ, ◌==◌, ◌&&◌, ℤ, pos, negsuc, Bool, true, false, nat_lt, if◌then◌else◌, List, [], ◌∷◌, length, Option, Some, None, Result, Ok, Err, option_and_then, slice_get, is_some, IsTrue}
-use Rattle.am_keeper.specs.declared.rows.RightRow.{RightRow}
 use Rattle.am_keeper.specs.declared.rows.Row.{Row}
 use Rattle.am_keeper.specs.declared.rows.Row.TheVariants.{Package, Grant, Link}
 use Rattle.am_rows.specs.declared.Cell.{Cell}
@@ -12,20 +11,22 @@ infixl 10 ◌>>=◌
 abbrev pub ◌>>=◌ : {A B : Type 0} → Option A → (A → Option B) → Option B
 o >>= f = option_and_then f o
 
--- a truth as a number
+-- a truth value as a number
 abbrev pub truth_number : Bool → ℤ
 truth_number true = pos 1
 truth_number false = pos 0
 
 -- the cells of a row whose one text is its word
 abbrev pub word_cells : ℤ → ℕ → List ℕ → Bool → List Cell
-word_cells kind uid word truth = Whole kind ∷ Whole (pos uid) ∷ Words word ∷ Words [] ∷ Words [] ∷ Words [] ∷ Whole (truth_number truth) ∷ []
+word_cells kind uid word truth = Whole kind ∷ Whole (pos uid) ∷ Words word ∷ Words [] ∷ Words [] ∷ Words []
+    ∷ Whole (truth_number truth) ∷ []
 
 -- the cells of a row
 abbrev pub cells_of : Row → List Cell
-cells_of (Package row) = Whole (pos 0) ∷ Whole (pos row.uid) ∷ Words [] ∷ Words row.name ∷ Words row.key ∷ Words row.text ∷ Whole (truth_number row.gone) ∷ []
-cells_of (Grant row) = word_cells (pos 1) row.uid row.text row.held
-cells_of (Link row) = word_cells (pos 2) row.uid row.text row.held
+cells_of (Package row) = Whole (pos 0) ∷ Whole (pos row.uid) ∷ Words [] ∷ Words row.name ∷ Words row.key
+    ∷ Words row.text ∷ Whole (truth_number row.gone) ∷ []
+cells_of (Grant row) = word_cells (pos 1) row.uid row.permission row.held
+cells_of (Link row) = word_cells (pos 2) row.uid row.host row.approved
 
 -- the number in a cell
 abbrev pub whole_in : Cell → Option ℤ
@@ -50,12 +51,12 @@ abbrev pub uid_from : ℤ → Option ℕ
 uid_from (pos n) = if nat_lt n 4294967296 then Some n else None
 uid_from (negsuc n) = None
 
--- 0 and 1 as truths
+-- 0 and 1 as truth values
 abbrev pub truth_from : ℤ → Option Bool
 truth_from (pos n) = if n == 0 then Some false else (if n == 1 then Some true else None)
 truth_from (negsuc n) = None
 
--- the kind, the uid and the truth of a row
+-- the kind, the uid and the truth value of a row
 pub record Numbers : Type 0 where
   pub kind : ℤ
   pub uid : ℕ
@@ -74,18 +75,27 @@ is_empty (x ∷ xs) = false
 
 -- a package row: it has no word
 abbrev pub package_from : ℕ → Bool → Texts → Option Row
-package_from uid gone t = if is_empty t.word then Some (Package (record { uid = uid; name = t.name; key = t.access; text = t.manifest; gone = gone })) else None
+package_from uid gone t = if is_empty t.word then Some (Package (record
+    { uid = uid; name = t.name; key = t.access; text = t.manifest; gone = gone })) else None
 
--- a right has a word alone
+-- a right has only a word
 abbrev pub has_word_alone : Texts → Bool
 has_word_alone t = is_empty t.name && (is_empty t.access && is_empty t.manifest)
 
-abbrev pub right_from : (RightRow → Row) → ℕ → Bool → Texts → Option Row
-right_from kind uid held t = if has_word_alone t then Some (kind (record { uid = uid; text = t.word; held = held })) else None
+-- a row, if it has only a word
+abbrev pub if_alone : Texts → Row → Option Row
+if_alone t row = if has_word_alone t then Some row else None
+
+abbrev pub grant_from : ℕ → Bool → Texts → Option Row
+grant_from uid held t = if_alone t (Grant (record { uid = uid; permission = t.word; held = held }))
+
+abbrev pub link_from : ℕ → Bool → Texts → Option Row
+link_from uid approved t = if_alone t (Link (record { uid = uid; host = t.word; approved = approved }))
 
 -- kind 0 is a package, 1 a grant, 2 a link, and there is no other
 abbrev pub row_from : ℤ → ℕ → Bool → Texts → Option Row
-row_from (pos n) uid truth t = if n == 0 then package_from uid truth t else (if n == 1 then right_from Grant uid truth t else (if n == 2 then right_from Link uid truth t else None))
+row_from (pos n) uid truth t = if n == 0 then package_from uid truth t else
+    (if n == 1 then grant_from uid truth t else (if n == 2 then link_from uid truth t else None))
 row_from (negsuc n) uid truth t = None
 
 abbrev pub numbers_in : List Cell → Option Numbers
@@ -103,11 +113,12 @@ texts_in cells = do
   manifest ← words_at cells 5
   Some (record { word = word; name = name; access = access; manifest = manifest })
 
--- the row that these cells say, if they have the shape of one
+-- the row that these cells describe, if they have the shape of one
 abbrev pub row_in : List Cell → Option Row
-row_in cells = if length cells == 7 then (numbers_in cells >>= (λ n. texts_in cells >>= row_from n.kind n.uid n.truth)) else None
+row_in cells = if length cells == 7 then (numbers_in cells >>= (λ n. texts_in cells >>= row_from n.kind n.uid n.truth))
+    else None
 
--- what is to be read is read, or memory ran out, and where there is nothing to be read the answer is `Shape`
+-- what is to be read is read, or memory ran out, and if there is nothing to be read the answer is `Shape`
 abbrev pub IsReading : Option Row → Result Row RowFault → Type 0
 IsReading wanted (Ok row) = wanted ≡ Some row
 IsReading wanted (Err Shape) = wanted ≡ None

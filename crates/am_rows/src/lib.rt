@@ -1,4 +1,4 @@
-//! Kept rows as cells of a table, and back.
+//! Turns kept rows into cells of a table, and back.
 #![tactic(auto)]
 
 ghost use Rattle.std.specs.Prelude.{◌≡◌, ◌↔◌, ◌<◌, List as Items, [], Some, None, Err, IfOk, option_map};
@@ -8,7 +8,7 @@ ghost use Rattle.am_rows.specs.declared.Cell.{Cell as Item};
 ghost use Rattle.am_rows.specs.Parts.{numbers_of, texts_of};
 
 pub use am_keeper::Row;
-use am_keeper::{PackageRow, RightRow};
+use am_keeper::{GrantRow, LinkRow, PackageRow};
 use am_types::{List, NoMemory, Text};
 use std::alloc::{AllocError, AllocFailed, Global};
 use std::error::Error;
@@ -24,7 +24,7 @@ pub enum Cell {
 /// Why cells aren't read as a row.
 #[derive(Clone, Copy, Debug, PartialEq, Eq)]
 pub enum RowFault {
-    /// They are not those of any row.
+    /// No row has these cells.
     Shape,
     /// Memory ran out.
     NoMemory,
@@ -72,7 +72,7 @@ fn words_at(cells: &[Cell], at: usize) -> Option<&Text>
     }
 }
 
-/// 0 and 1 as truths.
+/// The truth value that 0 or 1 means.
 fn truth_from(number: i64) -> Option<bool>
     ensures { result ≡ truth_from number }
 {
@@ -83,7 +83,7 @@ fn truth_from(number: i64) -> Option<bool>
     }
 }
 
-/// The kind, the uid and the truth of a row.
+/// The kind, the uid and the truth value of a row.
 #[derive(Drop)]
 struct Numbers {
     kind: i64,
@@ -150,18 +150,33 @@ fn has_word_alone(texts: &Texts<'_>) -> bool
         && texts.manifest.as_str().is_empty()
 }
 
-/// The right of a row that has a word alone.
-fn right_row(numbers: &Numbers, texts: &Texts<'_>) -> Result<RightRow, AllocError>
+/// The grant row whose permission is the word.
+fn grant_row(numbers: &Numbers, texts: &Texts<'_>) -> Result<GrantRow, AllocError>
     ensures { IfOk result (λ row. row ≡ record {
       uid = numbers.now.uid;
-      text = (texts_of texts.now).word;
+      permission = (texts_of texts.now).word;
       held = numbers.now.truth;
     }) }
 {
-    Ok(RightRow {
+    Ok(GrantRow {
         uid: numbers.uid,
-        text: copy(texts.word)?,
+        permission: copy(texts.word)?,
         held: numbers.truth,
+    })
+}
+
+/// The link row whose host is the word.
+fn link_row(numbers: &Numbers, texts: &Texts<'_>) -> Result<LinkRow, AllocError>
+    ensures { IfOk result (λ row. row ≡ record {
+      uid = numbers.now.uid;
+      host = (texts_of texts.now).word;
+      approved = numbers.now.truth;
+    }) }
+{
+    Ok(LinkRow {
+        uid: numbers.uid,
+        host: copy(texts.word)?,
+        approved: numbers.truth,
     })
 }
 
@@ -170,15 +185,15 @@ fn row_from(numbers: &Numbers, texts: &Texts<'_>) -> Result<Row, RowFault>
 {
     match numbers.kind {
         0 => package_row(numbers.uid, numbers.truth, texts),
-        1 if has_word_alone(texts) => Ok(Row::Grant(right_row(numbers, texts)?)),
-        2 if has_word_alone(texts) => Ok(Row::Link(right_row(numbers, texts)?)),
+        1 if has_word_alone(texts) => Ok(Row::Grant(grant_row(numbers, texts)?)),
+        2 if has_word_alone(texts) => Ok(Row::Link(link_row(numbers, texts)?)),
         _ => Err(RowFault::Shape),
     }
 }
 
-/// The row that the cells say. `Shape` comes exactly where they are not those of any row: another
-/// number or kind of cells, another kind of row than 0, 1 and 2, a uid that is not from 0 to
-/// 4,294,967,295, a truth that is not 0 or 1, or a text that the kind has none of.
+/// Reads a row from its cells. Fails with `Shape` if and only if no row has these cells: their
+/// number or kinds are wrong, the kind of row isn't 0, 1 or 2, the uid isn't from 0 to
+/// 4,294,967,295, the truth value isn't 0 or 1, or there is a text that this kind of row lacks.
 pub fn row_of(cells: &List<Cell>) -> Result<Row, RowFault>
     ensures reads { IsReading (row_in cells.now) result }
     ensures inverse { IfOk result (λ row. cells_of row ≡ cells.now) }
@@ -194,7 +209,7 @@ pub fn row_of(cells: &List<Cell>) -> Result<Row, RowFault>
     }
 }
 
-/// A truth as a number.
+/// A truth value as a number.
 fn truth_number(truth: bool) -> i64
     ensures { result ≡ truth_number truth }
 {
@@ -249,7 +264,7 @@ fn word_cells(
     ]?)
 }
 
-/// The cells of a row, in the order of the columns: the one list that is read as this row.
+/// The cells of a row, in the order of the columns. No other list of cells is read as this row.
 pub fn row_cells(alloc: Global, row: &Row) -> Result<List<Cell>, NoMemory>
     ensures cells { IfOk result (λ cells. cells ≡ cells_of row.now) }
     ensures inverse { IfOk result (λ cells. row_in cells ≡ Some row.now) }
@@ -257,8 +272,8 @@ pub fn row_cells(alloc: Global, row: &Row) -> Result<List<Cell>, NoMemory>
 {
     let cells = match row {
         Row::Package(row) => package_cells(alloc, row)?,
-        Row::Grant(row) => word_cells(alloc, 1, row.uid, &row.text, row.held)?,
-        Row::Link(row) => word_cells(alloc, 2, row.uid, &row.text, row.held)?,
+        Row::Grant(row) => word_cells(alloc, 1, row.uid, &row.permission, row.held)?,
+        Row::Link(row) => word_cells(alloc, 2, row.uid, &row.host, row.approved)?,
     };
     Ok(List::new(cells))
 }

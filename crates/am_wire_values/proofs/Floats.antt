@@ -41,14 +41,16 @@ parts true b h = (h, false_is b h)
 parts false b h = (refl, h)
 
 -- one of three
-one_of : (o : Ordering) (a b c : Members) → members_have_float a ≡ false → members_have_float b ≡ false → members_have_float c ≡ false
+one_of : (o : Ordering) (a b c : Members) → members_have_float a ≡ false → members_have_float b ≡ false
+    → members_have_float c ≡ false
     → members_have_float (match_ordering o a b c) ≡ false
 one_of Less a b c p q r = p
 one_of Equal a b c p q r = q
 one_of Greater a b c p q r = r
 
 -- a value put among members
-pub put_none : (k : List ℕ) (d : Data) (ms : Members) → has_float d ≡ false → members_have_float ms ≡ false → members_have_float (put k d ms) ≡ false
+pub put_none : (k : List ℕ) (d : Data) (ms : Members) → has_float d ≡ false → members_have_float ms ≡ false
+    → members_have_float (put k d ms) ≡ false
 put_none k d no_members h n = neither _ _ h refl
 put_none k d (member l e ms) h n =
     let both = parts (has_float e) (members_have_float ms) n in
@@ -61,22 +63,26 @@ float_in None = false
 float_in (Some d) = has_float d
 
 -- a value put if there is one
-pub given_none : (k : List ℕ) (o : Option Data) (ms : Members) → float_in o ≡ false → members_have_float ms ≡ false → members_have_float (put_given k o ms) ≡ false
+pub given_none : (k : List ℕ) (o : Option Data) (ms : Members) → float_in o ≡ false → members_have_float ms ≡ false
+    → members_have_float (put_given k o ms) ≡ false
 given_none k None ms h n = n
 given_none k (Some d) ms h n = put_none k d ms h n
 
 -- what is there is written without one
-pub option_none : {X : Type 0} (f : X → Data) → ((x : X) → has_float (f x) ≡ false) → (o : Option X) → float_in (option_map f o) ≡ false
+pub option_none : {X : Type 0} (f : X → Data) → ((x : X) → has_float (f x) ≡ false) → (o : Option X)
+    → float_in (option_map f o) ≡ false
 option_none f h None = refl
 option_none f h (Some x) = h x
 
 -- a list of values
-pub mapped_none : {X : Type 0} (f : X → Data) → ((x : X) → has_float (f x) ≡ false) → (xs : List X) → items_have_float (items_of (map f xs)) ≡ false
+pub mapped_none : {X : Type 0} (f : X → Data) → ((x : X) → has_float (f x) ≡ false) → (xs : List X)
+    → items_have_float (items_of (map f xs)) ≡ false
 mapped_none f h [] = refl
 mapped_none f h (x ∷ xs) = neither _ _ (h x) (mapped_none f h xs)
 
 -- two lists
-appended_none : (xs ys : List Data) → items_have_float (items_of xs) ≡ false → items_have_float (items_of ys) ≡ false → items_have_float (items_of (xs ++ ys)) ≡ false
+appended_none : (xs ys : List Data) → items_have_float (items_of xs) ≡ false → items_have_float (items_of ys) ≡ false
+    → items_have_float (items_of (xs ++ ys)) ≡ false
 appended_none [] ys h n = n
 appended_none (x ∷ xs) ys h n =
     let both = parts (has_float x) (items_have_float (items_of xs)) h in
@@ -115,9 +121,11 @@ extra_none (Word t) = refl
 extra_none (Whole n) = whole_none n
 extra_none (Truth b) = refl
 
-with_extras_none : (es : List Named) (ms : Members) → members_have_float ms ≡ false → members_have_float (with_extras es ms) ≡ false
+with_extras_none : (es : List Named) (ms : Members) → members_have_float ms ≡ false
+    → members_have_float (with_extras es ms) ≡ false
 with_extras_none [] ms n = n
-with_extras_none (e ∷ es) ms n = with_extras_none es (put e.key (extra_data e.value) ms) (put_none e.key (extra_data e.value) ms (extra_none e.value) n)
+with_extras_none (e ∷ es) ms n = with_extras_none es (put e.key (extra_data e.value) ms)
+    (put_none e.key (extra_data e.value) ms (extra_none e.value) n)
 
 -- extras
 pub extras_none : (es : List Named) → has_float (extras_data es) ≡ false
@@ -132,22 +140,32 @@ pub intent_none : (i : Intent) → has_float (intent_data i) ≡ false
 unfolding intent_data
 intent_none i =
     let ms-a : Members = put_given (codes "action") (option_map string i.action) no_members in
-    let none-a : members_have_float ms-a ≡ false = given_none (codes "action") (option_map string i.action) no_members (option_none string text_none i.action) refl in
+    let none-a : members_have_float ms-a ≡ false = given_none (codes "action") (option_map string i.action) no_members
+    (option_none string text_none i.action) refl in
     let ms-b : Members = put_given (codes "categories") (some_texts i.categories) ms-a in
-    let none-b : members_have_float ms-b ≡ false = given_none (codes "categories") (some_texts i.categories) ms-a (some_listed_none (map string i.categories) (texts_none i.categories)) none-a in
+    let none-b : members_have_float ms-b ≡ false = given_none (codes "categories") (some_texts i.categories) ms-a
+    (some_listed_none (map string i.categories) (texts_none i.categories)) none-a in
     let ms-c : Members = put_given (codes "data") (option_map uri_data i.uri) ms-b in
-    let none-c : members_have_float ms-c ≡ false = given_none (codes "data") (option_map uri_data i.uri) ms-b (option_none uri_data (λ u. refl) i.uri) none-b in
+    let none-c : members_have_float ms-c ≡ false = given_none (codes "data") (option_map uri_data i.uri) ms-b
+    (option_none uri_data (λ u. refl) i.uri) none-b in
     let ms-d : Members = put_given (codes "type") (option_map mime_data i.mime) ms-c in
-    let none-d : members_have_float ms-d ≡ false = given_none (codes "type") (option_map mime_data i.mime) ms-c (option_none mime_data (λ m. refl) i.mime) none-c in
+    let none-d : members_have_float ms-d ≡ false = given_none (codes "type") (option_map mime_data i.mime) ms-c
+    (option_none mime_data (λ m. refl) i.mime) none-c in
     let ms-e : Members = put_given (codes "component") (option_map component_data i.component) ms-d in
-    let none-e : members_have_float ms-e ≡ false = given_none (codes "component") (option_map component_data i.component) ms-d (option_none component_data (λ c. refl) i.component) none-d in
+    let none-e : members_have_float ms-e ≡ false = given_none (codes "component")
+    (option_map component_data i.component) ms-d (option_none component_data (λ c. refl) i.component) none-d in
     let ms-f : Members = put_given (codes "identifier") (option_map string i.identifier) ms-e in
-    let none-f : members_have_float ms-f ≡ false = given_none (codes "identifier") (option_map string i.identifier) ms-e (option_none string text_none i.identifier) none-e in
+    let none-f : members_have_float ms-f ≡ false = given_none (codes "identifier") (option_map string i.identifier) ms-e
+    (option_none string text_none i.identifier) none-e in
     let ms-g : Members = put_given (codes "package") (option_map string i.«package») ms-f in
-    let none-g : members_have_float ms-g ≡ false = given_none (codes "package") (option_map string i.«package») ms-f (option_none string text_none i.«package») none-f in
+    let none-g : members_have_float ms-g ≡ false = given_none (codes "package") (option_map string i.«package») ms-f
+    (option_none string text_none i.«package») none-f in
     let ms-h : Members = put_given (codes "extras") (some_extras i.extras) ms-g in
-    let none-h : members_have_float ms-h ≡ false = given_none (codes "extras") (some_extras i.extras) ms-g (some_extras_none i.extras) none-g in
-    given_none (codes "flags") (some_texts (names_set (flags_named i.flags))) ms-h (some_listed_none (map string (names_set (flags_named i.flags))) (texts_none (names_set (flags_named i.flags)))) none-h
+    let none-h : members_have_float ms-h ≡ false = given_none (codes "extras") (some_extras i.extras) ms-g
+    (some_extras_none i.extras) none-g in
+    given_none (codes "flags") (some_texts (names_set (flags_named i.flags))) ms-h
+    (some_listed_none (map string (names_set (flags_named i.flags))) (texts_none (names_set (flags_named i.flags))))
+    none-h
 
 authority_none : (a : Authority) → has_float (authority_row a) ≡ false
 authority_none a =
@@ -166,7 +184,8 @@ unfolding rows_of
 rows_none f =
     appended_none ((map scheme_row f.schemes ++ map authority_row f.authorities) ++ map path_row f.paths) _
     (appended_none (map scheme_row f.schemes ++ map authority_row f.authorities) _
-    (appended_none (map scheme_row f.schemes) _ (mapped_none scheme_row (λ s. refl) f.schemes) (mapped_none authority_row authority_none f.authorities))
+    (appended_none (map scheme_row f.schemes) _ (mapped_none scheme_row (λ s. refl) f.schemes)
+    (mapped_none authority_row authority_none f.authorities))
     (mapped_none path_row path_none f.paths))
     (mapped_none type_row (λ m. refl) f.types)
 
@@ -175,21 +194,27 @@ filter_none : (f : Filter) → has_float (filter_data f) ≡ false
 unfolding filter_data
 filter_none f =
     let ms-a : Members = put (codes "actions") (texts_data f.actions) no_members in
-    let none-a : members_have_float ms-a ≡ false = put_none (codes "actions") (texts_data f.actions) no_members (texts_none f.actions) refl in
+    let none-a : members_have_float ms-a ≡ false = put_none (codes "actions") (texts_data f.actions) no_members
+    (texts_none f.actions) refl in
     let ms-b : Members = put_given (codes "categories") (some_texts f.categories) ms-a in
-    let none-b : members_have_float ms-b ≡ false = given_none (codes "categories") (some_texts f.categories) ms-a (some_listed_none (map string f.categories) (texts_none f.categories)) none-a in
+    let none-b : members_have_float ms-b ≡ false = given_none (codes "categories") (some_texts f.categories) ms-a
+    (some_listed_none (map string f.categories) (texts_none f.categories)) none-a in
     let ms-c : Members = put_given (codes "data") (some_listed (rows_of f)) ms-b in
-    let none-c : members_have_float ms-c ≡ false = given_none (codes "data") (some_listed (rows_of f)) ms-b (some_listed_none (rows_of f) (rows_none f)) none-b in
+    let none-c : members_have_float ms-c ≡ false = given_none (codes "data") (some_listed (rows_of f)) ms-b
+    (some_listed_none (rows_of f) (rows_none f)) none-b in
     given_none (codes "priority") (some_whole f.priority) ms-c (some_whole_none f.priority) none-c
 
-outcome_none : (o : Outcome) (ms : Members) → members_have_float ms ≡ false → members_have_float (with_outcome o ms) ≡ false
+outcome_none : (o : Outcome) (ms : Members) → members_have_float ms ≡ false → members_have_float (with_outcome o ms)
+    ≡ false
 unfolding with_outcome
 outcome_none o ms n =
     let ms-a : Members = put_given (codes "data") (option_map string o.text) ms in
-    let none-a : members_have_float ms-a ≡ false = given_none (codes "data") (option_map string o.text) ms (option_none string text_none o.text) n in
+    let none-a : members_have_float ms-a ≡ false = given_none (codes "data") (option_map string o.text) ms
+    (option_none string text_none o.text) n in
     given_none (codes "extras") (some_extras o.extras) ms-a (some_extras_none o.extras) none-a
 
-ordered_none : (o : Ordered) (ms : Members) → members_have_float ms ≡ false → members_have_float (with_ordered o ms) ≡ false
+ordered_none : (o : Ordered) (ms : Members) → members_have_float ms ≡ false → members_have_float (with_ordered o ms)
+    ≡ false
 unfolding with_ordered
 ordered_none o ms n =
     let ms-a : Members = put (codes "ordered") (boolean true) ms in
@@ -197,87 +222,111 @@ ordered_none o ms n =
     let ms-b : Members = with_outcome o.initial ms-a in
     let none-b : members_have_float ms-b ≡ false = outcome_none o.initial ms-a none-a in
     let ms-c : Members = put_given (codes "code") (some_whole o.initial.code) ms-b in
-    let none-c : members_have_float ms-c ≡ false = given_none (codes "code") (some_whole o.initial.code) ms-b (some_whole_none o.initial.code) none-b in
+    let none-c : members_have_float ms-c ≡ false = given_none (codes "code") (some_whole o.initial.code) ms-b
+    (some_whole_none o.initial.code) none-b in
     given_none (codes "result") (some_truth o.wanted) ms-c (truth_none o.wanted) none-c
 
-order_none : (o : Option Ordered) (ms : Members) → members_have_float ms ≡ false → members_have_float (with_order o ms) ≡ false
+order_none : (o : Option Ordered) (ms : Members) → members_have_float ms ≡ false → members_have_float (with_order o ms)
+    ≡ false
 order_none None ms n = n
 order_none (Some o) ms n = ordered_none o ms n
 
-set_none : (o : Option Outcome) (ms : Members) → members_have_float ms ≡ false → members_have_float (with_set o ms) ≡ false
+set_none : (o : Option Outcome) (ms : Members) → members_have_float ms ≡ false → members_have_float (with_set o ms)
+    ≡ false
 set_none None ms n = n
-set_none (Some o) ms n = outcome_none o (put (codes "code") (whole o.code) ms) (put_none (codes "code") (whole o.code) ms (whole_none o.code) n)
+set_none (Some o) ms n = outcome_none o (put (codes "code") (whole o.code) ms)
+    (put_none (codes "code") (whole o.code) ms (whole_none o.code) n)
 
 one_none : (k : List ℕ) (d : Data) → has_float d ≡ false → has_float (with_one k d) ≡ false
 one_none k d h = put_none k d no_members h refl
 
-two_none : (k : List ℕ) (d : Data) (l : List ℕ) (e : Data) → has_float d ≡ false → has_float e ≡ false → has_float (with_two k d l e) ≡ false
+two_none : (k : List ℕ) (d : Data) (l : List ℕ) (e : Data) → has_float d ≡ false → has_float e ≡ false
+    → has_float (with_two k d l e) ≡ false
 two_none k d l e h n = put_none l e (put k d no_members) n (one_none k d h)
 
-query_none : (kind : Kind) (intent : Intent) (default_only : Bool) → has_float (query_data kind intent default_only) ≡ false
+query_none : (kind : Kind) (intent : Intent) (default_only : Bool) → has_float (query_data kind intent default_only)
+    ≡ false
 unfolding query_data
 query_none kind intent default_only =
     let ms-a : Members = put (codes "kind") (string (kind_name kind)) no_members in
-    let none-a : members_have_float ms-a ≡ false = put_none (codes "kind") (string (kind_name kind)) no_members refl refl in
+    let none-a : members_have_float ms-a ≡ false = put_none (codes "kind") (string (kind_name kind)) no_members refl
+    refl in
     let ms-b : Members = put (codes "intent") (intent_data intent) ms-a in
-    let none-b : members_have_float ms-b ≡ false = put_none (codes "intent") (intent_data intent) ms-a (intent_none intent) none-a in
+    let none-b : members_have_float ms-b ≡ false = put_none (codes "intent") (intent_data intent) ms-a
+    (intent_none intent) none-a in
     given_none (codes "defaultOnly") (some_truth default_only) ms-b (truth_none default_only) none-b
 
-explain_none : (kind : Kind) (intent : Intent) (caller permission shown : Option (List ℕ)) → has_float (explain_data kind intent caller permission shown) ≡ false
+explain_none : (kind : Kind) (intent : Intent) (caller permission shown : Option (List ℕ))
+    → has_float (explain_data kind intent caller permission shown) ≡ false
 unfolding explain_data
 explain_none kind intent caller permission shown =
     let ms-a : Members = put (codes "kind") (string (kind_name kind)) no_members in
-    let none-a : members_have_float ms-a ≡ false = put_none (codes "kind") (string (kind_name kind)) no_members refl refl in
+    let none-a : members_have_float ms-a ≡ false = put_none (codes "kind") (string (kind_name kind)) no_members refl
+    refl in
     let ms-b : Members = put (codes "intent") (intent_data intent) ms-a in
-    let none-b : members_have_float ms-b ≡ false = put_none (codes "intent") (intent_data intent) ms-a (intent_none intent) none-a in
+    let none-b : members_have_float ms-b ≡ false = put_none (codes "intent") (intent_data intent) ms-a
+    (intent_none intent) none-a in
     let ms-c : Members = put_given (codes "as") (option_map string caller) ms-b in
-    let none-c : members_have_float ms-c ≡ false = given_none (codes "as") (option_map string caller) ms-b (option_none string text_none caller) none-b in
+    let none-c : members_have_float ms-c ≡ false = given_none (codes "as") (option_map string caller) ms-b
+    (option_none string text_none caller) none-b in
     let ms-d : Members = put_given (codes "permission") (option_map string permission) ms-c in
-    let none-d : members_have_float ms-d ≡ false = given_none (codes "permission") (option_map string permission) ms-c (option_none string text_none permission) none-c in
+    let none-d : members_have_float ms-d ≡ false = given_none (codes "permission") (option_map string permission) ms-c
+    (option_none string text_none permission) none-c in
     given_none (codes "of") (option_map string shown) ms-d (option_none string text_none shown) none-d
 
 start_none : (intent : Intent) (source : Option ℕ) → has_float (start_data intent source) ≡ false
 unfolding start_data
 start_none intent source =
     let ms-a : Members = put (codes "intent") (intent_data intent) no_members in
-    let none-a : members_have_float ms-a ≡ false = put_none (codes "intent") (intent_data intent) no_members (intent_none intent) refl in
+    let none-a : members_have_float ms-a ≡ false = put_none (codes "intent") (intent_data intent) no_members
+    (intent_none intent) refl in
     given_none (codes "source") (option_map natural source) ms-a (option_none natural (λ n. refl) source) none-a
 
-send_none : (intent : Intent) (permission : Option (List ℕ)) (ordered : Option Ordered) → has_float (send_data intent permission ordered) ≡ false
+send_none : (intent : Intent) (permission : Option (List ℕ)) (ordered : Option Ordered)
+    → has_float (send_data intent permission ordered) ≡ false
 unfolding send_data
 send_none intent permission ordered =
     let ms-a : Members = put (codes "intent") (intent_data intent) no_members in
-    let none-a : members_have_float ms-a ≡ false = put_none (codes "intent") (intent_data intent) no_members (intent_none intent) refl in
+    let none-a : members_have_float ms-a ≡ false = put_none (codes "intent") (intent_data intent) no_members
+    (intent_none intent) refl in
     let ms-b : Members = put_given (codes "permission") (option_map string permission) ms-a in
-    let none-b : members_have_float ms-b ≡ false = given_none (codes "permission") (option_map string permission) ms-a (option_none string text_none permission) none-a in
+    let none-b : members_have_float ms-b ≡ false = given_none (codes "permission") (option_map string permission) ms-a
+    (option_none string text_none permission) none-a in
     order_none ordered ms-b none-b
 
 register_none : (filter : Filter) (permission : Option (List ℕ)) → has_float (register_data filter permission) ≡ false
 unfolding register_data
 register_none filter permission =
     let ms-a : Members = put (codes "filter") (filter_data filter) no_members in
-    let none-a : members_have_float ms-a ≡ false = put_none (codes "filter") (filter_data filter) no_members (filter_none filter) refl in
+    let none-a : members_have_float ms-a ≡ false = put_none (codes "filter") (filter_data filter) no_members
+    (filter_none filter) refl in
     given_none (codes "permission") (option_map string permission) ms-a (option_none string text_none permission) none-a
 
 finish_none : (delivery : ℕ) (answer : Answer) → has_float (finish_data delivery answer) ≡ false
 unfolding finish_data
 finish_none delivery answer =
     let ms-a : Members = put (codes "delivery") (natural delivery) no_members in
-    let none-a : members_have_float ms-a ≡ false = put_none (codes "delivery") (natural delivery) no_members refl refl in
+    let none-a : members_have_float ms-a ≡ false = put_none (codes "delivery") (natural delivery) no_members refl refl
+    in
     let ms-b : Members = put_given (codes "abort") (some_truth answer.abort) ms-a in
-    let none-b : members_have_float ms-b ≡ false = given_none (codes "abort") (some_truth answer.abort) ms-a (truth_none answer.abort) none-a in
+    let none-b : members_have_float ms-b ≡ false = given_none (codes "abort") (some_truth answer.abort) ms-a
+    (truth_none answer.abort) none-a in
     set_none answer.set ms-b none-b
 
-get_none : (kind : Kind) (code : ℤ) (intent : Intent) (flags : PendingFlags) → has_float (get_data kind code intent flags) ≡ false
+get_none : (kind : Kind) (code : ℤ) (intent : Intent) (flags : PendingFlags)
+    → has_float (get_data kind code intent flags) ≡ false
 unfolding get_data
 get_none kind code intent flags =
     let ms-a : Members = put (codes "kind") (string (pending_name kind)) no_members in
-    let none-a : members_have_float ms-a ≡ false = put_none (codes "kind") (string (pending_name kind)) no_members refl refl in
+    let none-a : members_have_float ms-a ≡ false = put_none (codes "kind") (string (pending_name kind)) no_members refl
+    refl in
     let ms-b : Members = put (codes "code") (whole code) ms-a in
     let none-b : members_have_float ms-b ≡ false = put_none (codes "code") (whole code) ms-a (whole_none code) none-a in
     let ms-c : Members = put (codes "intent") (intent_data intent) ms-b in
-    let none-c : members_have_float ms-c ≡ false = put_none (codes "intent") (intent_data intent) ms-b (intent_none intent) none-b in
-    put_none (codes "flags") (texts_data (names_set (pending_named flags))) ms-c (texts_none (names_set (pending_named flags))) none-c
+    let none-c : members_have_float ms-c ≡ false = put_none (codes "intent") (intent_data intent) ms-b
+    (intent_none intent) none-b in
+    put_none (codes "flags") (texts_data (names_set (pending_named flags))) ms-c
+    (texts_none (names_set (pending_named flags))) none-c
 
 pending_send_none : (token : ℕ) (fill : Option Intent) → has_float (pending_send_data token fill) ≡ false
 unfolding pending_send_data
@@ -290,13 +339,15 @@ grant_none : (name permission : List ℕ) (held : Bool) → has_float (grant_dat
 unfolding grant_data
 grant_none name permission held =
     let ms : Members = put (codes "permission") (string permission) (put (codes "package") (string name) no_members) in
-    put_none (codes "held") (boolean held) ms refl (two_none (codes "package") (string name) (codes "permission") (string permission) refl refl)
+    put_none (codes "held") (boolean held) ms refl (two_none (codes "package") (string name) (codes "permission")
+    (string permission) refl refl)
 
 link_none : (name host : List ℕ) (approved : Bool) → has_float (link_data name host approved) ≡ false
 unfolding link_data
 link_none name host approved =
     let ms : Members = put (codes "host") (string host) (put (codes "package") (string name) no_members) in
-    put_none (codes "approved") (boolean approved) ms refl (two_none (codes "package") (string name) (codes "host") (string host) refl refl)
+    put_none (codes "approved") (boolean approved) ms refl (two_none (codes "package") (string name) (codes "host")
+    (string host) refl refl)
 
 -- a request
 pub request_none : (r : Request) → has_float (request_data r) ≡ false
@@ -314,7 +365,8 @@ request_none (asks.Finish delivery answer) = finish_none delivery answer
 request_none (asks.PendingGet kind code intent flags) = get_none kind code intent flags
 request_none (asks.PendingSend token fill) = pending_send_none token fill
 request_none (asks.PendingCancel token) = one_none (codes "token") (natural token) refl
-request_none (asks.PendingGive token name) = two_none (codes "package") (string name) (codes "token") (natural token) refl refl
+request_none (asks.PendingGive token name) = two_none (codes "package") (string name) (codes "token") (natural token)
+    refl refl
 request_none (asks.Install text key) = two_none (codes "key") (string key) (codes "manifest") (string text) refl refl
 request_none (asks.Uninstall name) = one_none (codes "package") (string name) refl
 request_none (asks.Grant name permission held) = grant_none name permission held

@@ -23,7 +23,8 @@ use Rattle.am_wire_values.specs.Replies.{account_data, aim_data, entries_data, e
 use Rattle.am_wire_values.specs.Rules.{error_data, named_by, rule_name}
 use Rattle.am_wire_values.proofs.Floats.{neither, mapped_none, whole_none, extras_none, intent_none, request_none}
 
-or_null_none : {A : Type 0} (write : A → Data) → ((x : A) → has_float (write x) ≡ false) → (o : Option A) → has_float (or_null (option_map write o)) ≡ false
+or_null_none : {A : Type 0} (write : A → Data) → ((x : A) → has_float (write x) ≡ false) → (o : Option A)
+    → has_float (or_null (option_map write o)) ≡ false
 or_null_none write none None = refl
 or_null_none write none (Some x) = none x
 
@@ -52,7 +53,8 @@ standing_none : (a : Aim) (s : Standing) → has_float (standing_data a s) ≡ f
 standing_none a stands.OtherComponent = skipped_none a (codes "other_component") None
 standing_none a stands.OtherPackage = skipped_none a (codes "other_package") None
 standing_none a stands.Disabled = skipped_none a (codes "disabled") None
-standing_none a (stands.Filters reasons) = neither _ _ (mapped_none reason_data (λ w. refl) reasons) (neither _ _ (aim_none a) refl)
+standing_none a (stands.Filters reasons) = neither _ _ (mapped_none reason_data (λ w. refl) reasons)
+    (neither _ _ (aim_none a) refl)
 standing_none a (stands.Narrowed narrowing) = neither _ _ (aim_none a) refl
 standing_none a stands.Outranked = skipped_none a (codes "outranked") None
 standing_none a stands.Tied = skipped_none a (codes "tied") None
@@ -65,9 +67,11 @@ account_none account = standing_none account.to account.standing
 item_none : (broadcast delivery : ℕ) (what : ItemKind) → has_float (item_data broadcast delivery what) ≡ false
 item_none b d (Normal aim intent) = neither _ _ (intent_none intent) (neither _ _ (aim_none aim) refl)
 item_none b d (InOrder aim intent outcome) =
-    neither _ _ (whole_none outcome.code) (neither _ _ (or_null_none string (λ t. refl) outcome.text) (neither _ _ (extras_none outcome.extras)
+    neither _ _ (whole_none outcome.code) (neither _ _ (or_null_none string (λ t. refl) outcome.text)
+    (neither _ _ (extras_none outcome.extras)
     (neither _ _ (intent_none intent) (neither _ _ (aim_none aim) refl))))
-item_none b d (Final outcome) = neither _ _ (whole_none outcome.code) (neither _ _ (or_null_none string (λ t. refl) outcome.text) (neither _ _ (extras_none outcome.extras) refl))
+item_none b d (Final outcome) = neither _ _ (whole_none outcome.code)
+    (neither _ _ (or_null_none string (λ t. refl) outcome.text) (neither _ _ (extras_none outcome.extras) refl))
 
 entry_none : (at : ℕ) (e : Entry) → has_float (entry_data at e) ≡ false
 unfolding entry_data
@@ -92,12 +96,14 @@ reply_none (says.Finished instance) = neither _ _ (or_null_none natural (λ n. r
 reply_none (says.Tasks tasks) = neither _ _ (mapped_none task_data task_none tasks) refl
 reply_none (says.Services services) = neither _ _ (mapped_none service_data service_none services) refl
 reply_none (says.Registered number) = refl
-reply_none (says.Items items) = neither _ _ (mapped_none waiting_data (λ i. item_none i.broadcast i.delivery i.what) items) refl
+reply_none (says.Items items) = neither _ _ (mapped_none waiting_data (λ i. item_none i.broadcast i.delivery i.what)
+    items) refl
 reply_none (says.Token token) = neither _ _ (or_null_none natural (λ n. refl) token) refl
 reply_none (says.Installed uid) = refl
 reply_none (says.Refused rule) = error_none (rule_name rule) (named_by rule)
 reply_none (says.Started component starts) = refl
-reply_none (says.Sent broadcast receivers) = neither _ _ (mapped_none receiving_data (λ r. offered_none r.aim r.skip) receivers) refl
+reply_none (says.Sent broadcast receivers) = neither _ _ (mapped_none receiving_data (λ r. offered_none r.aim r.skip)
+    receivers) refl
 reply_none (says.Entries from entries) = neither _ _ (entries_none from entries) refl
 reply_none (says.Status history moment packages) = refl
 reply_none (says.Advanced due now) = neither _ _ (or_null_none natural (λ n. refl) due) refl

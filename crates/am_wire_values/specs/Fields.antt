@@ -43,6 +43,6 @@ texts_data texts = listed (map string texts)
 abbrev pub some_texts : List (List ℕ) → Option Data
 some_texts texts = some_listed (map string texts)
 
--- a truth, unless it is false
+-- a boolean, unless it is false
 abbrev pub some_truth : Bool → Option Data
 some_truth truth = if truth then Some (boolean true) else None

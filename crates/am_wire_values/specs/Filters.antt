@@ -20,7 +20,8 @@ scheme_row scheme = row_of (codes "scheme") (string scheme)
 -- the row of an authority
 abbrev pub authority_row : Authority → Data
 authority_row authority =
-    object (put_given (codes "port") (option_map natural authority.port) (put (codes "host") (string authority.host) no_members))
+    object (put_given (codes "port") (option_map natural authority.port)
+    (put (codes "host") (string authority.host) no_members))
 
 -- the row of a path rule
 abbrev pub path_row : PathRule → Data
@@ -36,7 +37,8 @@ type_row mime = row_of (codes "mimeType") (mime_data mime)
 -- all rows
 unfoldable pub rows_of : Filter → List Data
 rows_of filter =
-    ((map scheme_row filter.schemes ++ map authority_row filter.authorities) ++ map path_row filter.paths) ++ map type_row filter.types
+    ((map scheme_row filter.schemes ++ map authority_row filter.authorities) ++ map path_row filter.paths)
+    ++ map type_row filter.types
 
 -- the value of a filter
 unfoldable pub filter_data : Filter → Data

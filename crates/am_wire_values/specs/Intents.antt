@@ -29,7 +29,7 @@ extra_data (Word text) = string text
 extra_data (Whole number) = whole number
 extra_data (Truth truth) = boolean truth
 
--- the members with those extras among them
+-- the members, with these extras among them
 abbrev pub with_extras : List Named → Members → Members
 with_extras [] members = members
 with_extras (first ∷ others) members = with_extras others (put first.key (extra_data first.value) members)

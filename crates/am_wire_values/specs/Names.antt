@@ -1,4 +1,4 @@
--- Names of kinds, flags, placements, and of what leaves a component out.
+-- Names of kinds, flags, placements, and of the reasons for leaving a component out.
 use Rattle.std.specs.Prelude.{ℕ, Bool, List, [], ◌∷◌, codes, if◌then◌else◌}
 use Rattle.am_types.specs.declared.account.Narrowing.{Narrowing}
 use Rattle.am_types.specs.declared.account.Narrowing.TheVariants.{Approved, Browser, General}
@@ -38,13 +38,13 @@ why_name Path = codes "path"
 why_name Type_ = codes "type"
 why_name Category = codes "category"
 
--- by what the activities that open a web intent are narrowed
+-- what the activities that open a web intent are narrowed to
 abbrev pub narrowing_name : Narrowing → List ℕ
 narrowing_name Approved = codes "approved"
 narrowing_name Browser = codes "browser"
 narrowing_name General = codes "general"
 
--- the names of those that are set
+-- the names of the flags that are set
 abbrev pub names_set : List (Bool × List ℕ) → List (List ℕ)
 names_set [] = []
 names_set (first ∷ others) = if first.0 then first.1 ∷ names_set others else names_set others
@@ -52,13 +52,18 @@ names_set (first ∷ others) = if first.0 then first.1 ∷ names_set others else
 -- the flags of an intent with their names
 abbrev pub flags_named : Flags → List (Bool × List ℕ)
 flags_named flags =
-    (flags.new_task, codes "NEW_TASK") ∷ (flags.multiple_task, codes "MULTIPLE_TASK") ∷ (flags.clear_task, codes "CLEAR_TASK")
-    ∷ (flags.clear_top, codes "CLEAR_TOP") ∷ (flags.single_top, codes "SINGLE_TOP") ∷ (flags.reorder_to_front, codes "REORDER_TO_FRONT")
-    ∷ (flags.registered_only, codes "REGISTERED_ONLY") ∷ (flags.foreground, codes "FOREGROUND") ∷ (flags.no_abort, codes "NO_ABORT")
+    (flags.new_task, codes "NEW_TASK") ∷ (flags.multiple_task, codes "MULTIPLE_TASK")
+    ∷ (flags.clear_task, codes "CLEAR_TASK")
+    ∷ (flags.clear_top, codes "CLEAR_TOP") ∷ (flags.single_top, codes "SINGLE_TOP")
+    ∷ (flags.reorder_to_front, codes "REORDER_TO_FRONT")
+    ∷ (flags.registered_only, codes "REGISTERED_ONLY") ∷ (flags.foreground, codes "FOREGROUND")
+    ∷ (flags.no_abort, codes "NO_ABORT")
     ∷ (flags.include_stopped, codes "INCLUDE_STOPPED") ∷ []
 
--- the flags with which a pending intent is asked for, with their names
+-- the flags that a pending intent is requested with, with their names
 abbrev pub pending_named : PendingFlags → List (Bool × List ℕ)
 pending_named flags =
-    (flags.one_shot, codes "ONE_SHOT") ∷ (flags.no_create, codes "NO_CREATE") ∷ (flags.cancel_current, codes "CANCEL_CURRENT")
-    ∷ (flags.update_current, codes "UPDATE_CURRENT") ∷ (flags.immutable, codes "IMMUTABLE") ∷ (flags.mutable, codes "MUTABLE") ∷ []
+    (flags.one_shot, codes "ONE_SHOT") ∷ (flags.no_create, codes "NO_CREATE")
+    ∷ (flags.cancel_current, codes "CANCEL_CURRENT")
+    ∷ (flags.update_current, codes "UPDATE_CURRENT") ∷ (flags.immutable, codes "IMMUTABLE")
+    ∷ (flags.mutable, codes "MUTABLE") ∷ []

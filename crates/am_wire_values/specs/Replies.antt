@@ -1,4 +1,4 @@
--- The value and the status of a reply. The fields of each object stand in the order of their bytes.
+-- The value and the status of a reply. The fields of each object are in the order of their bytes.
 use Rattle.std.specs.Prelude.{ℕ, suc, nat_lt, List, [], ◌∷◌, map, codes, true, false, Option, Some, None, option_map, if◌then◌else◌}
 use Rattle.serde_json.specs.Data.{Data, boolean, string, object, Members, no_members, member}
 use Rattle.am_types.specs.declared.account.Account.{Account}
@@ -31,7 +31,7 @@ use Rattle.am_wire_values.specs.Rules.{rule_name, named_by, refusal_data, rule_s
 abbrev pub components_data : List ℕ → List Component → Data
 components_data name found = object (member name (listed (map component_data found)) no_members)
 
--- where a start landed
+-- where a start ended up
 abbrev pub landed_data : Landed → Data
 landed_data landed =
     object (member (codes "instance") (natural landed.instance)
@@ -63,7 +63,7 @@ abbrev pub aim_data : Aim → Data
 aim_data (Declared component) = component_data component
 aim_data (Registered number) = natural number
 
--- whom the verdict is on, and the verdict
+-- what the verdict is on, and the verdict
 abbrev pub judged : Aim → List ℕ → Members
 judged aim verdict = member (codes "to") (aim_data aim) (member (codes "verdict") (string verdict) no_members)
 
@@ -85,7 +85,7 @@ receiving_data offered = offered_data offered.aim offered.skip
 abbrev pub reason_data : Why → Data
 reason_data why = string (why_name why)
 
--- a component or a registered receiver with how it stands, and what is told besides
+-- a component or a registered receiver with its standing, and further details
 abbrev pub standing_data : Aim → Standing → Data
 standing_data aim stands.OtherComponent = object (judged aim (codes "other_component"))
 standing_data aim stands.OtherPackage = object (judged aim (codes "other_package"))
@@ -99,11 +99,11 @@ standing_data aim stands.Tied = object (judged aim (codes "tied"))
 standing_data aim (stands.Refused rule) = skipped_data aim (rule_name rule) (named_by rule)
 standing_data aim stands.Reached = object (judged aim (codes "reached"))
 
--- what is said of one
+-- an account of one of these
 abbrev pub account_data : Account → Data
 account_data account = standing_data account.to account.standing
 
--- what waits in an inbox
+-- an item that waits in an inbox
 abbrev pub item_data : ℕ → ℕ → ItemKind → Data
 item_data broadcast delivery (Normal aim intent) =
     object (member (codes "broadcast") (natural broadcast) (member (codes "delivery") (natural delivery)
@@ -123,7 +123,7 @@ item_data broadcast delivery (Final outcome) =
 abbrev pub waiting_data : Item → Data
 waiting_data item = item_data item.broadcast item.delivery item.what
 
--- the number behind one; the greatest 64-bit number stays
+-- the number after this one; the greatest 64-bit number stays
 unfoldable pub number_after : ℕ → ℕ
 number_after n = if nat_lt n 18446744073709551615 then suc n else n
 
@@ -132,7 +132,8 @@ unfoldable pub entry_data : ℕ → Entry → Data
 entry_data at entry =
     object (member (codes "at") (natural at) (member (codes "desk") (natural entry.desk)
     (member (codes "kept") (boolean entry.kept) (member (codes "now") (natural entry.now)
-    (member (codes "request") (request_data entry.request) (member (codes "route") (string (path_of (endpoint_for entry.request)))
+    (member (codes "request") (request_data entry.request) (member (codes "route")
+    (string (path_of (endpoint_for entry.request)))
     (member (codes "uid") (natural entry.uid) (member (codes "weight") (natural entry.weight) no_members))))))))
 
 -- stored calls that follow each other
@@ -146,7 +147,8 @@ reply_data (says.Components found) = components_data (codes "components") found
 reply_data (says.Accounts accounts) = object (member (codes "accounts") (listed (map account_data accounts)) no_members)
 reply_data (says.Choose found) = components_data (codes "choose") found
 reply_data (says.Placed landed) = landed_data landed
-reply_data (says.Finished instance) = object (member (codes "finished") (or_null (option_map natural instance)) no_members)
+reply_data (says.Finished instance) = object (member (codes "finished") (or_null (option_map natural instance))
+    no_members)
 reply_data (says.Tasks tasks) = object (member (codes "tasks") (listed (map task_data tasks)) no_members)
 reply_data (says.Services services) = object (member (codes "services") (listed (map service_data services)) no_members)
 reply_data (says.Registered number) = object (member (codes "number") (natural number) no_members)
@@ -160,7 +162,8 @@ reply_data (says.Sent broadcast receivers) =
     object (member (codes "broadcast") (natural broadcast)
     (member (codes "receivers") (listed (map receiving_data receivers)) no_members))
 reply_data (says.Entries from entries) =
-    object (member (codes "entries") (listed (entries_data from entries)) (member (codes "from") (natural from) no_members))
+    object (member (codes "entries") (listed (entries_data from entries))
+    (member (codes "from") (natural from) no_members))
 reply_data (says.Status history moment packages) =
     object (member (codes "history") (natural history) (member (codes "moment") (natural moment)
     (member (codes "packages") (natural packages) no_members)))

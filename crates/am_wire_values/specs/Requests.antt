@@ -19,28 +19,29 @@ use Rattle.am_wire_values.specs.Names.{kind_name, pending_name, names_set, pendi
 abbrev pub with_one : List ℕ → Data → Data
 with_one name value = object (put name value no_members)
 
--- a request with two
+-- a request with two fields
 abbrev pub with_two : List ℕ → Data → List ℕ → Data → Data
 with_two name value other more = object (put other more (put name value no_members))
 
--- the members with what an outcome has beside its code
+-- the members, with an outcome apart from its code
 unfoldable pub with_outcome : Outcome → Members → Members
 with_outcome outcome members =
-    put_given (codes "extras") (some_extras outcome.extras) (put_given (codes "data") (option_map string outcome.text) members)
+    put_given (codes "extras") (some_extras outcome.extras) (put_given (codes "data") (option_map string outcome.text)
+    members)
 
--- the members with how an ordered broadcast starts
+-- the members, with how an ordered broadcast starts
 unfoldable pub with_ordered : Ordered → Members → Members
 with_ordered ordered members =
     put_given (codes "result") (some_truth ordered.wanted)
     (put_given (codes "code") (some_whole ordered.initial.code)
     (with_outcome ordered.initial (put (codes "ordered") (boolean true) members)))
 
--- the members with that, if the broadcast is ordered
+-- the members, with the same if the broadcast is ordered
 abbrev pub with_order : Option Ordered → Members → Members
 with_order None members = members
 with_order (Some ordered) members = with_ordered ordered members
 
--- the members with an outcome, if one is set
+-- the members, with an outcome if one is set
 abbrev pub with_set : Option Outcome → Members → Members
 with_set None members = members
 with_set (Some outcome) members = with_outcome outcome (put (codes "code") (whole outcome.code) members)
@@ -59,16 +60,19 @@ explain_data kind intent caller permission shown =
 
 unfoldable pub start_data : Intent → Option ℕ → Data
 start_data intent source =
-    object (put_given (codes "source") (option_map natural source) (put (codes "intent") (intent_data intent) no_members))
+    object (put_given (codes "source") (option_map natural source)
+    (put (codes "intent") (intent_data intent) no_members))
 
 unfoldable pub send_data : Intent → Option (List ℕ) → Option Ordered → Data
 send_data intent permission ordered =
     object (with_order ordered
-    (put_given (codes "permission") (option_map string permission) (put (codes "intent") (intent_data intent) no_members)))
+    (put_given (codes "permission") (option_map string permission)
+    (put (codes "intent") (intent_data intent) no_members)))
 
 unfoldable pub register_data : Filter → Option (List ℕ) → Data
 register_data filter permission =
-    object (put_given (codes "permission") (option_map string permission) (put (codes "filter") (filter_data filter) no_members))
+    object (put_given (codes "permission") (option_map string permission)
+    (put (codes "filter") (filter_data filter) no_members))
 
 unfoldable pub finish_data : ℕ → Answer → Data
 finish_data delivery answer =
@@ -95,7 +99,7 @@ link_data name host approved =
     object (put (codes "approved") (boolean approved)
     (put (codes "host") (string host) (put (codes "package") (string name) no_members)))
 
--- the value of a request, as its body says it; `{}` for one without a body
+-- the value of a request, as in its body; `{}` for one without a body
 unfoldable pub request_data : Request → Data
 request_data (asks.Query kind intent default_only) = query_data kind intent default_only
 request_data (asks.Explain kind intent caller permission shown) = explain_data kind intent caller permission shown

@@ -75,7 +75,8 @@ named_by _ = None
 -- an error, with a name if there is one
 abbrev pub error_data : List ℕ → Option (List ℕ) → Data
 error_data error None = object (member (codes "error") (string error) no_members)
-error_data error (Some name) = object (member (codes "error") (string error) (member (codes "name") (string name) no_members))
+error_data error (Some name) = object (member (codes "error") (string error)
+    (member (codes "name") (string name) no_members))
 
 -- the value of a refusal
 abbrev pub refusal_data : Rule → Data

@@ -1,4 +1,4 @@
-//! Whom an intent would reach, and why it doesn't reach the others.
+//! What an intent would reach, and why it doesn't reach the others.
 ghost use Rattle.std.specs.Prelude.{◌≡◌, IfOk};
 ghost use Rattle.serde_json.specs.View.{view};
 ghost use Rattle.am_types.specs.declared.account.Standing.TheVariants.{Filters, Narrowed};
@@ -21,7 +21,7 @@ impl Shown for Why {
     }
 }
 
-/// A component or a registered receiver whose filters don't pass, with the reason of each.
+/// A component or a registered receiver whose filters don't pass, with the reason for each.
 fn filters_value(alloc: Global, to: &Aim, reasons: &List<Why>) -> Result<Value, AllocError>
     ensures { IfOk result (λ value. view value ≡ standing_data to.now (Filters reasons.now)) }
 {
@@ -41,7 +41,7 @@ fn narrowed_value(alloc: Global, to: &Aim, by: Narrowing) -> Result<Value, Alloc
     Ok(Value::Object(members))
 }
 
-/// A component or a registered receiver with how it stands.
+/// A component or a registered receiver with its standing.
 fn standing_value(alloc: Global, to: &Aim, standing: &Standing) -> Result<Value, AllocError>
     ensures { IfOk result (λ value. view value ≡ standing_data to.now standing.now) }
 {

@@ -10,7 +10,7 @@ use am_types::{List, Text};
 use serde_json::{Map, Value, put};
 use std::alloc::{AllocError, Global};
 
-/// The members of an object that is built.
+/// The members of an object that is being built.
 pub(crate) type Members = Map<String, Value>;
 
 /// Puts a value under a name, if there is one.
@@ -51,7 +51,7 @@ pub(crate) fn some_whole(number: i64) -> Option<i64>
     }
 }
 
-/// The truth, unless it is false.
+/// The boolean, unless it is false.
 pub(crate) fn some_truth(truth: bool) -> Option<bool>
     ensures { option_map boolean result ≡ some_truth truth }
 {
@@ -96,7 +96,7 @@ fn push_word(alloc: Global, values: &mut Vec<Value>, word: &str) -> Result<(), A
     Ok(values.push(Value::try_from_str(alloc, word)?)?)
 }
 
-/// The names of those that are set, each as a value.
+/// The names of the flags that are set, each as a value.
 pub(crate) fn names_set(alloc: Global, named: &[(bool, &str)]) -> Result<Vec<Value>, AllocError>
     ensures { IfOk result (λ values. map view values.items ≡ map string (names_set (map (λ n. (n.0, n.1.now)) named.now))) }
 {

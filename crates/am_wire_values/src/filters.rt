@@ -10,8 +10,8 @@ use am_types::{Authority, Filter, PathRule};
 use serde_json::{Map, Value};
 use std::alloc::{AllocError, Global};
 
-/// A filter as a value, with a row for each scheme, authority, path and type. What is none, and a
-/// priority of 0, is left out.
+/// A filter as a value, with a row for each scheme, authority, path and type. Empty lists and a
+/// priority of 0 are left out.
 #[tactic(auto, unfolding(crate::specs::Filters::filter_data))]
 pub fn filter_value(alloc: Global, filter: &Filter) -> Result<Value, AllocError>
     ensures { IfOk result (λ value. view value ≡ filter_data filter.now) }
@@ -64,7 +64,7 @@ fn add<T: Shown>(alloc: Global, rows: &mut Vec<Value>, shown: &[T]) -> Result<()
     Ok(())
 }
 
-/// Adds a row for each, with it under the key.
+/// Adds a row for each, with the item under the key.
 fn add_keyed<T: Shown>(
     alloc: Global,
     rows: &mut Vec<Value>,

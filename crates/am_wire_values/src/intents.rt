@@ -11,7 +11,7 @@ use am_types::{Component, Extra, Intent, List, Mime, Named, Uri};
 use serde_json::{Map, Value, put};
 use std::alloc::{AllocError, Global};
 
-/// An intent as a value. What is absent, none, or not set is left out.
+/// An intent as a value. What is absent, empty, or not set is left out.
 #[tactic(auto, unfolding(crate::specs::Intents::intent_data))]
 pub fn intent_value(alloc: Global, intent: &Intent) -> Result<Value, AllocError>
     ensures { IfOk result (λ value. view value ≡ intent_data intent.now) }

@@ -1,4 +1,4 @@
-//! Names of kinds, flags, placements, and of what leaves a component out.
+//! Names of kinds, flags, placements, and of the reasons for leaving a component out.
 ghost use Rattle.std.specs.Prelude.{◌≡◌, IfOk, map};
 ghost use Rattle.serde_json.specs.Data.{string};
 ghost use Rattle.serde_json.specs.View.{view};
@@ -56,7 +56,7 @@ pub fn why_name(why: Why) -> &'static str
     }
 }
 
-/// By what the activities that open a web intent are narrowed. Takes no memory.
+/// What the activities that open a web intent are narrowed to. Takes no memory.
 pub fn narrowing_name(by: Narrowing) -> &'static str
     ensures { result.now ≡ narrowing_name by }
 {
@@ -85,7 +85,7 @@ fn flags_named(flags: Flags) -> [(bool, &'static str); 10]
     ]
 }
 
-/// The flags with which a pending intent is asked for, with their names.
+/// The flags that a pending intent is requested with, with their names.
 fn pending_named(flags: PendingFlags) -> [(bool, &'static str); 6]
     ensures { map (λ n. (n.0, n.1.now)) result ≡ pending_named flags }
 {
@@ -107,7 +107,7 @@ pub(crate) fn flag_values(alloc: Global, flags: Flags) -> Result<Vec<Value>, All
     fields::names_set(alloc, named.as_slice())
 }
 
-/// The names of the flags with which a pending intent is asked for, each as a value.
+/// The names of the flags that a pending intent is requested with, each as a value.
 pub(crate) fn pending_flag_values(
     alloc: Global,
     flags: PendingFlags,

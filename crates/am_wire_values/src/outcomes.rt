@@ -9,7 +9,7 @@ use crate::shown::{put_shown, put_some};
 use am_types::{Ordered, Outcome};
 use std::alloc::{AllocError, Global};
 
-/// Puts what an outcome has beside its code.
+/// Puts an outcome apart from its code.
 #[tactic(auto, unfolding(crate::specs::Requests::with_outcome))]
 pub(crate) fn put_outcome(
     alloc: Global,

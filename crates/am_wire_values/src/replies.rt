@@ -10,16 +10,16 @@ use crate::fields::{Members, listed};
 use crate::rules::{put_refusal, rule_status};
 use crate::shown::{object_with, put_all, put_shown};
 use crate::views::{entry_values, put_landed};
-use am_types::{Entry, NoMemory, Reply};
+use am_types::{Entry, NoMemory, Reply, Shown};
 use serde_json::{Value, put};
 use std::alloc::{AllocError, Global};
 
-/// The reply as a value. Its text is compact, with the fields of each object in the order of their
-/// bytes.
-pub fn reply_value(alloc: Global, reply: &Reply) -> Result<Value, NoMemory>
-    ensures { IfOk result (λ value. view value ≡ reply_data reply.now) }
+/// The reply that is shown, as a value: its place in the history isn't in it. Its text is compact, with the fields of
+/// each object in the order of their bytes.
+pub fn reply_value(alloc: Global, shown: &Shown) -> Result<Value, NoMemory>
+    ensures { IfOk result (λ value. view value ≡ reply_data shown.now.reply) }
 {
-    Ok(value_of(alloc, reply)?)
+    Ok(value_of(alloc, &shown.reply)?)
 }
 
 /// The compact text of the reply's value.
@@ -27,7 +27,7 @@ pub fn reply_value(alloc: Global, reply: &Reply) -> Result<Value, NoMemory>
 pub fn reply_text(alloc: Global, reply: &Reply) -> Result<String, NoMemory>
     ensures { IfOk result (λ text. string_bytes text ≡ compact_text (reply_data reply.now)) }
 {
-    Ok(reply_value(alloc, reply)?.to_string(alloc)?)
+    Ok(value_of(alloc, reply)?.to_string(alloc)?)
 }
 
 fn value_of(alloc: Global, reply: &Reply) -> Result<Value, AllocError>
@@ -36,7 +36,7 @@ fn value_of(alloc: Global, reply: &Reply) -> Result<Value, AllocError>
     object_with!(alloc, |members| put_reply(alloc, &mut members, reply))
 }
 
-/// Puts what a reply says.
+/// Puts the contents of a reply.
 #[tactic(auto, unfolding(crate::specs::Replies::reply_data))]
 fn put_reply(alloc: Global, members: &mut Members, reply: &Reply) -> Result<(), AllocError>
     requires { members_view members.old.entries ≡ no_members }

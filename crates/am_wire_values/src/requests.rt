@@ -8,13 +8,19 @@ use crate::fields::{Members, listed, put_word, some_truth};
 use crate::names::{kind_name, pending_flag_values, pending_name};
 use crate::outcomes::{put_ordered, put_outcome};
 use crate::shown::{Shown, object_with, put_all, put_shown, put_some};
-use am_types::{Answer, Intent, Kind, Ordered, PendingFlags, Request, Text};
+use am_types::{Answer, Intent, Kind, NoMemory, Ordered, PendingFlags, Request, Text};
 use serde_json::{Value, put};
 use std::alloc::{AllocError, Global};
 
-/// A request as the value that its body says: `{}` for one without a body. What is absent or at
+/// A request as the value in its body: `{}` for one without a body. What is absent or at
 /// its default is left out.
-pub fn request_value(alloc: Global, request: &Request) -> Result<Value, AllocError>
+pub fn request_value(alloc: Global, request: &Request) -> Result<Value, NoMemory>
+    ensures { IfOk result (λ value. view value ≡ request_data request.now) }
+{
+    Ok(value_of(alloc, request)?)
+}
+
+fn value_of(alloc: Global, request: &Request) -> Result<Value, AllocError>
     ensures { IfOk result (λ value. view value ≡ request_data request.now) }
 {
     object_with!(alloc, |members| put_request(alloc, &mut members, request))
@@ -24,11 +30,11 @@ impl Shown for Request {
     ghost as_data = { request_data };
 
     fn value(&self, alloc: Global) -> Result<Value, AllocError> {
-        request_value(alloc, self)
+        value_of(alloc, self)
     }
 }
 
-/// Puts what the body of a request says.
+/// Puts the contents of a request's body.
 #[tactic(auto, unfolding(crate::specs::Requests::request_data, crate::specs::Requests::start_data, crate::specs::Requests::register_data, crate::specs::Requests::pending_send_data, crate::specs::Requests::grant_data, crate::specs::Requests::link_data))]
 fn put_request(alloc: Global, members: &mut Members, request: &Request) -> Result<(), AllocError>
     requires { members_view members.old.entries ≡ no_members }

@@ -125,7 +125,7 @@ pub fn rule_name(rule: &Rule) -> &'static str
 
 /// The status of a refusal. Takes no memory.
 ///
-/// `RegisteredOnly`, `ManifestImplicit`, `StoppedPackage` and `ReceiverLacks` say why a receiver is
+/// `RegisteredOnly`, `ManifestImplicit`, `StoppedPackage` and `ReceiverLacks` tell why a receiver is
 /// skipped, and never refuse a request; their 403 is never sent.
 pub(crate) fn rule_status(rule: &Rule) -> u16
     ensures { result ≡ rule_status rule.now }

@@ -63,7 +63,7 @@ impl Shown for Text {
     }
 }
 
-/// What there is, or `null`.
+/// The value, or `null` if there is none.
 impl<T: Shown> Shown for Option<T> {
     ghost as_data = { λ shown. or_null (option_map T.as_data shown) };
 
@@ -107,7 +107,7 @@ pub(crate) fn put_shown<T: Shown>(
     put(members, alloc, name, shown.value(alloc)?)
 }
 
-/// Puts what is shown under a name, if there is something.
+/// Puts what is shown under a name, if there is anything.
 pub(crate) fn put_some<T: Shown>(
     alloc: Global,
     members: &mut Members,

@@ -21,7 +21,7 @@ use am_wire_routes::endpoint_of;
 use serde_json::{Map, Value, put};
 use std::alloc::{AllocError, Global};
 
-/// Puts where a start landed.
+/// Puts where a start ended up.
 pub(crate) fn put_landed(
     alloc: Global,
     members: &mut Members,
@@ -81,7 +81,7 @@ pub(crate) fn verdict_value(alloc: Global, aim: &Aim, verdict: &str) -> Result<V
     )
 }
 
-/// Puts whom the verdict is on, and the verdict.
+/// Puts what the verdict is on, and the verdict.
 pub(crate) fn put_judged(
     alloc: Global,
     members: &mut Members,
@@ -101,7 +101,7 @@ pub(crate) fn skipped_value(alloc: Global, aim: &Aim, rule: &Rule) -> Result<Val
     object_with!(alloc, |members| put_skipped(alloc, &mut members, aim, rule))
 }
 
-/// Puts which receiver was left out, by which rule, and what that names.
+/// Puts which receiver was left out, by which rule, and what the rule names.
 fn put_skipped(
     alloc: Global,
     members: &mut Members,
@@ -208,7 +208,7 @@ impl Shown for Item {
     }
 }
 
-/// The number behind one; the greatest 64-bit number stays.
+/// The number after this one; the greatest 64-bit number stays.
 #[tactic(auto, unfolding(crate::specs::Replies::number_after))]
 fn number_after(at: u64) -> u64
     ensures { result ≡ number_after at }

@@ -20,7 +20,8 @@ reads_same at other one two s t ends reads reads_too same =
 pub returns : goal.returns
 returns c =
     let ends : endpoint_for c.args.one.now ≡ endpoint_for c.args.other.now =
-    sym c.endpoint_of.ensures ∙ differs_false the_type tt c.endpoint_of.result c.endpoint_of-2.result (sym c.if-ne.ensures) ∙ c.endpoint_of-2.ensures in
+    sym c.endpoint_of.ensures ∙ differs_false the_type tt c.endpoint_of.result c.endpoint_of-2.result
+    (sym c.if-ne.ensures) ∙ c.endpoint_of-2.ensures in
     let first : c.as_str.result.now ≡ string_bytes c.in_ok-one.one = c.as_str.ensures.value in
     let second : c.as_str-2.result.now ≡ string_bytes c.in_ok-other.other = c.as_str-2.ensures.value in (
       λ same. reads_same _ _ c.args.one.now c.args.other.now _ _ ends
@@ -28,5 +29,6 @@ returns c =
           (c.in_ok-other.ensures.read_back c.requires.other c.requires.few)
           (sym first ∙ (bytes_decides c.as_str.result.now c.as_str-2.result.now).0 (sym c.eq.ensures ∙ same) ∙ second),
       λ is. c.eq.ensures ∙ (bytes_decides c.as_str.result.now c.as_str-2.result.now).1
-          (first ∙ c.in_ok-one.ensures.text ∙ ap (λ (r : Request). compact_text (request_data r)) is ∙ sym c.in_ok-other.ensures.text ∙ sym second),
+          (first ∙ c.in_ok-one.ensures.text ∙ ap (λ (r : Request). compact_text (request_data r)) is
+          ∙ sym c.in_ok-other.ensures.text ∙ sym second),
     )

@@ -9,7 +9,8 @@ use Rattle.am_audit_lines.proofs.text.is_text_of.Goals as goal
 pub returns : goal.returns
 returns c =
     let same = slice_eq-Decides Decides-eqb _ _ _ c.eq.ensures in
-    let own = written_is c.in_ok-written.written (view c.in_ok-entry_value.field-0) c.args.at c.args.entry.now c.in_ok-entry_value.ensures
+    let own = written_is c.in_ok-written.written (view c.in_ok-entry_value.field-0) c.args.at c.args.entry.now
+    c.in_ok-entry_value.ensures
     c.in_ok-written.ensures.text c.in_ok-written.ensures.reads_back in
     let P : List ℕ → Type 0 = IsTextOf c.args.at c.args.entry.now in (
       λ yes. subst P (sym c.as_bytes.ensures.value ∙ same.0 yes) own,

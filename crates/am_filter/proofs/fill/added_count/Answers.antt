@@ -9,9 +9,11 @@ loop-i-preserved c =
     let extra = c.index-other-i in
     elim c.if-not-is_known.branch [
       | then-not-is_known w ↦
-          let longer = length-new c.args.kept.now c.args.other.now l.i extra.result c.loop-i-test.true extra.is (sym w.if-not-is_known.ensures) in
+          let longer = length-new c.args.kept.now c.args.other.now l.i extra.result c.loop-i-test.true extra.is
+          (sym w.if-not-is_known.ensures) in
           record { within = omega arith; counted = omega (arith, longer) }
       | else-not-is_known w ↦
-          let same = length-there c.args.kept.now c.args.other.now l.i extra.result c.loop-i-test.true extra.is (sym w.if-not-is_known.ensures) in
+          let same = length-there c.args.kept.now c.args.other.now l.i extra.result c.loop-i-test.true extra.is
+          (sym w.if-not-is_known.ensures) in
           record { within = omega arith; counted = omega (arith, same) }
     ]

@@ -9,16 +9,20 @@ pub returns-in-Some-clause-rows : goal.returns-in-Some-clause-rows
 returns-in-Some-clause-rows c =
     let slots = c.args.slots.now.items in
     let d = c.index_mut.result.now in
-    let found = position-Some (λ (slot : Slot). same_text slot.path c.args.place.now) slots c.in-Some.at d (sym (rw c.deref.ensures.value at c.place_for.ensures) ∙ c.in-Some.is) in
-    rows_in_slots-set slots c.in-Some.at d.path c.args.place.now c.args.rows d (ap (λ (slot : Slot). slot.path) c.index_mut.ensures.value) found.0 found.1 found.2
+    let found = position-Some (λ (slot : Slot). same_text slot.path c.args.place.now) slots c.in-Some.at d
+    (sym (rw c.deref.ensures.value at c.place_for.ensures) ∙ c.in-Some.is) in
+    rows_in_slots-set slots c.in-Some.at d.path c.args.place.now c.args.rows d
+    (ap (λ (slot : Slot). slot.path) c.index_mut.ensures.value) found.0 found.1 found.2
 
 pub returns-in-Some-clause-slots : goal.returns-in-Some-clause-slots
 returns-in-Some-clause-slots c =
     let slots = c.args.slots.now.items in
     let d = c.index_mut.result.now in
-    let found = position-Some (λ (slot : Slot). same_text slot.path c.args.place.now) slots c.in-Some.at d (sym (rw c.deref.ensures.value at c.place_for.ensures) ∙ c.in-Some.is) in
+    let found = position-Some (λ (slot : Slot). same_text slot.path c.args.place.now) slots c.in-Some.at d
+    (sym (rw c.deref.ensures.value at c.place_for.ensures) ∙ c.in-Some.is) in
     has_slot-set slots c.in-Some.at d.path _ d (ap (λ (slot : Slot). slot.path) c.index_mut.ensures.value) found.0
 
 pub returns-in_default-clause-rows : goal.returns-in_default-clause-rows
 returns-in_default-clause-rows c at otherwise =
-    never_lost c.args.place.now c.args.slots.now.items c.requires (sym (rw c.deref.ensures.value at c.place_for.ensures) ∙ c.in_default.is) _
+    never_lost c.args.place.now c.args.slots.now.items c.requires (sym (rw c.deref.ensures.value at c.place_for.ensures)
+    ∙ c.in_default.is) _

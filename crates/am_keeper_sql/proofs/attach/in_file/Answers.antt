@@ -32,7 +32,8 @@ returns-clause-found g c honest =
     let s = file_state c.in-Ok-open_from.conn in
     let clean = c.in-Ok-begin.ensures.clean honest.clean in
     let is = c.in-Ok-open_from.ensures.opened clean in
-    finds (image_at g.S.Start) s is.0 is.1 (c.in-Ok-open_from.ensures.found clean) c.in-Ok-begin.begun.1 (c.in-Ok-begin.ensures.has honest)
+    finds (image_at g.S.Start) s is.0 is.1 (c.in-Ok-open_from.ensures.found clean) c.in-Ok-begin.begun.1
+    (c.in-Ok-begin.ensures.has honest)
 
 pub returns-in-Err-begin-clause-refused : goal.returns-in-Err-begin-clause-refused
 returns-in-Err-begin-clause-refused g c is whole =
@@ -41,12 +42,14 @@ returns-in-Err-begin-clause-refused g c is whole =
     let opened = c.in-Ok-open_from.ensures.opened why.0 in
     elim why.1 [
       | inl more ↦ inl (some_fault _ _ more)
-      | inr never ↦ inr (inr (not_held (image_at g.S.Start) s opened.0 opened.1 (c.in-Ok-open_from.ensures.found why.0) never))
+      | inr never ↦ inr (inr (not_held (image_at g.S.Start) s opened.0 opened.1 (c.in-Ok-open_from.ensures.found why.0)
+          never))
     ]
 
 pub returns-in-Err-clause-refused : goal.returns-in-Err-clause-refused
 returns-in-Err-clause-refused g c is =
     let other = c.fail.ensures.failed is in
     IfSome_then c.in-Err.left c.in-Err.ensures.cause (λ left cause clean.
-    let same = ap₂ image (ap₂ (seen g.S.Start.log g.S.Start.db) cause.1.0 cause.1.1) (ap₂ (seen g.S.Start.log g.S.Start.db) cause.2.0 cause.2.1) in
+    let same = ap₂ image (ap₂ (seen g.S.Start.log g.S.Start.db) cause.1.0 cause.1.1)
+    (ap₂ (seen g.S.Start.log g.S.Start.db) cause.2.0 cause.2.1) in
     open_refused (image_at g.S.Start) cause.0 left c.in-Err.error same other (cause.3 clean).0)

@@ -4,4 +4,5 @@ use Rattle.am_keeper_sql.proofs.Values.{text_cell}
 use Rattle.am_keeper_sql.proofs.cells.value_of.Goals as goal
 
 pub returns-in-Words : goal.returns-in-Words
-returns-in-Words c = text_cell _ c.as_bytes.ensures.utf8 ∙ ap (λ t. Some (Words t)) (c.as_bytes.ensures.value ∙ c.as_str.ensures) ∙ ap Some (sym c.in-Words.is)
+returns-in-Words c = text_cell _ c.as_bytes.ensures.utf8 ∙ ap (λ t. Some (Words t))
+    (c.as_bytes.ensures.value ∙ c.as_str.ensures) ∙ ap Some (sym c.in-Words.is)

@@ -12,6 +12,9 @@ loop-cell-preserved c =
     let at = c.loop-cell.cell-index in
     let before = c.loop-cell.values.items in
     let value = bound_value (owned c.value_of.result) in
-    let more = cells_pushed (bound before) (take at cells) value c.cell-item.result c.loop-cell.invariant c.value_of.ensures in
-    let item = ap (λ x. take at cells ++ x ∷ []) c.cell-item.is ∙ sym (take_more cells at c.cell-item.result c.loop-cell-test.true) in
-    ap (λ xs. cells_in (bound xs)) c.in_ok-push.ensures.items ∙ ap cells_in (map-append (λ v. bound_value (owned v)) before (c.value_of.result ∷ [])) ∙ more ∙ ap Some item
+    let more = cells_pushed (bound before) (take at cells) value c.cell-item.result c.loop-cell.invariant
+    c.value_of.ensures in
+    let item = ap (λ x. take at cells ++ x ∷ []) c.cell-item.is ∙ sym
+    (take_more cells at c.cell-item.result c.loop-cell-test.true) in
+    ap (λ xs. cells_in (bound xs)) c.in_ok-push.ensures.items ∙ ap cells_in
+    (map-append (λ v. bound_value (owned v)) before (c.value_of.result ∷ [])) ∙ more ∙ ap Some item

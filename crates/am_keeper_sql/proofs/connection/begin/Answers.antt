@@ -19,6 +19,14 @@ returns-in-Err-select-clause-refused g c is clean =
     let settled = opened_settled old ready.opens in
     let fails = λ (live : IsTrue mid.is_open).
     let held = c.in_default.ensures.ready (record { clean = early; live = live }) settled ready.rising in
-    c.select.ensures.failed last live (c.prepare.ensures.lasts.limit ∙ ready.unlimited) held.1 (c.in-Err-select.is ∙ ap Err is) in
-    let why = fails_late old mid new c.prepare.ensures.lasts c.select.ensures.lasts (λ honest. c.in_default.ensures.begins honest settled) fails early ready.opens.is_open in
-    (first, elim why [ inl more ↦ inl (more_then old.faults new.faults (g.S.Store.faults c.into_store-in-Err-select.result) more quiet.counts) | inr none ↦ inr none ])
+    c.select.ensures.failed last live (c.prepare.ensures.lasts.limit ∙ ready.unlimited) held.1
+    (c.in-Err-select.is ∙ ap Err is) in
+    let why = fails_late old mid new c.prepare.ensures.lasts c.select.ensures.lasts
+    (λ honest. c.in_default.ensures.begins honest settled) fails early ready.opens.is_open in (
+      first,
+      elim why [
+        | inl more ↦ inl (more_then old.faults new.faults
+            (g.S.Store.faults c.into_store-in-Err-select.result) more quiet.counts)
+        | inr none ↦ inr none
+      ],
+    )

@@ -18,12 +18,15 @@ own_text a b is = subst (λ other. pointwise nat_eq a other ≡ true) is (nat_li
 
 pub returns-then-ne : goal.returns-then-ne
 returns-then-ne c =
-    let name = λ (is : c.args.index.now ≡ kept_index). c.as_slice.ensures ∙ ap (λ (i : Index). i.name) is ∙ sym index_name ∙ sym c.as_bytes.ensures.value in
+    let name = λ (is : c.args.index.now ≡ kept_index). c.as_slice.ensures ∙ ap (λ (i : Index). i.name) is
+    ∙ sym index_name ∙ sym c.as_bytes.ensures.value in
     (λ h. absurd (true≢false (sym h)), λ is. absurd (untold _ c.if-ne.ensures (own_text _ _ (name is))))
 
 pub returns : goal.returns
 returns c =
-    let name = sym c.as_slice.ensures ∙ same_text _ _ (told _ c.if-ne.ensures) ∙ c.as_bytes.ensures.value ∙ index_name in (
-      λ h. index_is c.args.index.now name c.if-index-ne1.false c.if-index-ne0.false (c.is_of_key.ensures.columns h) (c.is_of_key.ensures.order h) (c.is_of_key.ensures.unique h),
+    let name = sym c.as_slice.ensures ∙ same_text _ _ (told _ c.if-ne.ensures) ∙ c.as_bytes.ensures.value
+    ∙ index_name in (
+      λ h. index_is c.args.index.now name c.if-index-ne1.false c.if-index-ne0.false (c.is_of_key.ensures.columns h)
+          (c.is_of_key.ensures.order h) (c.is_of_key.ensures.unique h),
       c.is_of_key.ensures.all,
     )

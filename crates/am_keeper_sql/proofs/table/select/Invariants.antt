@@ -10,5 +10,7 @@ abbrev pub invariant-rows : goal.invariant-rows
 invariant-rows g l =
     let old = l.fn.conn in
     let now = l.found.conn.now in
-    (l.found.conn.ghost_name ≡ l.initial.found.conn.ghost_name) × (IsHonest (state g.S.Store now) → IsHonest (state g.S.Store old))
-    × (IsHonest (state g.S.Store now) → old.schema ≡ kept_schema → HasRead g.S.Store old now l.rows) × Lasts (state g.S.Store old) (state g.S.Store now)
+    (l.found.conn.ghost_name ≡ l.initial.found.conn.ghost_name) × (IsHonest (state g.S.Store now)
+    → IsHonest (state g.S.Store old))
+    × (IsHonest (state g.S.Store now) → old.schema ≡ kept_schema → HasRead g.S.Store old now l.rows)
+    × Lasts (state g.S.Store old) (state g.S.Store now)

@@ -9,12 +9,15 @@ pub returns-clause-honest : goal.returns-clause-honest
 returns-clause-honest g c honest =
     let old = state g.S.Store c.args.conn.now in
     let new = state g.S.Store c.execute.new.self in
-    was_honest old new _ c.execute.ensures.survives (executes_open old new upsert_text (bound c.args.values.now) c.execute.result (c.execute.ensures.runs honest.clean)) honest
+    was_honest old new _ c.execute.ensures.survives (executes_open old new upsert_text (bound c.args.values.now)
+    c.execute.result (c.execute.ensures.runs honest.clean)) honest
 
 pub returns-clause-put : goal.returns-clause-put
 returns-clause-put g c honest keeps row says =
-    upserted (bound c.args.values.now) row says (state g.S.Store c.args.conn.now) (state g.S.Store c.execute.new.self) c.execute.result keeps (c.execute.ensures.runs honest.clean)
+    upserted (bound c.args.values.now) row says (state g.S.Store c.args.conn.now) (state g.S.Store c.execute.new.self)
+    c.execute.result keeps (c.execute.ensures.runs honest.clean)
 
 pub returns-clause-refused : goal.returns-clause-refused
 returns-clause-refused g c honest was =
-    refused (state g.S.Store c.args.conn.now) (state g.S.Store c.execute.new.self) upsert_text (bound c.args.values.now) c.execute.result (c.execute.ensures.runs honest.clean) was honest.live
+    refused (state g.S.Store c.args.conn.now) (state g.S.Store c.execute.new.self) upsert_text (bound c.args.values.now)
+    c.execute.result (c.execute.ensures.runs honest.clean) was honest.live

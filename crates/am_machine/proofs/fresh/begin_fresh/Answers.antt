@@ -11,9 +11,11 @@ begin-requires g c = record {
 
 pub begun-requires : goal.begun-requires
 begun-requires g c =
-    only_want c.begin.result c.args.device c.no_rows-rows.result c.requires.sound c.no_rows-rows.ensures.rows c.begin.ensures.refused
+    only_want c.begin.result c.args.device c.no_rows-rows.result c.requires.sound c.no_rows-rows.ensures.rows
+    c.begin.ensures.refused
 
 pub returns : goal.returns
 returns g c =
-    begins_if c.begin.result c.begun.result c.args.device c.no_rows-rows.result (g.K.Keeper.place c.args.keeper) c.args.keeper
+    begins_if c.begin.result c.begun.result c.args.device c.no_rows-rows.result (g.K.Keeper.place c.args.keeper)
+    c.args.keeper
     c.requires.sound c.no_rows-rows.ensures.rows c.begun.ensures c.begin.ensures.begun

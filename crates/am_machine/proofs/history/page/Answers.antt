@@ -19,7 +19,8 @@ returns c = by c.copied.result c.copied.ensures
     whole : rest ≡ behind
     whole = ap (λ (n : ℕ). take n behind) (sym (length-drop c.args.from c.args.history.now)) ∙ take-length behind
 
-    by : (copy : Result (List Entry) NoMemory) → IfOk copy (λ entries. entries ≡ take c.min-end.result rest) → IfOk copy (λ entries. entries ≡ take 64 behind)
+    by : (copy : Result (List Entry) NoMemory) → IfOk copy (λ entries. entries ≡ take c.min-end.result rest)
+        → IfOk copy (λ entries. entries ≡ take 64 behind)
     by (Ok entries) is =
         is ∙ ap (λ (n : ℕ). take n rest) c.min-end.ensures ∙ take_min 64 rest ∙ ap (λ (l : List Entry). take 64 l) whole
     by (Err error) is = tt

@@ -11,11 +11,17 @@ use Rattle.am_history.proofs.Acts.{act_is}
 use Rattle.am_machine.proofs.reads.status.Goals as goal
 
 -- the answer, by whether the caller is the system or the root
-answered : (live : State) (history : List Entry) (caller : ℕ) (asked may : Bool) → asked ≡ is_privileged caller → asked ≡ may
-    → act live history caller asks.Status ≡ (if may then (Status (length history) live.moment (length live.board.packages), live) else (Refused AdminOnly, live))
+answered : (live : State) (history : List Entry) (caller : ℕ) (asked may : Bool) → asked ≡ is_privileged caller → asked
+    ≡ may
+    → act live history caller asks.Status ≡ (if may then (
+      Status (length history) live.moment
+          (length live.board.packages),
+      live,
+    ) else (Refused AdminOnly, live))
 answered live history caller asked may is was =
     act_is live history caller asks.Status
-    ∙ ap (λ (b : Bool). if b then (Status (length history) live.moment (length live.board.packages), live) else (Refused AdminOnly, live)) (sym is ∙ was)
+    ∙ ap (λ (b : Bool). if b then (Status (length history) live.moment (length live.board.packages), live) else
+    (Refused AdminOnly, live)) (sym is ∙ was)
 
 pub returns-then-is_privileged : goal.returns-then-is_privileged
 returns-then-is_privileged c =
@@ -27,4 +33,5 @@ returns-then-is_privileged c =
 
 pub returns-else-is_privileged : goal.returns-else-is_privileged
 returns-else-is_privileged c =
-    answered c.args.live.now c.args.history.now c.args.caller c.is_privileged.result false c.is_privileged.ensures c.if-is_privileged.false
+    answered c.args.live.now c.args.history.now c.args.caller c.is_privileged.result false c.is_privileged.ensures
+    c.if-is_privileged.false

@@ -20,10 +20,13 @@ abbrev at_any : State → Broadcasts → ℕ → State
 at_any live broadcasts moment = record live { broadcasts = broadcasts; moment = moment }
 
 -- what is read for a request is its answer in each of these, if that is what the request comes to
-answers : (live : State) (before : List Entry) (caller : ℕ) (request asked : Request) (read : Result Reply NoMemory) (said : Reply)
+answers : (live : State) (before : List Entry) (caller : ℕ) (request asked : Request) (read : Result Reply NoMemory)
+    (said : Reply)
     → request ≡ asked → IfOk read (λ (reply : Reply). reply ≡ said)
-    → ((broadcasts : Broadcasts) (moment : ℕ) → act (at_any live broadcasts moment) before caller asked ≡ (said, at_any live broadcasts moment))
-    → IfOk read (λ (reply : Reply). (broadcasts : Broadcasts) (moment : ℕ) → act (at_any live broadcasts moment) before caller request ≡ (reply, at_any live broadcasts moment))
+    → ((broadcasts : Broadcasts) (moment : ℕ) → act (at_any live broadcasts moment) before caller asked
+    ≡ (said, at_any live broadcasts moment))
+    → IfOk read (λ (reply : Reply). (broadcasts : Broadcasts) (moment : ℕ)
+    → act (at_any live broadcasts moment) before caller request ≡ (reply, at_any live broadcasts moment))
 answers live before caller request asked (Err error) said is same does = tt
 answers live before caller request asked (Ok reply) said is same does = λ (broadcasts : Broadcasts) (moment : ℕ).
     ap (λ (r : Request). act (at_any live broadcasts moment) before caller r) is
@@ -32,23 +35,31 @@ answers live before caller request asked (Ok reply) said is same does = λ (broa
 
 pub returns-in-Query : goal.returns-in-Query
 returns-in-Query g c =
-    answers c.args.live.now c.args.history.now c.args.caller c.args.request.now _ c.query.result _ c.in-Query.is c.query.ensures
-    (λ (broadcasts : Broadcasts) (moment : ℕ). act_is (at_any c.args.live.now broadcasts moment) c.args.history.now c.args.caller (asks.Query _ _ _))
+    answers c.args.live.now c.args.history.now c.args.caller c.args.request.now _ c.query.result _ c.in-Query.is
+    c.query.ensures
+    (λ (broadcasts : Broadcasts) (moment : ℕ). act_is (at_any c.args.live.now broadcasts moment) c.args.history.now
+    c.args.caller (asks.Query _ _ _))
 
 pub returns-in-Explain : goal.returns-in-Explain
 returns-in-Explain g c =
-    answers c.args.live.now c.args.history.now c.args.caller c.args.request.now _ c.explained.result _ c.in-Explain.is c.explained.ensures
-    (λ (broadcasts : Broadcasts) (moment : ℕ). act_is (at_any c.args.live.now broadcasts moment) c.args.history.now c.args.caller (asks.Explain _ _ _ _ _))
+    answers c.args.live.now c.args.history.now c.args.caller c.args.request.now _ c.explained.result _ c.in-Explain.is
+    c.explained.ensures
+    (λ (broadcasts : Broadcasts) (moment : ℕ). act_is (at_any c.args.live.now broadcasts moment) c.args.history.now
+    c.args.caller (asks.Explain _ _ _ _ _))
 
 pub returns-in-ListTasks : goal.returns-in-ListTasks
 returns-in-ListTasks g c =
-    answers c.args.live.now c.args.history.now c.args.caller c.args.request.now _ c.tasks.result _ c.in-ListTasks.is c.tasks.ensures
-    (λ (broadcasts : Broadcasts) (moment : ℕ). act_is (at_any c.args.live.now broadcasts moment) c.args.history.now c.args.caller asks.ListTasks)
+    answers c.args.live.now c.args.history.now c.args.caller c.args.request.now _ c.tasks.result _ c.in-ListTasks.is
+    c.tasks.ensures
+    (λ (broadcasts : Broadcasts) (moment : ℕ). act_is (at_any c.args.live.now broadcasts moment) c.args.history.now
+    c.args.caller asks.ListTasks)
 
 pub returns-in-Services : goal.returns-in-Services
 returns-in-Services g c =
-    answers c.args.live.now c.args.history.now c.args.caller c.args.request.now _ c.services.result _ c.in-Services.is c.services.ensures
-    (λ (broadcasts : Broadcasts) (moment : ℕ). act_is (at_any c.args.live.now broadcasts moment) c.args.history.now c.args.caller asks.Services)
+    answers c.args.live.now c.args.history.now c.args.caller c.args.request.now _ c.services.result _ c.in-Services.is
+    c.services.ensures
+    (λ (broadcasts : Broadcasts) (moment : ℕ). act_is (at_any c.args.live.now broadcasts moment) c.args.history.now
+    c.args.caller asks.Services)
 
 pub returns-in-History : goal.returns-in-History
 returns-in-History g c =

@@ -6,12 +6,14 @@ use Rattle.am_opening.proofs.completed.first_over.Goals as goal
 
 pub returns-then-has_too_many : goal.returns-then-has_too_many
 returns-then-has_too_many c =
-    found_here (has_too_many (board_of c.args.device.now)) c.args.device.now.packages c.loop-package.package-index c.package-item.result
+    found_here (has_too_many (board_of c.args.device.now)) c.args.device.now.packages c.loop-package.package-index
+    c.package-item.result
     (there_too c.as_slice-package-items.ensures c.loop-package-test.true c.package-item.is)
     (sym c.has_too_many.ensures ∙ c.if-has_too_many.true) c.loop-package.invariant
 
 pub loop-package-preserved : goal.loop-package-preserved
 loop-package-preserved c =
-    not_here (has_too_many (board_of c.args.device.now)) c.args.device.now.packages c.loop-package.package-index c.package-item.result
+    not_here (has_too_many (board_of c.args.device.now)) c.args.device.now.packages c.loop-package.package-index
+    c.package-item.result
     (there_too c.as_slice-package-items.ensures c.loop-package-test.true c.package-item.is)
     (sym c.has_too_many.ensures ∙ c.if-has_too_many.false) c.loop-package.invariant

@@ -7,4 +7,5 @@ use Rattle.am_opening.proofs.completed.first_over.Given as goal
 -- the first of those that are left is the first of all
 abbrev pub invariant-loop-package : goal.invariant-loop-package
 invariant-loop-package l =
-    find (has_too_many (board_of l.device)) (drop l.package-index l.device.packages) ≡ find (has_too_many (board_of l.device)) l.device.packages
+    find (has_too_many (board_of l.device)) (drop l.package-index l.device.packages)
+    ≡ find (has_too_many (board_of l.device)) l.device.packages

@@ -8,15 +8,18 @@ use Rattle.am_opening.proofs.packages.after_rows.Goals as goal
 
 pub returns-in-Err-clause-opens : goal.returns-in-Err-clause-opens
 returns-in-Err-clause-opens c =
-    refused_at (state_of c.args.opened) (state_of c.loop-row.opened) c.args.rows.now c.loop-row.row-index c.row-item.result
+    refused_at (state_of c.args.opened) (state_of c.loop-row.opened) c.args.rows.now c.loop-row.row-index
+    c.row-item.result
     c.loop-row-test.true c.row-item.is c.loop-row.invariant.opens c.in-Err.fault c.in-Err.ensures.opens
 
 pub loop-row-preserved : goal.loop-row-preserved
 loop-row-preserved c = record {
   opens =
-      taken_at (state_of c.args.opened) (state_of c.loop-row.opened) (state_of c.in-Ok.more) c.args.rows.now c.loop-row.row-index c.row-item.result
+      taken_at (state_of c.args.opened) (state_of c.loop-row.opened) (state_of c.in-Ok.more) c.args.rows.now
+      c.loop-row.row-index c.row-item.result
       c.loop-row-test.true c.row-item.is c.loop-row.invariant.opens c.in-Ok.ensures.opens;
   given =
-      All-more (λ (row : PackageRow). row.uid < no_uid) c.args.rows.now c.loop-row.row-index c.row-item.result c.loop-row-test.true c.loop-row.invariant.given
+      All-more (λ (row : PackageRow). row.uid < no_uid) c.args.rows.now c.loop-row.row-index c.row-item.result
+      c.loop-row-test.true c.loop-row.invariant.given
       (subst (λ (row : PackageRow). row.uid < no_uid) c.row-item.is c.in-Ok.ensures.given);
 }

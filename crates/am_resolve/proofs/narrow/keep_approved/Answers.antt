@@ -7,5 +7,6 @@ use Rattle.am_resolve.proofs.narrow.keep_approved.Goals as goal
 pub returns : goal.returns
 returns c =
     c.new.ensures
-    ∙ filter_same _ (is_approved c.args.links.now c.args.host.now) _ (λ x b f k. search rules) _ _ c.retain.ensures.filtered
+    ∙ filter_same _ (is_approved c.args.links.now c.args.host.now) _ (λ x b f k. search rules) _ _
+    c.retain.ensures.filtered
     ∙ ap (filter (is_approved c.args.links.now c.args.host.now)) c.into_items-hits.ensures

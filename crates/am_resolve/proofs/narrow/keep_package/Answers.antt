@@ -8,5 +8,6 @@ use Rattle.am_resolve.proofs.narrow.keep_package.Goals as goal
 pub returns : goal.returns
 returns c =
     c.new.ensures
-    ∙ filter_same _ (λ (hit : Hit). is_same hit.component.«package» c.args.name.now) _ (λ x b f k. search rules) _ _ c.retain.ensures.filtered
+    ∙ filter_same _ (λ (hit : Hit). is_same hit.component.«package» c.args.name.now) _ (λ x b f k. search rules) _ _
+    c.retain.ensures.filtered
     ∙ ap (filter (λ (hit : Hit). is_same hit.component.«package» c.args.name.now)) c.into_items-hits.ensures

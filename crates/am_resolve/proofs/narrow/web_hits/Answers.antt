@@ -13,7 +13,9 @@ returns-in-None-clause-tests g c =
     let packages = c.args.installed.now.packages in
     let intent = c.args.intent.now in
     let most : cost_of packages intent c.args.found ≤ group_size packages Activity intent =
-    subst (λ (l : List Hit). cost_of packages intent l ≤ group_size packages Activity intent) (sym c.requires) (narrowing_cost packages intent Activity true c.packages.ensures.installed) in
+    subst (λ (l : List Hit). cost_of packages intent l ≤ group_size packages Activity intent) (sym c.requires)
+    (narrowing_cost packages intent Activity true c.packages.ensures.installed) in
     let made : c.keep_general.new.steps ≤ c.args.steps.now + cost_of packages intent c.args.found =
-    subst (λ (l : List Package). c.keep_general.new.steps ≤ c.args.steps.now + cost_of l intent c.args.found) c.packages.ensures.packages c.keep_general.ensures.tests in
+    subst (λ (l : List Package). c.keep_general.new.steps ≤ c.args.steps.now + cost_of l intent c.args.found)
+    c.packages.ensures.packages c.keep_general.ensures.tests in
     omega (arith, most, made)

@@ -15,14 +15,17 @@ returns c =
     let required = option_copied c.args.required in
     let before = c.args.ranked.now.items in
     let hits = c.as_slice-hit-items.result.now in
-    let of = λ (packages : List Package) (hs : List Hit). ranked_of_hits board packages intent c.args.sender required hs in
+    let of = λ (packages : List Package) (hs : List Hit). ranked_of_hits board packages intent c.args.sender required hs
+    in
     let none : of c.packages-packages.result.now (drop c.loop-hit.hit-index hits) ≡ [] =
     at_drop_all (of c.packages-packages.result.now) hits c.loop-hit.hit-index c.loop-hit-test.false in
     let all : c.loop-hit.ranked.items ≡ before ++ of c.packages-packages.result.now hits =
-    sym (append-nil c.loop-hit.ranked.items) ∙ sym (ap (λ l. c.loop-hit.ranked.items ++ l) none) ∙ c.loop-hit.invariant in
+    sym (append-nil c.loop-hit.ranked.items) ∙ sym (ap (λ l. c.loop-hit.ranked.items ++ l) none)
+    ∙ c.loop-hit.invariant in
     all
     ∙ ap (λ packages. before ++ of packages hits) c.packages-packages.ensures.packages
     ∙ ap (λ hs. before ++ of board.packages hs) c.as_slice-hit-items.ensures
     ∙ ap (λ l. before ++ l)
     (of_hits board intent c.args.sender required c.args.found.now
-    (subst (AllByRecursion (IsFoundByUid board.packages)) (sym c.requires) (hits_found_by_uid board.packages intent c.packages-packages.ensures.installed)))
+    (subst (AllByRecursion (IsFoundByUid board.packages)) (sym c.requires)
+    (hits_found_by_uid board.packages intent c.packages-packages.ensures.installed)))

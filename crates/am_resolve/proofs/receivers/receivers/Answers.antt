@@ -14,8 +14,10 @@ returns-clause-receivers g c =
     let ranked = ranked_of board c.args.intent.now c.args.sender required in
     let registered = ranked_of_registered board c.args.intent.now c.args.sender required board.registered in
     let declared = map ranked (declared_offers board.packages c.args.found.now) in
-    let first : c.add_registered.new.ranked.items ≡ c.new-ranked.result.items ++ registered = c.in_ok-add_registered.ensures.added in
-    let second : c.add_declared.new.ranked.items ≡ c.add_registered.new.ranked.items ++ declared = c.in_ok-add_declared.ensures in
+    let first : c.add_registered.new.ranked.items ≡ c.new-ranked.result.items
+    ++ registered = c.in_ok-add_registered.ensures.added in
+    let second : c.add_declared.new.ranked.items ≡ c.add_registered.new.ranked.items
+    ++ declared = c.in_ok-add_declared.ensures in
     let added : c.add_declared.new.ranked.items ≡ registered ++ declared =
     second ∙ ap (λ l. l ++ declared) (first ∙ ap (λ l. l ++ registered) c.new-ranked.ensures.items) in
     IfOk-weaker c.in_order.result

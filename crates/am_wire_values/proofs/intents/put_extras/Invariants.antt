@@ -5,4 +5,5 @@ use Rattle.am_wire_values.proofs.intents.put_extras.Given as goal
 
 abbrev pub invariant-loop-named : goal.invariant-loop-named
 invariant-loop-named l =
-    with_extras (drop l.named-index l.extras) (members_view l.members.entries) ≡ with_extras l.extras (members_view l.initial.members.entries)
+    with_extras (drop l.named-index l.extras) (members_view l.members.entries)
+    ≡ with_extras l.extras (members_view l.initial.members.entries)

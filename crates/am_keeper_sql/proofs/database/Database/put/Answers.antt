@@ -6,5 +6,6 @@ use Rattle.am_keeper_sql.proofs.database.Database.put.Goals as goal
 
 pub returns-in-Memory-clause-failed : goal.returns-in-Memory-clause-failed
 returns-in-Memory-clause-failed g c honest was =
-    subst (λ d. OnErr c.put.result (StaysSeen (state_of g.F.Store d) (state over_memory c.put.new.conn))) (sym c.in-Memory.is)
+    subst (λ d. OnErr c.put.result (StaysSeen (state_of g.F.Store d) (state over_memory c.put.new.conn)))
+    (sym c.in-Memory.is)
     (c.put.ensures.failed honest (subst (λ d. IsSettled (state_of g.F.Store d)) c.in-Memory.is was))

@@ -7,4 +7,5 @@ use Rattle.am_live_packages.proofs.known.Known.plan.Goals as goal
 
 pub returns-then-not-is_privileged : goal.returns-then-not-is_privileged
 returns-then-not-is_privileged c = λ (state : State) (sound : IsSoundState (with_known state c.args.self.now)).
-    not_admin (with_known state c.args.self.now) c.args.caller c.args.request.now (sym c.is_privileged.ensures ∙ c.if-not-is_privileged.true) c.requires
+    not_admin (with_known state c.args.self.now) c.args.caller c.args.request.now
+    (sym c.is_privileged.ensures ∙ c.if-not-is_privileged.true) c.requires

@@ -7,9 +7,11 @@ use Rattle.am_live_packages.proofs.known.Known.plan_uninstall.Goals as goal
 
 pub returns-in_default : goal.returns-in_default
 returns-in_default c = λ (state : State).
-    none_uninstalled (with_known state c.args.self.now) c.args.caller c.requires c.args.name.now (sym c.package_named.ensures ∙ ap option_copied c.in_default.is)
+    none_uninstalled (with_known state c.args.self.now) c.args.caller c.requires c.args.name.now
+    (sym c.package_named.ensures ∙ ap option_copied c.in_default.is)
 
 pub returns : goal.returns
 returns c = λ (state : State).
-    uninstalls (with_known state c.args.self.now) c.args.caller c.requires c.args.name.now c.in-Some.owner.now c.in_ok-row.row
+    uninstalls (with_known state c.args.self.now) c.args.caller c.requires c.args.name.now c.in-Some.owner.now
+    c.in_ok-row.row
     (sym c.package_named.ensures ∙ ap option_copied c.in-Some.is) c.in_ok-row.ensures

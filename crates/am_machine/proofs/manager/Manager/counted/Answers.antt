@@ -14,9 +14,9 @@ use Rattle.am_laws.proofs.Faults.{act_never_faults}
 use Rattle.am_laws.proofs.Numbers.{enough_numbers}
 use Rattle.am_laws_state.specs.Sound.{IsSoundState}
 use Rattle.am_laws_state.proofs.Sound.{replay_is_sound}
-use Rattle.am_machine.specs.Keeping.{CountsNone, IsUnasked, told_after, with_kept}
+use Rattle.am_machine.specs.Keeping.{AsksAtMostOnce, AsksOnce, CountsNone, IsUnasked, is_asked, told_after, with_kept}
 use Rattle.am_machine.specs.Managed.{Holds, HoldsKept, Managed}
-use Rattle.am_machine.proofs.Kept.{has_no_row, only_reads, reads_keep_nothing, told_as_before}
+use Rattle.am_machine.proofs.Kept.{asks_at_most, asks_none, has_no_row, keeps_none, only_reads, otherwise, reads_keep_nothing, told_as_before}
 use Rattle.am_machine.proofs.Stored.{stored_more, fault_is_unkept}
 use Rattle.am_machine.proofs.Shown.{kept_shows}
 use Rattle.am_machine.proofs.manager.Manager.counted.Goals as goal
@@ -29,22 +29,56 @@ returns-then-not-may_change-clause-put g c = λ (honest : g.K.Keeper.is_honest c
     (has_no_row state c.args.entry.request (reads_keep_nothing c.args.entry.request
     (only_reads state c.args.entry.now c.args.entry.request (sym c.may_change.ensures ∙ c.if-not-may_change.true))))
 
+pub returns-then-not-may_change-clause-asks : goal.returns-then-not-may_change-clause-asks
+returns-then-not-may_change-clause-asks g c =
+    let state : State = replay (opening_of c.args.self.now.origin) c.args.self.now.history in
+    asks_none g.K.Keeper c.args.entry.request c.unstored.result.reply c.args.self.now.keeper
+    (keeps_none c.args.entry.request c.unstored.result.reply (reads_keep_nothing c.args.entry.request
+    (only_reads state c.args.entry.now c.args.entry.request (sym c.may_change.ensures ∙ c.if-not-may_change.true))))
+
+pub returns-in_err-reply-clause-at_most : goal.returns-in_err-reply-clause-at_most
+returns-in_err-reply-clause-at_most g c = otherwise c.from_residual.result (asks_at_most g.K.Keeper c.args.self.now.keeper)
+
 -- and isn't answered by a fault
 pub returns-then-not-may_change-clause-fault : goal.returns-then-not-may_change-clause-fault
 returns-then-not-may_change-clause-fault g c = λ (faults : c.unstored.result.reply ≡ Refused KeeperFault).
     absurd (act_never_faults c.self.inside.live c.deref.result.now c.args.entry.uid c.args.entry.request
-    (ap (λ (answer : Reply × State). answer.0) c.in_ok-reply.ensures ∙ sym (ap (λ (shown : Shown). shown.reply) c.unstored.ensures) ∙ faults))
+    (ap (λ (answer : Reply × State). answer.0) c.in_ok-reply.ensures
+    ∙ sym (ap (λ (shown : Shown). shown.reply) c.unstored.ensures) ∙ faults))
+
+-- a full history refuses before the keeper is asked, and so does memory
+pub returns-then-not-has_room-clause-asks : goal.returns-then-not-has_room-clause-asks
+returns-then-not-has_room-clause-asks g c =
+    asks_none g.K.Keeper c.args.entry.request c.unstored-then-not-has_room.result.reply c.args.self.now.keeper
+    (ap (λ (shown : Shown). is_asked c.args.entry.request shown.reply) c.unstored-then-not-has_room.ensures)
+
+pub returns-in-Err-clause-at_most : goal.returns-in-Err-clause-at_most
+returns-in-Err-clause-at_most g c =
+    subst (λ (m : Managed g.row.K.Denot). AsksAtMostOnce g.K.Keeper m.keeper c.self.inside.keeper) c.self.view_is
+    (asks_at_most g.K.Keeper c.self.inside.keeper)
 
 -- the live state is the one that the history leaves, so it has numbers for the call, and it is sound
 pub answer-answered-requires-clause-numbers : goal.answer-answered-requires-clause-numbers
 answer-answered-requires-clause-numbers g c =
-    let origin : Origin = record { device = c.self.inside.opened.device; rows = c.self.inside.opened.rows; place = g.K.Keeper.place c.self.inside.keeper } in
-    subst HasNumbers c.self.invariant.0.replayed (enough_numbers origin c.self.inside.history.items c.self.invariant.0.few)
+    let origin : Origin = record {
+      device = c.self.inside.opened.device;
+      rows = c.self.inside.opened.rows;
+      place =
+          g.K.Keeper.place c.self.inside.keeper;
+    } in
+    subst HasNumbers c.self.invariant.0.replayed (enough_numbers origin c.self.inside.history.items
+    c.self.invariant.0.few)
 
 pub answer-answered-requires-clause-sound : goal.answer-answered-requires-clause-sound
 answer-answered-requires-clause-sound g c =
-    let origin : Origin = record { device = c.self.inside.opened.device; rows = c.self.inside.opened.rows; place = g.K.Keeper.place c.self.inside.keeper } in
-    subst IsSoundState c.self.invariant.0.replayed (replay_is_sound origin c.self.inside.history.items c.self.invariant.0.sound)
+    let origin : Origin = record {
+      device = c.self.inside.opened.device;
+      rows = c.self.inside.opened.rows;
+      place =
+          g.K.Keeper.place c.self.inside.keeper;
+    } in
+    subst IsSoundState c.self.invariant.0.replayed (replay_is_sound origin c.self.inside.history.items
+    c.self.invariant.0.sound)
 
 -- what the call left is held, and its entry stands behind the others
 pub invariant_of-self-in-Ok : goal.invariant_of-self-in-Ok
@@ -57,19 +91,44 @@ invariant_of-self-in-Ok g c =
     c.push_reserved.ensures.items ∙ ap (λ (l : List Entry). l ++ call ∷ []) c.reserve.ensures.items in
     let read : c.deref-2.result.now ≡ before = c.deref-2.ensures.value ∙ c.reserve.ensures.items in
     -- what is known of the state and the history as they are seen holds of them inside
-    let known : (P : State → List Entry → Type 0) → P (replay (opening_of c.args.self.now.origin) c.args.self.now.history) c.args.self.now.history → P live before =
-    λ (P : State → List Entry → Type 0) (seen : P (replay (opening_of c.args.self.now.origin) c.args.self.now.history) c.args.self.now.history).
+    let known : (P : State → List Entry → Type 0) → P (replay (opening_of c.args.self.now.origin)
+    c.args.self.now.history) c.args.self.now.history → P live before =
+    λ (P : State → List Entry → Type 0) (seen : P (replay (opening_of c.args.self.now.origin) c.args.self.now.history)
+    c.args.self.now.history).
     subst (λ (s : State). P s before) c.self.invariant.0.replayed
-    (subst (λ (m : Managed g.row.K.Denot). P (replay (opening_of m.origin) m.history) m.history) (sym c.self.view_is) seen) in
-    subst (λ (l : List Entry). Holds (record { device = c.self.inside.opened.device; rows = c.self.inside.opened.rows; place = g.K.Keeper.place new }) c.answer-answered.new.live l (c.self.inside.weight + c.from-in-Ok.result)
-    × HoldsKept g.K.Keeper (record { device = c.self.inside.opened.device; rows = c.self.inside.opened.rows; place = g.K.Keeper.place new }) l new) (sym put)
-    (subst (λ (n : ℕ). Holds (record { device = c.self.inside.opened.device; rows = c.self.inside.opened.rows; place = g.K.Keeper.place new }) c.answer-answered.new.live (before ++ call ∷ []) (c.self.inside.weight + n)
-    × HoldsKept g.K.Keeper (record { device = c.self.inside.opened.device; rows = c.self.inside.opened.rows; place = g.K.Keeper.place new }) (before ++ call ∷ []) new) (sym c.from-in-Ok.ensures)
-    (stored_more g.K.Keeper c.self.inside.opened.device c.self.inside.opened.rows live c.answer-answered.new.live before c.self.inside.weight call c.in-Ok.answered.reply c.self.inside.keeper new
+    (subst (λ (m : Managed g.row.K.Denot). P (replay (opening_of m.origin) m.history) m.history) (sym c.self.view_is)
+    seen) in
+    subst (λ (l : List Entry). Holds (record {
+      device = c.self.inside.opened.device;
+      rows = c.self.inside.opened.rows;
+      place = g.K.Keeper.place new;
+    }) c.answer-answered.new.live l (c.self.inside.weight + c.from-in-Ok.result)
+    × HoldsKept g.K.Keeper (record {
+      device = c.self.inside.opened.device;
+      rows = c.self.inside.opened.rows;
+      place =
+          g.K.Keeper.place new;
+    }) l new) (sym put)
+    (subst (λ (n : ℕ). Holds (record {
+      device = c.self.inside.opened.device;
+      rows = c.self.inside.opened.rows;
+      place =
+          g.K.Keeper.place new;
+    }) c.answer-answered.new.live (before ++ call ∷ []) (c.self.inside.weight + n)
+    × HoldsKept g.K.Keeper (record {
+      device = c.self.inside.opened.device;
+      rows = c.self.inside.opened.rows;
+      place =
+          g.K.Keeper.place new;
+    }) (before ++ call ∷ []) new) (sym c.from-in-Ok.ensures)
+    (stored_more g.K.Keeper c.self.inside.opened.device c.self.inside.opened.rows live c.answer-answered.new.live before
+    c.self.inside.weight call c.in-Ok.answered.reply c.self.inside.keeper new
     c.self.invariant
     (known (λ (s : State) (h : List Entry). IsTrue (has_uid s c.args.entry.uid)) c.requires.caller)
-    (known (λ (s : State) (h : List Entry). IsTrue (may_change s c.args.entry.now c.args.entry.request)) (sym c.may_change.ensures ∙ c.if-not-may_change.false))
-    (known (λ (s : State) (h : List Entry). IsTrue (has_room h c.args.entry.weight)) (sym c.has_room.ensures ∙ c.if-not-has_room.false))
+    (known (λ (s : State) (h : List Entry). IsTrue (may_change s c.args.entry.now c.args.entry.request))
+    (sym c.may_change.ensures ∙ c.if-not-may_change.false))
+    (known (λ (s : State) (h : List Entry). IsTrue (has_room h c.args.entry.weight))
+    (sym c.has_room.ensures ∙ c.if-not-has_room.false))
     (rw read at c.in-Ok.ensures.asked)
     (ap (λ (l : List Entry). step live l call) (sym read) ∙ c.in-Ok.ensures.done)
     c.answer-answered.ensures.keeper
@@ -86,34 +145,58 @@ returns-in-Ok-clause-put g c =
     let new = c.answer-answered.new.keeper in
     let reply = c.in-Ok.answered.reply in
     subst (λ (m : Managed g.row.K.Denot). g.K.Keeper.is_honest new
-    → g.K.Keeper.rows new ≡ told_after (replay (opening_of m.origin) m.history) c.args.entry.request reply (g.K.Keeper.rows m.keeper)) c.self.view_is
+    → g.K.Keeper.rows new ≡ told_after (replay (opening_of m.origin) m.history) c.args.entry.request reply
+    (g.K.Keeper.rows m.keeper)) c.self.view_is
     (λ (honest : g.K.Keeper.is_honest new).
-    subst (λ (s : State). g.K.Keeper.rows new ≡ told_after s c.args.entry.request reply (g.K.Keeper.rows c.self.inside.keeper)) (sym c.self.invariant.0.replayed)
+    subst (λ (s : State). g.K.Keeper.rows new ≡ told_after s c.args.entry.request reply
+    (g.K.Keeper.rows c.self.inside.keeper)) (sym c.self.invariant.0.replayed)
     (c.in-Ok.ensures.put honest))
 
 -- the keeper is the one that the call left
 pub returns-in-Ok-clause-unasked : goal.returns-in-Ok-clause-unasked
 returns-in-Ok-clause-unasked g c =
-    subst (λ (m : Managed g.row.K.Denot). IsUnasked c.in-Ok.answered.reply m.keeper c.answer-answered.new.keeper) c.self.view_is c.in-Ok.ensures.unasked
+    subst (λ (m : Managed g.row.K.Denot). IsUnasked c.in-Ok.answered.reply m.keeper c.answer-answered.new.keeper)
+    c.self.view_is c.in-Ok.ensures.unasked
 
 pub returns-in-Ok-clause-counts : goal.returns-in-Ok-clause-counts
 returns-in-Ok-clause-counts g c =
-    subst (λ (m : Managed g.row.K.Denot). CountsNone g.K.Keeper c.in-Ok.answered.reply m.keeper c.answer-answered.new.keeper) c.self.view_is c.in-Ok.ensures.counts
+    subst (λ (m : Managed g.row.K.Denot). CountsNone g.K.Keeper c.in-Ok.answered.reply m.keeper
+    c.answer-answered.new.keeper) c.self.view_is c.in-Ok.ensures.counts
+
+pub returns-in-Ok-clause-asks : goal.returns-in-Ok-clause-asks
+returns-in-Ok-clause-asks g c =
+    subst (λ (m : Managed g.row.K.Denot). AsksOnce g.K.Keeper c.args.entry.request c.in-Ok.answered.reply m.keeper
+    c.answer-answered.new.keeper) c.self.view_is c.in-Ok.ensures.asks
+
+pub returns-clause-at_most : goal.returns-clause-at_most
+returns-clause-at_most g c =
+    subst (λ (m : Managed g.row.K.Denot). AsksAtMostOnce g.K.Keeper m.keeper c.answer-answered.new.keeper)
+    c.self.view_is c.in-Err-answered.ensures.at_most
 
 -- no request is itself answered by a fault, so the row wasn't kept
 pub returns-in-Ok-clause-fault : goal.returns-in-Ok-clause-fault
 returns-in-Ok-clause-fault g c = λ (faults : c.in-Ok.answered.reply ≡ Refused KeeperFault).
     let call : Entry = with_kept c.args.entry c.in-Ok.answered.kept in
     let unkept : c.in-Ok.answered.kept ≡ false =
-    fault_is_unkept c.self.inside.live c.deref-2.result.now call (ap (λ (answer : Reply × State). answer.0) c.in-Ok.ensures.done ∙ faults) in
-    let history : c.self.inside.history.items ≡ c.args.self.now.history = ap (λ (m : Managed g.row.K.Denot). m.history) c.self.view_is in (
-      subst (λ (m : Managed g.row.K.Denot). HasRisen (g.K.Keeper.faults m.keeper) (g.K.Keeper.faults c.answer-answered.new.keeper)) c.self.view_is (c.in-Ok.ensures.fault unkept),
-      (call, unkept, c.push_reserved.ensures.items ∙ ap (λ (l : List Entry). l ++ call ∷ []) (c.reserve.ensures.items ∙ history)),
+    fault_is_unkept c.self.inside.live c.deref-2.result.now call (ap (λ (answer : Reply × State). answer.0)
+    c.in-Ok.ensures.done ∙ faults) in
+    let history : c.self.inside.history.items ≡ c.args.self.now.history = ap (λ (m : Managed g.row.K.Denot). m.history)
+    c.self.view_is in (
+      subst (λ (m : Managed g.row.K.Denot). HasRisen (g.K.Keeper.faults m.keeper)
+          (g.K.Keeper.faults c.answer-answered.new.keeper)) c.self.view_is (c.in-Ok.ensures.fault unkept),
+      (
+        call,
+        unkept,
+        c.push_reserved.ensures.items ∙ ap (λ (l : List Entry). l ++ call ∷ [])
+            (c.reserve.ensures.items ∙ history),
+      ),
     )
 
 -- what is shown is the reply at the end of the history, whether the row was kept or not
 pub returns-in-Ok-clause-shown : goal.returns-in-Ok-clause-shown
-returns-in-Ok-clause-shown g c = λ (asked : Call) (is : c.args.entry ≡ entry_of asked c.args.entry.uid true) (known : uid_of (replay (opening_of c.args.self.now.origin) c.args.self.now.history) asked.key ≡ Some c.args.entry.uid).
+returns-in-Ok-clause-shown g c = λ (asked : Call) (is : c.args.entry ≡ entry_of asked c.args.entry.uid true)
+    (known : uid_of (replay (opening_of c.args.self.now.origin) c.args.self.now.history) asked.key
+    ≡ Some c.args.entry.uid).
     let start : State = opening_of c.args.self.now.origin in
     let before = c.args.self.now.history in
     let call : Entry = with_kept c.args.entry c.in-Ok.answered.kept in
@@ -122,15 +205,25 @@ returns-in-Ok-clause-shown g c = λ (asked : Call) (is : c.args.entry ≡ entry_
     let put : c.push_reserved.new.self.items ≡ before ++ call ∷ [] =
     c.push_reserved.ensures.items ∙ ap (λ (l : List Entry). l ++ call ∷ []) (c.reserve.ensures.items ∙ inside) in
     let live : replay start before ≡ c.self.inside.live =
-    subst (λ (m : Managed g.row.K.Denot). replay (opening_of m.origin) m.history ≡ c.self.inside.live) c.self.view_is c.self.invariant.0.replayed in
+    subst (λ (m : Managed g.row.K.Denot). replay (opening_of m.origin) m.history ≡ c.self.inside.live) c.self.view_is
+    c.self.invariant.0.replayed in
     let says : c.in-Ok.answered.reply ≡ (step (replay start before) before call).0 =
     sym (ap (λ (s : State). (step s before call).0) live
     ∙ ap (λ (l : List Entry). (step c.self.inside.live l call).0) (sym read)
     ∙ ap (λ (answer : Reply × State). answer.0) c.in-Ok.ensures.done) in
     let at : c.len-at.result ≡ length before =
-    omega (arith, c.len-at.ensures, c.reserve.new.self.ok.0, ap (λ (l : List Entry). length l) (c.reserve.ensures.items ∙ inside)) in
-    subst (λ (l : List Entry). ShowsAt start before l asked (record { at = c.len-at.result; stored = true; reply = c.in-Ok.answered.reply })) (sym put)
-    (subst (λ (n : ℕ). ShowsAt start before (before ++ call ∷ []) asked (record { at = n; stored = true; reply = c.in-Ok.answered.reply })) (sym at)
-    (subst (λ (r : Reply). ShowsAt start before (before ++ call ∷ []) asked (record { at = length before; stored = true; reply = r })) (sym says)
+    omega (
+      arith,
+      c.len-at.ensures,
+      c.reserve.new.self.ok.0,
+      ap (λ (l : List Entry). length l)
+          (c.reserve.ensures.items ∙ inside),
+    ) in
+    subst (λ (l : List Entry). ShowsAt start before l asked (record
+    { at = c.len-at.result; stored = true; reply = c.in-Ok.answered.reply })) (sym put)
+    (subst (λ (n : ℕ). ShowsAt start before (before ++ call ∷ []) asked
+    (record { at = n; stored = true; reply = c.in-Ok.answered.reply })) (sym at)
+    (subst (λ (r : Reply). ShowsAt start before (before ++ call ∷ []) asked
+    (record { at = length before; stored = true; reply = r })) (sym says)
     (kept_shows start before asked c.args.entry c.in-Ok.answered.kept is known
     (sym c.may_change.ensures ∙ c.if-not-may_change.false) (sym c.has_room.ensures ∙ c.if-not-has_room.false))))

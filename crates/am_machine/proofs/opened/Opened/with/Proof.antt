@@ -39,17 +39,22 @@ with_spec 𝓤 𝓛 𝓜 𝓡 wired =
       (Goes-dropped 𝓛 2 (RefOf (1 ∷ []) tt (plain (λ _. Rows.the_row)) (λ _. tt)) yes (λ κs x w. refl), tt),
     )
     f.Key.name code.function (code.unfolded 𝓤 𝓛.H 𝓜 𝓡 wired)
-    (λ κs. (shr_vals, (shr_vals, tt))) (λ κs. (shr_Tells (named 0) κs.0 Device.the_row, (shr_Tells (named 1) κs.1.0 Rows.the_row, tt))) (λ κs qs bounds a g are.
+    (λ κs. (shr_vals, (shr_vals, tt))) (λ κs. (
+      shr_Tells (named 0) κs.0 Device.the_row,
+      (shr_Tells (named 1) κs.1.0 Rows.the_row, tt),
+    )) (λ κs qs bounds a g are.
     let device : Val = vptr a.0.ref_ptr.0 a.0.ref_ptr.1 in
     let rows : Val = vptr a.1.0.ref_ptr.0 a.1.0.ref_ptr.1 in
     let made : Opened.the_row.Denot = record { device = a.0.now; rows = a.1.0.now } in
     let y : W.Ghost = ((κs, qs, bounds, a, (device ∷ [], (rows ∷ [], tt))), g) in
-    qed 𝓛 ((raw (alive 𝓛 f.signature κs qs) ⊛ ‵ (owns (types_at f.signature.params κs) a y.0.4)) ∷ raw ((c κs a).requires g) ∷ []) ∵ keep ! (0 ∷ []) $
+    qed 𝓛 ((raw (alive 𝓛 f.signature κs qs) ⊛ ‵ (owns (types_at f.signature.params κs) a y.0.4))
+    ∷ raw ((c κs a).requires g) ∷ []) ∵ keep ! (0 ∷ []) $
     split ! $ keep ! (0 ∷ []) $
     enter ! _ _ _ _ _ $ alloc_all ! (λ l. pass_all ! refl ((tt, tt), ((tt, tt), tt)) $
     sets ! (agg ! (no_more !)) refl (tt, tt) $
     nothing ! $ nothing ! $ feq_i ! (List Val) (empty ∷ []) (empty ∷ []) refl $ fjoin ! $
-    fpack ! (Valss []) (within (record { name = []; args = []; types = []; fields = [] }) tt (empty ∷ [])) tt $ fjoin ! $
+    fpack ! (Valss []) (within (record { name = []; args = []; types = []; fields = [] }) tt (empty ∷ [])) tt $ fjoin !
+    $
     returns ! (look_at ! 0 refl) $ free_all ! refl $
     suffices ! _ (ends_at 𝓛 f.ended stayed c y empty made (tt, (tt, tt)) (tt, (tt, tt))) $ says ! (refl, refl) $
     nothing ! $ nothing ! $ fjoin ! $ nothing ! $ fjoin ! $ move ! (2 ∷ 0 ∷ 1 ∷ []) $ done !))

@@ -10,9 +10,10 @@ use Rattle.am_resolve.proofs.board.Board.add_package.Goals.{After-is_err-2}
 
 -- the packages with the new one are installed
 installed : (c : After-is_err-2) → AreInstalled (c.self.inside.installed.packages ++ c.args.«package» ∷ [])
-installed c = subst (λ (b : boards.Board). AreInstalled (b.packages ++ c.args.«package» ∷ [])) (sym c.self.view_is) c.requires
+installed c = subst (λ (b : boards.Board). AreInstalled (b.packages ++ c.args.«package» ∷ [])) (sym c.self.view_is)
+    c.requires
 
--- the index stands for the packages with the new one
+-- the index represents the packages with the new one
 added : (c : After-is_err-2) → StandsFor c.add.new.self (c.self.inside.installed.packages ++ c.args.«package» ∷ [])
 added c =
     from_ok c.add.result c.add.ensures.added (sym c.is_err.ensures.value ∙ c.if-is_err.false)
@@ -21,12 +22,16 @@ added c =
 pub invariant_of-self-then-is_err-2 : goal.invariant_of-self-then-is_err-2
 invariant_of-self-then-is_err-2 c =
     subst (λ (b : boards.Board). StandsFor c.drop_uid.new.self b.packages)
-    (sym (from_err c.add_package-added.result c.add_package-added.ensures.same (sym c.is_err-2.ensures.value ∙ c.if-is_err-2.true)))
-    (subst (λ (l : List Package). StandsFor c.drop_uid.new.self l) (without_last c.self.inside.installed.packages c.args.«package» (installed (goal.at.invariant_of-self-then-is_err-2 c).After-is_err-2))
+    (sym (from_err c.add_package-added.result c.add_package-added.ensures.same
+    (sym c.is_err-2.ensures.value ∙ c.if-is_err-2.true)))
+    (subst (λ (l : List Package). StandsFor c.drop_uid.new.self l)
+    (without_last c.self.inside.installed.packages c.args.«package»
+    (installed (goal.at.invariant_of-self-then-is_err-2 c).After-is_err-2))
     (c.drop_uid.ensures _ (added (goal.at.invariant_of-self-then-is_err-2 c).After-is_err-2)))
 
 pub invariant_of-self-else-is_err-2 : goal.invariant_of-self-else-is_err-2
 invariant_of-self-else-is_err-2 c =
     subst (λ (b : boards.Board). StandsFor c.add.new.self b.packages)
-    (sym (from_ok c.add_package-added.result c.add_package-added.ensures.added (sym c.is_err-2.ensures.value ∙ c.if-is_err-2.false)))
+    (sym (from_ok c.add_package-added.result c.add_package-added.ensures.added
+    (sym c.is_err-2.ensures.value ∙ c.if-is_err-2.false)))
     (added (goal.at.invariant_of-self-else-is_err-2 c).After-is_err-2)
