@@ -56,7 +56,7 @@ def not_reached(
 
 
 def _rules(found: Account) -> list[str]:
-    """The names by which an account may be told, from the widest to the narrowest."""
+    """The names by which an account may be named, from the widest to the narrowest."""
     return [found.verdict, *([found.by] if found.by else []), *(found.reasons or ())]
 
 

@@ -1,4 +1,4 @@
-"""The commands, in adb's words where adb has them."""
+"""The commands, in adb's words if adb has them."""
 import difflib
 import os
 import re
@@ -371,7 +371,7 @@ def main(argv: Sequence[str] | None = None) -> int:
     except click.Abort:
         return _failed("stopped.", WRONG_WORDS)
     except (BrokenPipeError, SystemExit):
-        # who reads no further has what it wanted; click exits where it finds that out itself
+        # a reader that stops has what it needs; click exits if it finds that out itself
         _drop_output()
         return 0
     except OSError as fault:

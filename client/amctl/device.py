@@ -1,4 +1,4 @@
-"""A device and the callers on it: one method a request, with Android's words."""
+"""A device and the callers on it: one method for each request, in Android's words."""
 import re
 import tomllib
 from collections.abc import Mapping, Sequence
@@ -56,7 +56,7 @@ class Device:
 
     @classmethod
     def connect(cls, url: str, device_file: str | Path) -> "Device":
-        """A server's device. The device file is the server's: the keys of the callers stand in it."""
+        """A server's device. The device file is the server's: it has the keys of the callers."""
         return cls(Web(url), DeviceFile.read(device_file))
 
     def __enter__(self) -> "Device":
@@ -73,7 +73,7 @@ class Device:
 
     @property
     def system(self) -> "App":
-        """The system, whom no gate stops."""
+        """The system, which no gate stops."""
         return App(self, SYSTEM, self.file.system_key)
 
     @property
@@ -89,13 +89,13 @@ class Device:
         return App(self, package, self._given_keys.get(package) or self.file.key_of(package))
 
     def with_key(self, key: str, package: str = "a caller") -> "App":
-        """A caller with a key of one's own choice; the package is its name in sentences alone."""
+        """A caller with a key of one's own choice; the package is only its name in sentences."""
         if key and not KEY.fullmatch(key):
             raise BadWords(words.no_key(package))
         return App(self, package, key)
 
     def advance(self, by: int = 0) -> Advanced:
-        """Moves the device's moment so many milliseconds ahead, as the system; by 0 only asks what is due next."""
+        """Moves the device's moment that many milliseconds ahead, as the system; by 0 only asks what is due next."""
         return self.system.advance(by)
 
     def visible(self, package: str, kind: Kind, intent: Intent, *, default_only: bool = False) -> tuple[str, ...]:
@@ -125,16 +125,16 @@ class Device:
         self._given_keys[package] = key
 
     def _check(self) -> None:
-        """Asks for what isn't there, which is no call: a file or a store that is refused is said at once, and the clock stands still."""
+        """Asks for what isn't there, which isn't a call: a file or a store that is refused shows at once, and the clock stands still."""
         try:
             self.carry(Ask("GET", "/", ""))
         except BaseException:
-            # also where the user stops a program that is silent
+            # also if the user stops a program that is silent
             self.close()
             raise
 
     def _explained(self, ended: Ended) -> AmctlError:
-        """Why the program ended, with the place where it is a fault of the file."""
+        """Why the program ended, with the place if it is a fault of the file."""
         text = ending_text(self.file, ended.status, ended.line) if ended.line else str(ended)
         if ended.status == words.FILE_REFUSED:
             return DeviceFault(text, ended.line.removeprefix(REFUSED))
@@ -142,7 +142,7 @@ class Device:
         return Ended(ended.status, ended.line, of_store + text)
 
     def is_installed(self, package: str) -> bool:
-        """Whether a package of that name is on the device now."""
+        """Whether this package is on the device now."""
         try:
             # this is stored nowhere and reaches nobody
             self.system.explain("service", Intent(package=package), of=package)
@@ -242,11 +242,11 @@ class App:
         self._post("/v1/finish", delivery=delivery, abort=abort or None, code=code, data=data, extras=extras)
 
     def pending_get(self, kind: PendingKind, code: int, intent: Intent, flags: Sequence[str]) -> int | None:
-        """The token of a pending intent; None where there is none and the flags ask to make none."""
+        """The token of a pending intent; None if there is none and the flags ask to make none."""
         return results.token_of(self._post("/v1/pending/get", kind=kind, code=code, intent=intent.to_json(), flags=list(flags)))
 
     def pending_send(self, token: int, *, fill: Intent | None = None) -> Placed | Choose | Started | Sent:
-        """Does what a token stands for, as its creator."""
+        """Does what a token is for, as its creator."""
         return results.done_of(self._post("/v1/pending/send", token=token, fill=None if fill is None else fill.to_json()))
 
     def pending_cancel(self, token: int) -> None:
@@ -271,7 +271,7 @@ class App:
         self._post("/v1/grant", package=package, permission=permission, held=held)
 
     def link(self, package: str, host: str, *, approved: bool = True) -> None:
-        """Approves a package for the web links of a host, or no more."""
+        """Approves a package for the web links of a host, or withdraws that."""
         self._post("/v1/link", package=package, host=host, approved=approved)
 
     def force_stop(self, package: str) -> None:
@@ -282,7 +282,7 @@ class App:
         self._post("/v1/tick")
 
     def advance(self, by: int = 0) -> Advanced:
-        """Moves the device's moment so many milliseconds ahead; by 0 only asks what is due next."""
+        """Moves the device's moment that many milliseconds ahead; by 0 only asks what is due next."""
         return results.advanced_of(self._post("/v1/advance", by=by))
 
     def history(self, from_: int = 0) -> tuple[Entry, ...]:
@@ -313,7 +313,7 @@ def _given(**fields: Any) -> dict[str, Any]:
 
 
 def _package_of(manifest: str) -> str:
-    """The package's name, or nothing where the manifest has none: `am` says then what is wrong."""
+    """The package's name, or nothing if the manifest has none: then `am` says what is wrong."""
     try:
         name = tomllib.loads(manifest).get("package")
     except tomllib.TOMLDecodeError:

@@ -1,4 +1,4 @@
-"""Device files: their keys, packages, components and filters, and where each stands."""
+"""Device files: their keys, packages, components and filters, and the place of each."""
 import difflib
 import functools
 import re
@@ -17,7 +17,7 @@ KINDS: tuple[Kind, ...] = ("activity", "service", "receiver")
 SYSTEM = "android"
 # a line of a fault is shown, but never a key in it
 KEY_VALUE = re.compile(r"""((?:^|[\s{,.])["']?(?:system_key|root_key|key)["']?\s*=\s*)("(?:[^"\\]|\\.)*"?|'[^']*'?|[^,}\s]+)""")
-# where a text isn't closed nobody knows where the key ends, and its name may be misspelt too
+# if a text isn't closed nobody knows where the key ends, and its name may be misspelt too
 KEY_AND_REST = re.compile(r"""((?:^|[\s{,.])["']?[\w-]*key[\w-]*["']?\s*=\s*)\S.*""", re.IGNORECASE)
 # a key that goes on below its line, and what ends it
 KEY_OPENED = re.compile(r"""(?:^|[\s{,.])["']?(?:system_key|root_key|key)["']?\s*=\s*("{3}|'{3}|\[)""")
@@ -38,7 +38,7 @@ class Filter:
 
 @dataclass(frozen=True)
 class Component:
-    """A component of a manifest, with its whole class; `exported` is None where the file doesn't state it."""
+    """A component of a manifest, with its whole class; `exported` is None if the file doesn't state it."""
 
     at: str
     kind: Kind
@@ -139,7 +139,7 @@ class DeviceFile:
         return next((it for it in of_all if it.kind == kind and it.component == component), None)
 
     def place(self, path: str) -> Place | None:
-        """Where a path such as `package[0].manifest.activity[1].name` stands, or the nearest table or entry round it."""
+        """Where a path such as `package[0].manifest.activity[1].name` is, or the nearest table or entry around it."""
         while path:
             if path in self.places:
                 return self.places[path]
@@ -283,7 +283,7 @@ def _components(package: str, manifest: Mapping[str, Any], base: str) -> Iterato
 
 
 def whole_class(package: str, name: str) -> str:
-    """A class's whole name, as a manifest may shorten it."""
+    """The whole name of a class, which a manifest may shorten."""
     if name.startswith("."):
         return package + name
     return name if "." in name else f"{package}.{name}"

@@ -1,4 +1,4 @@
-"""What can go wrong beside the device's own refusals; each message says what to do."""
+"""What can go wrong apart from the device's own refusals; each message says what to do."""
 
 
 class AmctlError(Exception):

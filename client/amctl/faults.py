@@ -1,4 +1,4 @@
-"""Where in a device file a fault stands that `am` names."""
+"""The place in a device file of a fault that `am` names."""
 from dataclasses import dataclass
 
 from amctl import words
@@ -52,13 +52,13 @@ def _path(file: DeviceFile, name: str) -> str:
 
 
 def _component_path(file: DeviceFile, name: str, skipped: int) -> str:
-    """Where a class stands; the first ones may be skipped."""
+    """Where a class is; the first ones may be skipped."""
     found = [it.at for package in file.packages for it in package.components if it.name == name]
     return f"{found[min(skipped, len(found) - 1)]}.name" if found else ""
 
 
 def _package_path(file: DeviceFile, name: str) -> str:
-    """Where the package's name or its key stands again."""
+    """Where the package's name or its key occurs again."""
     names = {"android"}
     keys = {it for it in (file.document.get("system_key"), file.document.get("root_key")) if isinstance(it, str)}
     for package in file.packages:

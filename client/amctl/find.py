@@ -11,7 +11,7 @@ BUILT = Path(__file__).resolve().parents[2] / "crates" / "am" / "out" / "am"
 
 
 def find_am(given: str | Path | None = None, environment: Mapping[str, str] = os.environ) -> Path:
-    """The program that is named, else that of the variable AM, else the one on PATH, else the one that the repository built."""
+    """The program that is named, else the variable AM's, else the one on PATH, else the one that the repository built."""
     for source, name in (("--am", given), ("the variable AM", environment.get("AM"))):
         if name:
             return _checked(Path(name), source)

@@ -30,7 +30,7 @@ class Intent:
 
     @classmethod
     def of(cls, word: str) -> "Intent":
-        """What a bare word stands for: a URI to view by its colon, a component by its slash, else a package."""
+        """What a bare word means: a URI to view by its colon, a component by its slash, else a package."""
         if ":" in word:
             return cls.view(word)
         return cls(component=word) if "/" in word else cls(package=word)

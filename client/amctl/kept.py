@@ -63,7 +63,7 @@ def read_kept(store: Path) -> Kept:
 
 
 def manifest_of(text: str) -> Mapping[str, Any]:
-    """The table of a manifest's text; an empty one where it is no TOML."""
+    """The table of a manifest's text; an empty one if it isn't TOML."""
     try:
         return tomllib.loads(text)
     except tomllib.TOMLDecodeError:

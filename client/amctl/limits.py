@@ -6,7 +6,7 @@ from pathlib import Path
 from amctl import words_serve
 from amctl.errors import BadWords
 
-# the program, its store and its listener have some beside those of the connections
+# the program, its store and its listener have some in addition to the connections'
 OWN_DESCRIPTORS = 16
 OWN_GROUP = Path("/proc/self/cgroup")
 GROUPS = Path("/sys/fs/cgroup")

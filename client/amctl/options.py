@@ -29,7 +29,7 @@ def option(default: Any, *names: str, help: str, metavar: str | None = None, **o
 
 @dataclass(frozen=True)
 class Asking:
-    """The device that is asked, by whom, and how the answer is written."""
+    """The device that is asked, the caller, and how the answer is written."""
 
     device: Optional[Path] = option(
         None, "--device", metavar="FILE", help=f"The device file: a session of its own, or with --url the server's. Else {DEVICE_VARIABLE}, or ./device.toml."
@@ -82,7 +82,7 @@ class IntentWords:
         if not bare and intent == Intent():
             raise BadWords(words.NO_INTENT)
         for name, value in bare.items():
-            # what an option says comes before what a bare word stands for, but two targets are a slip
+            # what an option says comes before what a bare word means, but two targets are a slip
             given = getattr(intent, name)
             if given is not None and name != "action":
                 raise BadWords(words.given_twice(name, given, value))
@@ -116,7 +116,7 @@ def _truth(option: str, value: str) -> Extra:
 
 
 def with_groups(command: Command) -> Command:
-    """Gives the command the options of each group among its parameters, one by one, as typer wants them."""
+    """Gives the command the options of each group among its parameters, one by one, as typer needs them."""
     parameters = list(inspect.signature(command).parameters.values())
     groups = {it.name: it.annotation for it in parameters if dataclasses.is_dataclass(it.annotation)}
 

@@ -1,4 +1,4 @@
-"""Where the keys of a TOML document stand, which `tomllib` doesn't say."""
+"""Where the keys of a TOML document are, which `tomllib` doesn't say."""
 import re
 from bisect import bisect_right
 from dataclasses import dataclass
@@ -76,7 +76,7 @@ class _Scan:
         self.at = found.end() if found else self.at
 
     def take(self, word: str) -> bool:
-        """Whether the word stands here, after blanks; it is passed then."""
+        """Whether the word is here, after spaces; if so, it is passed."""
         self.skip_blank()
         if self.text.startswith(word, self.at):
             self.at += len(word)
@@ -84,7 +84,7 @@ class _Scan:
         return False
 
     def header(self) -> str:
-        """The path of the table whose header stands here."""
+        """The path of the table whose header is here."""
         is_array = self.text.startswith("[[", self.at)
         self.at += 2 if is_array else 1
         self.skip_blank()
@@ -103,7 +103,7 @@ class _Scan:
         return path
 
     def last_of(self, path: str) -> str:
-        """The path, or that of its last entry where it is an array of tables."""
+        """The path, or the path of its last entry if it is an array of tables."""
         length = self.lengths.get(path)
         return path if length is None else f"{path}[{length - 1}]"
 

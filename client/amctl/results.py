@@ -151,7 +151,7 @@ class Status:
 
 
 def _reader(read: Callable[[Mapping[str, Any]], Found]) -> Callable[[Mapping[str, Any]], Found]:
-    """Reads a reply; one of another form is said, wherever in it that shows."""
+    """Reads a reply; one of another form is an error, at whatever place that shows."""
 
     @functools.wraps(read)
     def checked(body: Mapping[str, Any]) -> Found:

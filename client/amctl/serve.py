@@ -20,7 +20,7 @@ from amctl.limits import check_limits
 from amctl.transport import PRIVATE
 
 HOST = "127.0.0.1"
-# a line of /proc/net/tcp: its number, our address, theirs, the state, and behind five more fields the socket's number
+# a line of /proc/net/tcp: its number, our address, theirs, the state, and after five more fields the socket's number
 LISTENING = "0A"
 ADDRESS = "0100007F:{port:04X}"
 PASSED_ON = (signal.SIGINT, signal.SIGTERM, signal.SIGHUP)
@@ -88,7 +88,7 @@ def _served(serving: Serving, am: Path, port: int, file: DeviceFile) -> int:
 
 def _started(words_of_am: list[str]) -> "subprocess.Popen[str]":
     try:
-        # a signal of the terminal would reach the program twice if it stood in this one's group
+        # a signal of the terminal would reach the program twice if it were in this one's group
         return subprocess.Popen(
             words_of_am,
             stdin=subprocess.DEVNULL,

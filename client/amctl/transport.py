@@ -12,7 +12,7 @@ import h11
 from amctl import words
 from amctl.errors import Ended, NoProgram, NoServer, OtherAnswer
 
-# also 300, where the user would choose
+# also 300, if the user would choose
 DONE = (200, 300)
 MOST_READ = 65536
 PATIENCE_SECONDS = 30.0
@@ -116,7 +116,7 @@ class Pipes:
 
 
 class Web:
-    """A server. Each request has a connection of its own, so that no worker is held in between."""
+    """A server. Each request has a connection of its own, so no worker is held in between."""
 
     def __init__(self, url: str) -> None:
         # only who speaks with a server waits for this library

@@ -28,7 +28,7 @@ class Where:
         """What the words leave open is taken from the environment, and a `device.toml` of this folder."""
         device, store = environment.get(DEVICE_VARIABLE), environment.get(STORE_VARIABLE)
         usual = USUAL_FILE if USUAL_FILE.is_file() else None
-        # who names a store means a session of its own
+        # naming a store means a session of its own
         url = self.url if self.url is not None or self.store else environment.get(URL_VARIABLE) or None
         return Where(
             device=self.device or (Path(device) if device else usual),
@@ -52,7 +52,7 @@ class Where:
 
 
 def caller(device: Device, package: str | None) -> App:
-    """The package's app, or the system where none is named."""
+    """The package's app, or the system if none is named."""
     if package == "":
         # a script's variable that is empty doesn't ask as the system
         raise BadWords(words.NO_CALLER)

@@ -431,7 +431,7 @@ def _filtered(found: Account, about: About) -> Sentence:
     if not found.reasons:
         return _filled(VERDICTS["no_filter"], _about(found.to, None, about))
     component = about.file.component(about.kind, str(found.to))
-    # a filter without an action is no filter, and has no reason
+    # a filter without an action isn't a filter, and has no reason
     filters = [it for it in component.filters if it.actions] if component else []
     known: list["Filter | None"] = [*filters] if len(filters) == len(found.reasons) else [None] * len(found.reasons)
     said = [reason(why, filter, about.intent) for why, filter in zip(found.reasons, known)]
@@ -494,7 +494,7 @@ def _path_rules(filter: "Filter | None") -> list[str]:
 
 
 def _has(values: "Sequence[str] | map[str]") -> str:
-    """What a filter takes instead, where that is known."""
+    """What a filter takes instead, if that is known."""
     listed = list(dict.fromkeys(values))
     return f", but {' or '.join(listed)}" if listed else ""
 
@@ -578,7 +578,7 @@ def intent(found: Intent) -> str:
 
 
 def item(found: Item) -> tuple[str, str, str]:
-    """A delivery or a result: its number, whom it is for, and what it is."""
+    """A delivery or a result: its number, its receiver, and what it is."""
     if isinstance(found, Result):
         return str(found.delivery), "the sender", f"result of broadcast {found.result}: {_outcome(found.code, found.data)}"
     so_far = f", so far {_outcome(found.code, found.data)}" if isinstance(found, OrderedDelivery) else ""

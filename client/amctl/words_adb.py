@@ -71,7 +71,7 @@ SHELL_LEFT_OUT = {
     "grep": "pipe on your own side: put `| grep ..` outside the quotes",
 }
 
-# what Android has and `am` leaves out, by tool; a word that stands nowhere is unknown to Android too
+# what Android has and `am` leaves out, by tool; a word that isn't listed anywhere is unknown to Android too
 NO_SUBCOMMANDS = {
     **dict.fromkeys(("startforegroundservice", "start-foreground-service", "startfgservice", "start-fg-service"), "foreground services are left out"),
     "instrument": "apps don't run here",

@@ -74,7 +74,7 @@ def worker_fault(fault: str) -> str:
 
 
 def remarks(unreadable: Sequence[tuple[str, str]], left: int, into: Path) -> list[str]:
-    """What a person has to know beside the table."""
+    """What a person has to know in addition to the table."""
     found = []
     if unreadable:
         apps = "1 app can't be read" if len(unreadable) == 1 else f"{len(unreadable)} apps can't be read"

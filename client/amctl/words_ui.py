@@ -151,7 +151,7 @@ def time_left(limit: int, seen_seconds: float, stands: bool) -> str:
 
 
 def moment(milliseconds: int) -> str:
-    """A moment as a time of day where it is one, else as milliseconds."""
+    """A moment as a time of day if it is one, else as milliseconds."""
     if milliseconds < 10**11:
         return f"{milliseconds} ms"
     when = datetime.fromtimestamp(milliseconds / 1000, timezone.utc)

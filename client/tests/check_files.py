@@ -19,7 +19,7 @@ def filter_of(action: str = "x.A", rows: str = "", priority: int = 0, categories
 
 
 def web(host: str | None, priority: int = 0, path: str = "") -> str:
-    """A filter for web links, of any host where none is named."""
+    """A filter for web links, of any host if none is named."""
     at = f', host = "{host}"' if host else ""
     under = f', pathPrefix = "{path}"' if path else ""
     return filter_of(VIEW, f'{{ scheme = "https"{at}{under} }}', priority, (DEFAULT, BROWSABLE))
@@ -30,7 +30,7 @@ def component(kind: str = "activity", name: str = ".C", filters: Iterable[str] =
 
 
 def app(*components: str, package: str = APP, top: str = "") -> str:
-    """A manifest: the first component's name stands in line 4."""
+    """A manifest: the first component's name is in line 4."""
     return f'package = "{package}"\n{top}\n' + "".join(components)
 
 

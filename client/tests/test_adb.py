@@ -45,7 +45,7 @@ def serving(port: int, before: str = "") -> Iterator[None]:
 
 @pytest.fixture
 def folder(monkeypatch: pytest.MonkeyPatch) -> None:
-    """The folder of the transcripts, and an environment that says nothing but where `am` is."""
+    """The folder of the transcripts, and an environment that only says where `am` is."""
     monkeypatch.setenv("AM", str(find_am()))
     monkeypatch.chdir(HERE)
     for name in ("AMCTL_URL", "AMCTL_STORE", "AMCTL_SERIAL", "ANDROID_SERIAL"):

@@ -1,4 +1,4 @@
-"""`amctl.apps`: real apps as a device file has them. The cases of `tools/device_from_apks_cases` try what is told."""
+"""`amctl.apps`: real apps as a device file has them. The cases of `tools/device_from_apks_cases` try what is reported."""
 import json
 import subprocess
 import tomllib

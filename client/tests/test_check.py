@@ -38,7 +38,7 @@ def defines(*names: str, other: str = "com.old.READ") -> dict[str, Any]:
 
 
 def stored(route: str, intent: dict[str, Any], uid: int = 10001, **fields: Any) -> str:
-    """A history of one call, of the package behind that of the device file if no uid is named."""
+    """A history of one call, of the next package after the device file's if no uid is named."""
     return json.dumps({"at": 0, "desk": 0, "kept": True, "now": 5, "request": {"intent": intent, **fields}, "route": route, "uid": uid, "weight": 2})
 
 
@@ -218,7 +218,7 @@ def test_a_protected_broadcast_is_heard_of_the_system_alone(tmp_path: Path) -> N
 
 
 def test_what_no_uri_has_is_passed_over(tmp_path: Path) -> None:
-    """A host with a port that is none, and a path that is too long for a URI."""
+    """A host with a port that isn't valid, and a path that is too long for a URI."""
     rows = f'{{ scheme = "geo", host = "a:b", path = "/{"é" * 400}" }}'
     assert Checked(tmp_path, manifest=app(component(filters=[filter_of("x.B", rows)], others=CLOSED))).findings() == ()
 
@@ -268,7 +268,7 @@ def test_where_filters_overlap_the_intent_is_asked(tmp_path: Path) -> None:
 
 
 def test_categories_are_told_where_they_differ(tmp_path: Path) -> None:
-    """The old activity takes the intent without the category alone."""
+    """The old activity takes only the intent without the category."""
     both = filter_of(categories=(DEFAULT, BROWSABLE))
     found = Checked(tmp_path, device(OLD), app(component(filters=[both]))).findings()
     assert [(it.rule, it.about) for it in found if it.rule in ("asks", "opens")] == [("asks", "-a x.A"), ("opens", f"-a x.A -c {BROWSABLE}")]
@@ -286,7 +286,7 @@ def test_a_wildcards_statements_stand_at_the_host_below(tmp_path: Path) -> None:
 
 
 def test_only_hosts_that_would_be_approved_are(tmp_path: Path) -> None:
-    """Asked as if approved: without statements, or where they name the app and it asks for verification."""
+    """Asked as if approved: without statements, or if they name the app and it asks for verification."""
     manifest, asked = app(LINK), {"packages": {APP: {"autoVerify": ["a.example"]}}}
     unasked: Options = {"packages": {APP: {}}}
     cases: list[tuple[Options, bool]] = [
@@ -420,7 +420,7 @@ def test_a_baseline_hides_what_it_has(tmp_path: Path) -> None:
     baseline = tmp_path / "baseline.json"
     baseline.write_text(printed)
     assert checked.printed(severity="note", baseline=baseline) == (0, f"{tmp_path / 'app.toml'}: nothing new.\n")
-    # what stands elsewhere now isn't new, and another service is
+    # what is elsewhere now isn't new, and another service is
     moved = Checked(tmp_path, manifest=app(component("service", name=".D"), component("service")))
     status, printed = moved.printed(form="json", severity="note", baseline=baseline)
     assert status == 1

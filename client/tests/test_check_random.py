@@ -36,7 +36,7 @@ def random_row(dice: random.Random) -> str:
 
 
 def random_app(dice: random.Random, package: str, pool: Sequence[str], priority: int) -> str:
-    """An app of one to three activities, whose filters take their rows from a pool, so that apps meet."""
+    """An app of one to three activities, whose filters take their rows from a pool, so apps meet."""
     activities = []
     for number in range(dice.randint(1, 3)):
         filters = []
@@ -72,7 +72,7 @@ def started(on: Device, intent: Intent) -> Outcome:
         return Outcome("asks", placed.choose)
     component = on.component_of(placed)
     assert component is not None
-    # a device holds no more than 64 tasks
+    # a device holds at most 64 tasks
     on.system.finish_activity(placed.instance)
     return Outcome("opens", (component,))
 

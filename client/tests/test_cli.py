@@ -213,7 +213,7 @@ def test_an_answer_that_finds_no_room_is_said() -> None:
 
 
 def test_a_terminal_gets_a_table() -> None:
-    """The same answer, where standard output is a terminal."""
+    """The same answer, if standard output is a terminal."""
     words = f"{sys.executable} -m amctl why --device {DEVICE} --as com.browser {LINK}"
     ran = run_python("-c", f"import os, pty; os.environ['COLUMNS'] = '200'; pty.spawn({words.split()!r})")
     assert "what would change it" in ran.out and "┃" in ran.out

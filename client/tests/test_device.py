@@ -1,4 +1,4 @@
-"""The Device beside what docs/HTTP.md shows: sessions, keys, refusals, stores and servers."""
+"""The Device apart from what docs/HTTP.md shows: sessions, keys, refusals, stores and servers."""
 import http.server
 import threading
 from collections.abc import Iterator

@@ -1,4 +1,4 @@
-"""Device files: what stands in them and where, and the line of a fault without any key in it."""
+"""Device files: what is in them and where, and the line of a fault without any key in it."""
 from pathlib import Path
 
 import pytest

@@ -14,7 +14,7 @@ from amctl.transport import Answer, Ask, Transport, body_of
 from conftest import TOP
 
 BLOCK = re.compile(r"^```(toml device|http request(?: at \d+)?|http next request|http response)\n(.*?)^```$", re.M | re.S)
-# the first moment in the document's history, so that its entries come out as they stand there
+# the first moment in the document's history, so its entries come out as shown there
 FIRST_MOMENT = 1767225600000
 
 
@@ -35,7 +35,7 @@ class Talk:
     """The exchanges of one session on a device."""
 
     device: str
-    # the moment at which its clock stands, if it does
+    # the moment at which its clock stands still, if it does
     at: int | None = None
     exchanges: list[Exchange] = field(default_factory=list)
 

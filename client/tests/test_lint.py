@@ -29,7 +29,7 @@ def write(tmp_path: Path) -> Write:
 
 
 def device(component: str = "", *, top: str = "", end: str = "", kind: str = "activity", manifest: str = "") -> str:
-    """A device of one package, line by line: the package's key stands in line 4, the component's own lines begin with line 9."""
+    """A device of one package, line by line: the package's key is in line 4, the component's own lines begin with line 9."""
     opened = f"[[package.manifest.{kind}]]\nname = \".C\"\n" if component else ""
     return f'system_key = "sys"\n{top}\n[[package]]\nkey = "k1"\n[package.manifest]\npackage = "com.one"{manifest}\n{opened}{component}\n{end}\n'
 

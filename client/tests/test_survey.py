@@ -107,7 +107,7 @@ def done_files(folder: Path) -> dict[str, int]:
 
 @pytest.fixture
 def marking(tmp_path: Path) -> Path:
-    """A program in the place of `am` that leaves a mark where it is run."""
+    """A program in the place of `am` that leaves a mark when it is run."""
     program = tmp_path / "marking"
     program.write_text(f"#!/bin/sh\ntouch {tmp_path / 'ran'}\n", encoding="utf-8")
     program.chmod(0o755)
@@ -207,7 +207,7 @@ def test_a_picture_of_very_many_apps_shows_the_most_exposed() -> None:
 
 
 class Stopped(BaseException):
-    """As where a user stops it."""
+    """As if a user stopped it."""
 
 
 @pytest.mark.parametrize("step", [0, 3, 9, 14])

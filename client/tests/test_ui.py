@@ -1,4 +1,4 @@
-"""The page's gateway, without a browser: what it answers, whom it refuses, and that no key leaves it."""
+"""The page's gateway, without a browser: what it answers, what it refuses, and that no key leaves it."""
 import shlex
 import signal
 import socket
@@ -359,7 +359,7 @@ def test_nothing_is_left_running(number: signal.Signals) -> None:
     assert len(children) == 1
     program.send_signal(number)
     program.communicate(timeout=30)
-    # a session ends where its input does
+    # a session ends when its input does
     for _ in range(100):
         if not Path(f"/proc/{children[0]}").exists():
             break

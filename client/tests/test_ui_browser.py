@@ -34,7 +34,7 @@ SHOT_LIMIT = 150_000
 
 @contextmanager
 def started(*words: str) -> Iterator[tuple["subprocess.Popen[str]", str]]:
-    """A program of `amctl` with the URL or the port that it prints; it is ended behind the test."""
+    """A program of `amctl` with the URL or the port that it prints; it is ended after the test."""
     command = [sys.executable, "-m", "amctl", *words, "--am", str(find_am())]
     with subprocess.Popen(command, cwd=CLIENT, stdout=subprocess.PIPE, text=True) as program:
         try:
@@ -96,7 +96,7 @@ def text(browser: Chrome, selector: str) -> str:
 
 
 def keep(browser: Chrome, name: str) -> None:
-    """Keeps a picture of the view, where one is asked for."""
+    """Keeps a picture of the view, if one is asked for."""
     folder = os.environ.get("AM_SCREENSHOTS")
     if folder:
         picture = browser.get_screenshot_as_png()

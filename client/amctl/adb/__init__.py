@@ -10,7 +10,7 @@ __all__ = ["main"]
 
 
 def main(argv: list[str]) -> int:
-    """Does what the words behind `amctl adb` say, and gives the exit status."""
+    """Does what the words after `amctl adb` say, and gives the exit status."""
     console = Console(sys.stdout, sys.stderr)
     try:
         status = _carried_out(argv, console)

@@ -19,7 +19,7 @@ DENIALS = ("not_exported", "needs_permission")
 
 @dataclass(frozen=True)
 class Start:
-    """`am start`. Where it waits, what it complains of goes to standard output."""
+    """`am start`. If it waits, its complaints go to standard output."""
 
     intent: AskedIntent
     waits: bool = False
@@ -172,7 +172,7 @@ def _warning(placed: Placed, before: tuple[Task, ...]) -> tuple[str, ...]:
 
 def _launch_state(placed: Placed, before: tuple[Task, ...], phone: Phone) -> str:
     if placed.placed != "fresh":
-        # Android measures no launch where the task stood in front already
+        # Android measures no launch if the task was in front already
         return "UNKNOWN (0)" if before and before[0].task == placed.task else "HOT"
     package = _component(placed, phone).partition("/")[0]
     ran = any(it.component.startswith(f"{package}/") for task in before for it in task.instances)

@@ -13,7 +13,7 @@ from amctl.device import Refusal
 
 @dataclass(frozen=True)
 class Broadcast:
-    """`am broadcast`: a normal one, since no app runs here that could hand an ordered one on."""
+    """`am broadcast`: a normal one, since no app runs here that could pass an ordered one on."""
 
     intent: AskedIntent
     permission: str | None = None

@@ -10,7 +10,7 @@ FAILED = 255
 
 @dataclass(frozen=True)
 class Console:
-    """Standard output and standard error. A line of adb's own may go to either, one of this client's to the latter alone."""
+    """Standard output and standard error. A line of adb's own may go to either, one of this client's only to the latter."""
 
     out: TextIO
     err: TextIO
@@ -33,7 +33,7 @@ class Console:
         return failed.status
 
     def throw(self, thrown: "Thrown", name: str) -> int:
-        """Prints an exception as Android does, without where in its code it was thrown, and gives the status."""
+        """Prints an exception as Android does, without the place in its code where it was thrown, and gives the status."""
         for line in ("", f"Exception occurred while executing '{name}':", str(thrown)):
             self.complain(line)
         return FAILED

@@ -22,7 +22,7 @@ PATH_KINDS = {"path": "LITERAL", "pathPrefix": "PREFIX", "pathPattern": "GLOB", 
 
 @dataclass(frozen=True)
 class Dump:
-    """A part of `dumpsys`, of one package where one is named."""
+    """A part of `dumpsys`, of one package if one is named."""
 
     part: str
     package: str | None = None
@@ -86,7 +86,7 @@ def _services(phone: Phone, package: str | None) -> Iterator[str]:
 
 
 def _broadcasts(phone: Phone, package: str | None) -> Iterator[str]:
-    """The broadcasts that some app still has before it."""
+    """The broadcasts that some app still has to finish."""
     yield "ACTIVITY MANAGER BROADCAST STATE (dumpsys activity broadcasts)"
     waiting: dict[int, tuple[Intent, bool, list[str]]] = {}
     for name in dict.fromkeys(it.name for it in installed(phone) if package in (None, it.name)):
@@ -148,7 +148,7 @@ Groups = dict[str, dict[str, list[tuple[Component, Filter]]]]
 
 
 def _by_action(rows: list[tuple[Component, Filter]]) -> Groups:
-    """The filters by what Android's resolver looks them up by: types, schemes, or actions alone."""
+    """The filters by what Android's resolver looks them up by: types, schemes, or only actions."""
     groups: Groups = {}
     for component, it in rows:
         if not it.actions:

@@ -89,7 +89,7 @@ def names_of(flags: int, kind: Kind) -> tuple[str, ...]:
     if left_out:
         raise NotServed(words_adb.no_flag(left_out[0].name, left_out[0].bit))
     unknown = flags & 0xFFFFFFFF & ~sum(it.bit for it in known)
-    # a service's intent has no flags beside the general ones, and Android looks at no others
+    # a service's intent has only the general flags, and Android looks at no others
     if unknown and kind != "service":
         raise NotServed(words_adb.no_flag("an unknown flag", unknown))
     return tuple(it.sent_as for it in known if it.use == "sent")

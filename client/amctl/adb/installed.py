@@ -41,7 +41,7 @@ def find(phone: Phone, package: str) -> Installed | None:
 
 
 def uid_of(phone: Phone, package: str) -> str:
-    """The uid, or `?` where nothing tells it."""
+    """The uid, or `?` if nothing tells it."""
     if package == SYSTEM:
         return str(SYSTEM_UID)
     found = find(phone, package)

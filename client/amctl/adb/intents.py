@@ -25,7 +25,7 @@ SHORTENED_SCHEMES = ("http", "https", "ftp", "rtsp")
 
 @dataclass(frozen=True)
 class AskedIntent:
-    """An intent of a command line. Its flags are Android's number, since what a number means depends on whom the intent is for."""
+    """An intent of a command line. Its flags are Android's number, since what a number means depends on what the intent is for."""
 
     fields: Intent = Intent()
     flags: int = 0
@@ -47,7 +47,7 @@ class AskedIntent:
 
 
 def read_intent(words: Words, other: Callable[[str], bool]) -> AskedIntent:
-    """Reads the options of an intent and the bare word behind them; `other` takes the options of the command itself."""
+    """Reads the options of an intent and the bare word after them; `other` takes the options of the command itself."""
     reader = _Reader(words)
     while (option := words.option()) is not None:
         if not reader.take(option) and not other(option):
@@ -65,7 +65,7 @@ class _Reader:
         self.has_extras = False
 
     def take(self, option: str) -> bool:
-        """Whether it is an intent's option; it is taken then."""
+        """Whether it is an intent's option; if so, it is taken."""
         if option in FIELDS:
             self.given[FIELDS[option]] = self.words.value()
         elif option == "-c":
@@ -108,7 +108,7 @@ def _filled_in(fields: Intent, bare: str) -> Intent:
             raise NotServed(words_adb.no_intent_uri(bare))
         lacks_data = fields.data is None and fields.type is None
         return dataclasses.replace(fields, action=fields.action or VIEW, data=bare if lacks_data else fields.data)
-    # Android drops the launcher's category where an action was given
+    # Android drops the launcher's category if an action was given
     categories = fields.categories or (() if fields.action else (LAUNCHER,))
     launched = dataclasses.replace(fields, action=fields.action or MAIN, categories=categories)
     if "/" in bare:
@@ -117,7 +117,7 @@ def _filled_in(fields: Intent, bare: str) -> Intent:
 
 
 def component_of(text: str) -> str:
-    """`package/class` with the class whole."""
+    """`package/class` with the whole class."""
     package, slash, name = text.partition("/")
     if not slash or not name:
         raise Thrown.argument(f"Bad component name: {text}")
@@ -125,7 +125,7 @@ def component_of(text: str) -> str:
 
 
 def short(component: str) -> str:
-    """`package/.Class` where the class begins with the package's name."""
+    """`package/.Class` if the class begins with the package's name."""
     package, _, name = component.partition("/")
     return f"{package}/{name.removeprefix(package)}" if name.startswith(f"{package}.") else component
 

@@ -64,7 +64,7 @@ def read_line(words: tuple[str, ...]) -> OnDevice | Property:
 
 
 def thrower(words: tuple[str, ...]) -> str:
-    """The word that Android names where a line throws."""
+    """The word that Android names if a line throws."""
     if words[0] == "run-as" and len(words) > 2:
         return thrower(words[2:])
     at = 2 if words[0] == "cmd" else 1

@@ -11,7 +11,7 @@ from amctl.android import BROWSABLE, WEB_SCHEMES
 from amctl.device import Refusal
 from amctl.intents import VIEW
 
-# Android knows ways to be approved and not to be; `am` has the two alone
+# Android knows ways to be approved and not to be; `am` only has the two
 STATES = {
     **dict.fromkeys(("STATE_SUCCESS", "1", "STATE_APPROVED", "2", "verified", "approved"), True),
     **dict.fromkeys(("STATE_NO_RESPONSE", "0", "STATE_DENIED", "3", "none", "denied"), False),
@@ -102,6 +102,6 @@ def _declared(package: Installed) -> Iterator[str]:
     for it in filters:
         schemes = {str(row.get("scheme")) for row in it.data}
         if VIEW in it.actions and BROWSABLE in it.categories and schemes & set(WEB_SCHEMES):
-            # Android asks for the domain behind a wildcard, too
+            # Android asks for the domain after a wildcard, too
             hosts = (str(row.get("host", "")).lower().removeprefix("*.") for row in it.data)
             yield from (host for host in hosts if host.strip("*"))

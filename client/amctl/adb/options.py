@@ -17,7 +17,7 @@ class Words:
         self._attached: str | None = None
 
     def option(self) -> str | None:
-        """The next option; none where a bare word comes next. A short one may have its value attached, as in `-nCOMPONENT`."""
+        """The next option; none if a bare word comes next. A short one may have its value attached, as in `-nCOMPONENT`."""
         if self._attached is not None:
             raise Thrown.argument(f'No argument expected after "{self._last}"')
         if not self._words or not self._words[0].startswith("-"):

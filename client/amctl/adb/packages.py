@@ -128,7 +128,7 @@ class Uninstall:
 
 @dataclass(frozen=True)
 class Grant:
-    """`pm grant`, or `pm revoke` where it isn't `held`."""
+    """`pm grant`, or `pm revoke` if it isn't `held`."""
 
     package: str
     permission: str

@@ -1,4 +1,4 @@
-"""The device that a command asks, and as whom."""
+"""The device that a command asks, and the caller."""
 import os
 import time
 from collections.abc import Mapping
@@ -49,14 +49,14 @@ class Target:
         return self._device_file().stem
 
     def check(self, serial: str | None) -> None:
-        """adb's complaint where another device is asked for."""
+        """adb's complaint if another device is asked for."""
         asked = serial or self.environment.get(CHOSEN_VARIABLE)
         if asked and asked != self.serial:
             raise Failed(f"adb: device '{asked}' not found", note=words_adb.other_serial(asked, self.serial))
 
     def open(self, package: str | None = None) -> Phone:
         self._device_file()
-        # a session holds its store alone, so the rows are read before
+        # only one session can hold a store, so the rows are read before
         kept = Kept() if self.where.store is None else read_kept(self.where.store)
         return Phone(self.where.open(), kept, package)
 

@@ -44,7 +44,7 @@ class StartService:
         if refused.rule == "needs_permission":
             return f"Error: Requires permission {refused.name}"
         if refused.rule == "not_exported":
-            # Android too says so where a permission's name belongs
+            # Android too says so in the place of a permission's name
             return f"Error: Requires permission not exported from uid {uid_of(phone, self._package(phone))}"
         raise refused
 

@@ -14,7 +14,7 @@ ESCAPED_IN_QUOTES = '\\"$`\n'
 
 @dataclass(frozen=True)
 class Line:
-    """A command, and what stands before it: nothing, `;`, `&&` or `||`."""
+    """A command, and what is before it: nothing, `;`, `&&` or `||`."""
 
     words: tuple[str, ...]
     join: str = ";"

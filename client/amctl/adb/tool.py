@@ -1,4 +1,4 @@
-"""adb's own commands: what stands before `shell`, and in its place."""
+"""adb's own commands: what comes before `shell`, or in its place."""
 import os
 from collections.abc import Callable, Mapping
 from dataclasses import dataclass
@@ -29,7 +29,7 @@ class Asked:
 
 
 def read_words(argv: list[str], environment: Mapping[str, str] = os.environ) -> Asked:
-    """Reads this client's words for the device, and adb's; both stand before the command."""
+    """Reads this client's words for the device, and adb's; both come before the command."""
     ours: dict[str, str] = {}
     serial = None
     rest = list(argv)

@@ -1,6 +1,6 @@
 """Real apps as a device file has them: what a manifest declares, and what is left out of it.
 
-    elements    what a manifest is once it was read: elements, and values that may be unresolved references
+    elements    a manifest that was read: elements, and values that may be unresolved references
     told        the lines on standard error
     decoded     manifests in XML text, by the standard library
     binary      manifests in Android's binary XML
@@ -13,7 +13,7 @@
     manifests   a package: its components, what it asks for, and which packages it looks for
     filters     the filters of a component
     levels      the levels of permissions
-    facts       what a check needs beside the device file
+    facts       what a check needs and a device file can't say
     toml        the text of a package
     device      the device file
     app         an app by itself

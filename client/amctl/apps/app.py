@@ -12,7 +12,7 @@ from amctl.apps.toml import manifest_text, package_text
 
 @dataclass(frozen=True)
 class App:
-    """An app that was read. `left_out` has what is told of it: what a device file doesn't say, or says otherwise."""
+    """An app that was read. `left_out` has what is reported of it: what a device file doesn't say, or says differently."""
 
     path: Path
     left_out: tuple[Told, ...]

@@ -1,6 +1,6 @@
 """The numbers of Android's attributes in binary manifests, by which Android knows them, whatever name is written."""
 
-# As of API level 29: the last four hexadecimal digits, which 0x0101 stands before.
+# As of API level 29: the last four hexadecimal digits, after 0x0101.
 WRITTEN = """
     0000=theme 0001=label 0002=icon 0003=name 0004=manageSpaceActivity 0005=allowClearUserData 0006=permission
     0009=protectionLevel 000b=sharedUserId 000c=hasCode 000d=persistent 000e=enabled 000f=debuggable 0010=exported

@@ -1,7 +1,7 @@
 """Reads a manifest in Android's binary XML, and the resources that it refers to, by the program aapt2.
 
 aapt2 dumps texts as they are: a text with a quotation mark or a new line in it might look like more of the dump. Bytes
-in which a text stands that could be taken for the dump's own are refused.
+with a text that could be taken for the dump's own are refused.
 """
 import re
 import subprocess
@@ -92,7 +92,7 @@ class Resources:
         return dumped(self.program, ["resources"], {"AndroidManifest.xml": self.manifest, "resources.arsc": data})
 
     def value(self, reference: str) -> str:
-        """The value at the end of the chain of references from this one, or the reference where it isn't resolved."""
+        """The value at the end of the chain of references from this one, or the reference if it isn't resolved."""
         found = reference
         for _ in range(LONGEST_CHAIN):
             found = self.opened().get(found, "")
@@ -118,7 +118,7 @@ def values_of(dump: str) -> dict[str, str]:
 
 
 def plain_value(dumped: str) -> str | None:
-    """A value that is no reference, or none where it's no single value."""
+    """A value that isn't a reference, or none if it isn't a single value."""
     if len(dumped) >= 2 and dumped[0] == dumped[-1] == '"':
         return dumped[1:-1]
     return dumped if dumped and dumped[0] not in '("@?' else None
@@ -156,7 +156,7 @@ def put_attribute(element: Element, match: re.Match[str], resources: Resources) 
 
 
 def entries_of(dump: str) -> Iterator[str]:
-    """The entries of a dump of XML: a line, with those behind it that go on with its text."""
+    """The entries of a dump of XML: a line, with those after it that continue its text."""
     entry: list[str] = []
     for line in dump.split("\n"):
         if re.match(r" *[AENCT]: ", line):
@@ -170,8 +170,8 @@ def entries_of(dump: str) -> Iterator[str]:
 
 
 def tree_of(dump: str, resources: Resources) -> Element:
-    """The root of the manifest that is dumped. An element stands deeper than the one that it is in, and deeper than the
-    lines of the namespaces that it declares, which stand before it."""
+    """The root of the manifest that is dumped. An element is deeper than the one that it is in, and deeper than the
+    lines of the namespaces that it declares, which come before it."""
     builder = Builder()
     depths: list[int] = []
     declared: int | None = None

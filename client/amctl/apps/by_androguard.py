@@ -27,7 +27,7 @@ EMPTY = 1
 
 
 def library() -> Any:
-    """The module of androguard that reads binary XML, or none where it isn't installed for this Python."""
+    """The module of androguard that reads binary XML, or none if it isn't installed for this Python."""
     try:
         axml = importlib.import_module("androguard.core.bytecodes.axml")
     except ImportError:
@@ -68,7 +68,7 @@ class Resources:
         return self.fault is None
 
     def value(self, number: int) -> str | None:
-        """The value of this resource, none for the reference to nothing, or the reference where it isn't resolved."""
+        """The value of this resource, none for the reference to nothing, or the reference if it isn't resolved."""
         if number == 0:
             return None
         try:
@@ -93,7 +93,7 @@ class Resources:
 
 
 def typed_value(kind: int, data: int, string: Callable[[int], str]) -> str | None:
-    """The text of a value that is no reference to a resource; none stands for no value."""
+    """The text of a value that isn't a reference to a resource; none if there is no value."""
     if kind == NOTHING:
         return "" if data == EMPTY else None
     if kind in ATTRIBUTE_REFERENCES:

@@ -44,7 +44,7 @@ def given_keys(path: str | None) -> dict[str, str]:
 
 
 def add_inputs(device: Device, report: Report, inputs: list[str], reader: str | None) -> None:
-    """Adds every file of the inputs to the device; those that can't be read are told."""
+    """Adds every file of the inputs to the device, and reports those that can't be read."""
     for given in inputs:
         try:
             files = files_of(given)

@@ -62,7 +62,7 @@ class Application:
 
 
 def full_name(package: str, element: Element) -> str | None:
-    """The name of a component's class, or none where it is none."""
+    """The name of a component's class, or none if it isn't valid."""
     try:
         return sayable.class_name(package, element.get("name"))
     except Unsayable:
@@ -83,7 +83,7 @@ def target_level(root: Element) -> int | None:
 
 
 def enabled_of(element: Element, application: Application) -> bool:
-    """A component is enabled where neither it nor its application is disabled."""
+    """A component is enabled if neither it nor its application is disabled."""
     values = [element.get("enabled"), application.get("enabled")]
     return all(part("enabled", sayable.truth, value) for value in values if value is not None)
 
@@ -97,7 +97,7 @@ def permission_of(element: Element, application: Application) -> str | None:
 
 
 def exported_of(element: Element, application: Application, place: Place) -> bool | None:
-    """Whether others may reach a component, or none where that isn't stated and needn't be."""
+    """Whether others may reach a component, or none if that isn't stated and needn't be."""
     value = element.get("exported")
     if value is not None:
         return part("exported", sayable.truth, value)
@@ -162,7 +162,7 @@ def component_of(element: Element, name: str, application: Application, place: P
 
 
 def next_component(element: Element, seen: set[str], application: Application) -> Component | None:
-    """The component of an element, or none where it was left out. `seen` has the names before it."""
+    """The component of an element, or none if it was left out. `seen` has the earlier names."""
     value = element.get("name")
     place = application.place.within(value or application.package)
     try:
@@ -181,7 +181,7 @@ def next_component(element: Element, seen: set[str], application: Application) -
 
 
 def components_of(application: Application) -> list[Component]:
-    """The components, as they stand in the manifest."""
+    """The components, in the order of the manifest."""
     tell_attributes(application.element, application.place, " of the application")
     tell_children(application.element, ("provider", *KINDS), application.place, " of the application")
     found: list[Component] = []

@@ -1,8 +1,8 @@
 """Reads a manifest in XML text.
 
-Values stand as in the sources of an app: `\\\\` is a backslash, `\\n` a new line, `\\u0041` a character, and `\\@` and
-`\\?` are these characters where they would begin a reference. A backslash before any other character stays, so that
-patterns are read too which a decoder wrote without doubling their backslashes.
+Values are written as in the sources of an app: `\\\\` is a backslash, `\\n` a new line, `\\u0041` a character, and `\\@` and
+`\\?` are these characters where they would begin a reference. A backslash before any other character stays, so
+patterns that a decoder wrote without doubling their backslashes are read too.
 """
 import re
 from collections.abc import Callable, Mapping
@@ -28,7 +28,7 @@ def unescaped(text: str) -> str:
 
 
 def value_of(text: str) -> str | None:
-    """What an attribute's text stands for, or none for the reference to nothing."""
+    """What an attribute's text means, or none for the reference to nothing."""
     if text == "@null":
         return None
     if text[:1] in ("@", "?"):
@@ -37,9 +37,9 @@ def value_of(text: str) -> str | None:
 
 
 def element_of(name: str, attributes: Mapping[str, str]) -> Element:
-    """An element as the parser gives it: names in a namespace are its address, a blank and the name.
+    """An element as the parser gives it: names in a namespace are its address, a space and the name.
 
-    Of an element's name Android reads no namespace.
+    Android doesn't read the namespace of an element's name.
     """
     element = Element(name.rpartition(" ")[2])
     for key, text in attributes.items():

@@ -35,7 +35,7 @@ class Keys:
 
 
 def keys_in(text: str) -> dict[str, str]:
-    """The keys of a file: a line has a package and its key; one that begins with # says nothing."""
+    """The keys of a file: a line has a package and its key; one that begins with # is ignored."""
     given: dict[str, str] = {}
     packages_of: dict[str, str] = {}
     for number, line in enumerate(text.splitlines(), 1):
@@ -66,7 +66,7 @@ class Device:
         self.texts: list[tuple[str, Place]] = []
 
     def add(self, file: str, root: Element) -> None:
-        """Adds what a manifest declares, or tells why it is left out."""
+        """Adds what a manifest declares, or reports why it is left out."""
         name = name_of(root)
         place = Place(self.report, file, name)
         split = root.plain.get("split")

@@ -9,7 +9,7 @@ PLAIN_ATTRIBUTES = frozenset(("package", "split"))
 # how many references to other references are followed
 LONGEST_CHAIN = 20
 
-# reads the bytes of a package's resources, where it has some
+# reads the bytes of a package's resources, if it has some
 Table = Callable[[], bytes | None]
 
 
@@ -27,7 +27,7 @@ class Reference(str):
 
 @dataclass(slots=True)
 class Element:
-    """An element with those of its attributes that are of use: Android's own by their names, and its plain ones."""
+    """An element with its useful attributes: Android's own by their names, and its plain ones."""
 
     name: str
     attributes: dict[str, str] = field(default_factory=dict)
@@ -65,7 +65,7 @@ class Builder:
         self.open.pop()
 
     def finished(self) -> Element:
-        """The root, where everything that began has ended."""
+        """The root, if everything that began has ended."""
         if self.root is None or self.open:
             raise InputFault("malformed XML: it ends too early")
         return self.root

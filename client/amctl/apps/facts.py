@@ -1,4 +1,4 @@
-"""What a check needs to know of a package beside the device file."""
+"""What a check needs to know about a package and a device file can't say."""
 from collections.abc import Iterable, Iterator, Mapping
 from dataclasses import dataclass
 from typing import Any
@@ -12,7 +12,7 @@ from amctl.apps.sayable import Unsayable, number, text, truth
 
 @dataclass(frozen=True)
 class Permission:
-    """A permission that a package declares; its level is None where it isn't known."""
+    """A permission that a package declares; its level is None if it isn't known."""
 
     name: str
     level: str | None
@@ -20,7 +20,7 @@ class Permission:
 
 @dataclass(frozen=True)
 class Facts:
-    """A number is None where the manifest gives a name in its place, or nothing."""
+    """A number is None if the manifest gives a name in its place, or nothing."""
 
     permissions: tuple[Permission, ...]
     uses_permissions: tuple[str, ...]
@@ -86,7 +86,7 @@ def number_or_none(value: str | None) -> int | None:
 
 
 def verified_hosts(root: Element) -> Iterator[str]:
-    """The hosts of the filters that ask for verification and that take web links alone, in lower case."""
+    """The hosts of the filters that ask for verification and that take only web links, in lower case."""
     for application in root.all("application")[:1]:
         for activity in application.all("activity", "activity-alias"):
             for element in activity.all("intent-filter"):
@@ -106,7 +106,7 @@ def takes_web_alone(element: Element) -> bool:
 
 
 def said(element: Element, tag: str, name: str) -> list[str]:
-    """What the children of this tag say under this name, where it's known."""
+    """What the children of this tag say under this name, if it's known."""
     found = []
     for child in element.all(tag):
         try:

@@ -1,6 +1,6 @@
 """The filters of a component.
 
-What is left out never makes a filter match more: a part of a data row is left out where the filter has others of its
+Leaving something out never makes a filter match more: a part of a data row is left out if the filter has others of its
 sort, and else the whole filter is.
 """
 from collections.abc import Callable, Iterable
@@ -106,7 +106,7 @@ def sorts(keys: Iterable[str]) -> set[str]:
 
 
 def rows_of(element: Element, where: str, place: Place) -> list[Row] | None:
-    """The data rows of a filter; none where what can be said would match more than what is written."""
+    """The data rows of a filter; none if what can be said would match more than what is written."""
     written = [child.attributes for child in element.all("data")]
     said = [row for row in (row_of(child, where, place) for child in element.all("data")) if row]
     apart = [dict(pairs) for pairs in dict.fromkeys(tuple(row.items()) for row in said)]
@@ -132,7 +132,7 @@ def priority_of(element: Element, where: str, place: Place) -> int:
 
 
 def filter_of(element: Element, number: int, place: Place) -> Filter | None:
-    """A filter, or none where it can't be said."""
+    """A filter, or none if it can't be said."""
     where = f" of intent-filter {number}"
     if element.all("uri-relative-filter-group"):
         place.left_out(f"intent-filter {number}", "a device file has no uri-relative-filter-group")

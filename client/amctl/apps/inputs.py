@@ -39,7 +39,7 @@ def files_of(path: str) -> list[str]:
 
 @contextmanager
 def time_limit(seconds: int) -> Iterator[None]:
-    """Ends what takes longer than so many seconds, where it can: Python gives alarms to the main thread alone."""
+    """Ends what takes longer than so many seconds, if it can: Python gives alarms only to the main thread."""
     if threading.current_thread() is not threading.main_thread():
         yield
         return
@@ -65,7 +65,7 @@ def at_most(stream: IO[bytes], limit: int, what: str) -> bytes:
 
 
 def entry_of(archive: zipfile.ZipFile, name: str, limit: int) -> bytes | None:
-    """The bytes of an entry of an archive, or none where it isn't there."""
+    """The bytes of an entry of an archive, or none if it isn't there."""
     if name not in archive.NameToInfo:
         return None
     with archive.open(name) as stream:

@@ -33,7 +33,7 @@ FLAGS = {
 
 
 def level_of(element: Element) -> str:
-    """The level of a `permission` as a manifest writes it, with its flags behind it; `normal` where none is stated."""
+    """The level of a `permission` as a manifest writes it, with its flags after it; `normal` if none is stated."""
     value = element.get("protectionLevel")
     if value is None:
         return LEVELS[0]
@@ -45,7 +45,7 @@ def level_of(element: Element) -> str:
 
 
 def named(bits: int) -> str:
-    """The names of a level's bits; those that have none stand as a number."""
+    """The names of a level's bits; those without a name are a number."""
     base = bits & LEVEL_BITS
     rest = bits & ~LEVEL_BITS & 0xFFFFFFFF
     names = [LEVELS[base] if base < len(LEVELS) else str(base)]

@@ -40,7 +40,7 @@ class Package:
 
 
 def condition_of(element: Element) -> str | None:
-    """On which devices alone a permission is asked for, or none where it is on all."""
+    """On which devices only a permission is asked for, or none if it is on all."""
     stated = [(key, element.get(key)) for key in CONDITIONS]
     stated += [("requiredFeature", child.get("name")) for child in element.all("required-feature")]
     stated += [("requiredNotFeature", child.get("name")) for child in element.all("required-not-feature")]
@@ -48,7 +48,7 @@ def condition_of(element: Element) -> str | None:
 
 
 def asked_for(root: Element, place: Place) -> list[str]:
-    """The permissions that a package asks for on every device; the others are told."""
+    """The permissions that a package asks for on every device; the others are reported."""
     found = []
     for element in root.all(*USES_PERMISSION):
         value = element.get("name")
@@ -94,7 +94,7 @@ def name_of(root: Element) -> str:
 
 
 def tell_root(root: Element, place: Place) -> None:
-    """Tells what a manifest has beside its components."""
+    """Reports what a manifest has apart from its components."""
     tell_attributes(root, place)
     for element in root.all("permission"):
         what = f"permission {quoted(element.get('name') or '')} with protectionLevel {quoted(level_of(element))}"

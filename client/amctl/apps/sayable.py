@@ -124,7 +124,7 @@ def class_name(package: str, value: str | None) -> str:
 
 
 def affinity(package: str, value: str | None) -> str:
-    """The full name of an affinity, which is put behind the package's name where it begins with a colon."""
+    """The full name of an affinity, which is appended to the package's name if it begins with a colon."""
     if value and value.startswith(":") and not isinstance(value, Reference):
         value = package + value
     return any_text(value)

@@ -1,4 +1,4 @@
-"""What is told: one line for each thing that was left out, and one for each input that can't be read."""
+"""What is reported: one line for each thing that was left out, and one for each input that can't be read."""
 from dataclasses import dataclass, field
 from typing import TextIO
 
@@ -29,7 +29,7 @@ class Told:
 
 @dataclass
 class Report:
-    """Keeps what is told, and writes its lines where there is a stream."""
+    """Keeps what is reported, and writes its lines if there is a stream."""
 
     stream: TextIO | None = None
     told: list[Told] = field(default_factory=list)
@@ -50,7 +50,7 @@ class Report:
 
 @dataclass(frozen=True)
 class Place:
-    """Where in the inputs something stands: the file, and the component or the package in it."""
+    """Where in the inputs something is: the file, and the component or the package in it."""
 
     report: Report
     file: str

@@ -77,7 +77,7 @@ def queries_lines(package: Package, before: str) -> list[str]:
 
 
 def manifest_lines(package: Package, before: str) -> list[str]:
-    """The lines of a manifest; `before` stands before the names of its tables."""
+    """The lines of a manifest; `before` comes before the names of its tables."""
     lines = pairs(package=package.name)
     for kind in COMPONENT_KINDS:
         for component in package.components:

@@ -1,7 +1,7 @@
 """What a device file can't say, and what has nothing to do with intents.
 
-An attribute or an element is carried into the device file, or it stands in a list below and is passed over in silence;
-every other one is told, one that Android gets tomorrow too.
+An attribute or an element is carried into the device file, or it is in a list below and is passed over in silence;
+every other one is reported, also one that Android adds tomorrow.
 """
 from collections.abc import Collection, Iterator, Mapping
 
@@ -80,7 +80,7 @@ SILENT_ELEMENTS: Mapping[str, str] = {
 }
 SILENT_TAGS = frozenset(" ".join(SILENT_ELEMENTS.values()).split())
 
-# What an attribute says where it says what a device does anyway; the others are switches, which are off.
+# What an attribute says if it says what a device does anyway; the others are switches, which are off.
 OFF = ("false", "0")
 USUAL: Mapping[str, tuple[str, ...]] = {
     "allowCrossUidActivitySwitchFromBelow": ("true", "1", "-1"),
@@ -99,7 +99,7 @@ NAMED: Mapping[str, tuple[str, ...]] = {
 
 
 def plain(name: str, value: str) -> str:
-    """A value as it is told: by its name where it has one, and a number in decimal digits."""
+    """A value as it is reported: by its name if it has one, and a number in decimal digits."""
     try:
         found = number(value)
     except Unsayable:
@@ -126,7 +126,7 @@ def tell_attributes(element: Element, place: Place, where: str = "") -> None:
 
 
 def tell_children(element: Element, carried: Collection[str], place: Place, where: str = "") -> None:
-    """Tells the children that no other module reads."""
+    """Reports the children that no other module reads."""
     for child in element.children:
         if child.name not in carried and child.name not in SILENT_TAGS:
             name = child.get("name")

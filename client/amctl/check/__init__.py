@@ -1,7 +1,7 @@
 """Before an app is published: what it takes from a device's apps, what it opens to them, and what they catch of it.
 
-    app         the app, and where its parts stand
-    facts       what the converter writes beside a device file
+    app         the app, and where its parts are
+    facts       what the converter writes apart from a device file
     intents     the intents to ask with, by the witnesses of `witness`
     asking      the device without the app, with it, and with its links approved
     resolution  what other intents open now

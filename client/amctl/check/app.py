@@ -1,4 +1,4 @@
-"""The app that is checked: its manifest, and where its parts stand."""
+"""The app that is checked: its manifest, and where its parts are."""
 import dataclasses
 import functools
 from collections.abc import Mapping
@@ -16,7 +16,7 @@ OF_PATHS = ("missing", "wrong_kind", "left_out", "bad_uri", "bad_mime", "bad_pri
 
 
 class Unreadable(AmctlError):
-    """The app can't be used; where the manifest says why, with the place."""
+    """The app can't be used; with the place, if the manifest says why."""
 
     def __init__(self, sentence: str, place: Place | None = None) -> None:
         super().__init__(sentence)
@@ -47,7 +47,7 @@ class App:
         return found if isinstance(found, dict) else {}
 
     def place(self, at: str) -> Place | None:
-        """Where a path of the manifest stands; nowhere where the manifest isn't text of the app's own."""
+        """Where a path of the manifest is; nowhere if the manifest isn't text of the app's own."""
         return self.file.place(at) if self.has_places else None
 
     def refused(self, name: str) -> Unreadable:

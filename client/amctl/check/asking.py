@@ -15,7 +15,7 @@ State = Literal["before", "after", "approved"]
 STATES: tuple[State, ...] = ("before", "after", "approved")
 # what a component is asked that refuses its caller
 GATES = ("not_exported", "needs_permission")
-# a session answers 65,536 requests; some are left for what is done beside the questions
+# a session answers 65,536 requests; some are left for what is done apart from the questions
 MOST_ASKED = 60_000
 Step = Callable[[Device], object]
 
@@ -91,13 +91,13 @@ class Copies:
         self._do(STATES[1:], step)
 
     def approve(self, package: str, host: str, *, approved: bool = True) -> None:
-        """Approves the app for a host's links, or no more: an app has at most 256 hosts at a time."""
+        """Approves the app for a host's links, or withdraws that: an app has at most 256 hosts at a time."""
         self._do(("approved",), lambda device: device.system.link(package, host, approved=approved))
 
     def ask(
         self, state: State, kind: Kind, intent: Intent, *, caller: str | None = None, permission: str | None = None, of: str | None = None
     ) -> Exchange:
-        """Whom the intent would reach; without a caller that of the one without rights."""
+        """Whom the intent would reach; without a caller, for the one without rights."""
         named = caller or self.caller
         found = self._device(state).system.explain(kind, intent, as_=named, permission=permission, of=of)
         return Exchange(state, kind, intent, named, permission, found, of)
@@ -109,7 +109,7 @@ class Copies:
             self._done[state].append(step)
 
     def _device(self, state: State) -> Device:
-        """The copy in this state, or a new one where it has answered almost as much as a session does."""
+        """The copy in this state, or a new one if it has answered almost as much as a session does."""
         self._asked[state] += 1
         if state in self._devices and self._asked[state] > self._most_asked:
             self._devices.pop(state).close()
@@ -121,7 +121,7 @@ class Copies:
         return self._devices[state]
 
     def as_system(self, exchange: Exchange) -> Exchange | None:
-        """The same asked as the system, where its answer differs: only gates and protected actions tell callers apart."""
+        """The same asked as the system, if its answer differs: only gates and protected actions tell callers apart."""
         told = (*GATES, "protected_action")
         if not any(it.verdict in told for it in exchange.accounts):
             return None

@@ -24,7 +24,7 @@ class Statements:
     packages: Mapping[str, frozenset[str]]
 
     def name(self, host: str, package: str) -> bool:
-        """Whether the host's statements name the package; a wildcard's stand at the host below it."""
+        """Whether the host's statements name the package; a wildcard's are at the host below it."""
         return package in self.packages.get(host.lower().removeprefix("*").removeprefix("."), frozenset())
 
 

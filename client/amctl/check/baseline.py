@@ -1,4 +1,4 @@
-"""The findings of an earlier run, which aren't told again."""
+"""The findings of an earlier run, which aren't shown again."""
 from pathlib import Path
 
 from amctl import words_check

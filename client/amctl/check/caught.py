@@ -33,7 +33,7 @@ def of_calls(copies: Copies, app: App, calls: Sequence[Call]) -> Iterator[Findin
 
 
 def _implicit(call: Call) -> Intent | None:
-    """The intent of a call, where it names nobody."""
+    """The intent of a call, if it names nobody."""
     fields = call.request.get("intent")
     intent = Intent.from_json(fields) if isinstance(fields, dict) else None
     return intent if intent and intent.component is None and intent.package is None else None

@@ -1,4 +1,4 @@
-"""What a device file can't say of its packages and the converter writes beside it: permissions, verified hosts and the like."""
+"""What a device file can't say of its packages, and the converter writes in another file: permissions, verified hosts and the like."""
 import json
 from collections.abc import Mapping
 from dataclasses import dataclass, field
@@ -11,7 +11,7 @@ from amctl.errors import BadWords
 
 @dataclass(frozen=True)
 class PackageFacts:
-    """What is known of a package: the permissions that it defines, each with its level, and the hosts that it wants verified."""
+    """What is known of a package: the permissions that it defines, each with its level, and the hosts that it asks to have verified."""
 
     permissions: Mapping[str, str] = field(default_factory=dict)
     auto_verify: tuple[str, ...] = ()
@@ -25,7 +25,7 @@ class Facts:
         return self.packages.get(package)
 
     def level(self, permission: str) -> str | None:
-        """The level of a permission, where some package is known to define it."""
+        """The level of a permission, if some package is known to define it."""
         return next((it.permissions[permission] for it in self.packages.values() if permission in it.permissions), None)
 
     def with_package(self, name: str, facts: PackageFacts) -> "Facts":

@@ -16,7 +16,7 @@ ID_DIGITS = 16
 @dataclass(frozen=True)
 class Finding:
     """What a rule found. `about` is the component, the intent or the name that it is about; `at` is the path
-    in the manifest, and `place` where it stands in the text, if that is the app's own."""
+    in the manifest, and `place` its place in the text, if that is the app's own."""
 
     rule: str
     about: str
@@ -40,7 +40,7 @@ class Finding:
 
     @property
     def id(self) -> str:
-        """The same in every run that finds it, wherever it stands in the manifest then."""
+        """The same in every run that finds it, at whatever place in the manifest."""
         return hashlib.sha256("\n".join((self.rule, self.about, self.message)).encode()).hexdigest()[:ID_DIGITS]
 
     def to_json(self, file: str) -> dict[str, Any]:

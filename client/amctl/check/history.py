@@ -44,7 +44,7 @@ def _entry(fields: Mapping[str, Any]) -> Entry:
 
 
 def calls_of(path: Path, package: str, device: Path, am: Path | None) -> list[Call]:
-    """The app's calls. Its uid is what an installation in the history gives it, or the one behind the device file's packages."""
+    """The app's calls. Its uid is what an installation in the history gives it, or the next one after the device file's packages."""
     entries = read_history(path)
     with Device.open(device, am=am) as copy:
         uids = _uids(copy, entries, package)
@@ -55,7 +55,7 @@ def calls_of(path: Path, package: str, device: Path, am: Path | None) -> list[Ca
 
 
 def _uids(device: Device, entries: Sequence[Entry], package: str) -> set[int]:
-    """The uids that the app had: the installations are made again, since a history doesn't say what it was answered."""
+    """The uids that the app had: the installations are made again, since a history has no replies."""
     given: dict[int, str] = {}
     for entry in entries:
         given.update(_installed(device, entry))

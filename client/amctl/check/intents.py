@@ -49,7 +49,7 @@ def questions(components: Sequence[Component]) -> list[Question]:
 
 @dataclass(frozen=True)
 class _Pool:
-    """What all filters name: where one takes more than it names, it is asked with what the others name."""
+    """What all filters name: one that takes more than it names is asked with what the others name."""
 
     hosts: tuple[str, ...]
     types: tuple[str, ...]
@@ -76,7 +76,7 @@ def _intents(kind: Kind, filter: Filter, pool: _Pool) -> Iterator[Intent]:
 
 
 def _data(filter: Filter, pool: _Pool) -> Iterator[tuple[str | None, str | None]]:
-    """A URI and a type, either of which may lack."""
+    """A URI and a type, either of which may be missing."""
     schemes = list(dict.fromkeys(_texts(filter.data, "scheme")))
     types = list(dict.fromkeys(it for mime in _texts(filter.data, "mimeType") for it in witness.types_of(mime, pool.types)))
     uris = [uri for scheme in schemes for uri in _uris(scheme, filter, pool)]

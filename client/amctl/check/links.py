@@ -1,4 +1,4 @@
-"""The app's web links: whom they open as it is, and once its hosts are approved."""
+"""The app's web links: what they open as it is, and once its hosts are approved."""
 from collections.abc import Iterator, Sequence
 
 from amctl import words, words_check
@@ -37,7 +37,7 @@ def _names_hosts(question: Question) -> bool:
 
 
 def unverified(app: App, links: Sequence[Question]) -> set[str]:
-    """The hosts that the app doesn't ask to have verified, where its facts are known."""
+    """The hosts that the app doesn't ask to have verified, if its facts are known."""
     facts = app.facts.of(app.package)
     return set() if facts is None else {it for it in hosts_of(links) if not any(takes_host(asked, it) for asked in facts.auto_verify)}
 
@@ -50,7 +50,7 @@ def unstated(app: App, links: Sequence[Question], statements: Statements | None)
 
 
 def _wildcards(links: Sequence[Question], host: str) -> Iterator[str]:
-    """The wildcards that a host is a witness of: their statements stand at the host below."""
+    """The wildcards that a host is a witness of: their statements are at the host below."""
     rows = (row for it in links if _host(it) == host for row in it.filter.data)
     yield from (it for row in rows if isinstance(it := row.get("host"), str) and it.startswith("*.") and host.endswith(it[1:].lower()))
 

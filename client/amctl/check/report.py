@@ -59,7 +59,7 @@ def _head(found: Finding) -> tuple[str, str, str, str]:
 
 
 def _plain(findings: Sequence[Finding]) -> Iterable[str]:
-    """Two lines a finding: what it is about, and what is so."""
+    """Two lines for each finding: what it is about, and what was found."""
     rows = [(*_head(it), it.about) for it in findings]
     for line, found in zip(show.plain_lines(rows), findings):
         yield line

@@ -10,7 +10,7 @@ from amctl.check.made import at
 from amctl.device import Refusal
 from amctl.results import Account
 
-# URIs of these schemes are taken by a filter that lists types alone
+# URIs of these schemes are taken by a filter that lists only types
 LOCAL = ("content", "file")
 # a component of these verdicts isn't touched by the intent
 PASSED_OVER = ("filters", "other_component", "other_package", "disabled")
@@ -31,7 +31,7 @@ def _scheme(question: Question) -> str:
 
 
 def _accounts(copies: Copies, app: App, question: Question) -> Sequence[Account]:
-    """The app's accounts; none where no such intent can be sent, as of a host that no URI has or a URI that is too long."""
+    """The app's accounts; none if no such intent can be sent, as for a host that no URI has or a URI that is too long."""
     try:
         return copies.ask("after", question.kind, question.intent, of=app.package).accounts
     except Refusal as refused:
@@ -41,7 +41,7 @@ def _accounts(copies: Copies, app: App, question: Question) -> Sequence[Account]
 
 
 def check(copies: Copies, app: App, asked: Sequence[Question]) -> Iterator[Finding]:
-    """What changes. An intent with categories is told of only where they make a difference."""
+    """What changes. An intent with categories is reported only if they make a difference."""
     said: dict[tuple[object, ...], str] = {}
     for question in sorted(asked, key=lambda it: len(it.intent.categories) > 0):
         found = _activity(copies, app, question) if question.kind == "activity" else _receiver(copies, app, question)
@@ -63,7 +63,7 @@ def _activity(copies: Copies, app: App, question: Question) -> Finding | None:
 
 
 def _of_system(new: Outcome, exchange: Exchange | None) -> str:
-    """What the system's start does, where it isn't what the app's does."""
+    """What the system's start does, if it isn't what the app's does."""
     found = Outcome.of(exchange) if exchange else new
     return words_check.system_opens(found.components[0]) if found != new and found.way == "opens" else ""
 
@@ -93,7 +93,7 @@ def _was_opened(old: str, new: Outcome, after: Exchange, system: str) -> tuple[s
 
 
 def why_not(after: Exchange, component: str) -> str:
-    """The rule by which a component doesn't open the intent any more."""
+    """The rule by which a component no longer opens the intent."""
     account = after.account(component)
     rule = (account.by or account.verdict) if account else ""
     return words_check.WHY.get(rule, rule)

@@ -35,7 +35,7 @@ def _path(key: str, value: str) -> str:
 
 
 def pattern_path(pattern: str) -> str:
-    """A path that a pattern takes: each character once, where `*` repeats it too."""
+    """A path that a pattern takes: each character once, even if `*` repeats it."""
     path, at = "", 0
     while at < len(pattern):
         char = pattern[at]
@@ -47,7 +47,7 @@ def pattern_path(pattern: str) -> str:
         elif char == ".":
             char = "a"
         path += char
-        # what `*` repeats stands there once; with nothing before it, it stands for itself
+        # what `*` repeats is there once; with nothing before it, it is literal
         at += 1 if at < len(pattern) and pattern[at] == "*" else 0
     return path
 

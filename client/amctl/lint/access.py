@@ -63,7 +63,7 @@ def _keys(file: DeviceFile) -> Iterator[Finding]:
 
 
 def _callers(file: DeviceFile) -> Iterator[tuple[str, str, str]]:
-    """Where each key stands, and whose it is."""
+    """Where each key is, and whose it is."""
     for key, of in (("system_key", "the system"), ("root_key", "the root")):
         value = file.document.get(key)
         if isinstance(value, str) and value:

@@ -7,7 +7,7 @@ from amctl.devicefile import DeviceFile
 
 @dataclass(frozen=True, order=True)
 class Finding:
-    """What is found at a line and a column, counted from 1; both are 0 where it isn't in the device file. `shown` is the line itself."""
+    """What is found at a line and a column, counted from 1; both are 0 if it isn't in the device file. `shown` is the line itself."""
 
     line: int
     column: int

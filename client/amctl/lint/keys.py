@@ -44,7 +44,7 @@ def _table(file: DeviceFile, table: Mapping[str, Any], at: str, what: str) -> It
         path = f"{at}.{key}" if at else key
         if key not in KEYS[what]:
             found = finding(file, path, RULE, _said(key, what))
-            # what stands at a misspelt `key` is one, and isn't shown
+            # the value of a misspelt `key` is a key, and isn't shown
             yield dataclasses.replace(found, shown="") if (_nearest(key, KEYS[what]) or "").endswith("key") else found
         elif key in INSIDE.get(what, {}):
             yield from _inside(file, value, path, INSIDE[what][key])

@@ -52,7 +52,7 @@ def meant(value: str, known: Iterable[str]) -> str | None:
 
 
 def near_name(value: str, others: Iterable[str]) -> str | None:
-    """The other name that was likely meant: the same but for case, for one letter, or for what stands before its last part."""
+    """The other name that was likely meant: the same except for case, for one letter, or for what comes before its last part."""
     names = sorted(set(others) - {value})
     last = value.rpartition(".")[2]
     likely = [it for it in names if it.lower() == value.lower()] or [it for it in names if is_one_off(value, it)]

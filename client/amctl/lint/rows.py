@@ -12,7 +12,7 @@ RULE = "kept-rows"
 
 
 def check(file: DeviceFile, store: Path, kept: Kept) -> Iterator[Finding]:
-    """What a store keeps for packages that aren't there. What a removed package had stays in its store, and is no fault."""
+    """What a store keeps for packages that aren't there. What a removed package had stays in its store, and isn't a fault."""
     live = {FIRST_UID + at: package.name for at, package in enumerate(file.packages)}
     gone = {row.uid for row in kept.packages if row.gone}
     keys = _keys(file, gone)

@@ -38,7 +38,7 @@ def _component(file: DeviceFile, component: Component) -> Iterator[Finding]:
 
 
 def _names(file: DeviceFile, values: Any, at: str, key: str) -> Iterator[Finding]:
-    """What is misspelt in a list of actions or categories, which stands at a path."""
+    """What is misspelt in the list of actions or categories at a path."""
     for index, value in enumerate(values if isinstance(values, (list, tuple)) else ()):
         said = _name(value, key) if isinstance(value, str) else None
         if said is not None:

@@ -60,7 +60,7 @@ class Found:
 
 
 def survey(asked: Asked) -> Found:
-    """Asks what isn't in the folder yet. The order in which jobs end counts for nothing."""
+    """Asks what isn't in the folder yet. The order in which jobs end doesn't matter."""
     base = made.base_of(asked.device)
     files = files_of(asked.folder, asked.into, *([asked.device] if asked.device else []))
     _refuse_too_many(asked, base, len(files))
@@ -128,10 +128,10 @@ def _refuse_doubled(asked: Asked, base: DeviceFile, apps: Sequence[App]) -> None
 
 
 def main(asked: Asked, out: TextIO | None = None) -> int:
-    """Writes what is found and prints the most exposed. The status is 1 where an app can't be read."""
+    """Writes what is found and prints the most exposed. The status is 1 if an app can't be read."""
     if asked.is_each and asked.device is None:
         raise BadWords(words_survey.NO_DEVICE)
-    # a worker elsewhere stands in another folder
+    # a worker elsewhere is in another folder
     asked = dataclasses.replace(asked, am=asked.am.resolve() if asked.am else None)
     found = survey(asked)
     names = found.apps if asked.is_each else (*found.apps, *found.others)

@@ -23,7 +23,7 @@ NO_CLAIM = ("filters", "disabled", "other_component", "other_package")
 
 @dataclass
 class Copy:
-    """A session on a device, and another one where it has answered almost as much as a session does."""
+    """A session on a device, and another one once it has answered almost as much as a session does."""
 
     text: str
     am: Path | None
@@ -59,7 +59,7 @@ class Copy:
 
 
 def reach(copy: Copy, callers: Iterable[str], targets: Sequence[str]) -> list[dict[str, Any]]:
-    """The verdict on each component of each target, as each caller names it; an app's own are no question."""
+    """The verdict on each component of each target, as each caller names it; an app's own aren't asked."""
     components = {name: copy.file.package(name) for name in targets}
     found = []
     for caller in callers:
@@ -89,7 +89,7 @@ def _by_kind(asked: Sequence[tuple[Component, str]]) -> dict[str, list[list[str]
 
 
 def claims(copy: Copy, package: str) -> tuple[list[dict[str, Any]], int]:
-    """Of each link that the package's filters name who claims it, where several packages do; and how many links weren't asked."""
+    """For each link that the package's filters name, who claims it, if several packages do; and how many links weren't asked."""
     own = copy.file.package(package)
     named, left = links.named(own.components if own else ())
     found = []
@@ -103,7 +103,7 @@ def claims(copy: Copy, package: str) -> tuple[list[dict[str, Any]], int]:
 
 def _of_link(copy: Copy, link: str) -> tuple[Account, ...]:
     try:
-        # the system asks, whom no gate stops: a claim is the filter's, whoever may follow the link
+        # the system asks, which no gate stops: a claim is the filter's, whoever may follow the link
         return copy.explain("activity", Intent.view(link))
     except Refusal as refused:
         if refused.rule in UNFIT:

@@ -1,4 +1,4 @@
-"""The most exposed packages: those of which most components answer to others."""
+"""The most exposed packages: those with the most components that others reach."""
 from collections.abc import Iterable, Mapping, Sequence
 from dataclasses import dataclass, field
 from typing import Any

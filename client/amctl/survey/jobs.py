@@ -45,7 +45,7 @@ class Read:
 
     @classmethod
     def of(cls, folder: Path, file: str) -> "Read":
-        # a worker elsewhere stands in another folder
+        # a worker elsewhere is in another folder
         folder = folder.resolve()
         try:
             found = os.stat(folder / file)

@@ -1,4 +1,4 @@
-"""What was done, in the folder of a survey: it isn't done again, and nothing stands there half-written."""
+"""What was done, in the folder of a survey: it isn't done again, and nothing is left half-written."""
 import hashlib
 import json
 import os
@@ -55,7 +55,7 @@ class Kept:
 
 
 def _write(path: Path, text: str) -> None:
-    """The whole file or none of it, wherever this is interrupted."""
+    """The whole file or none of it, even if this is interrupted."""
     part = path.with_name(path.name + PART)
     part.write_text(text, encoding="utf-8", newline="")
     os.replace(part, path)

@@ -65,7 +65,7 @@ def _key(base: DeviceFile, package: str) -> str:
 
 
 def check(given: Path | None, text: str, am: Path | None) -> None:
-    """Opens the device, so that what `am` refuses of it is said once; of a given one with the place in its own file."""
+    """Opens the device, so what `am` refuses of it is said once; for a given one with the place in its own file."""
     if given is not None:
         Device.open(given, am=am).close()
     try:

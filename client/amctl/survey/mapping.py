@@ -19,7 +19,7 @@ from amctl.survey.jobs import Job, run_job
 
 Done = Iterator[tuple[str, dict[str, Any]]]
 Run = Callable[[Mapping[str, Job], str, int], Done]
-# so many jobs for each thread of a Dask worker are under way, and no more: each carries what it reads
+# at most so many jobs for each thread of a Dask worker are under way: each carries what it reads
 AHEAD = 4
 PATIENCE = "20s"
 
@@ -85,7 +85,7 @@ def _end_with(parent: Any) -> None:
 
 
 def _client(address: str) -> Any:
-    """A client of the scheduler at an address; Debian's package is needed for that alone."""
+    """A client of the scheduler at an address; Debian's package is needed only for that."""
     try:
         distributed = importlib.import_module("distributed")
     except ModuleNotFoundError:

@@ -47,7 +47,7 @@ class Panel:
 
 
 def drawn(apps: Sequence[str], others: Sequence[str], answers: Iterable[Mapping[str, Any]], shown: Sequence[str], *, is_each: bool) -> str:
-    """The picture; where there are too many apps for one, those that come first in `shown`."""
+    """The picture; if there are too many apps for one, those that come first in `shown`."""
     cells = _cells(answers)
     if is_each:
         rows, columns = sorted(shown[:MOST_ROWS]), sorted(others)
@@ -71,7 +71,7 @@ def drawn(apps: Sequence[str], others: Sequence[str], answers: Iterable[Mapping[
 
 
 def _cells(answers: Iterable[Mapping[str, Any]]) -> Cells:
-    """Of each pair how many components of a kind are reached, and how many there are."""
+    """For each pair, how many components of a kind are reached, and how many there are."""
     found = {}
     for row in (row for it in answers for row in it["reach"]):
         counts = {kind: (sum(it == "reached" for _, it in verdicts), len(verdicts)) for kind, verdicts in row["verdicts"].items()}
@@ -148,7 +148,7 @@ def _strip(x: float, y: float, colour: str, reached: int, total: int) -> str:
 
 
 def _label(x: float, y: float, name: str, style: str) -> str:
-    """A package's name; of one that is too long the whole is shown where a mouse points."""
+    """A package's name; if it is too long, the mouse shows all of it."""
     if len(name) <= MOST_LETTERS:
         return _text(x, y, name, style)
     cut = _xml(name[: MOST_LETTERS - 1] + "…")

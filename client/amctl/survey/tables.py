@@ -1,4 +1,4 @@
-"""The CSV files, each sorted, so that the order of answers counts for nothing."""
+"""The CSV files, each sorted, so the order of answers doesn't matter."""
 import csv
 import io
 from collections.abc import Iterable, Mapping, Sequence
@@ -34,7 +34,7 @@ def reach(answers: Iterable[Answers]) -> str:
 
 
 def links(answers: Iterable[Answers]) -> str:
-    """A line for each link and component that claims it, where several packages do."""
+    """A line for each link and component that claims it, if several packages do."""
     rows = {(it["link"], to, verdict) for answer in answers for it in answer["links"] for to, verdict in it["claims"]}
     return _text(("link", "component", "verdict"), sorted(rows))
 

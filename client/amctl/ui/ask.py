@@ -10,7 +10,7 @@ from amctl.errors import BadWords
 from amctl.intents import Intent
 from amctl.results import Account
 
-# whom the rules let come furthest stands on top; what isn't here is behind all
+# what the rules let come furthest is on top; what isn't here comes after all
 ORDER = (
     "reached", "tied", "protected_action", "needs_permission", "receiver_lacks", "not_exported", "stopped_package", "manifest_implicit",
     "registered_only", "narrowed", "outranked", "implicit_service", "filters", "disabled", "other_package", "other_component",

@@ -59,7 +59,7 @@ def _fields(fields: dict[str, Any]) -> str:
 
 
 def as_command(entry: Entry, caller: str) -> str | None:
-    """The words of `amctl` for the call, where it has a command for all that the call says."""
+    """The words of `amctl` for the call, if it has a command for all that the call says."""
     given = dict(entry.request)
     words_of = _of_intent(given) if "intent" in given else _of_others(entry.route, given)
     name = {"/v1/start": "start", "/v1/start_service": "start-service", "/v1/send": "broadcast"}.get(entry.route)

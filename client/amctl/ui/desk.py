@@ -1,4 +1,4 @@
-"""What the page asks: one method a view, each of them over a device. Nothing in an answer is a key."""
+"""What the page asks: one method for each view, all over a device. Nothing in an answer is a key."""
 import threading
 import time
 from collections.abc import Mapping
@@ -17,7 +17,7 @@ from amctl.ui.copies import copies
 from amctl.ui.past import INSTALL, MOST_REPLAYED, Replay, Reply, entries, entry_at, public
 
 PAGE_LENGTH = 64
-# a look at a replay asks for its tasks twice and its services once, beside the inboxes
+# a look at a replay asks for its tasks twice and its services once, and for the inboxes
 LOOKS = 3
 
 
@@ -36,7 +36,7 @@ class Desk:
 
     @property
     def _note(self) -> str:
-        """Why there is nothing to be seen where nobody else can make a call."""
+        """Why there is nothing to see if nobody else can make a call."""
         return words_ui.OWN_SESSION if self._url is None else ""
 
     def close(self) -> None:
@@ -51,7 +51,7 @@ class Desk:
             return {"callers": [SYSTEM, *root, *names], "file": self.device.file.path.name, "url": self._url, "note": self._note}
 
     def alive(self) -> dict[str, Any]:
-        """Answers as long as the device does. A session of its own isn't asked: it answers 65,536 requests and no more."""
+        """Answers as long as the device does. A session of its own isn't asked: it answers at most 65,536 requests."""
         if self._url is None:
             return {"history": None}
         with self._lock:
@@ -91,7 +91,7 @@ class Desk:
             return {"total": status.history, "count": words_ui.stored(status.history), "from": start, "rows": rows}
 
     def entry(self, number: int) -> dict[str, Any]:
-        """A call, made again: its reply, and what is otherwise after it."""
+        """A call, made again: its reply, and what is different after it."""
         with self._lock:
             entry = entry_at(self.device, number)
             replay = self._stepped(number)

@@ -56,7 +56,7 @@ def refused(request: Request, hosts: tuple[str, ...]) -> str | None:
     origin = request.headers.get("origin")
     if origin is not None and origin.lower() not in {f"http://{it}" for it in hosts}:
         return words_ui.OTHER_ORIGIN
-    # a browser says so too where it sends no origin
+    # a browser says so too if it sends no origin
     if request.url.path.startswith("/api/") and request.headers.get("sec-fetch-site", "same-origin") not in ("same-origin", "none"):
         return words_ui.OTHER_ORIGIN
     return None

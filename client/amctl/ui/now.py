@@ -52,7 +52,7 @@ def services(device: Device) -> list[dict[str, str]]:
 
 
 def broadcasts(found: tuple[Waiting, ...], sent: Mapping[int, list[str]], seen: Seen, stands: bool) -> list[dict[str, Any]]:
-    """The live broadcasts; of an ordered one whose turn it is, and who comes before and behind as the replay tells it."""
+    """The live broadcasts; of an ordered one, whose turn it is, and who comes before and after, as the replay tells."""
     live: dict[int, list[Waiting]] = {}
     for it in found:
         if not isinstance(it.item, Result):
@@ -121,5 +121,5 @@ def _waiting_lines(device: Device, keys: Keys) -> Iterator[str]:
 
 
 def changed(before: list[str], after: list[str]) -> list[str]:
-    """What is there now and wasn't, and what is there no more."""
+    """What is there now and wasn't, and what is no longer there."""
     return [*(words_ui.appeared(it) for it in after if it not in before), *(words_ui.vanished(it) for it in before if it not in after)]

@@ -64,7 +64,7 @@ class Replay:
         self.device.close()
 
     def play(self, entry: Entry) -> Reply | None:
-        """Makes a call again; None where its caller's key isn't known."""
+        """Makes a call again; None if its caller's key isn't known."""
         key = self.keys.of_uid.get(entry.uid)
         reply = None
         # what couldn't be kept had no effect
@@ -82,7 +82,7 @@ class Replay:
         return reply
 
     def kept_with(self, *routes: str) -> Iterator[tuple[Entry, Reply]]:
-        """The calls of these routes with their replies, where there are any."""
+        """The calls of these routes with their replies, if there are any."""
         yield from ((entry, reply) for entry, reply in zip(self.kept, self._replies) if reply is not None and entry.route in routes)
 
     def is_of(self, live: Device) -> bool:

@@ -20,7 +20,7 @@ except ImportError:
 
 
 def run(where: Where, port: int | None, is_opened: bool) -> int:
-    """Serves the page; all that it started is ended behind it."""
+    """Serves the page; all that it started is ended afterwards."""
     with closing(_listener(port)) as listener, closing(_desk(where)) as desk:
         taken = int(listener.getsockname()[1])
         url = f"http://{HOST}:{taken}/"

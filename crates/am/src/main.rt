@@ -29,7 +29,7 @@ fn main(rt: HostRuntime) -> ExitCode {
             &mut network,
             &mut store,
             &mut clock,
-            // Without random bytes what clients choose is hashed as everyone can tell.
+            // Without random bytes, what clients choose is hashed in a way that everyone can foresee.
             RandomState::new(&rt).ok(),
         ),
     })

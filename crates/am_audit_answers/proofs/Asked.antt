@@ -20,14 +20,16 @@ ok_is : {A B : Type 0} {x y : A} → ◌≡◌ {A = Result A B} (Ok x) (Ok y) �
 ok_is e = cc
 
 -- a request that was read of a body is read of it again
-readable_or : (endpoint : Endpoint) (body : List ℕ) (request : Request) (read : Result Request WireFault) → request_at endpoint body ≡ read
+readable_or : (endpoint : Endpoint) (body : List ℕ) (request : Request) (read : Result Request WireFault)
+    → request_at endpoint body ≡ read
     → request_or read ≡ Ok request → IsReadable request
 readable_or endpoint body request (Ok found) reads asks =
     let is : request_at endpoint body ≡ Ok request = reads ∙ ap (λ (r : Request). Ok r) (ok_is asks) in
     (body, ap (λ (place : Endpoint). request_at place body) (read_is_made endpoint body request is).0 ∙ is)
 readable_or endpoint body request (Err fault) reads asks = absurd cc
 
-readable_at : (found : Result Endpoint RouteFault) (body : List ℕ) (request : Request) → asked_at found body ≡ Ok request → IsReadable request
+readable_at : (found : Result Endpoint RouteFault) (body : List ℕ) (request : Request) → asked_at found body
+    ≡ Ok request → IsReadable request
 readable_at (Ok endpoint) body request is = readable_or endpoint body request (request_at endpoint body) refl is
 readable_at (Err faults.NoRoute) body request is = absurd cc
 readable_at (Err (faults.NoMethod endpoint)) body request is = absurd cc
@@ -36,7 +38,9 @@ pub readable : (frame : Frame) (request : Request) → request_of frame ≡ Ok r
 readable frame request is = readable_at (endpoint_of frame.method frame.target) frame.body request is
 
 -- an entry of the frame's weight and caller is its call if it has the frame's request
-pub its_call : (state : State) (frame : Frame) (request : Request) (next : Entry) (same : Bool) → next.weight ≡ length frame.body
-    → uid_of state frame.key ≡ Some next.uid → IsTrue same ↔ (request ≡ next.request) → IsTrue same ↔ IsItsCall state frame request next
+pub its_call : (state : State) (frame : Frame) (request : Request) (next : Entry) (same : Bool) → next.weight
+    ≡ length frame.body
+    → uid_of state frame.key ≡ Some next.uid → IsTrue same ↔ (request ≡ next.request)
+    → IsTrue same ↔ IsItsCall state frame request next
 its_call state frame request next same weight uid decides =
     (λ is. record { uid = uid; weight = weight; asks = sym (decides.0 is) }, λ its. decides.1 (sym its.asks))

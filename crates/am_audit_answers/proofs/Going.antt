@@ -12,19 +12,25 @@ use Rattle.am_audit_answers.specs.Audits.{Ground}
 use Rattle.am_audit_answers.specs.Matching.{IsReplayed}
 
 -- an entry that was read at a place is the one there
-pub next_there : (history : List Entry) (at place : ℕ) (next : Entry) → place ≡ at → place < length history → next ≡ get_or history place next
+pub next_there : (history : List Entry) (at place : ℕ) (next : Entry) → place ≡ at → place < length history → next
+    ≡ get_or history place next
     → slice_get history at ≡ Some next
 next_there history at place next same within is =
-    subst (λ (n : ℕ). slice_get history n ≡ Some next) same (slice_get_read history (length history) place next refl within is)
+    subst (λ (n : ℕ). slice_get history n ≡ Some next) same (slice_get_read history (length history) place next refl
+    within is)
 
 -- it is whole if each is
-pub next_is_whole : (history : List Entry) (at : ℕ) (next : Entry) → All IsWhole history → slice_get history at ≡ Some next → IsWhole next
+pub next_is_whole : (history : List Entry) (at : ℕ) (next : Entry) → All IsWhole history → slice_get history at
+    ≡ Some next → IsWhole next
 next_is_whole history at next whole there =
-    subst IsWhole (get_or_from_slice_get history at next next there) (whole at next (slice_get_within history at next there))
+    subst IsWhole (get_or_from_slice_get history at next next there)
+    (whole at next (slice_get_within history at next there))
 
 -- each entry of a legal history may be next at its place
-legal_at_from : (opening : State) (before entries : List Entry) (at : ℕ) (entry : Entry) → IsLegalFrom opening before entries
-    → slice_get entries at ≡ Some entry → MayBeNext (replay opening (before ++ take at entries)) (before ++ take at entries) entry
+legal_at_from : (opening : State) (before entries : List Entry) (at : ℕ) (entry : Entry)
+    → IsLegalFrom opening before entries
+    → slice_get entries at ≡ Some entry → MayBeNext (replay opening (before ++ take at entries))
+    (before ++ take at entries) entry
 legal_at_from opening before [] at entry legal is = absurd (none-some entry is)
 legal_at_from opening before (first ∷ others) zero entry legal is =
     let same : first ≡ entry = same_Some _ _ is in
@@ -35,18 +41,21 @@ legal_at_from opening before (first ∷ others) (suc at) entry legal is =
     (legal_at_from opening (before ++ first ∷ []) others at entry legal.1 is)
 
 pub next_is_legal : (history : List Entry) (before : Replay) (next : Entry) → IsLegal before.start history
-    → IsReplayed (record { start = before.start; history = history }) before → slice_get history (length before.history) ≡ Some next
+    → IsReplayed (record { start = before.start; history = history }) before → slice_get history (length before.history)
+    ≡ Some next
     → MayBeNext (state_of before) before.history next
 next_is_legal history before next legal first there =
     subst (λ (h : List Entry). MayBeNext (replay before.start h) h next) (sym first.first)
     (legal_at_from before.start [] history (length before.history) next legal there)
 
 -- one entry more was replayed
-pub one_more : (before after : Replay) (next : Entry) → after.history ≡ before.history ++ next ∷ [] → length after.history ≡ length before.history + 1
+pub one_more : (before after : Replay) (next : Entry) → after.history ≡ before.history ++ next ∷ []
+    → length after.history ≡ length before.history + 1
 one_more before after next goes = ap (λ (h : List Entry). length h) goes ∙ length_push before.history next
 
 pub next_is_replayed : (ground : Ground) (before after : Replay) (next : Entry) → IsReplayed ground before
-    → slice_get ground.history (length before.history) ≡ Some next → after.start ≡ before.start → after.history ≡ before.history ++ next ∷ []
+    → slice_get ground.history (length before.history) ≡ Some next → after.start ≡ before.start → after.history
+    ≡ before.history ++ next ∷ []
     → IsReplayed ground after
 next_is_replayed ground before after next first there start goes =
     let at : ℕ = length before.history in
@@ -54,7 +63,8 @@ next_is_replayed ground before after next first there start goes =
     let within : at < length ground.history = slice_get_within ground.history at next there in
     let more : take (at + 1) ground.history ≡ take at ground.history ++ next ∷ [] =
     take_more ground.history at next within
-    ∙ ap (λ (entry : Entry). take at ground.history ++ entry ∷ []) (get_or_from_slice_get ground.history at next next there) in
+    ∙ ap (λ (entry : Entry). take at ground.history ++ entry ∷ [])
+    (get_or_from_slice_get ground.history at next next there) in
     record {
       start = start ∙ first.start;
       within = omega (arith, within, count);

@@ -17,31 +17,40 @@ use Rattle.am_audit_answers.proofs.Stored.{refuses_next, stored_judged}
 use Rattle.am_audit_answers.proofs.Unstored.{unstored_judged}
 
 -- such a frame is judged by what its call comes to
-made_judged : (history : List Entry) (bench : Bench) (frame : Frame) (left : List ℕ) (request : Request) (stored : Bool) (making : Making)
-    (result : Option Accepted) → Stands history bench → request_of frame ≡ Ok request → SaysOnly left (length bench.replayed.history) stored
+made_judged : (history : List Entry) (bench : Bench) (frame : Frame) (left : List ℕ) (request : Request) (stored : Bool)
+    (making : Making)
+    (result : Option Accepted) → Stands history bench → request_of frame ≡ Ok request
+    → SaysOnly left (length bench.replayed.history) stored
     → length history < 2 ^ 64 → length left < 2 ^ 64 → IsMakingOf history bench frame request stored (Some making)
     → ComesTo bench frame request making left result → Judges (case_of history bench frame left) result
 made_judged history bench frame left request true making result stands asks says short few is comes =
     let next = is.0 in
     let so = subst (λ (m : Making). ComesTo bench frame request m left result) is.2 comes in
-    stored_judged history bench frame left request next so.made.0 so.made.1 result asks says short few stands.first is.1.there is.1.suits
-    (next_is_whole history (length bench.replayed.history) next stands.made.whole is.1.there).kept is.1.its so.shows so.takes
+    stored_judged history bench frame left request next so.made.0 so.made.1 result asks says short few stands.first
+    is.1.there is.1.suits
+    (next_is_whole history (length bench.replayed.history) next stands.made.whole is.1.there).kept is.1.its so.shows
+    so.takes
 made_judged history bench frame left request false making result stands asks says short few is comes =
     let so = subst (λ (m : Making). ComesTo bench frame request m left result) is comes in
-    unstored_judged history bench frame left request making.desk so.made.0 so.made.1 result asks says short few stands.first so.shows so.takes
+    unstored_judged history bench frame left request making.desk so.made.0 so.made.1 result asks says short few
+    stands.first so.shows so.takes
 
-pub made_judged_if : (history : List Entry) (bench : Bench) (frame : Frame) (left : List ℕ) (request : Request) (stored : Bool) (making : Making)
+pub made_judged_if : (history : List Entry) (bench : Bench) (frame : Frame) (left : List ℕ) (request : Request)
+    (stored : Bool) (making : Making)
     (result : Result (Option Accepted) NoMemory) → Stands history bench → request_of frame ≡ Ok request
     → SaysOnly left (length bench.replayed.history) stored → length history < 2 ^ 64 → length left < 2 ^ 64
-    → IsMakingOf history bench frame request stored (Some making) → IfOk result (λ judged. ComesTo bench frame request making left judged)
+    → IsMakingOf history bench frame request stored (Some making) → IfOk result
+    (λ judged. ComesTo bench frame request making left judged)
     → IfOk result (λ judged. Judges (case_of history bench frame left) judged)
 made_judged_if history bench frame left request stored making (Ok judged) stands asks says short few is comes =
     made_judged history bench frame left request stored making judged stands asks says short few is comes
 made_judged_if history bench frame left request stored making (Err want) stands asks says short few is comes = tt
 
 -- and refused if its call can't be made so
-pub unmade_refused : (history : List Entry) (bench : Bench) (frame : Frame) (left : List ℕ) (request : Request) (stored : Bool) → Stands history bench
-    → request_of frame ≡ Ok request → SaysOnly left (length bench.replayed.history) stored → length history < 2 ^ 64 → length left < 2 ^ 64
+pub unmade_refused : (history : List Entry) (bench : Bench) (frame : Frame) (left : List ℕ) (request : Request)
+    (stored : Bool) → Stands history bench
+    → request_of frame ≡ Ok request → SaysOnly left (length bench.replayed.history) stored → length history < 2 ^ 64
+    → length left < 2 ^ 64
     → IsMakingOf history bench frame request stored None → Refuses (case_of history bench frame left)
 unmade_refused history bench frame left request true stands asks says short few never =
     refuses_next history bench frame left request asks says short few stands.first never

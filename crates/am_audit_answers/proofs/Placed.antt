@@ -45,13 +45,17 @@ ok_is : {A B : Type 0} {x y : A} → ◌≡◌ {A = Result A B} (Ok x) (Ok y) �
 ok_is e = cc
 
 -- one request is made
-no_refusal : (read : Result Request Refusal) (request : Request) (refused : Refusal) → read ≡ Ok request → read ≡ Err refused → ⊥
+no_refusal : (read : Result Request Refusal) (request : Request) (refused : Refusal) → read ≡ Ok request → read
+    ≡ Err refused → ⊥
 no_refusal read request refused asks refuses = absurd cc
 
 -- a call of the frame that is shown at the point
-placed_by : (c : Case) (request : Request) (point : Point) (desk : ℕ) (e : Exchange) → request_of c.frame ≡ Ok request → e.frame ≡ c.frame
-    → (called : IsCalled c.ground.start desk c.ground.history e) → (called.point.at ≡ point.at) × (called.point.stored ≡ point.stored)
-    → IsShownBy (shown_at c.ground.start c.ground.history called.point (call_of desk e.frame called.now called.request) called.kept) e.bytes
+placed_by : (c : Case) (request : Request) (point : Point) (desk : ℕ) (e : Exchange) → request_of c.frame ≡ Ok request
+    → e.frame ≡ c.frame
+    → (called : IsCalled c.ground.start desk c.ground.history e) → (called.point.at ≡ point.at)
+    × (called.point.stored ≡ point.stored)
+    → IsShownBy (shown_at c.ground.start c.ground.history called.point (call_of desk e.frame called.now called.request)
+    called.kept) e.bytes
     → IsPlaced c request point desk e
 placed_by c request point desk e asks frame called same shows =
     let start : State = c.ground.start in
@@ -67,12 +71,14 @@ placed_by c request point desk e asks frame called same shows =
       placed = called.placed ∙ ap (λ (p : Point). Some p) is;
       marked = subst (λ (p : Point). IsMarked start history (call_of desk c.frame called.now request) called.kept p) is
           (subst (λ (l : Call). IsMarked start history l called.kept called.point) call called.marked);
-      shows = subst (λ (p : Point). IsShownBy (shown_at start history p (call_of desk c.frame called.now request) called.kept) e.bytes) is
+      shows = subst (λ (p : Point). IsShownBy (shown_at start history p (call_of desk c.frame called.now request)
+          called.kept) e.bytes) is
           (subst (λ (l : Call). IsShownBy (shown_at start history called.point l called.kept) e.bytes) call shows);
     }
 
 -- each exchange of the frame shows its call at the place that the bytes say
-pub each_placed : (c : Case) (request : Request) (point : Point) → request_of c.frame ≡ Ok request → SaysOnly c.left point.at point.stored
+pub each_placed : (c : Case) (request : Request) (point : Point) → request_of c.frame ≡ Ok request
+    → SaysOnly c.left point.at point.stored
     → length c.ground.history < 2 ^ 64 → length c.left < 2 ^ 64
     → (desk : ℕ) (e : Exchange) (rest : List ℕ) → Answers c desk e rest → IsPlaced c request point desk e
 each_placed c request point asks says short few desk e rest answers = by answers.audited.answer
@@ -88,16 +94,19 @@ each_placed c request point asks says short few desk e rest answers = by answers
         let has : HasMark c.left called.point.at called.point.stored =
         response_marked called.point.at called.point.stored reply rest c.left (omega (arith, called.marked.within)) few
         (begins (response called.point.at called.point.stored reply) is) in
-        placed_by c request point desk e asks answers.frame called (says.place called.point.at called.point.stored has) (inl is)
+        placed_by c request point desk e asks answers.frame called (says.place called.point.at called.point.stored has)
+        (inl is)
     by (by_want none is) = absurd (says.made (want_before_unmarked rest c.left few (begins want_before is)))
     by (by_late_want called is) =
         let has : HasMark c.left called.point.at called.point.stored =
         want_after_marked called.point.at called.point.stored rest c.left (omega (arith, called.marked.within)) few
         (begins (want_after called.point.at called.point.stored) is) in
-        placed_by c request point desk e asks answers.frame called (says.place called.point.at called.point.stored has) (inr is)
+        placed_by c request point desk e asks answers.frame called (says.place called.point.at called.point.stored has)
+        (inr is)
 
 -- if the bytes say no place, memory ran out before the call
-pub unmarked_wants : (c : Case) (request : Request) → request_of c.frame ≡ Ok request → ((at : ℕ) (stored : Bool) → HasMark c.left at stored → ⊥)
+pub unmarked_wants : (c : Case) (request : Request) → request_of c.frame ≡ Ok request
+    → ((at : ℕ) (stored : Bool) → HasMark c.left at stored → ⊥)
     → length c.ground.history < 2 ^ 64 → length c.left < 2 ^ 64 → OnlyWants c
 unmarked_wants c request asks none short few desk e rest answers = by answers.audited.answer
   where
@@ -123,13 +132,15 @@ abbrev pub exchange_at : Case → Point → Option ℕ → ℕ → Exchange
 exchange_at c point now taken = record { frame = c.frame; now = now; point = Some point; bytes = take taken c.left }
 
 -- a frame is accepted by those bytes, if each of its exchanges has the point and leads on as they do
-pub accepted_at : (c : Case) (point : Point) (accepted : Accepted) (now : Option ℕ) → c.standing.floor ≤ point.at → accepted.taken ≤ length c.left
+pub accepted_at : (c : Case) (point : Point) (accepted : Accepted) (now : Option ℕ) → c.standing.floor ≤ point.at
+    → accepted.taken ≤ length c.left
     → ((desk : ℕ) → Suits accepted.bench.desk desk
     → Suits c.standing.desk desk × IsAudited c.ground desk (exchange_at c point now accepted.taken))
     → ((desk : ℕ) (e : Exchange) (rest : List ℕ) → Answers c desk e rest
     → (e.point ≡ Some point) × (rest ≡ drop accepted.taken c.left) × Suits accepted.bench.desk desk)
     → floor_after c.standing.floor (Some point) ≡ length accepted.bench.replayed.history
-    → accepted.bench.replayed.start ≡ c.ground.start → IsReplayed c.ground accepted.bench.replayed → IsAccepted c accepted
+    → accepted.bench.replayed.start ≡ c.ground.start → IsReplayed c.ground accepted.bench.replayed
+    → IsAccepted c accepted
 accepted_at c point accepted now low fits each only floor start replayed = record {
   accepts = record {
     exchange = exchange_at c point now accepted.taken;
@@ -155,29 +166,36 @@ accepted_at c point accepted now low fits each only floor start replayed = recor
 }
 
 -- a call that is shown is an answer
-pub answer_by : (start : State) (desk : ℕ) (history : List Entry) (e : Exchange) (called : IsCalled start desk history e)
-    → IsShownBy (shown_at start history called.point (call_of desk e.frame called.now called.request) called.kept) e.bytes
+pub answer_by : (start : State) (desk : ℕ) (history : List Entry) (e : Exchange)
+    (called : IsCalled start desk history e)
+    → IsShownBy (shown_at start history called.point (call_of desk e.frame called.now called.request) called.kept)
+    e.bytes
     → IsAnswer start desk history e
 answer_by start desk history e called (inl is) = by_reply called is
 answer_by start desk history e called (inr is) = by_late_want called is
 
 -- a call that isn't stored is answered the same on each desk, kept or not
-pub unstored_reply : (start : State) (history : List Entry) (frame : Frame) (now : ℕ) (request : Request) (desk other : ℕ) (kept : Bool)
+pub unstored_reply : (start : State) (history : List Entry) (frame : Frame) (now : ℕ) (request : Request)
+    (desk other : ℕ) (kept : Bool)
     → is_stored (replay start history) history (call_of desk frame now request) ≡ false
-    → reply_after start history (call_of desk frame now request) kept ≡ reply_after start history (call_of other frame now request) true
+    → reply_after start history (call_of desk frame now request) kept
+    ≡ reply_after start history (call_of other frame now request) true
 unstored_reply start history frame now request desk other kept is = by (uid_of state frame.key) is
   where
     state : State
     state = replay start history
 
     tests : (uid : ℕ) (may room : Bool) → true && may && room ≡ false
-        → cond may (cond room (step state history (entry_of (call_of desk frame now request) uid kept)).0 (Refused HistoryFull)) (act state history uid request).0
-        ≡ cond may (cond room (step state history (entry_of (call_of other frame now request) uid true)).0 (Refused HistoryFull)) (act state history uid request).0
+        → cond may (cond room (step state history (entry_of (call_of desk frame now request) uid kept)).0
+        (Refused HistoryFull)) (act state history uid request).0
+        ≡ cond may (cond room (step state history (entry_of (call_of other frame now request) uid true)).0
+        (Refused HistoryFull)) (act state history uid request).0
     tests uid true true is = absurd cc
     tests uid true false is = refl
     tests uid false room is = refl
 
     by : (uid : Option ℕ) → is_some uid && may_change state now request && has_room history (length frame.body) ≡ false
-        → reply_to state history (call_of desk frame now request) kept uid ≡ reply_to state history (call_of other frame now request) true uid
+        → reply_to state history (call_of desk frame now request) kept uid
+        ≡ reply_to state history (call_of other frame now request) true uid
     by None is = refl
     by (Some uid) is = tests uid (may_change state now request) (has_room history (length frame.body)) is

@@ -26,20 +26,24 @@ some_suits (Some known) = (known, refl)
 abbrev from : Case → ℕ → Case
 from c floor = record c { standing = record { floor = floor; desk = c.standing.desk } }
 
-module _ (c : Case) (request : Request) (point : Point) (asks : request_of c.frame ≡ Ok request) (says : SaysOnly c.left point.at point.stored)
+module _ (c : Case) (request : Request) (point : Point) (asks : request_of c.frame ≡ Ok request)
+    (says : SaysOnly c.left point.at point.stored)
     (short : length c.ground.history < 2 ^ 64) (few : length c.left < 2 ^ 64) where
   -- an exchange's point is the one that the bytes say
   at_point : (desk : ℕ) (e : Exchange) (rest : List ℕ) → Answers c desk e rest → e.point ≡ Some point
   at_point desk e rest answers = (each_placed c request point asks says short few desk e rest answers).placed
 
-  at_point_from : (floor desk : ℕ) (e : Exchange) (rest : List ℕ) → Answers (from c floor) desk e rest → e.point ≡ Some point
-  at_point_from floor desk e rest answers = (each_placed (from c floor) request point asks says short few desk e rest answers).placed
+  at_point_from : (floor desk : ℕ) (e : Exchange) (rest : List ℕ) → Answers (from c floor) desk e rest → e.point
+      ≡ Some point
+  at_point_from floor desk e rest answers = (each_placed (from c floor) request point asks says short few desk e rest
+      answers).placed
 
   -- so it isn't below any floor up to there
   above : (floor : ℕ) (o : Option Point) → o ≡ Some point → floor ≤ point.at → IsAbove floor o
   above floor o is low = subst (IsAbove floor) (sym is) low
 
-  raise : (floor desk : ℕ) (e : Exchange) (rest : List ℕ) → floor ≤ point.at → Answers c desk e rest → Answers (from c floor) desk e rest
+  raise : (floor desk : ℕ) (e : Exchange) (rest : List ℕ) → floor ≤ point.at → Answers c desk e rest
+      → Answers (from c floor) desk e rest
   raise floor desk e rest low answers = record {
     frame = answers.frame;
     suits = answers.suits;
@@ -48,7 +52,8 @@ module _ (c : Case) (request : Request) (point : Point) (asks : request_of c.fra
     bytes = answers.bytes;
   }
 
-  lower : (floor desk : ℕ) (e : Exchange) (rest : List ℕ) → c.standing.floor ≤ point.at → Answers (from c floor) desk e rest → Answers c desk e rest
+  lower : (floor desk : ℕ) (e : Exchange) (rest : List ℕ) → c.standing.floor ≤ point.at
+      → Answers (from c floor) desk e rest → Answers c desk e rest
   lower floor desk e rest low answers = record {
     frame = answers.frame;
     suits = answers.suits;
@@ -82,14 +87,16 @@ module _ (c : Case) (request : Request) (point : Point) (asks : request_of c.fra
           at_point_from floor desk.0 accepts.exchange left (accepts.answers desk.0 desk.1)
 
   -- what is judged from a floor up to there on is judged so
-  judged_lower : (floor : ℕ) (result : Option Accepted) → floor ≤ point.at → c.standing.floor ≤ point.at → Judges (from c floor) result → Judges c result
+  judged_lower : (floor : ℕ) (result : Option Accepted) → floor ≤ point.at → c.standing.floor ≤ point.at
+      → Judges (from c floor) result → Judges c result
   judged_lower floor (Some accepted) high low judged = record {
     accepts = accepted_lower floor _ _ high low judged.accepts;
     taken = judged.taken;
     start = judged.start;
     replayed = judged.replayed;
   }
-  judged_lower floor None high low judged = λ desk e rest answers. judged desk e rest (raise floor desk e rest high answers)
+  judged_lower floor None high low judged = λ desk e rest answers. judged desk e rest
+      (raise floor desk e rest high answers)
 
   -- there is none where the place can't be gone to
   refuses_there : (c.standing.floor ≤ point.at → point.at ≤ length c.ground.history → ⊥) → Refuses c
@@ -98,36 +105,51 @@ module _ (c : Case) (request : Request) (point : Point) (asks : request_of c.fra
       never (subst (IsAbove c.standing.floor) p.placed answers.above) p.marked.within
 
 -- a frame whose response says a place is judged once the history is replayed up to it
-raised : (history : List Entry) (bench : Bench) (frame : Frame) (left : List ℕ) (request : Request) (at : ℕ) (stored : Bool) (after : Replay)
-    (result : Option Accepted) → request_of frame ≡ Ok request → SaysOnly left at stored → length history < 2 ^ 64 → length left < 2 ^ 64
+raised : (history : List Entry) (bench : Bench) (frame : Frame) (left : List ℕ) (request : Request) (at : ℕ)
+    (stored : Bool) (after : Replay)
+    (result : Option Accepted) → request_of frame ≡ Ok request → SaysOnly left at stored → length history < 2 ^ 64
+    → length left < 2 ^ 64
     → GoesTo (ground_of history bench) bench.replayed at (Some after)
     → Judges (case_of history (record { replayed = after; desk = bench.desk }) frame left) result
     → Judges (case_of history bench frame left) result
 raised history bench frame left request at stored after result asks says short few goes judged =
     let c : Case = case_of history bench frame left in
-    let start : State → Type 0 = λ s. Judges (record { ground = record { start = s; history = history }; standing = record { floor = length after.history; desk = bench.desk }; frame = frame; left = left }) result in
-    judged_lower c request (record { at = at; stored = stored }) asks says short few (length after.history) result (omega (arith, goes.1)) goes.2
+    let start : State → Type 0 = λ s. Judges (record {
+      ground = record { start = s; history = history };
+      standing =
+          record { floor = length after.history; desk = bench.desk };
+      frame = frame;
+      left = left;
+    }) result in
+    judged_lower c request (record { at = at; stored = stored }) asks says short few (length after.history) result
+    (omega (arith, goes.1)) goes.2
     (subst start goes.0.start judged)
 
-pub raised_if : (history : List Entry) (bench : Bench) (frame : Frame) (left : List ℕ) (request : Request) (at : ℕ) (stored : Bool) (after : Replay)
-    (result : Result (Option Accepted) NoMemory) → request_of frame ≡ Ok request → SaysOnly left at stored → length history < 2 ^ 64 → length left < 2 ^ 64
+pub raised_if : (history : List Entry) (bench : Bench) (frame : Frame) (left : List ℕ) (request : Request) (at : ℕ)
+    (stored : Bool) (after : Replay)
+    (result : Result (Option Accepted) NoMemory) → request_of frame ≡ Ok request → SaysOnly left at stored
+    → length history < 2 ^ 64 → length left < 2 ^ 64
     → GoesTo (ground_of history bench) bench.replayed at (Some after)
-    → IfOk result (λ judged. Judges (case_of history (record { replayed = after; desk = bench.desk }) frame left) judged)
+    → IfOk result (λ judged. Judges (case_of history (record { replayed = after; desk = bench.desk }) frame left)
+    judged)
     → IfOk result (λ judged. Judges (case_of history bench frame left) judged)
 raised_if history bench frame left request at stored after (Ok judged) asks says short few goes is =
     raised history bench frame left request at stored after judged asks says short few goes is
 raised_if history bench frame left request at stored after (Err want) asks says short few goes is = tt
 
 -- or there is none if it can't be
-pub unreached : (history : List Entry) (bench : Bench) (frame : Frame) (left : List ℕ) (request : Request) (at : ℕ) (stored : Bool)
+pub unreached : (history : List Entry) (bench : Bench) (frame : Frame) (left : List ℕ) (request : Request) (at : ℕ)
+    (stored : Bool)
     → request_of frame ≡ Ok request → SaysOnly left at stored → length history < 2 ^ 64 → length left < 2 ^ 64
     → GoesTo (ground_of history bench) bench.replayed at None → Refuses (case_of history bench frame left)
 unreached history bench frame left request at stored asks says short few goes =
-    refuses_there (case_of history bench frame left) request (record { at = at; stored = stored }) asks says short few goes
+    refuses_there (case_of history bench frame left) request (record { at = at; stored = stored }) asks says short few
+    goes
 
 -- an audit has come there too
 pub stands_there : (history : List Entry) (bench : Bench) (at : ℕ) (after : Replay) → Stands history bench
-    → GoesTo (ground_of history bench) bench.replayed at (Some after) → Stands history (record { replayed = after; desk = bench.desk })
+    → GoesTo (ground_of history bench) bench.replayed at (Some after)
+    → Stands history (record { replayed = after; desk = bench.desk })
 stands_there history bench at after stands goes = record {
   made = subst (λ (s : State). IsRecord (record { start = s; history = history })) (sym goes.0.start) stands.made;
   first = subst (λ (s : State). IsReplayed (record { start = s; history = history }) after) (sym goes.0.start) goes.0;

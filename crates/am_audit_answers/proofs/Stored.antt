@@ -23,7 +23,8 @@ use Rattle.am_audit_answers.proofs.Placed.{IsPlaced, accepted_at, answer_by, eac
 
 module _ (history : List Entry) (bench : Bench) (frame : Frame) (left : List ℕ) (request : Request)
     (asks : request_of frame ≡ Ok request) (says : SaysOnly left (length bench.replayed.history) true)
-    (short : length history < 2 ^ 64) (few : length left < 2 ^ 64) (first : IsReplayed (ground_of history bench) bench.replayed) where
+    (short : length history < 2 ^ 64) (few : length left < 2 ^ 64)
+    (first : IsReplayed (ground_of history bench) bench.replayed) where
   -- the case, and its call's place
   abbrev c : Case
   c = case_of history bench frame left
@@ -54,7 +55,8 @@ module _ (history : List Entry) (bench : Bench) (frame : Frame) (left : List ℕ
         let is = is_entry desk e (placed desk e rest answers) in (
           subst (Suits bench.desk) (sym is.desk) answers.suits,
           record {
-            uid = subst (λ (h : List Entry). uid_of (replay bench.replayed.start h) frame.key ≡ Some next.uid) (sym first.first) is.uid;
+            uid = subst (λ (h : List Entry). uid_of (replay bench.replayed.start h) frame.key ≡ Some next.uid)
+                (sym first.first) is.uid;
             weight = is.weight;
             asks = is.request;
           },
@@ -62,12 +64,16 @@ module _ (history : List Entry) (bench : Bench) (frame : Frame) (left : List ℕ
 
     module _ (suits : Suits bench.desk next.desk) (kept : next.kept ≡ true)
         (its : IsItsCall (replay bench.replayed.start bench.replayed.history) frame request next)
-        (after : Replay) (shown : Shown) (shows : ShowsKept bench.replayed (call_of next.desk frame next.now request) after shown) where
+        (after : Replay) (shown : Shown) (shows : ShowsKept bench.replayed (call_of next.desk frame next.now request)
+        after shown) where
       -- whether it is stored there
-      stored_is : (desk now : ℕ) → now ≡ next.now → shown.stored ≡ is_stored (replay bench.replayed.start before) before (call_of desk frame now request)
+      stored_is : (desk now : ℕ) → now ≡ next.now → shown.stored ≡ is_stored (replay bench.replayed.start before) before
+          (call_of desk frame now request)
       stored_is desk now same =
-          let P : List Entry → Type 0 = λ h. shown.stored ≡ is_stored (replay bench.replayed.start h) h (call_of desk frame next.now request) in
-          subst (λ (n : ℕ). shown.stored ≡ is_stored (replay bench.replayed.start before) before (call_of desk frame n request)) (sym same)
+          let P : List Entry → Type 0 = λ h. shown.stored ≡ is_stored (replay bench.replayed.start h) h
+          (call_of desk frame next.now request) in
+          subst (λ (n : ℕ). shown.stored ≡ is_stored (replay bench.replayed.start before) before
+          (call_of desk frame n request)) (sym same)
           (subst P first.first shows.stored)
 
       -- what is shown of it
@@ -76,14 +82,16 @@ module _ (history : List Entry) (bench : Bench) (frame : Frame) (left : List ℕ
       shown_is desk now truth number moment is stored =
           let reply : reply_after bench.replayed.start before (call_of desk frame now request) truth ≡ shown.reply =
           (λ i. reply_after bench.replayed.start before (call_of (number i) frame (moment i) request) (is i))
-          ∙ (ap (λ (h : List Entry). reply_after bench.replayed.start h (call_of next.desk frame next.now request) true) (sym first.first) ∙ sym shows.reply) in
+          ∙ (ap (λ (h : List Entry). reply_after bench.replayed.start h (call_of next.desk frame next.now request) true)
+          (sym first.first) ∙ sym shows.reply) in
           λ i. record { at = sym shows.at i; stored = sym stored i; reply = reply i }
 
       -- the entry is added
       after_is : shown.stored ≡ true → after.history ≡ bench.replayed.history ++ next ∷ []
       after_is stored =
           let state : State = replay bench.replayed.start bench.replayed.history in
-          let P : Bool → Type 0 = λ b. Follows bench.replayed.history after.history b (IsEntryOf state (call_of next.desk frame next.now request) true) in
+          let P : Bool → Type 0 = λ b. Follows bench.replayed.history after.history b
+          (IsEntryOf state (call_of next.desk frame next.now request) true) in
           let follows = subst P stored shows.follows in
           let is = follows.1 in
           let uid : follows.0.uid ≡ next.uid = same_Some _ _ (sym is.uid ∙ its.uid) in
@@ -110,17 +118,20 @@ module _ (history : List Entry) (bench : Bench) (frame : Frame) (left : List ℕ
           let p = placed desk e rest answers in
           let is = is_entry desk e p in
           subst (λ (s : Shown). IsShownBy s e.bytes)
-          (shown_is desk p.now p.kept (sym is.desk) (sym is.now) (sym is.kept ∙ kept) (is_stored_there desk e rest answers)) p.shows
+          (shown_is desk p.now p.kept (sym is.desk) (sym is.now) (sym is.kept ∙ kept)
+          (is_stored_there desk e rest answers)) p.shows
 
       -- if no bytes show it there is none
       refuses : ShowsAs true shown left None → Refuses c
-      refuses none desk e rest answers = none (is_stored_there desk e rest answers) e.bytes rest (shows_it desk e rest answers) answers.bytes
+      refuses none desk e rest answers = none (is_stored_there desk e rest answers) e.bytes rest
+          (shows_it desk e rest answers) answers.bytes
 
       -- the exchange of so many bytes
       abbrev exchange : ℕ → Exchange
       exchange = exchange_at c point (Some next.now)
 
-      called : (desk taken : ℕ) → desk ≡ next.desk → shown.stored ≡ true → IsCalled bench.replayed.start desk history (exchange taken)
+      called : (desk taken : ℕ) → desk ≡ next.desk → shown.stored ≡ true
+          → IsCalled bench.replayed.start desk history (exchange taken)
       called desk taken number stored = record {
         request = request;
         asks = asks;
@@ -129,13 +140,19 @@ module _ (history : List Entry) (bench : Bench) (frame : Frame) (left : List ℕ
         kept = true;
         point = point;
         placed = refl;
-        marked = record { within = first.within; stored = sym stored ∙ stored_is desk next.now refl; entry = (next, there, is) };
+        marked = record {
+          within = first.within;
+          stored = sym stored
+              ∙ stored_is desk next.now refl;
+          entry = (next, there, is);
+        };
       }
         where
           is : IsEntryOf (replay bench.replayed.start before) (call_of desk frame next.now request) true next
           is = record {
             desk = sym number;
-            uid = subst (λ (h : List Entry). uid_of (replay bench.replayed.start h) frame.key ≡ Some next.uid) first.first its.uid;
+            uid = subst (λ (h : List Entry). uid_of (replay bench.replayed.start h) frame.key ≡ Some next.uid)
+                first.first its.uid;
             now = refl;
             weight = its.weight;
             request = its.asks;
@@ -150,42 +167,59 @@ module _ (history : List Entry) (bench : Bench) (frame : Frame) (left : List ℕ
           → IsAccepted c (record { bench = record { replayed = after; desk = Some next.desk }; taken = taken })
       unfolding called
       accepts taken takes =
-          accepted_at c point (record { bench = record { replayed = after; desk = Some next.desk }; taken = taken }) (Some next.now) (omega arith) takes.1.0
-          (λ desk number. (subst (Suits bench.desk) (sym number) suits, record { answer = answer desk number; timed = λ stored. absurd cc }))
+          accepted_at c point (record { bench = record { replayed = after; desk = Some next.desk }; taken = taken })
+          (Some next.now) (omega arith) takes.1.0
+          (λ desk number. (
+            subst (Suits bench.desk) (sym number) suits,
+            record
+                { answer = answer desk number; timed = λ stored. absurd cc },
+          ))
           (λ desk e rest answers. (
             (placed desk e rest answers).placed,
             takes.1.2 e.bytes rest (shows_it desk e rest answers) answers.bytes,
             sym (is_entry desk e (placed desk e rest answers)).desk,
           ))
           (sym (count takes.0)) shows.start
-          (next_is_replayed (ground_of history bench) bench.replayed after next first there shows.start (after_is takes.0))
+          (next_is_replayed (ground_of history bench) bench.replayed after next first there shows.start
+          (after_is takes.0))
         where
           answer : (desk : ℕ) → desk ≡ next.desk → IsAnswer bench.replayed.start desk history (exchange taken)
           answer desk number =
               answer_by bench.replayed.start desk history (exchange taken) (called desk taken number takes.0)
-              (subst (λ (s : Shown). IsShownBy s (take taken left)) (sym (shown_is desk next.now true number refl refl takes.0)) takes.1.1)
+              (subst (λ (s : Shown). IsShownBy s (take taken left))
+              (sym (shown_is desk next.now true number refl refl takes.0)) takes.1.1)
 
 -- such a frame is judged by what the call comes to
-pub stored_judged : (history : List Entry) (bench : Bench) (frame : Frame) (left : List ℕ) (request : Request) (next : Entry) (after : Replay)
-    (taken : Option ℕ) (result : Option Accepted) → request_of frame ≡ Ok request → SaysOnly left (length bench.replayed.history) true
+pub stored_judged : (history : List Entry) (bench : Bench) (frame : Frame) (left : List ℕ) (request : Request)
+    (next : Entry) (after : Replay)
+    (taken : Option ℕ) (result : Option Accepted) → request_of frame ≡ Ok request
+    → SaysOnly left (length bench.replayed.history) true
     → length history < 2 ^ 64 → length left < 2 ^ 64 → IsReplayed (ground_of history bench) bench.replayed
     → slice_get history (length bench.replayed.history) ≡ Some next → Suits bench.desk next.desk → next.kept ≡ true
     → IsItsCall (replay bench.replayed.start bench.replayed.history) frame request next
     → IsMade bench.replayed (call_of next.desk frame next.now request) true left (after, taken)
-    → MatchOption result (taken ≡ None) (λ a. (a.bench ≡ record { replayed = after; desk = Some next.desk }) × (taken ≡ Some a.taken))
+    → MatchOption result (taken ≡ None) (λ a. (a.bench ≡ record { replayed = after; desk = Some next.desk })
+    × (taken ≡ Some a.taken))
     → Judges (case_of history bench frame left) result
-stored_judged history bench frame left request next after taken None asks says short few first there suits kept its made is =
-    refuses history bench frame left request asks says short few first next there suits kept its after made.shown made.shows
+stored_judged history bench frame left request next after taken None asks says short few first there suits kept its made
+    is =
+    refuses history bench frame left request asks says short few first next there suits kept its after made.shown
+    made.shows
     (subst (ShowsAs true made.shown left) is made.taken)
-stored_judged history bench frame left request next after taken (Some a) asks says short few first there suits kept its made is =
-    let same : record { bench = record { replayed = after; desk = Some next.desk }; taken = a.taken } ≡ a = λ i. record { bench = sym is.0 i; taken = a.taken } in
+stored_judged history bench frame left request next after taken (Some a) asks says short few first there suits kept its
+    made is =
+    let same : record { bench = record { replayed = after; desk = Some next.desk }; taken = a.taken }
+    ≡ a = λ i. record { bench = sym is.0 i; taken = a.taken } in
     subst (IsAccepted (case_of history bench frame left)) same
-    (accepts history bench frame left request asks says short few first next there suits kept its after made.shown made.shows a.taken
+    (accepts history bench frame left request asks says short few first next there suits kept its after made.shown
+    made.shows a.taken
     (subst (ShowsAs true made.shown left) is.1 made.taken))
 
 -- if no next entry is the frame's call on a desk that suits, no exchange of the frame shows its call
-pub refuses_next : (history : List Entry) (bench : Bench) (frame : Frame) (left : List ℕ) (request : Request) → request_of frame ≡ Ok request
-    → SaysOnly left (length bench.replayed.history) true → length history < 2 ^ 64 → length left < 2 ^ 64 → IsReplayed (ground_of history bench) bench.replayed
+pub refuses_next : (history : List Entry) (bench : Bench) (frame : Frame) (left : List ℕ) (request : Request)
+    → request_of frame ≡ Ok request
+    → SaysOnly left (length bench.replayed.history) true → length history < 2 ^ 64 → length left < 2 ^ 64
+    → IsReplayed (ground_of history bench) bench.replayed
     → ((next : Entry) → IsNext history bench frame request next → ⊥) → Refuses (case_of history bench frame left)
 refuses_next history bench frame left request asks says short few first never desk e rest answers =
     let entry = (placed history bench frame left request asks says short few first desk e rest answers).marked.entry in

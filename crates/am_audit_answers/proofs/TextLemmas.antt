@@ -37,7 +37,8 @@ no_reply_wants reply is =
     absurd cc
 
 -- a status with a phrase is small
-row_is_small : (rows : List (ℕ × List ℕ)) (status : ℕ) → AllByRecursion (λ (row : ℕ × List ℕ). row.0 < 1000) rows → IsSome (phrase_in rows status)
+row_is_small : (rows : List (ℕ × List ℕ)) (status : ℕ) → AllByRecursion (λ (row : ℕ × List ℕ). row.0 < 1000) rows
+    → IsSome (phrase_in rows status)
     → status < 1000
 row_is_small [] status all has = absurd cc
 row_is_small (row ∷ rows) status all has = by (eqb status row.0) refl (row_is_small rows status all.1) has
@@ -61,7 +62,8 @@ message_is status lines body rest =
     ∙ ap (λ (l : List ℕ). head status (length body) ++ l) (append_assoc lines (codes "\r\n" ++ body) rest)
 
 -- its body is no longer than the bytes that begin with it
-body_fits : (status n : ℕ) (lines body rest bytes : List ℕ) → bytes ≡ message status lines body ++ rest → length bytes < n → length body < n
+body_fits : (status n : ℕ) (lines body rest bytes : List ℕ) → bytes ≡ message status lines body ++ rest
+    → length bytes < n → length body < n
 body_fits status n lines body rest bytes is few =
     let whole : length bytes ≡ length (head status (length body) ++ (lines ++ ((codes "\r\n" ++ body) ++ rest))) =
     ap (λ (l : List ℕ). length l) (is ∙ message_is status lines body rest) in
@@ -72,7 +74,8 @@ body_fits status n lines body rest bytes is few =
     omega arith
 
 -- a message with the lines of a place has that mark
-message_marked : (status at : ℕ) (stored : Bool) (body rest bytes : List ℕ) → status < 2 ^ 64 → at < 2 ^ 64 → length bytes < 2 ^ 64
+message_marked : (status at : ℕ) (stored : Bool) (body rest bytes : List ℕ) → status < 2 ^ 64 → at < 2 ^ 64
+    → length bytes < 2 ^ 64
     → bytes ≡ message status (place_lines at stored) body ++ rest → HasMark bytes at stored
 message_marked status at stored body rest bytes small fits few is = record {
   status = status;
@@ -83,7 +86,8 @@ message_marked status at stored body rest bytes small fits few is = record {
 }
 
 -- a response has the mark of its place
-pub response_marked : (at : ℕ) (stored : Bool) (reply : Reply) (rest bytes : List ℕ) → at < 2 ^ 64 → length bytes < 2 ^ 64
+pub response_marked : (at : ℕ) (stored : Bool) (reply : Reply) (rest bytes : List ℕ) → at < 2 ^ 64
+    → length bytes < 2 ^ 64
     → bytes ≡ response at stored reply ++ rest → HasMark bytes at stored
 unfolding response
 response_marked at stored reply rest bytes fits few is =
@@ -94,7 +98,8 @@ response_marked at stored reply rest bytes fits few is =
 pub want_after_marked : (at : ℕ) (stored : Bool) (rest bytes : List ℕ) → at < 2 ^ 64 → length bytes < 2 ^ 64
     → bytes ≡ want_after at stored ++ rest → HasMark bytes at stored
 unfolding want_after
-want_after_marked at stored rest bytes fits few is = message_marked 507 at stored want_body rest bytes (omega arith) fits few is
+want_after_marked at stored rest bytes fits few is = message_marked 507 at stored want_body rest bytes (omega arith)
+    fits few is
 
 -- where memory ran out before the call there is none
 pub want_before_unmarked : (rest bytes : List ℕ) → length bytes < 2 ^ 64 → bytes ≡ want_before ++ rest → HasNoMark bytes
@@ -111,7 +116,8 @@ want_before_unmarked rest bytes few is = record {
 messages_agree : (s t : ℕ) (lines body rest lines' body' rest' : List ℕ) → s < 2 ^ 64 → t < 2 ^ 64
     → message s lines body ++ rest ≡ message t lines' body' ++ rest' → s ≡ t
 messages_agree s t lines body rest lines' body' rest' fits few is =
-    same_status s t (length body) (length body') (lines ++ ((codes "\r\n" ++ body) ++ rest)) (lines' ++ ((codes "\r\n" ++ body') ++ rest')) fits few
+    same_status s t (length body) (length body') (lines ++ ((codes "\r\n" ++ body) ++ rest))
+    (lines' ++ ((codes "\r\n" ++ body') ++ rest')) fits few
     (sym (message_is s lines body rest) ∙ (is ∙ message_is t lines' body' rest'))
 
 -- no bytes begin with a response and with one where memory ran out after the call
@@ -119,14 +125,17 @@ pub response_or_want : (at at' : ℕ) (stored stored' : Bool) (reply : Reply) (r
     → response at stored reply ++ rest ≡ want_after at' stored' ++ rest' → ⊥
 unfolding response want_after
 response_or_want at at' stored stored' reply rest rest' is =
-    no_reply_wants reply (messages_agree (status_of reply) 507 (place_lines at stored) (compact_text (reply_data reply)) rest
+    no_reply_wants reply (messages_agree (status_of reply) 507 (place_lines at stored) (compact_text (reply_data reply))
+    rest
     (place_lines at' stored') want_body rest' (omega (arith, status_is_small reply)) (omega arith) is)
 
 -- nor with a response and with one where memory ran out before the call
-pub response_or_want_before : (at : ℕ) (stored : Bool) (reply : Reply) (rest rest' : List ℕ) → response at stored reply ++ rest ≡ want_before ++ rest' → ⊥
+pub response_or_want_before : (at : ℕ) (stored : Bool) (reply : Reply) (rest rest' : List ℕ) → response at stored reply
+    ++ rest ≡ want_before ++ rest' → ⊥
 unfolding response want_before
 response_or_want_before at stored reply rest rest' is =
-    no_reply_wants reply (messages_agree (status_of reply) 507 (place_lines at stored) (compact_text (reply_data reply)) rest
+    no_reply_wants reply (messages_agree (status_of reply) 507 (place_lines at stored) (compact_text (reply_data reply))
+    rest
     (codes "AM-Stored: 0\r\n") want_body rest' (omega (arith, status_is_small reply)) (omega arith) is)
 
 -- nor with a refusal and with one where memory ran out before the call
@@ -135,13 +144,16 @@ refusal_or_want : (status : ℕ) (error : List ℕ) (name : Option (List ℕ)) (
 unfolding refusal want_before
 refusal_or_want status error name rest rest' small is =
     let same : status ≡ 507 =
-    messages_agree status 507 [] (compact_text (error_data error name)) rest (codes "AM-Stored: 0\r\n") want_body rest' (omega arith) (omega arith) is in
+    messages_agree status 507 [] (compact_text (error_data error name)) rest (codes "AM-Stored: 0\r\n") want_body rest'
+    (omega arith) (omega arith) is in
     absurd (omega arith)
 
-pub refused_or_want : (refused : Refusal) (rest rest' : List ℕ) → refusal_text refused ++ rest ≡ want_before ++ rest' → ⊥
+pub refused_or_want : (refused : Refusal) (rest rest' : List ℕ) → refusal_text refused ++ rest ≡ want_before ++ rest'
+    → ⊥
 refused_or_want NoRoute rest rest' is = refusal_or_want 404 (codes "no_route") None rest rest' (omega arith) is
 refused_or_want NoMethod rest rest' is = refusal_or_want 405 (codes "no_method") None rest rest' (omega arith) is
-refused_or_want (BadRequest fault) rest rest' is = refusal_or_want 400 (codes "bad_request") (Some (printed fault)) rest rest' (omega arith) is
+refused_or_want (BadRequest fault) rest rest' is = refusal_or_want 400 (codes "bad_request") (Some (printed fault)) rest
+    rest' (omega arith) is
 
 -- what bytes that begin with a response have behind it is behind all that can show the same
 pub behind_response : (at : ℕ) (stored : Bool) (reply : Reply) (left bytes rest : List ℕ)
@@ -155,15 +167,20 @@ behind_response at stored reply left bytes rest begins (inr is) splits =
     (sym begins ∙ (splits ∙ ap (λ (l : List ℕ). l ++ rest) is)))
 
 -- the first bytes are the response, and nothing else shows the same
-pub response_first : (at : ℕ) (stored : Bool) (reply : Reply) (text left : List ℕ) (taken : ℕ) → text ≡ response at stored reply → taken ≡ length text
+pub response_first : (at : ℕ) (stored : Bool) (reply : Reply) (text left : List ℕ) (taken : ℕ) → text
+    ≡ response at stored reply → taken ≡ length text
     → left ≡ text ++ drop (length text) left → length text ≤ length left
     → (taken ≤ length left) × ((take taken left ≡ response at stored reply) ⊎ (take taken left ≡ want_after at stored))
-    × ((bytes rest : List ℕ) → (bytes ≡ response at stored reply) ⊎ (bytes ≡ want_after at stored) → left ≡ bytes ++ rest → rest ≡ drop taken left)
+    × ((bytes rest : List ℕ) → (bytes ≡ response at stored reply) ⊎ (bytes ≡ want_after at stored) → left ≡ bytes
+    ++ rest → rest ≡ drop taken left)
 response_first at stored reply text left taken is all begins fits =
     let whole : List ℕ = response at stored reply in
     let size : taken ≡ length whole = all ∙ ap (λ (l : List ℕ). length l) is in
-    let front : left ≡ whole ++ drop (length whole) left = subst (λ (l : List ℕ). left ≡ l ++ drop (length l) left) is begins in (
+    let front : left ≡ whole ++ drop (length whole) left = subst (λ (l : List ℕ). left ≡ l ++ drop (length l) left) is
+    begins in (
       omega arith,
-      inl (ap (λ (n : ℕ). take n left) size ∙ (ap (λ (l : List ℕ). take (length whole) l) front ∙ take-append_seam whole (drop (length whole) left))),
-      λ bytes rest shows splits. behind_response at stored reply left bytes rest front shows splits ∙ ap (λ (n : ℕ). drop n left) (sym size),
+      inl (ap (λ (n : ℕ). take n left) size ∙ (ap (λ (l : List ℕ). take (length whole) l) front
+          ∙ take-append_seam whole (drop (length whole) left))),
+      λ bytes rest shows splits. behind_response at stored reply left bytes rest front shows splits
+          ∙ ap (λ (n : ℕ). drop n left) (sym size),
     )

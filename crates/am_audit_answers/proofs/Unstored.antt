@@ -22,129 +22,145 @@ use Rattle.am_audit_answers.proofs.Placed.{IsPlaced, accepted_at, answer_by, eac
 
 module _ (history : List Entry) (bench : Bench) (frame : Frame) (left : List ℕ) (request : Request) (number : ℕ)
     (first : IsReplayed (ground_of history bench) bench.replayed)
-    (after : Replay) (shown : Shown) (shows : ShowsKept bench.replayed (call_of number frame 0 request) after shown) where
-  -- the case, and its call's place
-  abbrev c : Case
-  c = case_of history bench frame left
+    (after : Replay) (shown : Shown) (shows : ShowsKept bench.replayed (call_of number frame 0 request) after shown)
+  where
+    -- the case, and its call's place
+    abbrev c : Case
+    c = case_of history bench frame left
 
-  abbrev point : Point
-  point = record { at = length bench.replayed.history; stored = false }
+    abbrev point : Point
+    point = record { at = length bench.replayed.history; stored = false }
 
-  -- what was replayed are the entries before the place
-  abbrev before : List Entry
-  before = take (length bench.replayed.history) history
+    -- what was replayed are the entries before the place
+    abbrev before : List Entry
+    before = take (length bench.replayed.history) history
 
-  -- whether it is stored there, on whichever desk
-  stored_is : (desk : ℕ) → shown.stored ≡ is_stored (replay bench.replayed.start before) before (call_of desk frame 0 request)
-  stored_is desk =
-      let P : List Entry → Type 0 = λ h. shown.stored ≡ is_stored (replay bench.replayed.start h) h (call_of desk frame 0 request) in
-      subst P first.first shows.stored
+    -- whether it is stored there, on whichever desk
+    stored_is : (desk : ℕ) → shown.stored ≡ is_stored (replay bench.replayed.start before) before
+        (call_of desk frame 0 request)
+    stored_is desk =
+        let P : List Entry → Type 0 = λ h. shown.stored ≡ is_stored (replay bench.replayed.start h) h
+        (call_of desk frame 0 request) in
+        subst P first.first shows.stored
 
-  -- what is shown of it, on whichever desk
-  shown_is : (desk : ℕ) (kept : Bool) → shown.stored ≡ false
-      → shown_at bench.replayed.start history point (call_of desk frame 0 request) kept ≡ shown
-  shown_is desk kept unstored =
-      let reply : reply_after bench.replayed.start before (call_of desk frame 0 request) kept ≡ shown.reply =
-      unstored_reply bench.replayed.start before frame 0 request desk number kept (sym (stored_is desk) ∙ unstored)
-      ∙ (ap (λ (h : List Entry). reply_after bench.replayed.start h (call_of number frame 0 request) true) (sym first.first) ∙ sym shows.reply) in
-      λ i. record { at = sym shows.at i; stored = sym unstored i; reply = reply i }
+    -- what is shown of it, on whichever desk
+    shown_is : (desk : ℕ) (kept : Bool) → shown.stored ≡ false
+        → shown_at bench.replayed.start history point (call_of desk frame 0 request) kept ≡ shown
+    shown_is desk kept unstored =
+        let reply : reply_after bench.replayed.start before (call_of desk frame 0 request) kept ≡ shown.reply =
+        unstored_reply bench.replayed.start before frame 0 request desk number kept (sym (stored_is desk) ∙ unstored)
+        ∙ (ap (λ (h : List Entry). reply_after bench.replayed.start h (call_of number frame 0 request) true)
+        (sym first.first) ∙ sym shows.reply) in
+        λ i. record { at = sym shows.at i; stored = sym unstored i; reply = reply i }
 
-  -- nothing is added
-  after_is : shown.stored ≡ false → after.history ≡ bench.replayed.history
-  after_is unstored =
-      let P : Bool → Type 0 =
-      λ b. Follows bench.replayed.history after.history b (IsEntryOf (replay bench.replayed.start bench.replayed.history) (call_of number frame 0 request) true) in
-      subst P unstored shows.follows
+    -- nothing is added
+    after_is : shown.stored ≡ false → after.history ≡ bench.replayed.history
+    after_is unstored =
+        let P : Bool → Type 0 =
+        λ b. Follows bench.replayed.history after.history b (IsEntryOf
+        (replay bench.replayed.start bench.replayed.history) (call_of number frame 0 request) true) in
+        subst P unstored shows.follows
 
-  module _ (asks : request_of frame ≡ Ok request) (says : SaysOnly left (length bench.replayed.history) false)
-      (short : length history < 2 ^ 64) (few : length left < 2 ^ 64) where
-    -- an exchange of the frame shows that call
-    placed : (desk : ℕ) (e : Exchange) (rest : List ℕ) → Answers c desk e rest → IsPlaced c request point desk e
-    placed desk e rest answers = each_placed c request point asks says short few desk e rest answers
+    module _ (asks : request_of frame ≡ Ok request) (says : SaysOnly left (length bench.replayed.history) false)
+        (short : length history < 2 ^ 64) (few : length left < 2 ^ 64) where
+      -- an exchange of the frame shows that call
+      placed : (desk : ℕ) (e : Exchange) (rest : List ℕ) → Answers c desk e rest → IsPlaced c request point desk e
+      placed desk e rest answers = each_placed c request point asks says short few desk e rest answers
 
-    -- at moment 0
-    now_is : (desk : ℕ) (e : Exchange) (rest : List ℕ) (answers : Answers c desk e rest) (p : IsPlaced c request point desk e) → p.now ≡ 0
-    now_is desk e rest answers p =
-        let timed : IsTimedBy (Some point) e.now = subst (λ (o : Option Point). IsTimedBy o e.now) p.placed answers.audited.timed in
-        same_Some _ _ (sym p.asked ∙ timed refl)
+      -- at moment 0
+      now_is : (desk : ℕ) (e : Exchange) (rest : List ℕ) (answers : Answers c desk e rest)
+          (p : IsPlaced c request point desk e) → p.now ≡ 0
+      now_is desk e rest answers p =
+          let timed : IsTimedBy (Some point) e.now = subst (λ (o : Option Point). IsTimedBy o e.now) p.placed
+          answers.audited.timed in
+          same_Some _ _ (sym p.asked ∙ timed refl)
 
-    -- so it isn't stored
-    isnt_stored : (desk : ℕ) (e : Exchange) (rest : List ℕ) → Answers c desk e rest → shown.stored ≡ false
-    isnt_stored desk e rest answers =
-        let p = placed desk e rest answers in
-        let there : false ≡ is_stored (replay bench.replayed.start before) before (call_of desk frame 0 request) =
-        subst (λ (n : ℕ). false ≡ is_stored (replay bench.replayed.start before) before (call_of desk frame n request)) (now_is desk e rest answers p) p.marked.stored in
-        stored_is desk ∙ sym there
+      -- so it isn't stored
+      isnt_stored : (desk : ℕ) (e : Exchange) (rest : List ℕ) → Answers c desk e rest → shown.stored ≡ false
+      isnt_stored desk e rest answers =
+          let p = placed desk e rest answers in
+          let there : false ≡ is_stored (replay bench.replayed.start before) before (call_of desk frame 0 request) =
+          subst (λ (n : ℕ). false ≡ is_stored (replay bench.replayed.start before) before (call_of desk frame n request))
+          (now_is desk e rest answers p) p.marked.stored in
+          stored_is desk ∙ sym there
 
-    -- and its bytes show what was shown
-    shows_it : (desk : ℕ) (e : Exchange) (rest : List ℕ) → Answers c desk e rest → IsShownBy shown e.bytes
-    shows_it desk e rest answers =
-        let p = placed desk e rest answers in
-        let here : IsShownBy (shown_at bench.replayed.start history point (call_of desk frame 0 request) p.kept) e.bytes =
-        subst (λ (n : ℕ). IsShownBy (shown_at bench.replayed.start history point (call_of desk frame n request) p.kept) e.bytes) (now_is desk e rest answers p) p.shows in
-        subst (λ (s : Shown). IsShownBy s e.bytes) (shown_is desk p.kept (isnt_stored desk e rest answers)) here
+      -- and its bytes show what was shown
+      shows_it : (desk : ℕ) (e : Exchange) (rest : List ℕ) → Answers c desk e rest → IsShownBy shown e.bytes
+      shows_it desk e rest answers =
+          let p = placed desk e rest answers in
+          let here : IsShownBy (shown_at bench.replayed.start history point (call_of desk frame 0 request) p.kept) e.bytes
+          =
+          subst (λ (n : ℕ). IsShownBy (shown_at bench.replayed.start history point (call_of desk frame n request) p.kept)
+          e.bytes) (now_is desk e rest answers p) p.shows in
+          subst (λ (s : Shown). IsShownBy s e.bytes) (shown_is desk p.kept (isnt_stored desk e rest answers)) here
 
-    -- if no bytes show it there is none
-    refuses : ShowsAs false shown left None → Refuses c
-    refuses none desk e rest answers = none (isnt_stored desk e rest answers) e.bytes rest (shows_it desk e rest answers) answers.bytes
+      -- if no bytes show it there is none
+      refuses : ShowsAs false shown left None → Refuses c
+      refuses none desk e rest answers = none (isnt_stored desk e rest answers) e.bytes rest
+          (shows_it desk e rest answers) answers.bytes
 
-    -- the exchange of so many bytes
-    abbrev exchange : ℕ → Exchange
-    exchange = exchange_at c point (Some 0)
+      -- the exchange of so many bytes
+      abbrev exchange : ℕ → Exchange
+      exchange = exchange_at c point (Some 0)
 
-    called : (desk taken : ℕ) → shown.stored ≡ false → IsCalled bench.replayed.start desk history (exchange taken)
-    called desk taken unstored = record {
-      request = request;
-      asks = asks;
-      now = 0;
-      asked = refl;
-      kept = true;
-      point = point;
-      placed = refl;
-      marked = record { within = first.within; stored = sym unstored ∙ stored_is desk; entry = tt };
-    }
+      called : (desk taken : ℕ) → shown.stored ≡ false → IsCalled bench.replayed.start desk history (exchange taken)
+      called desk taken unstored = record {
+        request = request;
+        asks = asks;
+        now = 0;
+        asked = refl;
+        kept = true;
+        point = point;
+        placed = refl;
+        marked = record { within = first.within; stored = sym unstored ∙ stored_is desk; entry = tt };
+      }
 
-    -- it is accepted by them
-    accepts : (taken : ℕ) → ShowsAs false shown left (Some taken)
-        → IsAccepted c (record { bench = record { replayed = after; desk = bench.desk }; taken = taken })
-    unfolding called
-    accepts taken takes =
-        accepted_at c point (record { bench = record { replayed = after; desk = bench.desk }; taken = taken }) (Some 0) (omega arith) takes.1.0
-        (λ desk suits. (suits, record { answer = answer desk; timed = λ _. refl }))
-        (λ desk e rest answers. (
-          (placed desk e rest answers).placed,
-          takes.1.2 e.bytes rest (shows_it desk e rest answers) answers.bytes,
-          answers.suits,
-        ))
-        (sym (ap (λ (h : List Entry). length h) (after_is takes.0))) shows.start replayed
-      where
-        answer : (desk : ℕ) → IsAnswer bench.replayed.start desk history (exchange taken)
-        answer desk =
-            answer_by bench.replayed.start desk history (exchange taken) (called desk taken takes.0)
-            (subst (λ (s : Shown). IsShownBy s (take taken left)) (sym (shown_is desk true takes.0)) takes.1.1)
+      -- it is accepted by them
+      accepts : (taken : ℕ) → ShowsAs false shown left (Some taken)
+          → IsAccepted c (record { bench = record { replayed = after; desk = bench.desk }; taken = taken })
+      unfolding called
+      accepts taken takes =
+          accepted_at c point (record { bench = record { replayed = after; desk = bench.desk }; taken = taken }) (Some 0)
+          (omega arith) takes.1.0
+          (λ desk suits. (suits, record { answer = answer desk; timed = λ _. refl }))
+          (λ desk e rest answers. (
+            (placed desk e rest answers).placed,
+            takes.1.2 e.bytes rest (shows_it desk e rest answers) answers.bytes,
+            answers.suits,
+          ))
+          (sym (ap (λ (h : List Entry). length h) (after_is takes.0))) shows.start replayed
+        where
+          answer : (desk : ℕ) → IsAnswer bench.replayed.start desk history (exchange taken)
+          answer desk =
+              answer_by bench.replayed.start desk history (exchange taken) (called desk taken takes.0)
+              (subst (λ (s : Shown). IsShownBy s (take taken left)) (sym (shown_is desk true takes.0)) takes.1.1)
 
-        replayed : IsReplayed (ground_of history bench) after
-        replayed =
-            let same : bench.replayed.history ≡ after.history = sym (after_is takes.0) in
-            let P : List Entry → Type 0 = λ h. h ≡ take (length h) history in
-            record {
-              start = shows.start;
-              within = subst (λ (h : List Entry). length h ≤ length history) same first.within;
-              first = subst P same first.first;
-            }
+          replayed : IsReplayed (ground_of history bench) after
+          replayed =
+              let same : bench.replayed.history ≡ after.history = sym (after_is takes.0) in
+              let P : List Entry → Type 0 = λ h. h ≡ take (length h) history in
+              record {
+                start = shows.start;
+                within = subst (λ (h : List Entry). length h ≤ length history) same first.within;
+                first = subst P same first.first;
+              }
 
 -- such a frame is judged by what the call comes to
-pub unstored_judged : (history : List Entry) (bench : Bench) (frame : Frame) (left : List ℕ) (request : Request) (number : ℕ) (after : Replay)
-    (taken : Option ℕ) (result : Option Accepted) → request_of frame ≡ Ok request → SaysOnly left (length bench.replayed.history) false
+pub unstored_judged : (history : List Entry) (bench : Bench) (frame : Frame) (left : List ℕ) (request : Request)
+    (number : ℕ) (after : Replay)
+    (taken : Option ℕ) (result : Option Accepted) → request_of frame ≡ Ok request
+    → SaysOnly left (length bench.replayed.history) false
     → length history < 2 ^ 64 → length left < 2 ^ 64 → IsReplayed (ground_of history bench) bench.replayed
     → IsMade bench.replayed (call_of number frame 0 request) false left (after, taken)
-    → MatchOption result (taken ≡ None) (λ a. (a.bench ≡ record { replayed = after; desk = bench.desk }) × (taken ≡ Some a.taken))
+    → MatchOption result (taken ≡ None) (λ a. (a.bench ≡ record { replayed = after; desk = bench.desk })
+    × (taken ≡ Some a.taken))
     → Judges (case_of history bench frame left) result
 unstored_judged history bench frame left request number after taken None asks says short few first made is =
     refuses history bench frame left request number first after made.shown made.shows asks says short few
     (subst (ShowsAs false made.shown left) is made.taken)
 unstored_judged history bench frame left request number after taken (Some a) asks says short few first made is =
-    let same : record { bench = record { replayed = after; desk = bench.desk }; taken = a.taken } ≡ a = λ i. record { bench = sym is.0 i; taken = a.taken } in
+    let same : record { bench = record { replayed = after; desk = bench.desk }; taken = a.taken }
+    ≡ a = λ i. record { bench = sym is.0 i; taken = a.taken } in
     subst (IsAccepted (case_of history bench frame left)) same
     (accepts history bench frame left request number first after made.shown made.shows asks says short few a.taken
     (subst (ShowsAs false made.shown left) is.1 made.taken))

@@ -25,8 +25,10 @@ unmade frame text = record { frame = frame; now = None; point = None; bytes = te
 
 -- a frame that has that response alone, without a call, is accepted by it
 accepts_text : (history : List Entry) (bench : Bench) (frame : Frame) (left text : List ℕ) (taken : ℕ)
-    → IsReplayed (ground_of history bench) bench.replayed → ((desk : ℕ) → IsAnswer bench.replayed.start desk history (unmade frame text))
-    → ((desk : ℕ) (e : Exchange) (rest : List ℕ) → Answers (case_of history bench frame left) desk e rest → (e.point ≡ None) × (e.bytes ≡ text))
+    → IsReplayed (ground_of history bench) bench.replayed → ((desk : ℕ)
+    → IsAnswer bench.replayed.start desk history (unmade frame text))
+    → ((desk : ℕ) (e : Exchange) (rest : List ℕ) → Answers (case_of history bench frame left) desk e rest
+    → (e.point ≡ None) × (e.bytes ≡ text))
     → left ≡ text ++ drop (length text) left → length text ≤ length left → taken ≡ length text
     → IsAccepted (case_of history bench frame left) (record { bench = bench; taken = taken })
 accepts_text history bench frame left text taken first answer only begins fits size = record {
@@ -43,7 +45,8 @@ accepts_text history bench frame left text taken first answer only begins fits s
     only = λ desk e rest answers.
         let is = only desk e rest answers in
         record {
-          ends = sym (front_rest left text rest (answers.bytes ∙ ap (λ (l : List ℕ). l ++ rest) is.1)) ∙ ap (λ (n : ℕ). drop n left) (sym size);
+          ends = sym (front_rest left text rest (answers.bytes ∙ ap (λ (l : List ℕ). l ++ rest) is.1))
+              ∙ ap (λ (n : ℕ). drop n left) (sym size);
           suits = answers.suits;
           floor = ap (λ (o : Option Point). floor_after (length bench.replayed.history) o) is.0;
         };
@@ -55,14 +58,16 @@ accepts_text history bench frame left text taken first answer only begins fits s
 
 -- where memory ran out before the call
 pub accepts_want : (history : List Entry) (bench : Bench) (frame : Frame) (left text : List ℕ) (taken : ℕ)
-    → IsReplayed (ground_of history bench) bench.replayed → OnlyWants (case_of history bench frame left) → text ≡ want_before
+    → IsReplayed (ground_of history bench) bench.replayed → OnlyWants (case_of history bench frame left) → text
+    ≡ want_before
     → left ≡ text ++ drop (length text) left → length text ≤ length left → taken ≡ length text
     → IsAccepted (case_of history bench frame left) (record { bench = bench; taken = taken })
 accepts_want history bench frame left text taken first only is begins fits size =
     accepts_text history bench frame left text taken first (λ desk. by_want refl is)
     (λ desk e rest answers. let wants = only desk e rest answers in (wants.0, wants.1 ∙ sym is)) begins fits size
 
-pub refuses_want : (history : List Entry) (bench : Bench) (frame : Frame) (left text : List ℕ) → OnlyWants (case_of history bench frame left)
+pub refuses_want : (history : List Entry) (bench : Bench) (frame : Frame) (left text : List ℕ)
+    → OnlyWants (case_of history bench frame left)
     → text ≡ want_before → ((rest : List ℕ) → left ≡ text ++ rest → ⊥) → Refuses (case_of history bench frame left)
 refuses_want history bench frame left text only is none desk e rest answers =
     none rest (answers.bytes ∙ ap (λ (l : List ℕ). l ++ rest) ((only desk e rest answers).1 ∙ sym is))
@@ -71,21 +76,27 @@ refuses_want history bench frame left text only is none desk e rest answers =
 same_refusal : (read : Result Request Refusal) (one other : Refusal) → read ≡ Err one → read ≡ Err other → one ≡ other
 same_refusal read one other first second = cc
 
-no_request : (read : Result Request Refusal) (refused : Refusal) (request : Request) → read ≡ Err refused → read ≡ Ok request → ⊥
+no_request : (read : Result Request Refusal) (refused : Refusal) (request : Request) → read ≡ Err refused → read
+    ≡ Ok request → ⊥
 no_request read refused request refuses asks = absurd cc
 
 module _ (c : Case) (text : List ℕ) (asked : Asks c.frame (Err text)) where
   -- has the text that refuses it, or says that memory ran out
-  refused_or : (desk : ℕ) (e : Exchange) (rest : List ℕ) → Answers c desk e rest → (e.point ≡ None) × ((e.bytes ≡ text) ⊎ (e.bytes ≡ want_before))
+  refused_or : (desk : ℕ) (e : Exchange) (rest : List ℕ) → Answers c desk e rest → (e.point ≡ None)
+      × ((e.bytes ≡ text) ⊎ (e.bytes ≡ want_before))
   refused_or desk e rest answers = by answers.audited.answer
     where
-      by : IsAnswer c.ground.start desk c.ground.history e → (e.point ≡ None) × ((e.bytes ≡ text) ⊎ (e.bytes ≡ want_before))
+      by : IsAnswer c.ground.start desk c.ground.history e → (e.point ≡ None)
+          × ((e.bytes ≡ text) ⊎ (e.bytes ≡ want_before))
       by (by_refusal refused refuses never none is) =
-          let same : refused ≡ asked.0 = same_refusal (request_of e.frame) refused asked.0 refuses (ap request_of answers.frame ∙ asked.1) in
+          let same : refused ≡ asked.0 = same_refusal (request_of e.frame) refused asked.0 refuses
+          (ap request_of answers.frame ∙ asked.1) in
           (none, inl (is ∙ (ap refusal_text same ∙ sym asked.2)))
-      by (by_reply called is) = absurd (no_request (request_of e.frame) asked.0 called.request (ap request_of answers.frame ∙ asked.1) called.asks)
+      by (by_reply called is) = absurd (no_request (request_of e.frame) asked.0 called.request
+          (ap request_of answers.frame ∙ asked.1) called.asks)
       by (by_want none is) = (none, inr is)
-      by (by_late_want called is) = absurd (no_request (request_of e.frame) asked.0 called.request (ap request_of answers.frame ∙ asked.1) called.asks)
+      by (by_late_want called is) = absurd (no_request (request_of e.frame) asked.0 called.request
+          (ap request_of answers.frame ∙ asked.1) called.asks)
 
   -- has the text alone, if the bytes begin with it
   only_refused : (behind : List ℕ) → c.left ≡ text ++ behind
@@ -99,7 +110,8 @@ module _ (c : Case) (text : List ℕ) (asked : Asks c.frame (Err text)) where
       by (inl refuses) = refuses
       by (inr wants) =
           absurd (refused_or_want asked.0 behind rest
-          (ap (λ (l : List ℕ). l ++ behind) (sym asked.2) ∙ (sym begins ∙ (answers.bytes ∙ ap (λ (l : List ℕ). l ++ rest) wants))))
+          (ap (λ (l : List ℕ). l ++ behind) (sym asked.2) ∙ (sym begins
+          ∙ (answers.bytes ∙ ap (λ (l : List ℕ). l ++ rest) wants))))
 
   -- and says that memory ran out, if they don't
   pub refused_wants : ((rest : List ℕ) → c.left ≡ text ++ rest → ⊥) → OnlyWants c

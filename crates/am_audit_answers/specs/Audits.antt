@@ -11,7 +11,7 @@ pub record Ground : Type 0 where
   pub start : State
   pub history : List Entry
 
--- a call that isn't stored was made at moment 0; the moment of one that is stored stands in its entry
+-- a call that isn't stored was made at moment 0; the moment of a stored call is in its entry
 abbrev pub IsTimedBy : Option Point → Option ℕ → Type 0
 IsTimedBy None now = ⊤
 IsTimedBy (Some point) now = point.stored ≡ false → now ≡ Some 0
@@ -21,7 +21,7 @@ pub record IsAudited (ground : Ground) (desk : ℕ) (e : Exchange) : Type 0 wher
   pub answer : IsAnswer ground.start desk ground.history e
   pub timed : IsTimedBy e.point e.now
 
--- each of these is, and along them no place is below one before it
+-- the history has each of these, and along them no place is below an earlier one
 pub record AreAudited (ground : Ground) (desk : ℕ) (es : List Exchange) : Type 0 where
   pub each : AllByRecursion (IsAudited ground desk) es
   pub order : AreInOrder 0 es
@@ -35,7 +35,7 @@ pub record AreResponses (ground : Ground) (frames : List Frame) (bytes : List �
   pub audited : AreAudited ground desk exchanges
   pub output : bytes_of exchanges ≡ bytes
 
--- some first bytes are
+-- some first bytes are such responses
 pub record BeginsAudited (ground : Ground) (frames : List Frame) (bytes : List ℕ) : Type 0 where
   pub first : List ℕ
   pub rest : List ℕ

@@ -1,4 +1,4 @@
--- What a judged frame comes to, as code has it.
+-- The verdict on a frame, as code has it.
 use Rattle.std.specs.Prelude.{◌≡◌, ℕ, ◌≤◌, ◌⊎◌, Bool, true, false, List, ◌++◌, length, drop, take, slice_get, Option, Some, None, MatchOption}
 use Rattle.am_types.specs.declared.history.Entry.{Entry}
 use Rattle.am_types.specs.declared.history.Shown.{Shown}
@@ -15,11 +15,11 @@ use Rattle.am_audit_answers.specs.Audits.{Ground}
 use Rattle.am_audit_answers.specs.Judging.{Accepts, Case, Refuses, Standing, Suits, case_at}
 use Rattle.am_audit_answers.specs.Matching.{IsItsCall, IsRecord, IsReplayed}
 
--- the standing of an audit that has come so far
+-- how far an audit has come, as clauses see it
 abbrev pub standing_of : Bench → Standing
 standing_of bench = record { floor = length bench.replayed.history; desk = bench.desk }
 
--- what an audit by that history is held against
+-- what an audit by this history is held against
 abbrev pub ground_of : List Entry → Bench → Ground
 ground_of history bench = record { start = bench.replayed.start; history = history }
 
@@ -28,7 +28,7 @@ pub record Stands (history : List Entry) (bench : Bench) : Type 0 where
   pub made : IsRecord (ground_of history bench)
   pub first : IsReplayed (ground_of history bench) bench.replayed
 
--- a frame that is judged where an audit by that history has come so far, by the bytes that are left
+-- a frame that is judged after an audit by this history has come so far, by the bytes that are left
 abbrev pub case_of : List Entry → Bench → Frame → List ℕ → Case
 case_of history bench frame left = case_at (ground_of history bench) (standing_of bench) frame left
 
@@ -44,12 +44,12 @@ abbrev pub Judges : Case → Option Accepted → Type 0
 Judges c (Some accepted) = IsAccepted c accepted
 Judges c None = Refuses c
 
--- the bytes are the response that shows this, or the one that says that memory ran out behind it
+-- the bytes are the response that shows this, or the one that says that memory ran out after it
 abbrev pub IsShownBy : Shown → List ℕ → Type 0
 IsShownBy shown bytes =
     (bytes ≡ response shown.at shown.stored shown.reply) ⊎ (bytes ≡ want_after shown.at shown.stored)
 
--- so many bytes are such a response, and the bytes begin with no other; or they begin with none
+-- so many bytes are such a response, and the bytes begin with no other one; or they begin with none
 abbrev pub ShowsFirst : Shown → List ℕ → Option ℕ → Type 0
 ShowsFirst shown left (Some taken) =
     (taken ≤ length left) × IsShownBy shown (take taken left)
@@ -61,14 +61,15 @@ abbrev pub ShowsAs : Bool → Shown → List ℕ → Option ℕ → Type 0
 ShowsAs stored shown left (Some taken) = (shown.stored ≡ stored) × ShowsFirst shown left (Some taken)
 ShowsAs stored shown left None = shown.stored ≡ stored → ShowsFirst shown left None
 
--- a call was made at the end of a history, which goes on so, and so many bytes show it if it is stored as was said
+-- a call was made at the end of a history, which goes on so, and so many bytes show it if it is stored or not as was
+-- said
 pub record IsMade (before : Replay) (call : Call) (stored : Bool) (left : List ℕ)
     (made : Replay × Option ℕ) : Type 0 where
   pub shown : Shown
   pub shows : ShowsKept before call made.0 shown
   pub taken : ShowsAs stored shown left made.1
 
--- the entry behind those that were replayed is the frame's call, on a desk that suits
+-- the entry after those that were replayed is the frame's call, on a desk that fits
 pub record IsNext (history : List Entry) (bench : Bench) (frame : Frame) (request : Request)
     (next : Entry) : Type 0 where
   pub there : slice_get history (length bench.replayed.history) ≡ Some next
@@ -89,8 +90,8 @@ IsMakingOf history bench frame request false (Some making) =
     making ≡ record { desk = making.desk; now = 0; stored = false; known = bench.desk }
 IsMakingOf history bench frame request false None = ⊥
 
--- a call that was made so at the end of the history that was replayed: the frame is accepted by the bytes that show it, or
--- it isn't
+-- a call that was made so at the end of the history that was replayed: the frame is accepted by the bytes that show it,
+-- or it isn't
 pub record ComesTo (bench : Bench) (frame : Frame) (request : Request) (making : Making) (left : List ℕ)
     (judged : Option Accepted) : Type 0 where
   pub made : Replay × Option ℕ

@@ -18,7 +18,8 @@ abbrev pub Suits : Option ℕ → ℕ → Type 0
 Suits None desk = ⊤
 Suits (Some known) desk = desk ≡ known
 
--- a frame that is judged: by what, how far the audit has come, the frame, and the bytes that are left of the responses
+-- a frame to judge: the history to judge it by, how far the audit has come, the frame, and the bytes that are left of
+-- the responses
 pub record Case : Type 0 where
   pub ground : Ground
   pub standing : Standing
@@ -37,13 +38,13 @@ pub record Answers (c : Case) (desk : ℕ) (e : Exchange) (rest : List ℕ) : Ty
   pub above : IsAbove c.standing.floor e.point
   pub bytes : c.left ≡ e.bytes ++ rest
 
--- behind an exchange on a desk, with that least place of a later call and these bytes left, the audit stands so
+-- after an exchange on a desk, with this least place of a later call and these bytes left, the audit has come so far
 pub record LeadsTo (desk place : ℕ) (rest : List ℕ) (after : Standing) (left : List ℕ) : Type 0 where
   pub ends : rest ≡ left
   pub suits : Suits after.desk desk
   pub floor : place ≡ after.floor
 
--- there is such an exchange on each desk that suits afterwards, and every such exchange leads there
+-- there is such an exchange on each desk that fits afterwards, and every such exchange leads there
 pub record Accepts (c : Case) (after : Standing) (left : List ℕ) : Type 0 where
   pub exchange : Exchange
   pub answers : (desk : ℕ) → Suits after.desk desk → Answers c desk exchange left

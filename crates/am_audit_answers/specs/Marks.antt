@@ -1,4 +1,4 @@
--- Where a response says that its call stands.
+-- The place that a response gives for its call.
 use Rattle.std.specs.Prelude.{◌≡◌, ℕ, ◌^◌, ◌<◌, Bool, codes, List, ◌++◌}
 use Rattle.am_http.specs.Responses.{head, place_lines}
 

@@ -10,13 +10,13 @@ use Rattle.am_audit_calls.specs.Replays.{Replay}
 use Rattle.am_audit_lines.specs.Lines.{IsWhole}
 use Rattle.am_audit_answers.specs.Audits.{Ground}
 
--- a frame with the key and the body of a whole one makes that request
+-- a frame with the key and the body of a whole one makes this request
 pub record MakesRequest (frame : Frame) (request : Request) : Type 0 where
   pub key : IsUtf8 frame.key
   pub body : length frame.body ≤ 65536
   pub asks : request_of frame ≡ Ok request
 
--- in that state the entry is the call of the frame with that request, on whichever desk
+-- in this state the entry is the call of the frame with this request, on any desk
 pub record IsItsCall (state : State) (frame : Frame) (request : Request) (entry : Entry) : Type 0 where
   pub uid : uid_of state frame.key ≡ Some entry.uid
   pub weight : entry.weight ≡ length frame.body
@@ -33,7 +33,7 @@ pub record IsReplayed (ground : Ground) (r : Replay) : Type 0 where
   pub within : length r.history ≤ length ground.history
   pub first : r.history ≡ take (length r.history) ground.history
 
--- the history was replayed up to that place, unless it is before the one that was reached, or behind the history
+-- the history was replayed up to this place, unless it is before the one that was reached, or after the history's end
 abbrev pub GoesTo : Ground → Replay → ℕ → Option Replay → Type 0
 GoesTo ground before at (Some after) =
     IsReplayed ground after × (length after.history ≡ at) × (length before.history ≤ at)

@@ -13,8 +13,8 @@ use am_http::response_bytes;
 use am_types::{NoMemory, Request, Shown};
 use std::alloc::Global;
 
-/// How a call is made: on which desk, at which moment, whether it is to be stored, and what is known of the desk's
-/// number behind it.
+/// How a call is made: its desk, its moment, whether it is to be stored, and what is known of the desk's
+/// number afterwards.
 #[derive(Clone, Copy)]
 pub(crate) struct Making {
     pub(crate) desk: u32,
@@ -23,7 +23,7 @@ pub(crate) struct Making {
     pub(crate) known: Option<u32>,
 }
 
-// How many bytes the response has that shows this, or that says that memory ran out behind it, if the bytes
+// How many bytes the response has that shows this, or that says that memory ran out after it, if the bytes
 // begin with it.
 fn shown_length(alloc: Global, shown: &Shown, left: &[u8]) -> Result<Option<usize>, NoMemory>
     ensures { IfOk result (λ length. ShowsFirst shown.now left.now length) }
@@ -56,8 +56,8 @@ fn length_as(
     }
 }
 
-/// Makes the call of a frame that makes that request at the end of the history that was replayed: the history
-/// behind it, and how many bytes show the call, if it is stored or not as was said.
+/// Makes the call of a frame with this request at the end of the history that was replayed. Answers the history
+/// after it, and how many bytes show the call, if it is stored or not as was said.
 pub(crate) fn make_call(
     alloc: Global,
     replayed: Replayed,

@@ -35,7 +35,7 @@ pub struct Accepted {
     pub taken: usize,
 }
 
-// Accepts by so many bytes, if any were found.
+// Accepts the frame by so many bytes, if any were found.
 fn accept_by(bench: Bench, taken: Option<usize>) -> Option<Accepted>
     ensures { MatchOption result (taken ≡ None) (λ a. (a.bench ≡ bench) × (taken ≡ Some a.taken)) }
 {
@@ -65,7 +65,7 @@ fn judge_want(bench: Bench, left: &[u8]) -> Option<Accepted>
     }
 }
 
-// A frame that makes no request: it is refused by that text, or memory ran out.
+// A frame that makes no request: it is refused by this text, or memory ran out.
 fn judge_refused(bench: Bench, text: &[u8], left: &[u8]) -> Option<Accepted>
     ensures { (history : Items Entry) (frame : Frame) → IsReplayed (ground_of history bench) bench.replayed
         → Asks frame (Err text.now) → Judges (case_of history bench frame left.now) result }
@@ -98,7 +98,7 @@ fn judge_made(
     Ok(accept_by(Bench { replayed, desk }, taken))
 }
 
-// The entry of the history behind those that were replayed.
+// The entry of the history after those that were replayed.
 fn next_of<'h>(history: &'h [Entry], replayed: &Replayed) -> Option<&'h Entry>
     ensures { option_copied result ≡ slice_get history.now (length replayed.now.history) }
 {
@@ -190,7 +190,7 @@ fn judge_call(
     }
 }
 
-// A frame that makes that request: where its response says that its call was made, it is judged from that place on.
+// A frame that makes this request: if its response says where its call was made, it is judged from that place on.
 fn judge_request(
     alloc: Global,
     history: &[Entry],
@@ -228,7 +228,7 @@ fn judge_request(
 }
 
 /// Judges a frame by the bytes that are left of the responses: if they begin with a response to it that the
-/// history has behind what was audited, how far that leads.
+/// history has after what was audited, how far that leads.
 pub fn judge(
     alloc: Global,
     routes: &Routes,

@@ -1,4 +1,4 @@
-//! Where a response says that its call stands.
+//! The place that a response gives for its call.
 ghost use Rattle.std.specs.Prelude.{◌≡◌, ◌<◌, ◌^◌, ◌++◌, ◌==◌, ℕ, Bool, List as Items, Some, None, codes, decimal};
 ghost use Rattle.std.specs.List.{after_first, before_first, position};
 ghost use Rattle.am_http.specs.Responses.{digit, place_lines};
@@ -6,21 +6,21 @@ ghost use Rattle.am_audit_answers.specs.Marks.{HasMark, HasNoMark};
 
 use std::str;
 
-/// The place that a response says, and whether its call is stored there.
+/// The place that a response gives, and whether its call is stored there.
 #[derive(Clone, Copy)]
 pub(crate) struct Mark {
     pub(crate) at: u64,
     pub(crate) stored: bool,
 }
 
-// Where the first such byte stands.
+// The place of the first such byte.
 fn first_at(bytes: &[u8], wanted: u8) -> Option<usize>
     ensures { result ≡ position (λ b. b == wanted) bytes.now }
 {
     bytes.iter().position(|byte| *byte == wanted)
 }
 
-// What is behind the first newline; nothing if there is none.
+// What follows the first newline; nothing if there is none.
 fn behind_line(bytes: &[u8]) -> &[u8]
     ensures { result.now ≡ after_first (λ b. b == 10) bytes.now }
 {
@@ -40,7 +40,7 @@ fn before_return(bytes: &[u8]) -> &[u8]
     }
 }
 
-// The number that the bytes are.
+// The number that the bytes stand for.
 fn number_of(bytes: &[u8]) -> Option<u64>
     ensures { (n : ℕ) → n < 2 ^ 64 → bytes.now ≡ decimal n → result ≡ Some n }
 {
@@ -50,7 +50,7 @@ fn number_of(bytes: &[u8]) -> Option<u64>
     }
 }
 
-// Whether the call is stored, by what is behind the number of its place.
+// Whether the call is stored, by what follows the number of its place.
 fn stored_in(behind: &[u8]) -> Option<bool>
     ensures { (stored : Bool) (rest : Items ℕ) → behind.now ≡ codes "\r\nAM-Stored: " ++ (digit stored ++ rest)
         → result ≡ Some stored }
@@ -72,7 +72,7 @@ fn mark_at(lines: &[u8]) -> Option<Mark>
     Some(Mark { at, stored })
 }
 
-/// The mark of the response with which the bytes begin, behind the three lines that each begins with. Takes
+/// The mark of the response with which the bytes begin, after the three lines with which each begins. Takes
 /// no memory.
 pub(crate) fn mark_in(bytes: &[u8]) -> Option<Mark>
     ensures marked { (at : ℕ) (stored : Bool) → HasMark bytes.now at stored

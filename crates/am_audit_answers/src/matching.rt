@@ -24,7 +24,7 @@ fn suits(known: Option<u32>, desk: u32) -> bool
     }
 }
 
-// Whether the key is that of the caller with that uid, after the history that was replayed.
+// Whether this is the key of the caller with this uid, after the history that was replayed.
 fn has_key(replayed: &Replayed, uid: u32, key: &[u8]) -> bool
     ensures { IsTrue result ↔ (uid_of (state_of replayed.now) key.now ≡ Some uid) }
 {
@@ -35,7 +35,7 @@ fn has_key(replayed: &Replayed, uid: u32, key: &[u8]) -> bool
     }
 }
 
-/// Whether the entry is the call of a frame that makes that request, after the history that was replayed, on a
+/// Whether the entry is the call of a frame that makes this request, after the history that was replayed, on a
 /// desk that may be the connection's.
 pub(crate) fn is_its_call(
     alloc: Global,

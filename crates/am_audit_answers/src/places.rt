@@ -20,7 +20,7 @@ fn go_on(history: &[Entry], replayed: Replayed) -> Result<Replayed, NoMemory>
     }
 }
 
-/// Replays the history up to a place, unless it is before the one that was reached, or behind the history.
+/// Replays the history up to a place, unless it is before the one that was reached, or after the history's end.
 pub(crate) fn go_to(
     history: &[Entry],
     mut replayed: Replayed,

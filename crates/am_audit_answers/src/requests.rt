@@ -15,7 +15,7 @@ use am_wire_routes::{Endpoint, RouteFault, Routes};
 use std::alloc::Global;
 use std::str;
 
-// The text that refuses a body with that fault.
+// The text that refuses a body with this fault.
 fn bad_request(alloc: Global, fault: &WireFault) -> Result<List<u8>, NoMemory>
     ensures { IfOk result (λ text. text ≡ refusal_text (BadRequest fault.now)) }
 {
@@ -23,14 +23,14 @@ fn bad_request(alloc: Global, fault: &WireFault) -> Result<List<u8>, NoMemory>
     Ok(List::new(refusal_bytes(alloc, 400, "bad_request", Some(name.as_str()))?))
 }
 
-// The text where there is no such route.
+// The text if there is no such route.
 fn no_route(alloc: Global) -> Result<List<u8>, NoMemory>
     ensures { IfOk result (λ text. text ≡ refusal_text NoRoute) }
 {
     Ok(List::new(refusal_bytes(alloc, 404, "no_route", None)?))
 }
 
-// The text where the route takes another method.
+// The text if the route takes another method.
 fn no_method(alloc: Global) -> Result<List<u8>, NoMemory>
     ensures { IfOk result (λ text. text ≡ refusal_text NoMethod) }
 {

@@ -14,7 +14,7 @@ pub(crate) fn begins(bytes: &[u8], text: &[u8]) -> bool
     bytes.starts_with(text)
 }
 
-/// The response where memory ran out before the call was made. Takes no memory.
+/// The response if memory ran out before the call was made. Takes no memory.
 #[tactic(auto, unfolding(am_http::proofs::Literals::responses_on_literals))]
 pub(crate) fn want_before() -> &'static [u8]
     ensures { result.now ≡ want_before }
@@ -30,7 +30,7 @@ fn digit(truth: bool) -> &'static str
     if truth { "1" } else { "0" }
 }
 
-/// The response where memory ran out after the call was made.
+/// The response if memory ran out after the call was made.
 pub(crate) fn want_after(alloc: Global, at: u64, stored: bool) -> Result<String, NoMemory>
     ensures { IfOk result (λ text. string_bytes text ≡ want_after at stored) }
 {

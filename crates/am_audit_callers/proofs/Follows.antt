@@ -51,22 +51,27 @@ same_callers : (a b : State) → kept_of a ≡ kept_of b → callers_of a ≡ ca
 same_callers a b same = sym (known_is a) ∙ ap known_of same ∙ known_is b
 
 -- the owner of a name is what is known of the package of that name
-named_is : (ps : List Package) (name : List ℕ) → owner_named (owners_of ps) name ≡ option_map owner_of (package_named ps name)
+named_is : (ps : List Package) (name : List ℕ) → owner_named (owners_of ps) name
+    ≡ option_map owner_of (package_named ps name)
 named_is [] name = refl
 named_is (p ∷ ps) name = by (is_same p.name name) (named_is ps name)
   where
     by : (b : Bool) → owner_named (owners_of ps) name ≡ option_map owner_of (package_named ps name)
-        → cond b (Some (owner_of p)) (owner_named (owners_of ps) name) ≡ option_map owner_of (cond b (Some p) (package_named ps name))
+        → cond b (Some (owner_of p)) (owner_named (owners_of ps) name)
+        ≡ option_map owner_of (cond b (Some p) (package_named ps name))
     by true rest = refl
     by false rest = rest
 
 -- without a package
-without_is : (ps : List Package) (uid : ℕ) → filter (λ (owner : Owner). not (eqb owner.uid uid)) (owners_of ps) ≡ owners_of (without_package ps uid)
+without_is : (ps : List Package) (uid : ℕ) → filter (λ (owner : Owner). not (eqb owner.uid uid)) (owners_of ps)
+    ≡ owners_of (without_package ps uid)
 without_is [] uid = refl
 without_is (p ∷ ps) uid = by (not (eqb p.uid uid)) (without_is ps uid)
   where
-    by : (b : Bool) → filter (λ (owner : Owner). not (eqb owner.uid uid)) (owners_of ps) ≡ owners_of (without_package ps uid)
-        → cond b (owner_of p ∷ filter (λ (owner : Owner). not (eqb owner.uid uid)) (owners_of ps)) (filter (λ (owner : Owner). not (eqb owner.uid uid)) (owners_of ps))
+    by : (b : Bool) → filter (λ (owner : Owner). not (eqb owner.uid uid)) (owners_of ps)
+        ≡ owners_of (without_package ps uid)
+        → cond b (owner_of p ∷ filter (λ (owner : Owner). not (eqb owner.uid uid)) (owners_of ps))
+        (filter (λ (owner : Owner). not (eqb owner.uid uid)) (owners_of ps))
         ≡ owners_of (cond b (p ∷ without_package ps uid) (without_package ps uid))
     by true rest = ap (λ (l : List Owner). owner_of p ∷ l) rest
     by false rest = rest
@@ -81,19 +86,25 @@ module _ (state : State) (caller : ℕ) where
   refused_follows (changes.Adds name key) rule = refl
   refused_follows (changes.Removes name) rule = refl
 
-  either_follows : (change : CallerChange) (test : Bool) (first second : Reply × State) → Follows change first → Follows change second → Follows change (cond test first second)
+  either_follows : (change : CallerChange) (test : Bool) (first second : Reply × State) → Follows change first
+      → Follows change second → Follows change (cond test first second)
   either_follows change true first second one other = one
   either_follows change false first second one other = other
 
-  admin_follows : (change : CallerChange) (next : Reply × State) → Follows change next → Follows change (for_admin state caller next)
-  admin_follows change next follows = either_follows change (is_privileged caller) next (refused state rules.AdminOnly) follows (refused_follows change rules.AdminOnly)
+  admin_follows : (change : CallerChange) (next : Reply × State) → Follows change next
+      → Follows change (for_admin state caller next)
+  admin_follows change next follows = either_follows change (is_privileged caller) next (refused state rules.AdminOnly)
+      follows (refused_follows change rules.AdminOnly)
 
-  read_follows : (key : List ℕ) (manifest : Result Manifest ManifestFault) → Follows (added_by manifest key) (install_read state key manifest)
+  read_follows : (key : List ℕ) (manifest : Result Manifest ManifestFault)
+      → Follows (added_by manifest key) (install_read state key manifest)
   read_follows key (Err fault) = refl
   read_follows key (Ok manifest) =
-      either_follows change (is_name_used state.board.packages manifest.«package» || is_key_used state key) (refused state rules.Installed) _ refl
+      either_follows change (is_name_used state.board.packages manifest.«package» || is_key_used state key)
+      (refused state rules.Installed) _ refl
       (either_follows change (is_full state) (refused state (rules.OverLimit limits.Packages)) _ refl
-      (ap (λ (l : List Owner). record (callers_of state) { owners = l }) (map-append owner_of state.board.packages (installed state manifest key ∷ []))))
+      (ap (λ (l : List Owner). record (callers_of state) { owners = l })
+      (map-append owner_of state.board.packages (installed state manifest key ∷ []))))
     where
       change : CallerChange
       change = changes.Adds manifest.«package» key
@@ -104,28 +115,37 @@ module _ (state : State) (caller : ℕ) where
   removed_follows name (Some owner) is =
       ap (λ (l : List Owner). record (callers_of state) { owners = l })
       (sym (without_is state.board.packages owner.uid)
-      ∙ sym (ap (callers.without (owners_of state.board.packages)) (named_is state.board.packages name ∙ ap (option_map owner_of) is)))
+      ∙ sym (ap (callers.without (owners_of state.board.packages))
+      (named_is state.board.packages name ∙ ap (option_map owner_of) is)))
 
-  found_follows : (found : Option Package) (next : Package → Reply × State) → ((owner : Package) → Follows changes.Nothing (next owner))
+  found_follows : (found : Option Package) (next : Package → Reply × State)
+      → ((owner : Package) → Follows changes.Nothing (next owner))
       → Follows changes.Nothing (for_found state found next)
   found_follows None next follows = refl
   found_follows (Some owner) next follows = follows owner
 
-  keeping_follows : (before : List Entry) (request : Request) → keeps_row request ≡ true → Follows (change_of request) (act state before caller request)
+  keeping_follows : (before : List Entry) (request : Request) → keeps_row request ≡ true
+      → Follows (change_of request) (act state before caller request)
   unfolding act install uninstall grant link
   keeping_follows before (asks.Install text key) keeps =
-      admin_follows (added_by (manifest_of text) key) (install_read state key (manifest_of text)) (read_follows key (manifest_of text))
+      admin_follows (added_by (manifest_of text) key) (install_read state key (manifest_of text))
+      (read_follows key (manifest_of text))
   keeping_follows before (asks.Uninstall name) keeps =
-      admin_follows (changes.Removes name) (for_package state name (λ (owner : Package). done (without state owner.uid)))
+      admin_follows (changes.Removes name) (for_package state name
+      (λ (owner : Package). done (without state owner.uid)))
       (removed_follows name (package_named state.board.packages name) refl)
   keeping_follows before (asks.Grant name permission held) keeps =
-      admin_follows changes.Nothing (for_package state name (λ (owner : Package). grant_to state owner.uid permission held))
+      admin_follows changes.Nothing (for_package state name (λ (owner : Package). grant_to state owner.uid permission
+      held))
       (found_follows (package_named state.board.packages name) _ (λ owner.
-      either_follows changes.Nothing (too_many_grants state.board.grants owner.uid permission held) (refused state (rules.OverLimit limits.Grants)) _ refl refl))
+      either_follows changes.Nothing (too_many_grants state.board.grants owner.uid permission held)
+      (refused state (rules.OverLimit limits.Grants)) _ refl refl))
   keeping_follows before (asks.Link name host approved) keeps =
-      admin_follows changes.Nothing (for_package state name (λ (owner : Package). link_to state owner.uid host approved))
+      admin_follows changes.Nothing (for_package state name (λ (owner : Package). link_to state owner.uid host
+      approved))
       (found_follows (package_named state.board.packages name) _ (λ owner.
-      either_follows changes.Nothing (too_many_links state.board.links owner.uid host approved) (refused state (rules.OverLimit limits.Links)) _ refl refl))
+      either_follows changes.Nothing (too_many_links state.board.links owner.uid host approved)
+      (refused state (rules.OverLimit limits.Links)) _ refl refl))
   keeping_follows before _ keeps = absurd cc
 
   nothing_changes : (request : Request) → keeps_row request ≡ false → change_of request ≡ changes.Nothing
@@ -134,17 +154,20 @@ module _ (state : State) (caller : ℕ) where
   nothing_changes _ keeps = refl
 
   -- each request
-  pub act_follows : (before : List Entry) (request : Request) → Follows (change_of request) (act state before caller request)
+  pub act_follows : (before : List Entry) (request : Request) → Follows (change_of request)
+      (act state before caller request)
   act_follows before request = by (keeps_row request) refl
     where
       by : (keeps : Bool) → keeps_row request ≡ keeps → Follows (change_of request) (act state before caller request)
       by true is = keeping_follows before request is
       by false is =
           same_callers (act state before caller request).1 state (other_stays state caller before request is)
-          ∙ sym (ap (λ change. followed (callers_of state) change (act state before caller request).0) (nothing_changes request is))
+          ∙ sym (ap (λ change. followed (callers_of state) change (act state before caller request).0)
+          (nothing_changes request is))
 
 -- the owners without the one that has a uid
-pub without_uid : (owners : List Owner) (found : Option Owner) (uid : ℕ) → option_map (λ (owner : Owner). owner.uid) found ≡ Some uid
+pub without_uid : (owners : List Owner) (found : Option Owner) (uid : ℕ)
+    → option_map (λ (owner : Owner). owner.uid) found ≡ Some uid
     → filter (λ (owner : Owner). not (eqb owner.uid uid)) owners ≡ callers.without owners found
 without_uid owners None uid is = absurd cc
 without_uid owners (Some gone) uid is =
@@ -157,5 +180,6 @@ pub removed_with : (known : Known) (name : List ℕ) (reply : Reply) (uid : ℕ)
     → left ≡ filter (λ (owner : Owner). not (eqb owner.uid uid)) known.owners
     → record known { owners = left } ≡ with_removed known name reply
 removed_with known name reply uid left plain named is =
-    ap (λ (l : List Owner). record known { owners = l }) (is ∙ without_uid known.owners (owner_named known.owners name) uid named)
+    ap (λ (l : List Owner). record known { owners = l }) (is ∙ without_uid known.owners (owner_named known.owners name)
+    uid named)
     ∙ sym (ap (with_removed known name) plain)

@@ -34,11 +34,11 @@ callers_of state = record {
   owners = map owner_of state.board.packages;
 }
 
--- the key of the owner with that uid, if there is one
+-- the key of the owner with this uid, if there is one
 abbrev pub key_among : List Owner → ℕ → Option (List ℕ)
 key_among owners uid = option_map (λ (owner : Owner). owner.key) (find (λ (owner : Owner). owner.uid == uid) owners)
 
--- the key of the caller with that uid, if there is one
+-- the key of the caller with this uid, if there is one
 abbrev pub key_in : Known → ℕ → Option (List ℕ)
 key_in known uid =
     if uid == system_uid then Some known.system_key
@@ -56,7 +56,7 @@ change_of (asks.Install text key) = added_by (manifest_of text) key
 change_of (asks.Uninstall name) = changes.Removes name
 change_of _ = changes.Nothing
 
--- the owner of that name, if there is one
+-- the owner with this name, if there is one
 abbrev pub owner_named : List Owner → List ℕ → Option Owner
 owner_named owners name = find (λ (owner : Owner). is_same owner.name name) owners
 

@@ -85,7 +85,7 @@ fn has_name(owner: &Owner, name: &Text) -> bool
     owner.name == *name
 }
 
-// The key of the owner with that uid.
+// The key of the owner with this uid.
 fn key_among(owners: &[Owner], uid: u32) -> Option<&Text>
     ensures { option_copied result ≡ key_among owners.entry.now uid }
 {
@@ -93,7 +93,7 @@ fn key_among(owners: &[Owner], uid: u32) -> Option<&Text>
     Some(&owner.key)
 }
 
-// The uid of the owner with that name.
+// The uid of the owner with this name.
 fn uid_named(owners: &[Owner], name: &Text) -> Option<u32>
     ensures { result ≡ option_map (λ (owner : Known). owner.uid) (owner_named owners.now name.now) }
 {
@@ -101,7 +101,7 @@ fn uid_named(owners: &[Owner], name: &Text) -> Option<u32>
     Some(owner.uid)
 }
 
-// Takes out the owners with that uid.
+// Removes the owners with this uid.
 fn take_out(owners: &mut Vec<Owner>, uid: u32)
     ensures { owners.new.items ≡ filter (λ (owner : Known). not (owner.uid == uid)) owners.old.items }
 {
@@ -123,7 +123,7 @@ impl Callers {
         })
     }
 
-    /// The key of the caller with that uid. Takes no memory.
+    /// The key of the caller with this uid. Takes no memory.
     pub fn key_of(&self, uid: u32) -> Option<&Text>
         ensures { option_copied result ≡ key_in self.now uid }
     {
@@ -151,7 +151,7 @@ impl Callers {
         Ok(())
     }
 
-    // The package of that name is gone, if the reply says so.
+    // The package with this name is gone, if the reply says so.
     fn remove(&mut self, name: &Text, reply: &Reply)
         ensures { self.new ≡ with_removed self.old name.now reply.now }
     {
@@ -163,7 +163,7 @@ impl Callers {
         }
     }
 
-    /// Follows a request that was answered, by what it changes if it is accepted.
+    /// Follows a request that was answered, given what it changes if it is accepted.
     pub fn follow(&mut self, change: CallerChange, reply: &Reply) -> Result<(), NoMemory>
         ensures { OnOk result (self.new ≡ followed self.old change reply.now) }
     {

@@ -14,7 +14,7 @@ pub enum CallerChange {
     Nothing,
     /// There is one more package.
     Adds { name: Text, key: Text },
-    /// The package of that name is gone.
+    /// The package with this name is gone.
     Removes { name: Text },
 }
 

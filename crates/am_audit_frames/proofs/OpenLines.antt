@@ -77,7 +77,8 @@ abbrev pub HasNoLine : List ℕ → Type 0
 HasNoLine text = (end : LineEnd) (more : List ℕ) → text ≡ print_end end ++ more → ⊥
 
 -- no empty line, neither in CR LF nor in LF
-no_line : (text : List ℕ) → ((rest : List ℕ) → text ≡ crlf_bytes ++ rest → ⊥) → ((rest : List ℕ) → text ≡ line_feed ∷ rest → ⊥)
+no_line : (text : List ℕ) → ((rest : List ℕ) → text ≡ crlf_bytes ++ rest → ⊥)
+    → ((rest : List ℕ) → text ≡ line_feed ∷ rest → ⊥)
     → HasNoLine text
 no_line text not_crlf not_lf crlf more e = not_crlf more e
 no_line text not_crlf not_lf lf more e = not_lf more e
@@ -97,7 +98,8 @@ line_more text rest more before line = (
   blank_more before.0 line.0 text rest more before.1 line.1,
 )
 
-blank_same : (a b : List LineEnd) (r q : List ℕ) → HasNoLine r → HasNoLine q → print_blank a ++ r ≡ print_blank b ++ q → r ≡ q
+blank_same : (a b : List LineEnd) (r q : List ℕ) → HasNoLine r → HasNoLine q → print_blank a ++ r ≡ print_blank b ++ q
+    → r ≡ q
 blank_same [] [] r q nr nq e = e
 blank_same [] (y ∷ b) r q nr nq e = absurd (nr y _ (e ∙ append_assoc (print_end y) (print_blank b) q))
 blank_same (x ∷ a) [] r q nr nq e = absurd (nq x _ (sym e ∙ append_assoc (print_end x) (print_blank a) r))

@@ -94,7 +94,8 @@ record Following (ground : Ground) (place : Place) (f : Frame) (others : List Fr
   floor : floor_of 0 parts.before ≡ place.standing.floor
   answers : Answers (case_behind ground place f) desk parts.one (bytes_of parts.later ++ rest)
 
-following : (ground : Ground) (t : Transcript) (place : Place) (f : Frame) (others : List Frame) (desk : ℕ) (es : List Exchange)
+following : (ground : Ground) (t : Transcript) (place : Place) (f : Frame) (others : List Frame) (desk : ℕ)
+    (es : List Exchange)
     (rest : List ℕ) → Reaches ground t place → frames_of es ≡ place.frames ++ f ∷ others → Begin ground t desk es rest
     → Following ground place f others desk es rest
 following ground t place f others desk es rest reaches asked begin =
@@ -102,7 +103,8 @@ following ground t place f others desk es rest reaches asked begin =
     let before = parts.before in
     let one = parts.one in
     let later = parts.later in
-    let audited : AreAudited ground desk (before ++ one ∷ later) = subst (AreAudited ground desk) parts.same begin.audited in
+    let audited : AreAudited ground desk (before ++ one ∷ later) = subst (AreAudited ground desk) parts.same
+    begin.audited in
     let each = each_apart (IsAudited ground desk) before (one ∷ later) audited.each in
     let order = order_apart 0 before (one ∷ later) audited.order in
     let rest_of_one = bytes_of later ++ rest in
@@ -172,7 +174,8 @@ reaches_more ground t place f after left reaches accepts =
         let none = no_exchange parts.later parts.more in
         let one = parts.one in
         let answers : Answers (case_behind ground place f) desk one rest =
-        subst (λ (x : List Exchange). Answers (case_behind ground place f) desk one (bytes_of x ++ rest)) none follows.answers in
+        subst (λ (x : List Exchange). Answers (case_behind ground place f) desk one (bytes_of x ++ rest)) none
+        follows.answers in
         let lead = accepts.only desk one rest answers in
         record {
           ends = lead.ends;
@@ -229,7 +232,8 @@ begins_to ground t place reaches = record {
   audited = responses_to ground t place reaches;
 }
 
-begin_from : (ground : Ground) (t : Transcript) (fs : List Frame) (bytes rest : List ℕ) (r : AreResponses ground fs bytes)
+begin_from : (ground : Ground) (t : Transcript) (fs : List Frame) (bytes rest : List ℕ)
+    (r : AreResponses ground fs bytes)
     → t.responses ≡ bytes ++ rest → Begin ground t r.desk r.exchanges rest
 begin_from ground t fs bytes rest r splits =
     record { audited = r.audited; splits = splits ∙ ap (λ (x : List ℕ). x ++ rest) (sym r.output) }

@@ -19,7 +19,8 @@ use Rattle.am_audit_frames.proofs.Walks.{all_are_first, all_frames_only, first_b
 
 -- the responses are those to the frames before a place, and what is left there may be written last
 whole_there : (ground : Ground) (t : Transcript) (place : Place) (count : ℕ) → Reaches ground t place
-    → count ≡ length place.frames → EndsWith most_frames t.frames place.frames place.left → IsAuditedWhole ground t count
+    → count ≡ length place.frames → EndsWith most_frames t.frames place.frames place.left
+    → IsAuditedWhole ground t count
 whole_there ground t place count reaches counted ends = record {
   frames = place.frames;
   bytes = bytes_of reaches.exchanges;
@@ -92,7 +93,8 @@ no_more ground t place rest f more reaches passes is refuses first longer b =
     (subst (λ (x : List Frame). BeginsAudited ground x t.responses) same b)
 
 -- all frames are more than those before the next one
-all_are_more : (most : ℕ) (input : List ℕ) (fs all : List Frame) (rest last : List ℕ) (f : Frame) → Passes most input fs rest
+all_are_more : (most : ℕ) (input : List ℕ) (fs all : List Frame) (rest last : List ℕ) (f : Frame)
+    → Passes most input fs rest
     → length fs < most → IsFraming rest (whole f) → EndsWith most input all last → length fs < length all
 all_are_more most input fs all rest last f passes room is ends =
     let one : AreFirst (most - length fs) rest (f ∷ []) = (omega (arith, room), is, alone f.close) in
@@ -103,7 +105,8 @@ all_are_more most input fs all rest last f passes room is ends =
 -- Where the next frame is refused, those before it are the most.
 pub settles_refused : (ground : Ground) (t : Transcript) (place : Place) (rest : List ℕ) (count : ℕ) (f : Frame)
     → Reaches ground t place → count ≡ length place.frames → Passes most_frames t.frames place.frames rest
-    → count < most_frames → IsFraming rest (whole f) → Refuses (case_behind ground place f) → IsAuditedUpTo ground t count
+    → count < most_frames → IsFraming rest (whole f) → Refuses (case_behind ground place f)
+    → IsAuditedUpTo ground t count
 settles_refused ground t place rest count f reaches counted passes room is refuses = record {
   frames = place.frames;
   first = walked_are_first most_frames t.frames place.frames rest passes;
@@ -114,6 +117,7 @@ settles_refused ground t place rest count f reaches counted passes room is refus
   not_whole = λ all w.
       no_more ground t place rest f w.frames reaches passes is refuses
       (all_are_first most_frames t.frames w.frames w.last w.ends)
-      (all_are_more most_frames t.frames place.frames w.frames rest w.last f passes (omega (arith, counted, room)) is w.ends)
+      (all_are_more most_frames t.frames place.frames w.frames rest w.last f passes (omega (arith, counted, room)) is
+      w.ends)
       (record { first = w.bytes; rest = w.last; splits = w.output; audited = w.audited });
 }

@@ -1,4 +1,5 @@
--- One step of an audit: where the input has no further whole frame, where no further one is read, and behind a frame that
+-- One step of an audit: where the input has no further whole frame, where no further one is read, and behind a frame
+-- that
 -- is accepted.
 use Rattle.std.proofs.Common.{◌≡◌, ℕ, ◌+◌, ◌<◌, Bool, true, false, cond, List, [], ◌∷◌, ◌++◌, length, drop, sym, ◌∙◌, subst, arith, length-append, inl, inr}
 use Rattle.am_http.specs.Head.{Frame, Outcome, whole}
@@ -29,12 +30,14 @@ place_behind place f after left = record { frames = place.frames ++ f ∷ []; st
 -- Where the input has no further whole frame, the audit is whole exactly if what is left may be written last.
 pub settles_at_end : (ground : Ground) (t : Transcript) (place : Place) (input : List ℕ) (count : ℕ) (o : Outcome)
     (is_end : Bool) → IsAt ground t place input count → count < most_frames → IsFraming input o
-    → ((f : Frame) → o ≡ whole f → ⊥) → (is_end ≡ true → IsLast input place.left) → (IsLast input place.left → is_end ≡ true)
+    → ((f : Frame) → o ≡ whole f → ⊥) → (is_end ≡ true → IsLast input place.left)
+    → (IsLast input place.left → is_end ≡ true)
     → IsVerdict ground t (cond is_end (Whole count) (UpTo count))
 settles_at_end ground t place input count o is_end at room is not_whole may must =
     let fs = place.frames in
     let below : length fs < most_frames = omega (arith, room, at.counted) in
-    let none : (f : Frame) → IsFraming input (whole f) → ⊥ = λ f whole_is. not_whole f (whole_only input f o whole_is is) in
+    let none : (f : Frame) → IsFraming input (whole f) → ⊥ = λ f whole_is. not_whole f
+    (whole_only input f o whole_is is) in
     elim (frame_or_last input o is) [
       | inl (f, whole_is) ↦ absurd (none f whole_is)
       | inr (last, is_last) ↦
@@ -72,11 +75,13 @@ settles_at_close ground t place input count f after left is_end at room is close
     settles ground t (place_behind place f after left) [] (count + 1) is_end
     (reaches_more ground t place f after left at.reaches accepts) (one_more fs f count at.counted) ends
     (λ e. subst (EndsWith most_frames t.frames (fs ++ f ∷ [])) (sym (may e)) ends)
-    (λ there. must (close_behind_walk most_frames t.frames fs (fs ++ f ∷ []) input left f at.passes below is closes there).1)
+    (λ there. must (close_behind_walk most_frames t.frames fs (fs ++ f ∷ []) input left f at.passes below is closes
+    there).1)
 
 -- Behind one that doesn't, the walk has come one frame further.
 pub goes_further : (ground : Ground) (t : Transcript) (place : Place) (input : List ℕ) (count : ℕ) (f : Frame)
-    (after : Standing) (left : List ℕ) → IsAt ground t place input count → count < most_frames → IsFraming input (whole f)
+    (after : Standing) (left : List ℕ) → IsAt ground t place input count → count < most_frames
+    → IsFraming input (whole f)
     → f.close ≡ false → Accepts (case_behind ground place f) after left
     → IsAt ground t (place_behind place f after left) (drop f.length input) (count + 1)
 goes_further ground t place input count f after left at room is stays accepts =

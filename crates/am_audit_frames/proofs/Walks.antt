@@ -41,7 +41,8 @@ abbrev AfterFirst : ℕ → List ℕ → List Frame → Frame → Type 0
 AfterFirst most input others f = Behind f.close (others ≡ []) (AreFirst (most - 1) (drop f.length input) others)
 
 -- where no frame follows, no further one is at the front
-no_further : (most : ℕ) (input last : List ℕ) (f : Frame) → EndsWith most input [] last → 0 < most → IsFraming input (whole f) → ⊥
+no_further : (most : ℕ) (input last : List ℕ) (f : Frame) → EndsWith most input [] last → 0 < most
+    → IsFraming input (whole f) → ⊥
 no_further most input last f (inl (none, empty)) some is = absurd (omega arith)
 no_further most input last f (inr (room, end)) some is = whole_has_no_last input last f is end
 
@@ -63,7 +64,8 @@ all_frames_only most input (f ∷ fs) (g ∷ gs) a b x y =
     λ i. same i ∷ others i
 
 -- Of two lists of first frames the shorter begins the longer.
-pub first_frames_begin : (most : ℕ) (input : List ℕ) (fs gs : List Frame) → AreFirst most input fs → AreFirst most input gs
+pub first_frames_begin : (most : ℕ) (input : List ℕ) (fs gs : List Frame) → AreFirst most input fs
+    → AreFirst most input gs
     → length fs ≤ length gs → fs ≡ take (length fs) gs
 first_frames_begin most input [] gs x y short = refl
 first_frames_begin most input (f ∷ fs) [] x y short = absurd (omega arith)
@@ -107,7 +109,8 @@ first_within_all most input (f ∷ fs) (g ∷ gs) last x y =
 -- ---- a walk
 
 pub walked_more : (most : ℕ) (input : List ℕ) (fs : List Frame) (rest : List ℕ) (f : Frame) → Passes most input fs rest
-    → length fs < most → IsFraming rest (whole f) → f.close ≡ false → Passes most input (fs ++ f ∷ []) (drop f.length rest)
+    → length fs < most → IsFraming rest (whole f) → f.close ≡ false
+    → Passes most input (fs ++ f ∷ []) (drop f.length rest)
 walked_more most input [] rest f w room is stays =
     (room, subst (λ (t : List ℕ). IsFraming t (whole f)) w is, stays, ap (drop f.length) w)
 walked_more most input (g ∷ fs) rest f w room is stays =
@@ -123,12 +126,14 @@ ends_from_walk most input (f ∷ fs) more rest last w x =
     let fewer : most - length (f ∷ fs) ≡ most - 1 - length fs = omega arith in (
       w.0,
       w.1,
-      open_behind f.close ((fs ++ more ≡ []) × (last ≡ [])) (EndsWith (most - 1) (drop f.length input) (fs ++ more) last) w.2
+      open_behind f.close ((fs ++ more ≡ []) × (last ≡ [])) (EndsWith (most - 1) (drop f.length input) (fs ++ more)
+          last) w.2
           (ends_from_walk (most - 1) (drop f.length input) fs more rest last w.3
           (subst (λ (n : ℕ). EndsWith n rest more last) fewer x)),
     )
 
-pub ends_behind_walk : (most : ℕ) (input : List ℕ) (fs more : List Frame) (rest last : List ℕ) → Passes most input fs rest
+pub ends_behind_walk : (most : ℕ) (input : List ℕ) (fs more : List Frame) (rest last : List ℕ)
+    → Passes most input fs rest
     → EndsWith most input (fs ++ more) last → EndsWith (most - length fs) rest more last
 ends_behind_walk most input [] more rest last w x =
     let all : most ≡ most - length {A = Frame} [] = omega arith in
@@ -137,7 +142,8 @@ ends_behind_walk most input (f ∷ fs) more rest last w x =
     let fewer : most - 1 - length fs ≡ most - length (f ∷ fs) = omega arith in
     subst (λ (n : ℕ). EndsWith n rest more last) fewer
     (ends_behind_walk (most - 1) (drop f.length input) fs more rest last w.3
-    (behind_open f.close ((fs ++ more ≡ []) × (last ≡ [])) (EndsWith (most - 1) (drop f.length input) (fs ++ more) last) w.2
+    (behind_open f.close ((fs ++ more ≡ []) × (last ≡ [])) (EndsWith (most - 1) (drop f.length input) (fs ++ more) last)
+    w.2
     x.2))
 
 pub first_from_walk : (most : ℕ) (input : List ℕ) (fs more : List Frame) (rest : List ℕ) → Passes most input fs rest
@@ -166,7 +172,8 @@ first_behind_walk most input (f ∷ fs) more rest w x =
     (behind_open f.close (fs ++ more ≡ []) (AreFirst (most - 1) (drop f.length input) (fs ++ more)) w.2 x.2))
 
 -- All frames begin with those that were walked over.
-pub all_begin_with_walked : (most : ℕ) (input : List ℕ) (fs all : List Frame) (rest last : List ℕ) → Passes most input fs rest
+pub all_begin_with_walked : (most : ℕ) (input : List ℕ) (fs all : List Frame) (rest last : List ℕ)
+    → Passes most input fs rest
     → EndsWith most input all last → (more : List Frame) × (all ≡ fs ++ more)
 all_begin_with_walked most input [] all rest last w x = (all, refl)
 all_begin_with_walked most input (f ∷ fs) [] rest last w x = absurd (no_further most input last f x w.0 w.1)
@@ -185,7 +192,8 @@ walked_are_first most input fs rest w =
     subst (AreFirst most input) (append-nil fs) (first_from_walk most input fs [] rest w tt)
 
 -- First frames that are no fewer begin with those that were walked over.
-pub first_begin_with_walked : (most : ℕ) (input : List ℕ) (fs gs : List Frame) (rest : List ℕ) → Passes most input fs rest
+pub first_begin_with_walked : (most : ℕ) (input : List ℕ) (fs gs : List Frame) (rest : List ℕ)
+    → Passes most input fs rest
     → AreFirst most input gs → length fs ≤ length gs → (more : List Frame) × (gs ≡ fs ++ more)
 first_begin_with_walked most input fs gs rest w y short =
     let same = first_frames_begin most input fs gs (walked_are_first most input fs rest w) y short in (
@@ -212,7 +220,8 @@ ends_at_limit most input fs rest w full =
     (ends_from_walk most input fs [] rest [] w (inl (none, refl)))
 
 -- With one more that asks to close they are all.
-pub ends_at_close : (most : ℕ) (input : List ℕ) (fs : List Frame) (rest : List ℕ) (f : Frame) → Passes most input fs rest
+pub ends_at_close : (most : ℕ) (input : List ℕ) (fs : List Frame) (rest : List ℕ) (f : Frame)
+    → Passes most input fs rest
     → length fs < most → IsFraming rest (whole f) → f.close ≡ true → EndsWith most input (fs ++ f ∷ []) []
 ends_at_close most input fs rest f w room is closes =
     let below : 0 < most - length fs = omega arith in
@@ -242,33 +251,38 @@ split_all most input fs all rest last w x =
     }
 
 -- Where what is left has no whole frame, there are no other frames, and it is at an end.
-pub last_behind_walk : (most : ℕ) (input : List ℕ) (fs all : List Frame) (rest last : List ℕ) → Passes most input fs rest
+pub last_behind_walk : (most : ℕ) (input : List ℕ) (fs all : List Frame) (rest last : List ℕ)
+    → Passes most input fs rest
     → length fs < most → ((f : Frame) → IsFraming rest (whole f) → ⊥) → EndsWith most input all last
     → (all ≡ fs) × IsLast rest last
 last_behind_walk most input fs all rest last w room none x =
     let split = split_all most input fs all rest last w x in
     by_more split.more split.same split.ends
   where
-    by_more : (more : List Frame) → all ≡ fs ++ more → EndsWith (most - length fs) rest more last → (all ≡ fs) × IsLast rest last
+    by_more : (more : List Frame) → all ≡ fs ++ more → EndsWith (most - length fs) rest more last → (all ≡ fs)
+        × IsLast rest last
     by_more [] same (inl (full, empty)) = absurd (omega arith)
     by_more [] same (inr (below, end)) = (same ∙ append-nil fs, end)
     by_more (f ∷ more) same y = absurd (none f y.1)
 
 -- Where no further frame is read, there are no other frames, and nothing is written last.
-pub limit_behind_walk : (most : ℕ) (input : List ℕ) (fs all : List Frame) (rest last : List ℕ) → Passes most input fs rest
+pub limit_behind_walk : (most : ℕ) (input : List ℕ) (fs all : List Frame) (rest last : List ℕ)
+    → Passes most input fs rest
     → length fs ≡ most → EndsWith most input all last → (all ≡ fs) × (last ≡ [])
 limit_behind_walk most input fs all rest last w full x =
     let split = split_all most input fs all rest last w x in
     by_more split.more split.same split.ends
   where
-    by_more : (more : List Frame) → all ≡ fs ++ more → EndsWith (most - length fs) rest more last → (all ≡ fs) × (last ≡ [])
+    by_more : (more : List Frame) → all ≡ fs ++ more → EndsWith (most - length fs) rest more last → (all ≡ fs)
+        × (last ≡ [])
     by_more [] same (inl (none, empty)) = (same ∙ append-nil fs, empty)
     by_more [] same (inr (below, end)) = absurd (omega arith)
     by_more (f ∷ more) same y = absurd (omega (arith, y.0))
 
 -- Where one follows that asks to close, it is the last one, and nothing is written behind it.
 pub close_behind_walk : (most : ℕ) (input : List ℕ) (fs all : List Frame) (rest last : List ℕ) (f : Frame)
-    → Passes most input fs rest → length fs < most → IsFraming rest (whole f) → f.close ≡ true → EndsWith most input all last
+    → Passes most input fs rest → length fs < most → IsFraming rest (whole f) → f.close ≡ true
+    → EndsWith most input all last
     → (all ≡ fs ++ f ∷ []) × (last ≡ [])
 close_behind_walk most input fs all rest last f w room is closes x =
     let split = split_all most input fs all rest last w x in

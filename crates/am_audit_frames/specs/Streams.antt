@@ -8,33 +8,34 @@ use Rattle.am_http.specs.Head.{Frame, Outcome, whole, empty, refused, cut}
 use Rattle.am_http.specs.Framing.{HasNoHead, IsFraming, MayOverlook, window}
 use Rattle.am_http.specs.Sessions.{defect_text}
 
--- behind a frame that asks to close, and behind another
+-- after a frame that asks to close, and after another one
 abbrev pub Behind : Bool → Type 0 → Type 0 → Type 0
 Behind true ends goes_on = ends
 Behind false ends goes_on = goes_on
 
--- these are the first frames of an input, of which so many are read at most; none comes behind one that asks to close
+-- these are the first frames of an input, of which so many are read at most; none comes after one that asks to close
 abbrev pub AreFirst : ℕ → List ℕ → List Frame → Type 0
 AreFirst most input [] = ⊤
 AreFirst most input (first ∷ others) =
     (0 < most) × IsFraming input (whole first)
     × Behind first.close (others ≡ []) (AreFirst (most - 1) (drop first.length input) others)
 
--- a line that ends inside its target: a method, a blank, and bytes of a target alone
+-- a line that ends inside its target: a method, a space, and only bytes of a target
 abbrev pub IsOpenLine : List ℕ → Type 0
 IsOpenLine line =
-    (method : List ℕ) × (target : List ℕ) × IsToken method × AllPass is_uri_byte target × (line ≡ method ++ space ∷ target)
+    (method : List ℕ) × (target : List ℕ) × IsToken method × AllPass is_uri_byte target
+    × (line ≡ method ++ space ∷ target)
 
--- a reader may see no whole head where no bytes can follow that make one, or not see it yet
+-- a reader may see no whole head if no bytes can follow that make one, or may not see that yet
 pub record MayBeDead (input : List ℕ) : Type 0 where
   pub none : HasNoHead (window input)
   pub overlooked : MayOverlook (window input)
 
--- what is written last where a reader waits for bytes that don't come, or that the window has no room for
+-- what is written last if a reader waits for bytes that don't come, or for which the window has no room
 abbrev pub waiting_text : List ℕ → List ℕ
 waiting_text text = if length text == 8192 then defect_text HeadTooLarge else []
 
--- the text is written last at that outcome, which is no whole frame
+-- the text is written last at this outcome, which isn't a whole frame
 abbrev pub IsWrittenAt : Outcome → List ℕ → Type 0
 IsWrittenAt (whole f) last = ⊥
 IsWrittenAt empty last = last ≡ []
@@ -45,7 +46,7 @@ IsWrittenAt cut last = last ≡ []
 abbrev pub IsWrittenAtDead : List ℕ → List ℕ → Type 0
 IsWrittenAtDead input last = (last ≡ defect_text BadHead) ⊎ (last ≡ waiting_text (window input))
 
--- the input may be refused with that defect
+-- the input may be refused with this defect
 abbrev pub MayRefuse : List ℕ → Defect → Type 0
 MayRefuse input defect = IsFraming input (refused defect) ⊎ (MayBeDead input × (defect ≡ BadHead))
 

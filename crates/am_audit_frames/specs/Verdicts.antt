@@ -1,4 +1,4 @@
--- What an audit of a connection comes to.
+-- The verdict of an audit of a connection.
 use Rattle.std.specs.Prelude.{◌≡◌, ℕ, ◌<◌, List, ◌++◌, length}
 use Rattle.am_http.specs.Head.{Frame}
 use Rattle.am_http.specs.Sessions.{most_frames}
@@ -12,7 +12,7 @@ pub record Transcript : Type 0 where
   pub frames : List ℕ
   pub responses : List ℕ
 
--- the responses are those to all frames, which are so many, and then what may be written last
+-- the responses are those to all frames, of which there are so many, and then what may be written last
 pub record IsAuditedWhole (ground : Ground) (t : Transcript) (count : ℕ) : Type 0 where
   pub frames : List Frame
   pub bytes : List ℕ
@@ -22,7 +22,8 @@ pub record IsAuditedWhole (ground : Ground) (t : Transcript) (count : ℕ) : Typ
   pub output : t.responses ≡ bytes ++ last
   pub counted : count ≡ length frames
 
--- so many first frames are the most to which some first bytes of the responses are responses, and the whole isn't audited
+-- so many first frames are the most that some first bytes of the responses answer, and the whole isn't
+-- audited
 pub record IsAuditedUpTo (ground : Ground) (t : Transcript) (count : ℕ) : Type 0 where
   pub frames : List Frame
   pub first : AreFirst most_frames t.frames frames

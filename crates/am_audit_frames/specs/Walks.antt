@@ -13,8 +13,8 @@ use Rattle.am_audit_frames.specs.declared.audit.Verdict.{Verdict}
 use Rattle.am_audit_frames.specs.declared.audit.Walk.{Walk}
 use Rattle.am_audit_frames.specs.Verdicts.{IsVerdict, Transcript}
 
--- these are first frames of an input, of which so many are read at most; none asks to close, and the remaining bytes are
--- behind them
+-- these are first frames of an input, of which so many are read at most; none asks to close, and the remaining bytes
+-- follow them
 abbrev pub Passes : ℕ → List ℕ → List Frame → List ℕ → Type 0
 Passes most input [] rest = rest ≡ input
 Passes most input (first ∷ others) rest =
@@ -32,14 +32,14 @@ pub record Begin (ground : Ground) (t : Transcript) (desk : ℕ) (es : List Exch
   pub audited : AreAudited ground desk es
   pub splits : t.responses ≡ bytes_of es ++ rest
 
--- exchanges on a desk, behind which these bytes remain, lead to the place
+-- exchanges on a desk, after which these bytes remain, lead to the place
 pub record LeadTo (place : Place) (desk : ℕ) (es : List Exchange) (rest : List ℕ) : Type 0 where
   pub ends : rest ≡ place.left
   pub suits : Suits place.standing.desk desk
   pub floor : floor_of 0 es ≡ place.standing.floor
 
--- the responses begin with exchanges of the frames before the place, on each desk that suits there; and all such exchanges
--- lead there
+-- the responses begin with exchanges of the frames before the place, on each desk that fits there; and all such
+-- exchanges lead there
 pub record Reaches (ground : Ground) (t : Transcript) (place : Place) : Type 0 where
   pub exchanges : List Exchange
   pub asked : frames_of exchanges ≡ place.frames
@@ -52,7 +52,7 @@ pub record Reaches (ground : Ground) (t : Transcript) (place : Place) : Type 0 w
 abbrev pub ground_at : List Entry → Walk → Ground
 ground_at history walk = record { start = walk.bench.replayed.start; history = history }
 
--- a walk has come to a place behind so many first frames
+-- a walk has come to a place after so many first frames
 pub record Walked (ground : Ground) (t : Transcript) (walk : Walk) : Type 0 where
   pub frames : List Frame
   pub counted : walk.count ≡ length frames

@@ -16,12 +16,12 @@ use am_types::{Device, Entry, NoMemory};
 use am_wire_routes::Routes;
 use std::alloc::Global;
 
-/// What an audit comes to.
+/// The verdict of an audit.
 #[derive(Clone, Copy, Debug, PartialEq, Eq)]
 pub enum Verdict {
-    /// The responses are those to this many frames, which are all.
+    /// The responses are those to all frames, of which there are this many.
     Whole(u32),
-    /// They are so for this many first frames and no more, or the connection doesn't end so.
+    /// They are so for only this many first frames, or the connection doesn't end so.
     UpTo(u32),
 }
 
@@ -35,7 +35,7 @@ struct Walk<'t> {
     count: u32,
 }
 
-// The verdict where no further frame follows, by whether the responses end here.
+// The verdict if no further frame follows, by whether the responses end here.
 fn ended(count: u32, is_end: bool) -> Verdict
     ensures { result ≡ (if is_end then Verdict.Whole count else Verdict.UpTo count) }
 {
@@ -46,7 +46,7 @@ fn ended(count: u32, is_end: bool) -> Verdict
     }
 }
 
-// Goes on with the next frame, or says the verdict.
+// Goes on with the next frame, or gives the verdict.
 fn next_frame<'t>(
     alloc: Global,
     routes: &Routes,
@@ -86,7 +86,7 @@ fn next_frame<'t>(
     }))
 }
 
-/// Holds the responses of a connection against a history of a sound device, from its opening, that could have been
+/// Checks the responses of a connection against a history of a sound device, from its opening, that could have been
 /// made.
 pub fn audit_frames(
     alloc: Global,

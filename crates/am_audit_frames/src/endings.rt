@@ -29,7 +29,7 @@ fn has_no_head(window: &[u8]) -> bool
     }
 }
 
-// Whether a reader may see no whole head where none can follow, or not see it yet.
+// Whether a reader may see no whole head if none can follow, or may not see that yet.
 fn may_be_dead(input: &[u8]) -> bool
     ensures { IsTrue result ↔ MayBeDead input.now }
 {
@@ -37,7 +37,7 @@ fn may_be_dead(input: &[u8]) -> bool
     has_no_head(window) && may_overlook(window)
 }
 
-// What is written where a reader waits for bytes that don't come, or that the window has no room for.
+// What is written if a reader waits for bytes that don't come, or for which the window has no room.
 fn waiting_text(input: &[u8]) -> &'static [u8]
     ensures { result.now ≡ waiting_text (window input.now) }
 {
@@ -48,7 +48,7 @@ fn waiting_text(input: &[u8]) -> &'static [u8]
     }
 }
 
-// Whether that is written last at the outcome that is found.
+// Whether this is written last at the outcome that is found.
 fn is_found_text(input: &[u8], left: &[u8]) -> bool
     ensures { (outcome : Outcome) × IsFraming input.now outcome × (IsTrue result ↔ IsWrittenAt outcome left.now) }
 {
@@ -60,14 +60,14 @@ fn is_found_text(input: &[u8], left: &[u8]) -> bool
     }
 }
 
-// Whether that may be written last at a window that may be dead.
+// Whether this may be written last at a window that may be dead.
 fn is_dead_text(input: &[u8], left: &[u8]) -> bool
     ensures { IsTrue result ↔ IsWrittenAtDead input.now left.now }
 {
     left == defect_bytes(Defect::BadHead) || left == waiting_text(input)
 }
 
-/// Whether the bytes may be what is written last behind an input without a further whole frame. Takes no memory.
+/// Whether the bytes may be written last after an input without a further whole frame. Takes no memory.
 pub(crate) fn may_end(input: &[u8], left: &[u8]) -> bool
     ensures { IsTrue result ↔ IsLast input.now left.now }
 {

@@ -1,4 +1,4 @@
-//! All frames of a connection and the responses to them, held against a history.
+//! All frames of a connection and the responses to them, checked against a history.
 #![tactic(auto)]
 
 mod audit;

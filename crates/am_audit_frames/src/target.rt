@@ -7,10 +7,10 @@ ghost use Rattle.am_audit_frames.specs.Streams.{IsOpenLine};
 
 use httparse::{is_token, is_uri_token};
 
-/// How many lines a text has at least whose end a reader may overlook.
+/// The least number of lines of a text whose end a reader may overlook.
 const MANY_LINES: usize = 65;
 
-// The bytes behind an empty line at the front.
+// The bytes after an empty line at the front.
 fn behind_line(text: &[u8]) -> Option<&[u8]>
     ensures { MatchOption result
         ((end : LineEnd) (more : Items ℕ) → text.now ≢ print_end end ++ more)
@@ -22,7 +22,7 @@ fn behind_line(text: &[u8]) -> Option<&[u8]>
     }
 }
 
-// The bytes behind the empty lines at the front.
+// The bytes after the empty lines at the front.
 fn behind_blank(text: &[u8]) -> &[u8]
     ensures blank { (blank : Items LineEnd) × (text.now ≡ print_blank blank ++ result.now) }
     ensures all { (end : LineEnd) (more : Items ℕ) → result.now ≢ print_end end ++ more }
@@ -34,7 +34,7 @@ fn behind_blank(text: &[u8]) -> &[u8]
     rest
 }
 
-// The place of the first blank.
+// The place of the first space.
 fn first_blank(line: &[u8]) -> Option<usize>
     ensures { MatchOption result
         (EachIndex line.now (λ k. slice_index line.now k ≢ space))
@@ -44,14 +44,14 @@ fn first_blank(line: &[u8]) -> Option<usize>
     line.iter().position(|byte| *byte == b' ')
 }
 
-// Whether all bytes may stand in a target.
+// Whether all bytes may be in a target.
 fn all_target(bytes: &[u8]) -> bool
     ensures { IsTrue result ↔ AllPass is_uri_byte bytes.now }
 {
     bytes.iter().all(|byte| is_uri_token(*byte))
 }
 
-// Whether the line is a method, a blank, and bytes of a target alone.
+// Whether the line is a method, a space, and only bytes of a target.
 fn is_open_line(line: &[u8]) -> bool
     ensures { IsTrue result ↔ IsOpenLine line.now }
 {
@@ -61,7 +61,7 @@ fn is_open_line(line: &[u8]) -> bool
     }
 }
 
-// Whether the text ends inside a target: empty lines, a method, a blank, and bytes of a target alone.
+// Whether the text ends inside a target: empty lines, a method, a space, and only bytes of a target.
 fn ends_in_target(text: &[u8]) -> bool
     ensures { IsTrue result ↔ EndsInTarget text.now }
 {

@@ -27,9 +27,11 @@ same_device : (read : Result Device ManifestFault) (x y : Device) → read ≡ O
 same_device read x y e f = cc
 
 -- the history that a file is
-pub history_of : (start : State) (bytes : List ℕ) (read : Result (List Entry) ℕ) (history : List Entry) → IsReadAs start bytes read → read ≡ Ok history
+pub history_of : (start : State) (bytes : List ℕ) (read : Result (List Entry) ℕ) (history : List Entry)
+    → IsReadAs start bytes read → read ≡ Ok history
     → IsHistory start bytes history
-history_of start bytes (Ok known) history is e = subst (IsHistory start bytes) (same_history (Ok known) known history refl e) is
+history_of start bytes (Ok known) history is e = subst (IsHistory start bytes)
+    (same_history (Ok known) known history refl e) is
 history_of start bytes (Err line) history is e = cc
 
 -- it is a record of whichever device the text describes
@@ -38,25 +40,31 @@ pub record_of : (text bytes : List ℕ) (device : Device) (read : Result (List E
     → (other : Device) → device_of text ≡ Ok other → IsRecord (ground_of other slice)
 record_of text bytes device read history slice describes is found same other also =
     subst (λ d. IsRecord (ground_of d slice)) (same_device (device_of text) device other describes also)
-    (subst (λ entries. IsRecord (ground_of device entries)) (sym same) (is_record device bytes history (history_of (opening device) bytes read history is found)))
+    (subst (λ entries. IsRecord (ground_of device entries)) (sym same)
+    (is_record device bytes history (history_of (opening device) bytes read history is found)))
 
 -- the verdict by that history is what the contents come to
 comes_to : (result : Result Finding Setback) (device : Device) (c : Contents) (history : List Entry)
-    → over_limit c ≡ None → IsHistory (opening device) c.history history → Judges result device history c → ComesTo result device c
+    → over_limit c ≡ None → IsHistory (opening device) c.history history → Judges result device history c
+    → ComesTo result device c
 comes_to (Ok (findings.Judged verdict)) device c history within read judged =
     record { within = within; history = history; read = read; judged = judged }
 comes_to (Err setbacks.NoMemory) device c history within read judged = tt
 comes_to _ device c history within read judged = absurd judged
 
-pub judged_of : (result : Result Finding Setback) (text bytes : List ℕ) (device : Device) (c : Contents) (read : Result (List Entry) ℕ) (history slice : List Entry)
-    → device_of text ≡ Ok device → None ≡ over_limit c → bytes ≡ c.history → IsReadAs (opening device) bytes read → read ≡ Ok history → slice ≡ history
+pub judged_of : (result : Result Finding Setback) (text bytes : List ℕ) (device : Device) (c : Contents)
+    (read : Result (List Entry) ℕ) (history slice : List Entry)
+    → device_of text ≡ Ok device → None ≡ over_limit c → bytes ≡ c.history → IsReadAs (opening device) bytes read → read
+    ≡ Ok history → slice ≡ history
     → ((other : Device) → device_of text ≡ Ok other → Judges result other slice c) → ComesTo result device c
 judged_of result text bytes device c read history slice describes within held is found same judges =
-    comes_to result device c history (sym within) (subst (λ b. IsHistory (opening device) b history) held (history_of (opening device) bytes read history is found))
+    comes_to result device c history (sym within) (subst (λ b. IsHistory (opening device) b history) held
+    (history_of (opening device) bytes read history is found))
     (subst (λ entries. Judges result device entries c) same (judges device describes))
 
 -- a file that was read holds what was read
-told : {V : Type 0} (view : V → List ℕ) (found : Option (List ℕ)) (old new : ℕ) (read : V) → AnswersTold view found old new (Ok read) → found ≡ Some (view read)
+told : {V : Type 0} (view : V → List ℕ) (found : Option (List ℕ)) (old new : ℕ) (read : V)
+    → AnswersTold view found old new (Ok read) → found ≡ Some (view read)
 told view None old new read answer = absurd answer
 told view (Some bytes) old new read answer = sym (ap Some answer)
 
@@ -68,16 +76,20 @@ held view (Some files) name old new read answer = told view (bytes_of name files
 -- what the contents come to is what the audit comes to
 happens : (result : Result Finding Setback) (named : Named) (before after : Shelf) (device : Device) (c : Contents)
     → IsGiven before.files named device c → ComesTo result device c → Happens result named before after
-happens (Ok (findings.OverLimit part)) named before after device c given comes = record { device = device; contents = c; given = given; over = comes }
+happens (Ok (findings.OverLimit part)) named before after device c given comes = record
+    { device = device; contents = c; given = given; over = comes }
 happens (Ok (findings.HistoryRefused line)) named before after device c given comes =
     (comes.0, record { device = device; contents = c; given = given; refused = comes.1 }, comes.2)
-happens (Ok (findings.Judged verdict)) named before after device c given comes = record { device = device; contents = c; given = given; judged = comes }
+happens (Ok (findings.Judged verdict)) named before after device c given comes = record
+    { device = device; contents = c; given = given; judged = comes }
 happens (Err setbacks.NoMemory) named before after device c given comes = tt
 happens _ named before after device c given comes = absurd comes
 
-pub went : {V : Type 0} (view : V → List ℕ) (result : Result Finding Setback) (named : Named) (before after : Shelf) (middle : Option (List FileBytes)) (new : ℕ)
+pub went : {V : Type 0} (view : V → List ℕ) (result : Result Finding Setback) (named : Named) (before after : Shelf)
+    (middle : Option (List FileBytes)) (new : ℕ)
     (read : V) (text : List ℕ) (device : Device) (c : Contents)
-    → ReadsFile view before.files named.device before.faults new (Ok read) → text ≡ view read → device_of text ≡ Ok device → middle ≡ before.files
+    → ReadsFile view before.files named.device before.faults new (Ok read) → text ≡ view read → device_of text
+    ≡ Ok device → middle ≡ before.files
     → AreHeld middle named c → ComesTo result device c → Happens result named before after
 went view result named before after middle new read text device c answer is describes same contents comes =
     happens result named before after device c

@@ -7,21 +7,32 @@ use Rattle.am_audit_shell.specs.Words.{Named, is_option, named_by}
 -- a list of eight, by what stands at each place
 pub eight : (words : List Text) (a device b history c frames d responses : Text) → 8 ≤ length words → length words < 9
     → a ≡ get_or words 0 a → device ≡ get_or words 1 device → b ≡ get_or words 2 b → history ≡ get_or words 3 history
-    → c ≡ get_or words 4 c → frames ≡ get_or words 5 frames → d ≡ get_or words 6 d → responses ≡ get_or words 7 responses
+    → c ≡ get_or words 4 c → frames ≡ get_or words 5 frames → d ≡ get_or words 6 d → responses
+    ≡ get_or words 7 responses
     → words ≡ a ∷ device ∷ b ∷ history ∷ c ∷ frames ∷ d ∷ responses ∷ []
-eight (p ∷ q ∷ r ∷ s ∷ t ∷ u ∷ v ∷ w ∷ []) a device b history c frames d responses least most h0 h1 h2 h3 h4 h5 h6 h7 = cc
-eight (p ∷ q ∷ r ∷ s ∷ t ∷ u ∷ v ∷ w ∷ x ∷ more) a device b history c frames d responses least most h0 h1 h2 h3 h4 h5 h6 h7 = absurd (omega (arith, most))
-eight (p ∷ q ∷ r ∷ s ∷ t ∷ u ∷ v ∷ []) a device b history c frames d responses least most h0 h1 h2 h3 h4 h5 h6 h7 = absurd (omega (arith, least))
-eight (p ∷ q ∷ r ∷ s ∷ t ∷ u ∷ []) a device b history c frames d responses least most h0 h1 h2 h3 h4 h5 h6 h7 = absurd (omega (arith, least))
-eight (p ∷ q ∷ r ∷ s ∷ t ∷ []) a device b history c frames d responses least most h0 h1 h2 h3 h4 h5 h6 h7 = absurd (omega (arith, least))
-eight (p ∷ q ∷ r ∷ s ∷ []) a device b history c frames d responses least most h0 h1 h2 h3 h4 h5 h6 h7 = absurd (omega (arith, least))
-eight (p ∷ q ∷ r ∷ []) a device b history c frames d responses least most h0 h1 h2 h3 h4 h5 h6 h7 = absurd (omega (arith, least))
-eight (p ∷ q ∷ []) a device b history c frames d responses least most h0 h1 h2 h3 h4 h5 h6 h7 = absurd (omega (arith, least))
-eight (p ∷ []) a device b history c frames d responses least most h0 h1 h2 h3 h4 h5 h6 h7 = absurd (omega (arith, least))
+eight (p ∷ q ∷ r ∷ s ∷ t ∷ u ∷ v ∷ w ∷ []) a device b history c frames d responses least most h0 h1 h2 h3 h4 h5 h6 h7 =
+    cc
+eight (p ∷ q ∷ r ∷ s ∷ t ∷ u ∷ v ∷ w ∷ x ∷ more) a device b history c frames d responses least most h0 h1 h2 h3 h4 h5 h6
+    h7 = absurd (omega (arith, most))
+eight (p ∷ q ∷ r ∷ s ∷ t ∷ u ∷ v ∷ []) a device b history c frames d responses least most h0 h1 h2 h3 h4 h5 h6 h7 =
+    absurd (omega (arith, least))
+eight (p ∷ q ∷ r ∷ s ∷ t ∷ u ∷ []) a device b history c frames d responses least most h0 h1 h2 h3 h4 h5 h6 h7 = absurd
+    (omega (arith, least))
+eight (p ∷ q ∷ r ∷ s ∷ t ∷ []) a device b history c frames d responses least most h0 h1 h2 h3 h4 h5 h6 h7 = absurd
+    (omega (arith, least))
+eight (p ∷ q ∷ r ∷ s ∷ []) a device b history c frames d responses least most h0 h1 h2 h3 h4 h5 h6 h7 = absurd
+    (omega (arith, least))
+eight (p ∷ q ∷ r ∷ []) a device b history c frames d responses least most h0 h1 h2 h3 h4 h5 h6 h7 = absurd
+    (omega (arith, least))
+eight (p ∷ q ∷ []) a device b history c frames d responses least most h0 h1 h2 h3 h4 h5 h6 h7 = absurd
+    (omega (arith, least))
+eight (p ∷ []) a device b history c frames d responses least most h0 h1 h2 h3 h4 h5 h6 h7 = absurd
+    (omega (arith, least))
 eight [] a device b history c frames d responses least most h0 h1 h2 h3 h4 h5 h6 h7 = absurd (omega (arith, least))
 
 -- what stands where four tests pass
-chosen : {A : Type 0} (p q r s : Bool) (x : A) → p ≡ true → q ≡ true → r ≡ true → s ≡ true → Some x ≡ (if (p && q) && (r && s) then Some x else None)
+chosen : {A : Type 0} (p q r s : Bool) (x : A) → p ≡ true → q ≡ true → r ≡ true → s ≡ true → Some x
+    ≡ (if (p && q) && (r && s) then Some x else None)
 chosen p q r s x hp hq hr hs = rw (hp, hq, hr, hs) refl
 
 -- and where one of them fails

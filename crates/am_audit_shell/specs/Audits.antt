@@ -13,7 +13,7 @@ use Rattle.am_console.specs.Telling.{OnlyTold, Prints, Voices}
 use Rattle.am_audit_shell.specs.Lines.{history_line, limit_line, setback_line, usage_line, verdict_line, verdict_status, want_line, write_line}
 use Rattle.am_audit_shell.specs.Words.{Named, named_by}
 
--- why nothing is found; running out of memory has no cause
+-- why there is no finding; running out of memory has no cause
 abbrev pub HasCause : Setback → Named → Shelf → Shelf → Type 0
 HasCause (setbacks.DeviceRefused line) named before after =
     (fault : ManifestFault) × Describes before.files named.device (Err fault)
@@ -28,7 +28,7 @@ IsFound (findings.HistoryRefused line) named before =
     (number : ℕ) × IsHistoryRefused before.files named number × (line ≡ history_line number)
 IsFound (findings.Judged verdict) named before = IsJudged before.files named verdict
 
--- what is found, or why nothing is
+-- what is found, or why there is no finding
 abbrev pub Happens : Result Finding Setback → Named → Shelf → Shelf → Type 0
 Happens (Ok finding) named before after = IsFound finding named before
 Happens (Err setback) named before after = HasCause setback named before after
@@ -53,13 +53,13 @@ pub record World : Type 0 where
   pub files : Shelf
   pub voices : Voices
 
--- an audit of the named files: what it comes to, and that the output, the errors and the status tell it
+-- an audit of the named files: its result, which the output, the errors and the status tell
 pub record Went (named : Named) (before after : World) (status : ℕ) : Type 0 where
   pub work : Result Finding Setback
   pub happened : Happens work named before.files after.files
   pub told : TellsWork work before.voices after.voices status
 
--- an audit of the files that words name, if they name them
+-- an audit of the files that the words name, if they name them
 abbrev pub AuditsNamed : Option Named → World → World → ℕ → Type 0
 AuditsNamed None before after status =
     (after.files ≡ before.files) × OnlyTold usage_line 2 before.voices after.voices status

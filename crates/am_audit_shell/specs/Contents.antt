@@ -1,4 +1,4 @@
--- What the files of an audit hold, and what it comes to.
+-- What the files of an audit hold, and the audit's result.
 use Rattle.std.specs.Prelude.{◌≡◌, ℕ, ◌||◌, ◌⊎◌, nat_lt, List, length, if◌then◌else◌, Option, Some, None, Ok}
 use Rattle.am_types.specs.declared.device.Device.{Device}
 use Rattle.am_types.specs.declared.history.Entry.{Entry}
@@ -34,7 +34,7 @@ most_bytes = 16777216
 abbrev pub most_lines : ℕ
 most_lines = 65536
 
--- the first part that is over its limits, if one is
+-- the first part that is over its limits, if any is
 abbrev pub over_limit : Contents → Option Part
 over_limit c =
     if nat_lt most_bytes (length c.history) || nat_lt most_lines (lines_in c.history) then Some parts.History
@@ -56,19 +56,19 @@ abbrev pub transcript_of : Contents → Transcript
 transcript_of c = record { frames = c.frames; responses = c.responses }
 
 -- the contents are within their limits, the history could have been made from the device's opening, and the transcript
--- has that verdict
+-- has this verdict
 pub record HasVerdict (device : Device) (c : Contents) (verdict : Verdict) : Type 0 where
   pub within : over_limit c ≡ None
   pub history : List Entry
   pub read : IsHistory (opening device) c.history history
   pub judged : IsVerdict (ground_of device history) (transcript_of c) verdict
 
--- the contents are within their limits, and that line of the history is the first that is refused
+-- the contents are within their limits, and this line of the history is the first that is refused
 pub record RefusesLine (device : Device) (c : Contents) (line : ℕ) : Type 0 where
   pub within : over_limit c ≡ None
   pub refused : IsRefusedAt (opening device) c.history line
 
--- the files describe a device, and what they hold has that verdict
+-- the files describe a device, and what they hold has this verdict
 pub record IsJudged (files : Option (List FileBytes)) (named : Named) (verdict : Verdict) : Type 0 where
   pub device : Device
   pub contents : Contents
@@ -82,7 +82,7 @@ pub record IsOverLimit (files : Option (List FileBytes)) (named : Named) (part :
   pub given : IsGiven files named device contents
   pub over : over_limit contents ≡ Some part
 
--- the files describe a device, and that line of the history that they hold is refused
+-- the files describe a device, and this line of the history that they hold is refused
 pub record IsHistoryRefused (files : Option (List FileBytes)) (named : Named) (line : ℕ) : Type 0 where
   pub device : Device
   pub contents : Contents

@@ -1,4 +1,4 @@
--- Reading the files of an audit besides the device's, and what they come to.
+-- Reading the files of an audit except the device's, and the result.
 use Rattle.std.specs.Prelude.{◌≡◌, ℕ, ◌⊎◌, List, Option, Some, Result, Ok, Err, ⊤}
 use Rattle.am_types.specs.declared.device.Device.{Device}
 use Rattle.am_types.specs.declared.history.Entry.{Entry}
@@ -31,13 +31,13 @@ FailsToRead setbacks.FileFault before after named =
     ⊎ IsMissing before.files named.frames ⊎ IsMissing before.files named.responses
 FailsToRead setbacks.NoMemory before after named = ⊤
 
--- the verdict on what is held, by that history of the device, unless memory ran out
+-- the verdict on what is held, by this history of the device, unless memory ran out
 abbrev pub Judges : Result Finding Setback → Device → List Entry → Contents → Type 0
 Judges (Ok (findings.Judged verdict)) device history c = IsVerdict (ground_of device history) (transcript_of c) verdict
 Judges (Err setbacks.NoMemory) device history c = ⊤
 Judges _ device history c = ⊥
 
--- what is found of what is held, of that device, unless memory ran out
+-- what is found of what is held, for this device, unless memory ran out
 abbrev pub ComesTo : Result Finding Setback → Device → Contents → Type 0
 ComesTo (Ok (findings.OverLimit part)) device c = over_limit c ≡ Some part
 ComesTo (Ok (findings.HistoryRefused line)) device c =

@@ -1,4 +1,4 @@
--- The lines that tell what an audit comes to.
+-- The lines that tell the result of an audit.
 use Rattle.std.specs.Prelude.{ℕ, codes, decimal, List, ◌++◌}
 use Rattle.am_audit_frames.specs.declared.audit.Verdict.{Verdict}
 use Rattle.am_audit_frames.specs.declared.audit.Verdict.TheVariants as verdicts
@@ -7,7 +7,7 @@ use Rattle.am_console.specs.declared.setback.Setback.TheVariants as setbacks
 use Rattle.am_audit_shell.specs.declared.finding.Part.{Part}
 use Rattle.am_audit_shell.specs.declared.finding.Part.TheVariants as parts
 
--- the lines of other words, of an output that failed, and of memory that ran out
+-- the lines for other words, for an output that failed, and for running out of memory
 abbrev pub usage_line : List ℕ
 usage_line = codes "am_audit: usage\n"
 
@@ -17,17 +17,17 @@ write_line = codes "am_audit: write fault\n"
 abbrev pub want_line : List ℕ
 want_line = codes "am_audit: out of memory\n"
 
--- the line of a history that is refused
+-- the line for a history that is refused
 abbrev pub history_line : ℕ → List ℕ
 history_line line = codes "am_audit: history refused: " ++ decimal line ++ codes "\n"
 
--- the line of a file over its limits
+-- the line for a file over its limits
 abbrev pub limit_line : Part → List ℕ
 limit_line parts.History = codes "am_audit: over limit: history\n"
 limit_line parts.Frames = codes "am_audit: over limit: frames\n"
 limit_line parts.Responses = codes "am_audit: over limit: responses\n"
 
--- the line of a setback
+-- the line for a setback
 abbrev pub setback_line : Setback → List ℕ
 setback_line (setbacks.DeviceRefused line) = line
 setback_line setbacks.FileFault = codes "am_audit: file fault\n"

@@ -2,7 +2,7 @@
 use Rattle.std.specs.Prelude.{ℕ, Bool, not, ◌&&◌, ◌==◌, false, codes, List, [], ◌∷◌, if◌then◌else◌, Option, Some, None}
 use Rattle.am_model.specs.Texts.{is_same}
 
--- the files that words name
+-- the files that the words name
 pub record Named : Type 0 where
   pub device : List ℕ
   pub history : List ℕ

@@ -1,4 +1,4 @@
-//! What the files hold besides the device, and whether it is within its limits.
+//! What the files other than the device's hold, and whether it is within its limits.
 ghost use Rattle.std.specs.Prelude.{◌≡◌, ◌≤◌, IfOk, IfErr};
 ghost use Rattle.am_console.specs.Files.{shelf_of};
 ghost use Rattle.am_audit_shell.specs.Contents.{over_limit};
@@ -25,7 +25,7 @@ pub(crate) struct Held {
     pub(crate) responses: Vec<u8>,
 }
 
-/// Reads the files besides the device's, in the order of the words.
+/// Reads the files other than the device's, in the order of the words.
 pub(crate) fn read_files<F: Files>(files: &mut F, named: NamedFiles<'_>) -> Result<Held, Setback>
     ensures read { IfOk result (λ held. ReadsAll (F.files files.old) (named_at named.entry) (contents_of held)) }
     ensures failed { IfErr result (λ setback. FailsToRead setback

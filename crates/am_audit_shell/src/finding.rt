@@ -24,7 +24,7 @@ pub enum Finding {
     Judged(Verdict),
 }
 
-/// The line of a file over its limits, with its newline.
+/// The line for a file over its limits, with its newline.
 pub(crate) fn limit_line(part: Part) -> &'static str
     ensures { result.now ≡ limit_line part }
 {

@@ -50,7 +50,7 @@ fn verdict_status(verdict: Verdict) -> u8
     }
 }
 
-// The verdict on the transcript that the files hold, by that history of the device that the text describes.
+// The verdict on the transcript that the files hold, by this history of the device that the text describes.
 fn judge_held(
     alloc: Global,
     text: &[u8],
@@ -66,7 +66,7 @@ fn judge_held(
     Ok(Finding::Judged(verdict))
 }
 
-// What is found of what the files hold, of the device that the text describes. The device is read twice, since the
+// What is found of what the files hold, for the device that the text describes. The device is read twice, since the
 // history is replayed twice.
 fn audit_held(alloc: Global, device: Device, text: &[u8], held: &Held) -> Result<Finding, Setback>
     requires sound { IsSound device }
@@ -130,23 +130,23 @@ fn tell_finding<W: Sink, E: Sink>(
     }
 }
 
-/// Holds a transcript against a history, and answers the status. The words are `--device`, `--history`, `--frames` and
+/// Checks a transcript against a history, and answers the status. The words are `--device`, `--history`, `--frames` and
 /// `--responses`, in this order, each with a file. The files are read in that order.
 ///
 /// | Status | When | Printed |
 /// |---|---|---|
-/// | 0 | the responses are those that the history has for the frames | `yes ` and how many frames there are |
-/// | 1 | they aren't | `no ` and for how many first frames they are |
+/// | 0 | the responses are those that the history has for the frames | `yes ` and the number of frames |
+/// | 1 | they aren't | `no ` and the number of first frames for which they are |
 /// | 2 | the words are others | |
 /// | 3 | the device file is refused | |
 /// | 4 | a file couldn't be read | |
-/// | 5 | a line of the history is no entry, or one that would not be stored there | |
+/// | 5 | a line of the history isn't an entry, or its entry wouldn't be stored there | |
 /// | 6 | writing failed | |
-/// | 7 | a file besides the device's has more than 16,777,216 bytes, or the history more than 65,536 lines | |
+/// | 7 | a file other than the device's has more than 16,777,216 bytes, or the history more than 65,536 lines | |
 /// | 8 | memory ran out | |
 ///
 /// The first that applies of 2, 3, 7, 5, 1 and 0 is answered, unless a file fails, writing fails or memory runs out.
-/// From 2 on the errors have a line.
+/// For 2 and above, the errors have a line.
 pub fn audit<F: Files, W: Sink, E: Sink>(
     alloc: Global,
     words: &[Text],

@@ -7,14 +7,14 @@ ghost use Rattle.am_audit_shell.specs.Lines.{setback_line, want_line};
 use am_console::{Setback, tell};
 use am_outside::Sink;
 
-/// Writes on the errors that memory ran out, and answers the status: 8, or 6 where the line couldn't be written.
+/// Writes on the errors that memory ran out, and answers the status: 8, or 6 if the line couldn't be written.
 pub fn tell_want<E: Sink>(errors: &mut E) -> u8
     ensures { Tells want_line 8 (sink_of E.Sink errors.old) (sink_of E.Sink errors.new) result }
 {
     tell("am_audit: out of memory\n", 8, errors)
 }
 
-/// The line that tells a setback, with its newline.
+/// The line for a setback, with its newline.
 pub(crate) fn setback_line(setback: &Setback) -> &str
     ensures { result.now ≡ setback_line setback.now }
 {

@@ -6,7 +6,7 @@ ghost use Rattle.am_audit_shell.specs.Naming.{named_at};
 
 use am_types::Text;
 
-/// The files that words name.
+/// The files that the words name.
 #[derive(Clone, Copy)]
 pub(crate) struct NamedFiles<'w> {
     pub(crate) device: &'w Text,
@@ -25,7 +25,7 @@ fn is_file(word: &Text) -> bool
     }
 }
 
-// Whether the words are that option and a file.
+// Whether the words are this option and a file.
 fn is_option(word: &Text, name: &str, file: &Text) -> bool
     ensures { result ≡ is_option word.now name.now file.now }
 {

@@ -28,7 +28,8 @@ entries_more k xs ys = filter-append (λ (entry : Entry). entry.desk == k) xs ys
 none_of_one : (k : ℕ) (entry : Entry) → entry.desk ≢ k → entries_of k (entry ∷ []) ≡ []
 none_of_one k entry other = ap (λ b. cond b (entry ∷ []) []) (other_number entry.desk k other)
 
-none_of : (k next : ℕ) → next ≤ k → (xs : List Entry) → All (λ (entry : Entry). entry.desk < next) xs → entries_of k xs ≡ []
+none_of : (k next : ℕ) → next ≤ k → (xs : List Entry) → All (λ (entry : Entry). entry.desk < next) xs → entries_of k xs
+    ≡ []
 none_of k next above [] all = refl
 none_of k next above (e ∷ es) all =
     let first : e.desk < next = All-head (λ (entry : Entry). entry.desk < next) e es all in
@@ -49,7 +50,8 @@ pub numbered_wider : (next desks : ℕ) (handed history : List Entry) → next �
 numbered_wider next desks handed history most numbered = (
   numbered.0,
   numbered.1,
-  All-weaker (λ (entry : Entry). entry.desk < next) (λ (entry : Entry). entry.desk < desks) (λ entry below. omega arith) numbered.0 numbered.2,
+  All-weaker (λ (entry : Entry). entry.desk < next) (λ (entry : Entry). entry.desk < desks) (λ entry below. omega arith)
+      numbered.0 numbered.2,
 )
 
 pub numbered_first : (next : ℕ) (history : List Entry) → IsNumbered next history history
@@ -121,6 +123,7 @@ alone mark history one made numbered front =
     let own : entries_of 0 history ≡ entries_of 0 mark.seen =
     subst (λ (n : ℕ). entries_of n history ≡ entries_of n mark.seen) zeroth front.own in
     let rest : entries_of 0 t ≡ [] = append_cancel_left (entries_of 0 mark.seen) (entries_of 0 t) []
-    (sym (entries_more 0 mark.seen t) ∙ sym (ap (entries_of 0) front.grows.1) ∙ own ∙ sym (append-nil (entries_of 0 mark.seen))) in
+    (sym (entries_more 0 mark.seen t) ∙ sym (ap (entries_of 0) front.grows.1) ∙ own
+    ∙ sym (append-nil (entries_of 0 mark.seen))) in
     let none : t ≡ [] = sym (all_own t (all_back (λ (entry : Entry). entry.desk < 1) s t all)) ∙ rest in
     front.grows.1 ∙ ap (λ l. mark.seen ++ l) none ∙ append-nil mark.seen

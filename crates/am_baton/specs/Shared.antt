@@ -23,8 +23,8 @@ pub record Mark : Type 0 where
   pub number : ℕ
   pub seen : List Entry
 
--- what a pass knows: whether nothing was put into the queue yet, whether it stands for a desk, whether the manager is out
--- with it, whether the next desk is made of it, its desk, and the desks whose passes it took in
+-- what a pass knows: whether nothing was put into the queue yet, whether it stands for a desk, whether the manager is
+-- out with it, whether the next desk is made of it, its desk, and the desks whose passes it took in
 pub record Known : Type 0 where
   pub fresh : Bool
   pub live : Bool
@@ -99,12 +99,12 @@ with_seen mark history = record mark { seen = history }
 abbrev pub next_mark : Mark → Mark
 next_mark mark = new_mark mark.start (mark.number + 1)
 
--- one of the desks has that number
+-- one of the desks has this number
 abbrev pub HasNumber : ℕ → List Mark → Type 0
 HasNumber k [] = ⊥
 HasNumber k (mark ∷ marks) = (k ≡ mark.number) ⊎ HasNumber k marks
 
--- the pass stands for the desk of that number
+-- the pass stands for the desk with this number
 abbrev pub StandsFor : Known → ℕ → Type 0
 StandsFor v k = (k ≡ v.mark.number) ⊎ HasNumber k v.ended
 
@@ -112,12 +112,12 @@ StandsFor v k = (k ≡ v.mark.number) ⊎ HasNumber k v.ended
 abbrev pub AddsOne : ℕ → List Entry → List Entry → Type 0
 AddsOne number old new = (new ≡ old) ⊎ ((entry : Entry) × (entry.desk ≡ number) × (new ≡ old ++ entry ∷ []))
 
--- each entry behind those that were handed over carries a number below `next`
+-- each entry after those that were handed over carries a number below `next`
 abbrev pub IsNumbered : ℕ → List Entry → List Entry → Type 0
 IsNumbered next handed history =
     (added : List Entry) × (history ≡ handed ++ added) × All (λ (entry : Entry). entry.desk < next) added
 
--- what a desk has seen is a front of the history, in which the desk's own entries all stand
+-- what a desk has seen is the beginning of the history, with all of the desk's own entries
 pub record IsFront (mark : Mark) (history : List Entry) : Type 0 where
   pub begins : Extends mark.start.handed mark.seen
   pub grows : Extends mark.seen history
@@ -169,7 +169,7 @@ pub record IsShared {K : Type 0} (items : List (Baton K)) (views : List Known) :
       (v : Known) × (get_elem? views port ≡ some v) × (v.live ≡ true) × (v.holds ≡ true)
 
 module _ {K : Type 0} where
-  -- there is one manager, of whose one history each desk has seen a front
+  -- there is one manager with one history, of which each desk has seen the beginning
   abbrev pub OneManager : List (Baton K) → List Known → Type 0
   OneManager items views = ((items ≡ []) × (views ≡ fresh ∷ [])) ⊎ IsShared items views
 
@@ -185,7 +185,7 @@ module _ {K : Type 0} where
   abbrev pub Put : Known → Baton K → Known → Type 0
   Put v b w = w ≡ idle v.makes (with_seen v.mark b.manager.history) v.ended
 
--- the manager was taken: it is the one that the pass's desks share, and they have seen fronts of its history
+-- the manager was taken: it is the one that the pass's desks share, and each has seen the beginning of its history
 pub record Taken {K : Type 0} (v : Known) (b : Baton K) (w : Known) : Type 0 where
   pub origin : b.manager.origin ≡ v.mark.start.origin
   pub desks : b.desks ≡ v.mark.start.desks
@@ -195,7 +195,7 @@ pub record Taken {K : Type 0} (v : Known) (b : Baton K) (w : Known) : Type 0 whe
   pub made : v.mark.number < v.mark.start.desks
   pub view : w ≡ holding v.makes (with_seen v.mark b.manager.history) v.ended
 
--- the desk of that number, as it is made
+-- the desk with this number, as it is made
 abbrev pub new_desk : Origin → Sharing → ℕ → DeskView
 new_desk origin sharing number =
     record { origin = origin; number = number; sharing = sharing; seen = sharing.handed }
@@ -212,8 +212,8 @@ pub record AreAll (sharing : Sharing) (desks : List DeskView) : Type 0 where
   pub each : (k : ℕ) (other : DeskView) → k < length desks →
       ((slice_index_or desks k other).number ≡ k) × ((slice_index_or desks k other).sharing ≡ sharing)
 
--- the manager is the one that the desk shared: it has the desk's origin, the desk saw a front of its history, which has
--- the desk's entries and no others of its number, and each entry behind those that were handed over is some desk's
+-- the manager is the one that the desk shared: it has the desk's origin, the desk saw the beginning of its history with
+-- all the desk's entries and no others of its number, and each entry after those that were handed over is some desk's
 pub record IsClosed {K : Type 0} (desk : DeskView) (manager : Managed K) : Type 0 where
   pub origin : manager.origin ≡ desk.origin
   pub begins : Extends desk.sharing.handed desk.seen

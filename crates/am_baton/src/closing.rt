@@ -33,7 +33,7 @@ pub fn close<R: Wait + Clone + Drop + Send, K: Keeper>(
     }
 }
 
-// The same, where the last desk is apart.
+// The same, but the last desk is given apart.
 fn close_with<R: Wait + Drop, K: Keeper>(
     last: SharedDesk<R, K>,
     mut desks: Vec<SharedDesk<R, K>>,
@@ -53,7 +53,7 @@ fn close_with<R: Wait + Drop, K: Keeper>(
     take_last(&rt, &stand, &mut pass)
 }
 
-// Takes the pass of one more desk in.
+// Takes in the pass of one more desk.
 fn join<R: Wait + Drop, K: Keeper>(
     stand: &Stand<K>,
     pass: &mut Pass<Baton<K>, Ticket>,

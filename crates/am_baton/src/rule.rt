@@ -7,7 +7,7 @@ use crate::view::Ticket;
 use am_keeper::Keeper;
 use crossbeam_queue::protocol::{Join, Lesson, Outcome, Protocol, Split};
 
-/// There is one manager, of whose one history each desk has seen a front.
+/// There is one manager with one history, of which each desk has seen the beginning.
 pub struct OneHistory;
 
 impl<K: Keeper> Protocol<Baton<K>, Ticket> for OneHistory {
@@ -16,7 +16,7 @@ impl<K: Keeper> Protocol<Baton<K>, Ticket> for OneHistory {
     ghost first = { fresh };
 }
 
-/// The manager is put into the queue for the first time, which begins the sharing.
+/// The manager is put into the queue for the first time: the sharing begins.
 pub struct Begins;
 
 impl<K: Keeper> Outcome<Baton<K>, Ticket> for Begins {
@@ -51,7 +51,7 @@ impl<K: Keeper> Lesson<Baton<K>, Ticket> for Takes {
     ghost fact = { λ v items. items ≢ [] };
 }
 
-/// The pass of a desk makes that of the next, and passes are joined once their desks have ended.
+/// The pass of a desk makes the next desk's, and passes are joined once their desks have ended.
 pub struct Cut;
 
 impl Split<Ticket> for Cut {

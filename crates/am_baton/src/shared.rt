@@ -33,7 +33,7 @@ impl<R: Wait, K: Keeper> Model for SharedDesk<R, K> {
 
     ghost view = { λ d. desk_of d.pass.table_id (known d.pass).mark };
 
-    // The pass is of the queue in which the manager lies, and stands for this desk alone.
+    // The pass belongs to the queue in which the manager lies, and stands for this desk only.
     ghost invariant = { λ d. IsPassOf d.stand.value.queue d.pass
         × (known d.pass ≡ idle (known d.pass).makes (known d.pass).mark [])
         × (d.number ≡ (known d.pass).mark.number) };

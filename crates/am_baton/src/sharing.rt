@@ -16,7 +16,7 @@ use crossbeam_queue::{Pass, RuledArrayQueue};
 use std::alloc::Global;
 use std::sync::{Arc, Mutex, Wait};
 
-/// Makes 1 to 64 desks of one manager, of the numbers 0 and up. After `NoMemory` the manager is dropped.
+/// Makes 1 to 64 desks of one manager, numbered from 0. After `NoMemory` the manager is dropped.
 pub fn share<R: Wait + Clone + Drop + Send, K: Keeper>(
     rt: &R,
     alloc: Global,
@@ -29,7 +29,7 @@ pub fn share<R: Wait + Clone + Drop + Send, K: Keeper>(
         × (sharing.handed ≡ manager.history) × AreNew manager.origin sharing made.items) }
     ensures legal { IsLegal (opening_of manager.origin) manager.history }
 {
-    // The count of the entries isn't wanted: it tells the contract that the history is legal.
+    // The count of the entries isn't used: it tells the contract that the history is legal.
     let _ = manager.length();
     let (stand, pass) = begin(rt, alloc, manager, desks)?;
     let stand = match Arc::new(alloc, stand) {
@@ -79,7 +79,7 @@ fn lay<R: Wait, K: Keeper>(
     }
 }
 
-// The desks, from the pass of desk 0 on.
+// All desks, made one after the other from the pass of desk 0.
 fn all_desks<R: Wait + Clone + Drop, K: Keeper>(
     rt: &R,
     alloc: Global,

@@ -9,26 +9,26 @@ use Rattle.am_console.specs.declared.setback.Setback.{Setback}
 use Rattle.am_console.specs.declared.setback.Setback.TheVariants.{DeviceRefused, FileFault, NoMemory}
 use Rattle.am_console.specs.Files.{Holds}
 
--- how a text is read: as what it describes, or by its first fault
+-- how a text is read: as what it describes, or with its first fault
 abbrev pub Reading : Type 0 → Type 0
 Reading X = List ℕ → Result X ManifestFault
 
--- the file of that name reads so
+-- the file with this name reads so
 pub record ReadsAs {X : Type 0} (reading : Reading X)
     (files : Option (List FileBytes)) (name : List ℕ) (read : Result X ManifestFault) : Type 0 where
   pub bytes : List ℕ
   pub held : Holds files name bytes
   pub reads : reading bytes ≡ read
 
--- the file of that name describes that device, or has that fault
+-- the file with this name describes this device, or has this fault
 abbrev pub Describes : Option (List FileBytes) → List ℕ → Result Device ManifestFault → Type 0
 Describes files name read = ReadsAs device_of files name read
 
--- the line of a device file that has a fault, as the program of that name tells it
+-- the line that the program with this name prints for a device file with a fault
 abbrev pub refusal_line : List ℕ → ManifestFault → List ℕ
 refusal_line program fault = program ++ codes ": device refused: " ++ printed fault ++ codes "\n"
 
--- the program's setback of a text that has that fault: the line that names it, or memory ran out
+-- the program's setback for a text with this fault: the line that names it, or memory ran out
 abbrev pub IsRefusal : List ℕ → Setback → ManifestFault → Type 0
 IsRefusal program (DeviceRefused line) fault = line ≡ refusal_line program fault
 IsRefusal program FileFault fault = ⊥

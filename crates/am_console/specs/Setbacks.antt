@@ -5,7 +5,7 @@ use Rattle.am_outside.specs.declared.files.FileFail.TheVariants as fails
 use Rattle.am_console.specs.declared.setback.Setback.{Setback}
 use Rattle.am_console.specs.declared.setback.Setback.TheVariants.{DeviceRefused, FileFault, NoMemory}
 
--- the setback where a file wasn't read
+-- the setback if a file wasn't read
 abbrev pub setback_of_fail : FileFail → Setback
 setback_of_fail fails.Absent = FileFault
 setback_of_fail fails.Failed = FileFault

@@ -6,7 +6,7 @@ use Rattle.am_outside.specs.declared.outside.Sink.{Ghosts as SinkGhosts}
 use Rattle.am_http.specs.Links.{SinkView, sink_of}
 use Rattle.am_http.specs.Sending.{WritesPart}
 
--- what a command is told on: the output and the errors
+-- what a program prints on: the output and the errors
 pub record Voices : Type 0 where
   pub output : SinkView
   pub errors : SinkView
@@ -25,7 +25,7 @@ abbrev pub OnlyTold : List ℕ → ℕ → Voices → Voices → ℕ → Type 0
 OnlyTold line code before after status =
     (after.output ≡ before.output) × Tells line code before.errors after.errors status
 
--- a text was printed whole, with its status, or the output failed and took a part of it, and this complaint tells that
+-- a text was printed whole, with its status, or the output failed and took a part of it, and this complaint says so
 -- on the errors
 abbrev pub Prints : List ℕ → List ℕ → ℕ → Voices → Voices → ℕ → Type 0
 Prints complaint text status before after result =

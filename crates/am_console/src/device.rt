@@ -9,7 +9,7 @@ use am_manifest::{print_fault, read_device};
 use am_types::{Device, ManifestFault, NoMemory, Text, Unmade};
 use std::alloc::Global;
 
-/// The device that the text describes, or a setback of the program of that name. A device that is read is sound.
+/// The device that the text describes, or a setback of the program with this name. A device that is read is sound.
 pub fn parse_device(alloc: Global, program: &str, bytes: &[u8]) -> Result<Device, Setback>
     ensures parses { Parses program.now result (device_of bytes.now) }
     ensures sound { IfOk result (λ device. IsSound device) }
@@ -21,7 +21,7 @@ pub fn parse_device(alloc: Global, program: &str, bytes: &[u8]) -> Result<Device
     }
 }
 
-/// The setback of a device file with that fault, whose line begins with the program's name.
+/// The setback for a device file with this fault. Its line begins with the program's name.
 pub fn refusal(alloc: Global, program: &str, fault: &ManifestFault) -> Setback
     ensures { IsRefusal program.now result fault.now }
 {

@@ -1,4 +1,4 @@
-//! Why a run of either program doesn't come to its work, the device file that both begin with, and how both tell what
+//! Why a run of either program doesn't get to its work, the device file that both begin with, and how both tell what
 //! became of it.
 #![tactic(auto)]
 

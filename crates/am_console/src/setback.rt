@@ -1,11 +1,11 @@
-//! Why a run doesn't come to its work, and the status that tells it.
+//! Why a run doesn't get to its work, and the status that tells it.
 ghost use Rattle.std.specs.Prelude.{◌≡◌};
 ghost use Rattle.am_console.specs.Setbacks.{setback_status};
 
 use am_outside::FileFail;
 use am_types::{NoMemory, Text};
 
-/// Why a run doesn't come to its work, whichever the program.
+/// Why a run of either program doesn't get to its work.
 #[derive(Drop)]
 pub enum Setback {
     /// The device file has a fault, which this line names.

@@ -5,7 +5,7 @@ ghost use Rattle.am_console.specs.Telling.{Prints, Tells, voices_of};
 use am_http::write_all;
 use am_outside::{Failed, Sink};
 
-/// Writes a line on the errors, and answers the status that goes with it, or 6 where the line couldn't be written.
+/// Writes a line on the errors, and answers the status that goes with it, or 6 if the line couldn't be written.
 pub fn tell<E: Sink>(line: &str, status: u8, errors: &mut E) -> u8
     ensures { Tells line.now status (sink_of E.Sink errors.old) (sink_of E.Sink errors.new) result }
 {
@@ -15,7 +15,7 @@ pub fn tell<E: Sink>(line: &str, status: u8, errors: &mut E) -> u8
     }
 }
 
-/// Prints a text on the output, and answers the status that goes with it, or 6 where that fails, with this complaint on
+/// Prints a text on the output, and answers the status that goes with it, or 6 if that fails, with this complaint on
 /// the errors.
 pub fn print<W: Sink, E: Sink>(
     complaint: &str,

@@ -8,8 +8,8 @@ ghost use Rattle.am_history.specs.Steps.{is_formed};
 
 use am_types::{NoMemory, Request, Shown, Text};
 
-/// A call as it is made on a desk: with which key, at which moment in milliseconds, how long the body of its request
-/// is in bytes, and what it asks.
+/// A call as it is made on a desk: its key, its moment in milliseconds, the length of its request's body in bytes, and
+/// what it asks.
 #[derive(Drop)]
 pub struct DeskCall<'k> {
     pub key: &'k Text,
@@ -24,7 +24,7 @@ pub trait Desk {
     /// the history that it has seen.
     ghost view: { Self → DeskView };
 
-    /// Makes one call, of a request of the form that a body is read as. After `NoMemory` the call
+    /// Makes one call. Its request has the form that a body is read as. After `NoMemory` the call
     /// itself changed nothing, but the desk may have seen more calls of others.
     fn call(&mut self, asked: DeskCall<'_>) -> Result<Shown, NoMemory>
         requires formed { IsTrue (is_formed asked.request) }

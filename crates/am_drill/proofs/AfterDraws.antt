@@ -18,5 +18,6 @@ four_more i state =
     after_both 4 (4 * i) state ∙ ap (λ n. after n state) e
 
 -- one package more
-pub one_package_more : (i state : ℕ) → packages_of i state ++ package_of i (after (4 * i) state) ∷ [] ≡ packages_of (i + 1) state
+pub one_package_more : (i state : ℕ) → packages_of i state ++ package_of i (after (4 * i) state) ∷ []
+    ≡ packages_of (i + 1) state
 one_package_more i state = sym (map-range_with_len_more (λ i. package_of i (after (4 * i) state)) 0 i i (omega arith))

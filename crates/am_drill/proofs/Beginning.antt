@@ -13,16 +13,27 @@ use Rattle.am_drill.specs.Draws.{after, seed}
 use Rattle.am_drill.specs.Drills.{drilled, history_of, statuses_of, tally_of}
 
 -- what the calls come to
-pub drilled_so : (from packages requests : ℕ) (device : Device) (start : State) (seen after_all : List Entry) (draws : ℕ) (statuses : List ℕ)
-    → start ≡ opening device → device ≡ device_of packages (seed from) → seen ≡ [] → draws ≡ after (4 * packages) (seed from)
+pub drilled_so : (from packages requests : ℕ) (device : Device) (start : State) (seen after_all : List Entry)
+    (draws : ℕ) (statuses : List ℕ)
+    → start ≡ opening device → device ≡ device_of packages (seed from) → seen ≡ [] → draws
+    ≡ after (4 * packages) (seed from)
     → statuses ≡ statuses_of start seen (calls_of packages requests draws)
     → after_all ≡ history_of start seen (calls_of packages requests draws)
     → ◌≡◌ {A = Tally} (record { statuses = statuses; history = length after_all }) (drilled from packages requests)
 unfolding drilled
-drilled_so from packages requests device start seen after_all draws statuses opens made none drawn statuses_are after_is =
+drilled_so from packages requests device start seen after_all draws statuses opens made none drawn statuses_are after_is
+    =
     ap (λ (s : List ℕ). record { statuses = s; history = length after_all }) statuses_are
-    ∙ ap (λ (h : List Entry). record { statuses = statuses_of start seen (calls_of packages requests draws); history = length h }) after_is
-    ∙ ap (λ (h : List Entry). record { statuses = statuses_of start h (calls_of packages requests draws); history = length (history_of start h (calls_of packages requests draws)) }) none
+    ∙ ap (λ (h : List Entry). record {
+      statuses = statuses_of start seen (calls_of packages requests draws);
+      history =
+          length h;
+    }) after_is
+    ∙ ap (λ (h : List Entry). record {
+      statuses = statuses_of start h (calls_of packages requests draws);
+      history =
+          length (history_of start h (calls_of packages requests draws));
+    }) none
     ∙ ap (λ (s : State). tally_of s (calls_of packages requests draws)) (opens ∙ ap opening made)
     ∙ ap (λ (d : ℕ). tally_of (opening (device_of packages (seed from))) (calls_of packages requests d)) drawn
 

@@ -22,7 +22,8 @@ digits_are_visible = decimal_by_steps (λ n ds. list_all visible ds ≡ true) (�
     visible : ℕ → Bool
     visible b = nat_le 33 b && nat_le b 126
 
-    more : (n : ℕ) (ds : List ℕ) → 10 ≤ n → list_all visible ds ≡ true → list_all visible (ds ++ (48 + n % 10) ∷ []) ≡ true
+    more : (n : ℕ) (ds : List ℕ) → 10 ≤ n → list_all visible ds ≡ true → list_all visible (ds ++ (48 + n % 10) ∷ [])
+        ≡ true
     more n ds large so_far =
         let small : n % 10 < 10 = omega arith in
         list_all-append visible ds ((48 + n % 10) ∷ [])
@@ -36,7 +37,8 @@ digits_have_no_slash = decimal_by_steps (λ n ds. list_any slash ds ≡ false) (
     slash : ℕ → Bool
     slash b = b == 47
 
-    more : (n : ℕ) (ds : List ℕ) → 10 ≤ n → list_any slash ds ≡ false → list_any slash (ds ++ (48 + n % 10) ∷ []) ≡ false
+    more : (n : ℕ) (ds : List ℕ) → 10 ≤ n → list_any slash ds ≡ false → list_any slash (ds ++ (48 + n % 10) ∷ [])
+        ≡ false
     more n ds large so_far =
         let small : n % 10 < 10 = omega arith in
         list_any-append slash ds ((48 + n % 10) ∷ [])
@@ -47,7 +49,8 @@ digits_have_no_slash = decimal_by_steps (λ n ds. list_any slash ds ≡ false) (
 pub apart : (front : List ℕ) (m n : ℕ) → m < n → n < 2 ^ 64 → is_same (front ++ decimal m) (front ++ decimal n) ≡ false
 apart front m n less small = by _ refl
   where
-    by : (b : Bool) → b ≡ is_same (front ++ decimal m) (front ++ decimal n) → is_same (front ++ decimal m) (front ++ decimal n) ≡ false
+    by : (b : Bool) → b ≡ is_same (front ++ decimal m) (front ++ decimal n)
+        → is_same (front ++ decimal m) (front ++ decimal n) ≡ false
     by true is =
         let same : m ≡ n = decimal_injective m n (omega arith) small
         (append_cancel_left front (decimal m) (decimal n) (same_text (front ++ decimal m) (front ++ decimal n) is)) in
@@ -62,13 +65,15 @@ apart_from text front other a (suc k) = (other a, apart_from text front other (a
 
 -- a text with a number behind it is none of those with greater ones
 apart_behind : (front : List ℕ) (m a k : ℕ) → m < a → a + k ≤ 256
-    → AllByRecursion (λ other. is_same (front ++ decimal m) other ≡ false) (map (λ n. front ++ decimal n) (range_with_len a k))
+    → AllByRecursion (λ other. is_same (front ++ decimal m) other ≡ false)
+    (map (λ n. front ++ decimal n) (range_with_len a k))
 apart_behind front m a zero less small = tt
 apart_behind front m a (suc k) less small =
     (apart front m a less (omega arith), apart_behind front m (a + 1) k (omega arith) (omega arith))
 
 -- texts with different numbers behind a front are distinct
-pub numbered_apart : (front : List ℕ) (a k : ℕ) → a + k ≤ 256 → AreDistinct (map (λ n. front ++ decimal n) (range_with_len a k))
+pub numbered_apart : (front : List ℕ) (a k : ℕ) → a + k ≤ 256 → AreDistinct
+    (map (λ n. front ++ decimal n) (range_with_len a k))
 unfolding IsDistinct
 numbered_apart front a zero small = tt
 numbered_apart front a (suc k) small =

@@ -15,7 +15,8 @@ none_left end =
     let e : end - end ≡ 0 = omega arith in
     rw e
 
-pub lines_begin : (statuses : List ℕ) → lines_of statuses (range_with_len 100 (600 - 100)) ≡ lines_of statuses all_statuses
+pub lines_begin : (statuses : List ℕ) → lines_of statuses (range_with_len 100 (600 - 100))
+    ≡ lines_of statuses all_statuses
 unfolding all_statuses
 lines_begin statuses = refl
 

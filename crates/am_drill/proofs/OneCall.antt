@@ -44,8 +44,10 @@ unstored_reply state history call kept (Some uid) unstored =
     by (may_change state call.now call.request) (has_room history call.weight) unstored
   where
     by : (changes room : Bool) → true && changes && room ≡ false
-        → (if changes then (if room then (step state history (entry_of call uid kept)).0 else Refused HistoryFull) else (act state history uid call.request).0)
-        ≡ (if changes then (if room then (step state history (entry_of call uid true)).0 else Refused HistoryFull) else (act state history uid call.request).0)
+        → (if changes then (if room then (step state history (entry_of call uid kept)).0 else Refused HistoryFull) else
+        (act state history uid call.request).0)
+        ≡ (if changes then (if room then (step state history (entry_of call uid true)).0 else Refused HistoryFull) else
+        (act state history uid call.request).0)
     by true true stored = absurd cc
     by true false stored = refl
     by false room stored = refl
@@ -63,13 +65,23 @@ made_entry state call entry is =
         ap (λ (d : ℕ). record entry { desk = d }) desk
         ∙ ap (λ (n : ℕ). record entry { desk = call.desk; now = n }) now
         ∙ ap (λ (w : ℕ). record entry { desk = call.desk; now = call.now; weight = w }) weight
-        ∙ ap (λ (r : Request). record entry { desk = call.desk; now = call.now; weight = call.weight; request = r }) request
-        ∙ ap (λ (k : Bool). record entry { desk = call.desk; now = call.now; weight = call.weight; request = call.request; kept = k }) kept
+        ∙ ap (λ (r : Request). record entry { desk = call.desk; now = call.now; weight = call.weight; request = r })
+        request
+        ∙ ap (λ (k : Bool). record entry {
+          desk = call.desk;
+          now = call.now;
+          weight = call.weight;
+          request =
+              call.request;
+          kept = k;
+        }) kept
 
-module _ (start : State) (history after : List Entry) (call : Call) (none : keeps_row call.request ≡ false) (legal : IsLegal start after) where
+module _ (start : State) (history after : List Entry) (call : Call) (none : keeps_row call.request ≡ false)
+    (legal : IsLegal start after) where
   -- the history goes on as the calls have it
   goes_on : (stored kept : Bool) → stored ≡ is_stored (replay start history) history call
-      → Follows history after stored (IsEntryOf (replay start history) call kept) → after ≡ history_after start history call
+      → Follows history after stored (IsEntryOf (replay start history) call kept) → after
+      ≡ history_after start history call
   unfolding history_after
   goes_on false kept is same =
       same ∙ ap (λ b. if b then history ++ entry_by call (uid_of (replay start history) call.key) else history) is
@@ -91,14 +103,16 @@ module _ (start : State) (history after : List Entry) (call : Call) (none : keep
   -- the reply is the one that nothing was left out of
   whole_reply : (stored kept : Bool) → stored ≡ is_stored (replay start history) history call
       → Follows history after stored (IsEntryOf (replay start history) call kept)
-      → reply_to (replay start history) history call kept (uid_of (replay start history) call.key) ≡ answer start history call
+      → reply_to (replay start history) history call kept (uid_of (replay start history) call.key)
+      ≡ answer start history call
   unfolding answer
   whole_reply false kept is same =
       unstored_reply (replay start history) history call kept (uid_of (replay start history) call.key) (sym is)
   whole_reply true kept is (entry, made, more) =
       let whole : entry.kept ≡ true = last_is_kept start history entry (subst (IsLegal start) more legal)
       (ap keeps_row made.request ∙ none) in
-      ap (λ b. reply_to (replay start history) history call b (uid_of (replay start history) call.key)) (sym made.kept ∙ whole)
+      ap (λ b. reply_to (replay start history) history call b (uid_of (replay start history) call.key))
+      (sym made.kept ∙ whole)
 
 -- what is shown of a call at a place of a history
 at_place : (start : State) (before after : List Entry) (call : Call) (shown : Shown) → keeps_row call.request ≡ false
@@ -110,28 +124,33 @@ at_place start before after call shown none legal at = (
 )
 
 -- what a desk that has its manager for itself shows of a call, and the history after it
-pub alone_shows : (old new : DeskView) (call : Call) (shown : Shown) → old.sharing.desks ≡ 1 → keeps_row call.request ≡ false
+pub alone_shows : (old new : DeskView) (call : Call) (shown : Shown) → old.sharing.desks ≡ 1 → keeps_row call.request
+    ≡ false
     → IsLegal (start_of new) new.seen → IsSameDesk old new → Shows old new call shown
     → (shown.reply ≡ answer (start_of old) old.seen call) × (new.seen ≡ history_after (start_of old) old.seen call)
 alone_shows old new call shown alone none legal same (before, sees, at) =
-    subst (λ (h : List Entry). (shown.reply ≡ answer (start_of old) h call) × (new.seen ≡ history_after (start_of old) h call))
+    subst (λ (h : List Entry). (shown.reply ≡ answer (start_of old) h call)
+    × (new.seen ≡ history_after (start_of old) h call))
     (sees.alone alone)
     (at_place (start_of old) before new.seen call shown none
     (subst (λ start. IsLegal start new.seen) (ap opening_of same.origin) legal) at)
 
 -- a call is what its parts are
 call_is : (number : ℕ) (key : List ℕ) (now weight : ℕ) (request : Request) → number ≡ 0 → weight ≡ weight_of request
-    → ◌≡◌ {A = Call} (record { desk = number; key = key; now = now; weight = weight; request = request }) (call_of key now request)
+    → ◌≡◌ {A = Call} (record { desk = number; key = key; now = now; weight = weight; request = request })
+    (call_of key now request)
 call_is number key now weight request first weighs =
     ap (λ (d : ℕ). record { desk = d; key = key; now = now; weight = weight; request = request }) first
     ∙ ap (λ (w : ℕ). record { desk = 0; key = key; now = now; weight = w; request = request }) weighs
 
 -- what a drill's desk shows of the call of a plain request, and the history after it
-pub plain_shows : (old new : DeskView) (key : List ℕ) (now weight : ℕ) (request : Request) (shown : Shown) → IsAlone old → IsPlain request
+pub plain_shows : (old new : DeskView) (key : List ℕ) (now weight : ℕ) (request : Request) (shown : Shown) → IsAlone old
+    → IsPlain request
     → weight ≡ weight_of request → IsLegal (start_of new) new.seen → IsSameDesk old new
     → Shows old new (record { desk = old.number; key = key; now = now; weight = weight; request = request }) shown
     → (shown.reply ≡ answer (start_of old) old.seen (call_of key now request))
     × (new.seen ≡ history_after (start_of old) old.seen (call_of key now request))
 plain_shows old new key now weight request shown alone plain weighs legal same shows =
     alone_shows old new (call_of key now request) shown alone.desks plain.no_row legal same
-    (subst (λ (call : Call). Shows old new call shown) (call_is old.number key now weight request alone.number weighs) shows)
+    (subst (λ (call : Call). Shows old new call shown) (call_is old.number key now weight request alone.number weighs)
+    shows)

@@ -23,7 +23,22 @@ generated_is_plain case state = by (case == 0) (case == 1) (case == 2)
         else if start then asks.Start (acting (activity_action (draw 0 8 state)) new_task) None
         else if send then asks.Send (acting (broadcast_action (draw 0 4 state)) no_flags) None (Some in_order)
         else asks.Tick)
-    by true start send = record { formed = refl; no_row = refl; short = query_is_short (draw 0 8 state) (remains_below _ 8 (omega arith)) }
-    by false true send = record { formed = refl; no_row = refl; short = start_is_short (draw 0 8 state) (remains_below _ 8 (omega arith)) }
-    by false false true = record { formed = refl; no_row = refl; short = send_is_short (draw 0 4 state) (remains_below _ 4 (omega arith)) }
+    by true start send = record {
+      formed = refl;
+      no_row = refl;
+      short = query_is_short (draw 0 8 state)
+          (remains_below _ 8 (omega arith));
+    }
+    by false true send = record {
+      formed = refl;
+      no_row = refl;
+      short = start_is_short (draw 0 8 state)
+          (remains_below _ 8 (omega arith));
+    }
+    by false false true = record {
+      formed = refl;
+      no_row = refl;
+      short = send_is_short (draw 0 4 state)
+          (remains_below _ 4 (omega arith));
+    }
     by false false false = record { formed = refl; no_row = refl; short = tick_is_short }

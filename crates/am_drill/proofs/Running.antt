@@ -33,7 +33,8 @@ drawn_more j state =
 
 module _ (start : State) (history after : List Entry) (packages requests j state : ℕ) (below : j < requests)
     (next : after ≡ history_after start history (call_at packages j (before j state))) where
-  first_call : calls_left packages requests j state ≡ call_at packages j (before j state) ∷ calls_left packages requests (j + 1) state
+  first_call : calls_left packages requests j state ≡ call_at packages j (before j state)
+      ∷ calls_left packages requests (j + 1) state
   first_call = ap (map (λ j. call_at packages j (before j state))) (first_left j requests below)
 
   pub history_goes_on : (whole : List Entry) → history_of start history (calls_left packages requests j state) ≡ whole
@@ -50,7 +51,8 @@ module _ (start : State) (history after : List Entry) (packages requests j state
   statuses_go_on statuses whole status is so_far =
       append_assoc statuses (status ∷ []) (statuses_of start after (calls_left packages requests (j + 1) state))
       ∙ ap (λ (s : ℕ). statuses ++ s ∷ statuses_of start after (calls_left packages requests (j + 1) state)) is
-      ∙ ap (λ (h : List Entry). statuses ++ status_of (answer start history (call_at packages j (before j state))) ∷ statuses_of start h (calls_left packages requests (j + 1) state)) next
+      ∙ ap (λ (h : List Entry). statuses ++ status_of (answer start history (call_at packages j (before j state)))
+      ∷ statuses_of start h (calls_left packages requests (j + 1) state)) next
       ∙ ap (λ (calls : List Call). statuses ++ statuses_of start history calls) (sym first_call)
       ∙ so_far
 
@@ -59,7 +61,8 @@ pub statuses_end : (start : State) (history : List Entry) (packages requests sta
     → statuses ++ statuses_of start history (calls_left packages requests requests state) ≡ whole → statuses ≡ whole
 statuses_end start history packages requests state statuses whole so_far =
     sym (append-nil statuses)
-    ∙ ap (λ (calls : List Call). statuses ++ statuses_of start history calls) (sym (no_call_left packages requests state))
+    ∙ ap (λ (calls : List Call). statuses ++ statuses_of start history calls)
+    (sym (no_call_left packages requests state))
     ∙ so_far
 
 pub history_ends : (start : State) (history : List Entry) (packages requests state : ℕ) (whole : List Entry)
@@ -82,12 +85,14 @@ same_twice first mid last one two = record {
   sharing = two.sharing ∙ one.sharing;
 }
 
-module _ (first desk : DeskView) (packages j state draws : ℕ) (same : IsSameDesk first desk) (drawn : draws ≡ before j state) where
+module _ (first desk : DeskView) (packages j state draws : ℕ) (same : IsSameDesk first desk)
+    (drawn : draws ≡ before j state) where
   pub status_at : (status : ℕ) → status ≡ status_of (answer (start_of desk) desk.seen (call_at packages j draws))
       → status ≡ status_of (answer (start_of first) desk.seen (call_at packages j (before j state)))
   status_at status is =
       is
-      ∙ ap (λ (origin : Origin). status_of (answer (opening_of origin) desk.seen (call_at packages j draws))) same.origin
+      ∙ ap (λ (origin : Origin). status_of (answer (opening_of origin) desk.seen (call_at packages j draws)))
+      same.origin
       ∙ ap (λ (d : ℕ). status_of (answer (start_of first) desk.seen (call_at packages j d))) drawn
 
   pub history_at : (after : List Entry) → after ≡ history_after (start_of desk) desk.seen (call_at packages j draws)

@@ -37,21 +37,26 @@ tick_is_short = short (weight_of asks.Tick) 2 refl (omega arith)
 
 query_length : (n : ℕ) → n < 8 → weight_of (asks.Query Activity (acting (activity_action n) no_flags) false) ≡ 45
 unfolding request_data query_data intent_data escape_byte digits
-query_length = below_8 (λ n. weight_of (asks.Query Activity (acting (activity_action n) no_flags) false) ≡ 45) refl refl refl refl refl refl refl refl
+query_length = below_8 (λ n. weight_of (asks.Query Activity (acting (activity_action n) no_flags) false) ≡ 45) refl refl
+    refl refl refl refl refl refl
 
-pub query_is_short : (n : ℕ) → n < 8 → weight_of (asks.Query Activity (acting (activity_action n) no_flags) false) ≤ 65536
+pub query_is_short : (n : ℕ) → n < 8 → weight_of (asks.Query Activity (acting (activity_action n) no_flags) false) ≤
+    65536
 query_is_short n small = short _ 45 (query_length n small) (omega arith)
 
 start_length : (n : ℕ) → n < 8 → weight_of (asks.Start (acting (activity_action n) new_task) None) ≡ 48
 unfolding request_data start_data intent_data escape_byte digits
-start_length = below_8 (λ n. weight_of (asks.Start (acting (activity_action n) new_task) None) ≡ 48) refl refl refl refl refl refl refl refl
+start_length = below_8 (λ n. weight_of (asks.Start (acting (activity_action n) new_task) None) ≡ 48) refl refl refl refl
+    refl refl refl refl
 
 pub start_is_short : (n : ℕ) → n < 8 → weight_of (asks.Start (acting (activity_action n) new_task) None) ≤ 65536
 start_is_short n small = short _ 48 (start_length n small) (omega arith)
 
 send_length : (n : ℕ) → n < 4 → weight_of (asks.Send (acting (broadcast_action n) no_flags) None (Some in_order)) ≡ 42
 unfolding request_data send_data intent_data with_ordered with_outcome escape_byte digits
-send_length = below_4 (λ n. weight_of (asks.Send (acting (broadcast_action n) no_flags) None (Some in_order)) ≡ 42) refl refl refl refl
+send_length = below_4 (λ n. weight_of (asks.Send (acting (broadcast_action n) no_flags) None (Some in_order)) ≡ 42) refl
+    refl refl refl
 
-pub send_is_short : (n : ℕ) → n < 4 → weight_of (asks.Send (acting (broadcast_action n) no_flags) None (Some in_order)) ≤ 65536
+pub send_is_short : (n : ℕ) → n < 4 → weight_of (asks.Send (acting (broadcast_action n) no_flags) None (Some in_order))
+    ≤ 65536
 send_is_short n small = short _ 42 (send_length n small) (omega arith)

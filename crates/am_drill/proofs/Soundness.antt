@@ -36,7 +36,8 @@ short_key n small = grind arith
 key_is_one : (i : ℕ) → i < 256 → is_access_key (key_of i) ≡ true
 key_is_one i small =
     let short : length (decimal i) ≤ 3 = length-decimal-le 3 i (omega arith) (omega arith) (omega arith) in
-    ap (λ b. if b then false else if nat_lt 255 (length (key_of i)) then false else is_visible (key_of i)) (not_empty (length (decimal i)))
+    ap (λ b. if b then false else if nat_lt 255 (length (key_of i)) then false else is_visible (key_of i))
+    (not_empty (length (decimal i)))
     ∙ ap (λ b. if b then false else is_visible (key_of i)) (short_key (length (decimal i)) short)
     ∙ digits_are_visible i (omega arith)
 
@@ -44,7 +45,8 @@ key_is_one i small =
 classes_apart : (name : List ℕ) → is_same (name ++ codes ".A") (name ++ codes ".R") ≡ false
 classes_apart name = by _ refl
   where
-    by : (b : Bool) → b ≡ is_same (name ++ codes ".A") (name ++ codes ".R") → is_same (name ++ codes ".A") (name ++ codes ".R") ≡ false
+    by : (b : Bool) → b ≡ is_same (name ++ codes ".A") (name ++ codes ".R")
+        → is_same (name ++ codes ".A") (name ++ codes ".R") ≡ false
     by true is =
         let same : codes ".A" ≡ codes ".R" = append_cancel_left name (codes ".A") (codes ".R")
         (same_text (name ++ codes ".A") (name ++ codes ".R") is) in
@@ -56,7 +58,8 @@ classes_apart name = by _ refl
 one_filter : (decl : Decl) (filter : Filter) → decl.filters ≡ filter ∷ [] → IsSoundFilter filter → IsSoundDecl decl
 one_filter decl filter is sound = record {
   few = subst (λ (filters : List Filter). length filters ≤ 32) (sym is) (omega arith);
-  filters = subst (λ (filters : List Filter). All IsSoundFilter filters) (sym is) (All-cons IsSoundFilter filter [] sound (All-nil IsSoundFilter));
+  filters = subst (λ (filters : List Filter). All IsSoundFilter filters) (sym is)
+      (All-cons IsSoundFilter filter [] sound (All-nil IsSoundFilter));
 }
 
 -- a filter of one action and few categories
@@ -90,14 +93,17 @@ package_is_sound i state small = record {
   few = omega arith;
   classes = ((classes_apart (name_of i), tt), (tt, tt));
   decls = All-cons IsSoundDecl (activity_of i state) (receiver_of i (after 2 state) ∷ []) (activity_is_sound i state)
-      (All-cons IsSoundDecl (receiver_of i (after 2 state)) [] (receiver_is_sound i (after 2 state)) (All-nil IsSoundDecl));
+      (All-cons IsSoundDecl (receiver_of i (after 2 state)) [] (receiver_is_sound i (after 2 state))
+      (All-nil IsSoundDecl));
 }
 
 -- a part of each of the packages
 parts_of : {X : Type 0} (part : Package → X) (state a k : ℕ)
-    → map part (map (λ i. package_of i (after (4 * i) state)) (range_with_len a k)) ≡ map (λ i. part (package_of i (after (4 * i) state))) (range_with_len a k)
+    → map part (map (λ i. package_of i (after (4 * i) state)) (range_with_len a k))
+    ≡ map (λ i. part (package_of i (after (4 * i) state))) (range_with_len a k)
 parts_of part state a zero = refl
-parts_of part state a (suc k) = ap (λ (others : List _). part (package_of a (after (4 * a) state)) ∷ others) (parts_of part state (a + 1) k)
+parts_of part state a (suc k) = ap (λ (others : List _). part (package_of a (after (4 * a) state)) ∷ others)
+    (parts_of part state (a + 1) k)
 
 module _ (packages state : ℕ) (few : packages ≤ 256) where
   names_are : names_of (packages_of packages state) ≡ map (λ i. name_of i) (range_with_len 0 packages)
@@ -112,7 +118,8 @@ module _ (packages state : ℕ) (few : packages ≤ 256) where
   many : length (packages_of packages state) ≡ packages
   many = length-map-range_with_len (λ i. package_of i (after (4 * i) state)) 0 packages
 
-  each_is_sound : (k : ℕ) (p : Package) → k < length (packages_of packages state) → IsSoundPackage (get_or (packages_of packages state) k p)
+  each_is_sound : (k : ℕ) (p : Package) → k < length (packages_of packages state)
+      → IsSoundPackage (get_or (packages_of packages state) k p)
   each_is_sound k p less =
       let within : k < packages = omega (arith, many) in
       let is : get_or (packages_of packages state) k p ≡ package_of k (after (4 * k) state) =
@@ -121,12 +128,14 @@ module _ (packages state : ℕ) (few : packages ≤ 256) where
 
   numbers_rise : IsStrictlyIncreasing (map (λ i. 10000 + i) (range_with_len 0 packages))
   numbers_rise k less =
-      let all : length (map (λ i. 10000 + i) (range_with_len 0 packages)) ≡ packages = length-map-range_with_len (λ i. 10000 + i) 0 packages in
+      let all : length (map (λ i. 10000 + i) (range_with_len 0 packages))
+      ≡ packages = length-map-range_with_len (λ i. 10000 + i) 0 packages in
       let here : get_or (map (λ i. 10000 + i) (range_with_len 0 packages)) k 0 ≡ 10000 + k =
       get_or-map-range_with_len (λ i. 10000 + i) 0 packages k k 0 (omega (arith, all)) (omega arith) in
       let there : get_or (map (λ i. 10000 + i) (range_with_len 0 packages)) (k + 1) 0 ≡ 10000 + (k + 1) =
       get_or-map-range_with_len (λ i. 10000 + i) 0 packages (k + 1) (k + 1) 0 (omega (arith, all)) (omega arith) in
-      let rise : get_or (map (λ i. 10000 + i) (range_with_len 0 packages)) k 0 < get_or (map (λ i. 10000 + i) (range_with_len 0 packages)) (k + 1) 0 = omega arith in
+      let rise : get_or (map (λ i. 10000 + i) (range_with_len 0 packages)) k 0 < get_or
+      (map (λ i. 10000 + i) (range_with_len 0 packages)) (k + 1) 0 = omega arith in
       rise
 
   -- the packages
@@ -141,8 +150,11 @@ module _ (packages state : ℕ) (few : packages ≤ 256) where
   names_apart : AreDistinct (codes "android" ∷ names_of (packages_of packages state))
   unfolding IsDistinct
   names_apart =
-      subst (λ (names : List (List ℕ)). AreDistinct (codes "android" ∷ names)) (sym names_are)
-      (apart_from (codes "android") (codes "p.") (λ n. refl) 0 packages, numbered_apart (codes "p.") 0 packages (omega arith))
+      subst (λ (names : List (List ℕ)). AreDistinct (codes "android" ∷ names)) (sym names_are) (
+        apart_from (codes "android") (codes "p.") (λ n. refl) 0 packages,
+        numbered_apart (codes "p.") 0 packages
+            (omega arith),
+      )
 
   -- no two keys are the same
   keys_apart : AreDistinct (codes "sys" ∷ keys_of (packages_of packages state))
@@ -166,7 +178,8 @@ module _ (packages state : ℕ) (few : packages ≤ 256) where
   device_is_sound = record {
     packages = packages_are_sound;
     names = names_apart;
-    owners = All-cons (λ key. IsTrue (is_access_key key)) (codes "sys") [] refl (All-nil (λ key. IsTrue (is_access_key key)));
+    owners = All-cons (λ key. IsTrue (is_access_key key)) (codes "sys") [] refl
+        (All-nil (λ key. IsTrue (is_access_key key)));
     keys = keys_apart;
     grants = no_rights;
     links = no_rights;

@@ -8,7 +8,7 @@ use Rattle.am_drill.specs.Draws.{after, draw}
 use Rattle.am_drill.specs.Devices.{key_of}
 use Rattle.am_drill.specs.Requests.{draws_of, request_of}
 
--- the key of the caller of a case: of the package of that number, but the system's for a tick
+-- the key of the caller of a case: the key of the package with this number, except the system's for a tick
 abbrev pub caller_of : ℕ → ℕ → List ℕ
 caller_of case i = if case == 3 then codes "sys" else key_of i
 
@@ -34,6 +34,6 @@ abbrev pub before : ℕ → ℕ → ℕ
 before zero state = state
 before (suc j) state = behind (before j state)
 
--- so many calls, each of the draws behind those of the calls before it
+-- so many calls, each with the draws that follow those of the calls before it
 abbrev pub calls_of : ℕ → ℕ → ℕ → List Call
 calls_of packages requests state = map (λ j. call_at packages j (before j state)) (range_with_len 0 requests)

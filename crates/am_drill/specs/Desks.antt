@@ -10,7 +10,7 @@ pub record IsAlone (desk : DeskView) : Type 0 where
   pub number : desk.number ≡ 0
   pub desks : desk.sharing.desks ≡ 1
 
--- a request of the form that a body is read as, of which no row is kept, and whose body is short
+-- a request that has the form that a body is read as, for which no row is kept, and whose body is short
 pub record IsPlain (request : Request) : Type 0 where
   pub formed : IsTrue (is_formed request)
   pub no_row : keeps_row request ≡ false

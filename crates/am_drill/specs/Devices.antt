@@ -52,7 +52,7 @@ package_of i state = record {
   decls = activity_of i state ∷ receiver_of i (after 2 state) ∷ [];
 }
 
--- so many packages, each of the four draws behind those of the packages before it
+-- so many packages, each with the four draws that follow those of the packages before it
 abbrev pub packages_of : ℕ → ℕ → List Package
 packages_of packages state = map (λ i. package_of i (after (4 * i) state)) (range_with_len 0 packages)
 

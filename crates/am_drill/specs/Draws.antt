@@ -1,7 +1,7 @@
--- Numbers that follow from one number alone.
+-- Numbers that follow from one number.
 use Rattle.std.specs.Prelude.{ℕ, zero, suc, ◌+◌, ◌*◌, ◌/◌, ◌%◌}
 
--- the state that a number begins
+-- the state that begins with a number
 unfoldable pub seed : ℕ → ℕ
 seed number = number % 2147483648
 
@@ -18,6 +18,6 @@ after (suc n) state = after n (next state)
 unfoldable pub given : ℕ → ℕ
 given state = state / 65536
 
--- what the draw behind n others gives, modulo m
+-- what the draw after n others gives, modulo m
 abbrev pub draw : ℕ → ℕ → ℕ → ℕ
 draw n m state = given (next (after n state)) % m

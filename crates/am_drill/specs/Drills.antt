@@ -12,7 +12,7 @@ use Rattle.am_drill.specs.Calls.{calls_of}
 use Rattle.am_drill.specs.Devices.{device_of}
 use Rattle.am_drill.specs.Draws.{after, seed}
 
--- the entry of a call, if that uid has its key; nothing of it is left out for a keeper that fails
+-- the entry of a call, if some uid has its key. It counts as kept, as no keeper fails
 abbrev pub entry_by : Call → Option ℕ → List Entry
 entry_by call None = []
 entry_by call (Some uid) = entry_of call uid true ∷ []
@@ -35,20 +35,21 @@ history_of start history calls = fold (history_after start) history calls
 -- the replies to calls, one after the other
 abbrev pub replies_of : State → List Entry → List Call → List Reply
 replies_of start history [] = []
-replies_of start history (call ∷ more) = answer start history call ∷ replies_of start (history_after start history call) more
+replies_of start history (call ∷ more) = answer start history call
+    ∷ replies_of start (history_after start history call) more
 
 -- the statuses of the replies
 abbrev pub statuses_of : State → List Entry → List Call → List ℕ
 statuses_of start history calls = map status_of (replies_of start history calls)
 
--- the tally of calls that are made one after the other, beginning at an opening state
+-- the tally of calls that are made one after the other, from an opening state on
 abbrev pub tally_of : State → List Call → Tally
 tally_of start calls = record {
   statuses = statuses_of start [] calls;
   history = length (history_of start [] calls);
 }
 
--- the tally of the generated calls on the generated device; the draws of the calls are behind those of the device
+-- the tally of the generated calls on the generated device; the draws of the calls follow those of the device
 unfoldable pub drilled : ℕ → ℕ → ℕ → Tally
 drilled from packages requests =
     tally_of (opening (device_of packages (seed from)))

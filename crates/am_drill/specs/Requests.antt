@@ -10,19 +10,20 @@ use Rattle.am_types.specs.Intents.{no_flags, no_intent}
 use Rattle.am_drill.specs.Draws.{draw}
 use Rattle.am_drill.specs.Devices.{activity_action, broadcast_action}
 
--- NEW_TASK alone
+-- only NEW_TASK
 abbrev pub new_task : Flags
 new_task = record no_flags { new_task = true }
 
--- an intent of an action and flags alone
+-- an intent with only an action and flags
 abbrev pub acting : List ℕ → Flags → Intent
 acting action flags = record no_intent { action = Some action; flags = flags }
 
--- in order, with the outcome that a broadcast has where none is named, whose result nobody wants
+-- in order, with the outcome that a broadcast has if none is named, and with a result that nobody asks for
 abbrev pub in_order : Ordered
 in_order = record { initial = record { code = pos 0; text = None; extras = [] }; wanted = false }
 
--- the request of a case: a query, a start, an ordered broadcast, or a tick; each but the tick takes a draw for its action
+-- the request of a case: a query, a start, an ordered broadcast, or a tick; each except the tick takes a draw for its
+-- action
 unfoldable pub request_of : ℕ → ℕ → Request
 request_of case state =
     if case == 0 then asks.Query Activity (acting (activity_action (draw 0 8 state)) no_flags) false

@@ -22,6 +22,6 @@ lines_of statuses (status ∷ more) = line_of statuses status ++ lines_of status
 unfoldable pub all_statuses : List ℕ
 all_statuses = range_with_len 100 500
 
--- a tally as it is printed: the statuses that came, with how often, then the length of the history
+-- a tally as it is printed: the statuses that came, each with how often it came, then the length of the history
 unfoldable pub printed : Tally → List ℕ
 printed tally = lines_of tally.statuses all_statuses ++ (codes "history " ++ (decimal tally.history ++ codes "\n"))

@@ -48,7 +48,7 @@ pub(crate) fn call<D: Desk>(
     make(alloc, desk, &key, STEP * u64::from(j), request)
 }
 
-// The key of the caller of a case: of the package of that number, but the system's for a tick.
+// The key of the caller of a case: the key of the package with this number, except the system's for a tick.
 fn caller(alloc: Global, case: u32, number: u32) -> Result<Text, NoMemory>
     ensures { IfOk result (λ key. key ≡ caller_of case number) }
 {

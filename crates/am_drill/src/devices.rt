@@ -41,7 +41,7 @@ pub(crate) fn device(alloc: Global, draws: &mut Draws, packages: u32) -> Result<
     })
 }
 
-// The actions that receivers of a manifest get, whoever broadcasts them.
+// The actions that receivers of a manifest get, no matter who broadcasts them.
 fn exempt(alloc: Global) -> Result<List<Text>, AllocError>
     ensures { IfOk result (λ exempt. exempt ≡ codes "b.0" ∷ codes "b.1" ∷ codes "b.2" ∷ codes "b.3" ∷ []) }
 {
@@ -85,7 +85,7 @@ fn package(alloc: Global, draws: &mut Draws, i: u32) -> Result<Package, NoMemory
     })
 }
 
-// The activity and the receiver of package number i, which has that name.
+// The activity and the receiver of package number i, which has this name.
 fn decls(alloc: Global, draws: &mut Draws, i: u32, name: &Text) -> Result<List<Decl>, NoMemory>
     requires name { name.now ≡ name_of i }
     ensures made { IfOk result (λ decls. decls ≡ activity_of i draws.old ∷ receiver_of i (after 2 draws.old) ∷ []) }
@@ -97,7 +97,7 @@ fn decls(alloc: Global, draws: &mut Draws, i: u32, name: &Text) -> Result<List<D
     Ok(List::new(decls))
 }
 
-// The activity of package number i, which has that name.
+// The activity of package number i, which has this name.
 #[tactic(auto, unfolding(crate::specs::Devices::activity_of))]
 fn activity(alloc: Global, draws: &mut Draws, i: u32, name: &Text) -> Result<Decl, NoMemory>
     requires name { name.now ≡ name_of i }
@@ -110,7 +110,7 @@ fn activity(alloc: Global, draws: &mut Draws, i: u32, name: &Text) -> Result<Dec
     exported(alloc, Kind::Activity, name, ".A", filter)
 }
 
-// The receiver of package number i, which has that name.
+// The receiver of package number i, which has this name.
 #[tactic(auto, unfolding(crate::specs::Devices::receiver_of))]
 fn receiver(alloc: Global, draws: &mut Draws, i: u32, name: &Text) -> Result<Decl, NoMemory>
     requires name { name.now ≡ name_of i }
@@ -131,7 +131,7 @@ fn lowered(drawn: u32) -> i32
     0 - drawn as i32
 }
 
-// The default category alone.
+// Only the default category.
 fn default_alone(alloc: Global) -> Result<List<Text>, AllocError>
     ensures { IfOk result (λ categories. categories ≡ default_category ∷ []) }
 {
@@ -162,7 +162,7 @@ fn filter(
     })
 }
 
-// An exported component of the package of that name, with one filter.
+// An exported component of the package with this name, with one filter.
 fn exported(
     alloc: Global,
     kind: Kind,

@@ -1,4 +1,4 @@
-//! Numbers that follow from one number alone.
+//! Numbers that follow from one number.
 ghost use Rattle.std.specs.Prelude.{◌≡◌, ◌<◌, ◌%◌};
 ghost use Rattle.am_drill.specs.Draws.{given, next, seed};
 
@@ -24,7 +24,7 @@ impl Model for Draws {
 }
 
 impl Draws {
-    /// The draws that a number begins. Takes no memory.
+    /// The draws that begin with a number. Takes no memory.
     #[tactic(auto, unfolding(crate::specs::Draws::seed))]
     pub fn new(number: u64) -> Draws
         ensures { result ≡ seed number }
@@ -34,7 +34,7 @@ impl Draws {
         }
     }
 
-    /// A draw below that number. Takes no memory.
+    /// A draw below this number. Takes no memory.
     pub fn below(&mut self, most: u32) -> u32
         requires some { 0 < most }
         ensures drawn { result ≡ given self.new % most }
@@ -45,7 +45,7 @@ impl Draws {
         (self.value() % u64::from(most)) as u32
     }
 
-    // Goes on by one draw.
+    // Makes one draw.
     #[tactic(auto, unfolding(crate::specs::Draws::next))]
     fn advance(&mut self)
         ensures { self.new ≡ next self.old }

@@ -13,7 +13,7 @@ use am_types::{List, NoMemory};
 use std::alloc::Global;
 
 /// Makes so many generated requests, one after the other, on a manager of a generated device of so many packages, from
-/// 1 to 256, and tells what they were replied. The number that it begins from decides all draws.
+/// 1 to 256, and tells the replies. The number that it begins from decides all draws.
 ///
 /// # Errors
 ///

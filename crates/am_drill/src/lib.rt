@@ -1,4 +1,4 @@
-//! A drill: a device and requests that are made from a number, and what the manager replies to them. The same number
+//! A drill: a device and requests that are made from a number, and the manager's replies to them. The same number
 //! makes the same device and the same requests.
 #![tactic(auto)]
 

@@ -8,7 +8,7 @@ use am_machine::{Manager, begin_fresh};
 use am_types::{Device, List, NoMemory};
 use std::alloc::Global;
 
-/// A manager of a sound device that nothing was kept of.
+/// A manager of a sound device of which nothing was kept.
 pub(crate) fn manager_of(alloc: Global, device: Device) -> Result<Manager<MemoryKeeper>, NoMemory>
     requires { IsSound device }
     ensures { IfOk result (λ manager. BeginsWith device manager) }

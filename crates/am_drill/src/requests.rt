@@ -68,7 +68,7 @@ fn send(alloc: Global, number: u32) -> Result<Request, NoMemory>
     })
 }
 
-// An intent of an action and flags alone.
+// An intent with only an action and flags.
 fn acting(alloc: Global, action: Text, flags: Flags) -> Intent
     ensures { result ≡ acting action flags }
 {
@@ -78,7 +78,7 @@ fn acting(alloc: Global, action: Text, flags: Flags) -> Intent
     intent
 }
 
-// The order of a broadcast that names no outcome, and whose result nobody wants.
+// The order of a broadcast that names no outcome, and whose result nobody asks for.
 fn in_order(alloc: Global) -> Ordered
     ensures { result ≡ in_order }
 {

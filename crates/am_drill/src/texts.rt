@@ -4,14 +4,14 @@ ghost use Rattle.std.specs.Prelude.{◌≡◌, ◌++◌, codes, decimal, IfOk};
 use am_types::{NoMemory, Text};
 use std::alloc::Global;
 
-/// That text with a number behind it.
+/// This text followed by a number.
 pub(crate) fn numbered(alloc: Global, text: &str, number: u32) -> Result<Text, NoMemory>
     ensures { IfOk result (λ made. made ≡ text.now ++ decimal number) }
 {
     Ok(Text::new(format!(in alloc; "{text}{number}")?))
 }
 
-/// That text with another one behind it.
+/// This text followed by another one.
 pub(crate) fn joined(alloc: Global, text: &Text, end: &str) -> Result<Text, NoMemory>
     ensures { IfOk result (λ made. made ≡ text.now ++ end.now) }
 {

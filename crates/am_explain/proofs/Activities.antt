@@ -35,9 +35,11 @@ module _ (board : Board) (caller : ℕ) (intent : Intent) (required : Option (Li
 pub activities_are_started : ActivitiesAreStarted
 activities_are_started = record {
   decided = λ board q installed e.
-      subst (λ (kind : Kind). standing_at is_decided (accounts board (of_kind q kind) None) ≡ started_activity board (of_kind q kind) q.intent.component) (sym e)
+      subst (λ (kind : Kind). standing_at is_decided (accounts board (of_kind q kind) None)
+      ≡ started_activity board (of_kind q kind) q.intent.component) (sym e)
       (decided board q.caller q.intent q.required q.intent.component refl installed);
   tied = λ board q installed e.
-      subst (λ (kind : Kind). standing_at is_tied (accounts board (of_kind q kind) None) ≡ tied_activities board (of_kind q kind) q.intent.component) (sym e)
+      subst (λ (kind : Kind). standing_at is_tied (accounts board (of_kind q kind) None)
+      ≡ tied_activities board (of_kind q kind) q.intent.component) (sym e)
       (tied board q.caller q.intent q.required q.intent.component refl installed);
 }

@@ -40,33 +40,44 @@ module _ (board : Board) (asked : Question) (c : Component) (names : asked.inten
   all_decided : (rs : List Rival) → standing_at is_decided (map to rs) ≡ map to rs
   all_decided [] = refl
   all_decided (r ∷ rs) =
-      ap (λ b. cond b (to r ∷ standing_at is_decided (map to rs)) (standing_at is_decided (map to rs))) (ap is_decided (is_started r) ∙ decided_rule (rule r))
+      ap (λ b. cond b (to r ∷ standing_at is_decided (map to rs)) (standing_at is_decided (map to rs)))
+      (ap is_decided (is_started r) ∙ decided_rule (rule r))
       ∙ ap (λ l. to r ∷ l) (all_decided rs)
 
   none_tied : (rs : List Rival) → standing_at is_tied (map to rs) ≡ []
   none_tied [] = refl
   none_tied (r ∷ rs) =
-      ap (λ b. cond b (to r ∷ standing_at is_tied (map to rs)) (standing_at is_tied (map to rs))) (ap is_tied (is_started r) ∙ tied_rule (rule r))
+      ap (λ b. cond b (to r ∷ standing_at is_tied (map to rs)) (standing_at is_tied (map to rs)))
+      (ap is_tied (is_started r) ∙ tied_rule (rule r))
       ∙ none_tied rs
 
-  one : (r : Rival) → component_of r.owner r.decl ≡ c → to r ∷ [] ≡ started_component board asked.caller c (Some (r.owner.uid, r.decl))
+  one : (r : Rival) → component_of r.owner r.decl ≡ c → to r ∷ [] ≡ started_component board asked.caller c
+      (Some (r.owner.uid, r.decl))
   one r same =
       ap (λ (s : Standing). record { to = Declared (component_of r.owner r.decl); standing = s } ∷ []) (is_started r)
-      ∙ ap (λ (component : Component). record { to = Declared component; standing = started board asked.caller r.owner r.decl } ∷ []) same
+      ∙ ap (λ (component : Component). record {
+        to = Declared component;
+        standing = started board asked.caller r.owner
+            r.decl;
+      } ∷ []) same
 
   said : (test : Standing → Bool) → IsOfFound test
-      → standing_at test (declared_accounts board asked None board.packages) ≡ standing_at test (map to (rivals_in (search_of asked) board.packages))
+      → standing_at test (declared_accounts board asked None board.packages)
+      ≡ standing_at test (map to (rivals_in (search_of asked) board.packages))
   said test of_found =
       of_found_in board asked test of_found board.packages
-      ∙ ap (λ (component : Option Component). standing_at test (map (met_account board asked component) (rivals_in (search_of asked) board.packages))) names
+      ∙ ap (λ (component : Option Component). standing_at test (map (met_account board asked component)
+      (rivals_in (search_of asked) board.packages))) names
 
   -- it is decided on, if it is declared
   pub explicit_decided : AreInstalled board.packages
-      → standing_at is_decided (declared_accounts board asked None board.packages) ≡ started_component board asked.caller c (declared board.packages asked.kind c)
+      → standing_at is_decided (declared_accounts board asked None board.packages)
+      ≡ started_component board asked.caller c (declared board.packages asked.kind c)
   explicit_decided installed =
       said is_decided decided_found
       ∙ all_decided (rivals_in (search_of asked) board.packages)
-      ∙ as_declared (search_of asked) c names to (started_component board asked.caller c) refl one board.packages installed
+      ∙ as_declared (search_of asked) c names to (started_component board asked.caller c) refl one board.packages
+      installed
 
   -- and nothing is tied
   pub explicit_tied : standing_at is_tied (declared_accounts board asked None board.packages) ≡ []

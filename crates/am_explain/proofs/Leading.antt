@@ -1,4 +1,4 @@
--- The target of a start tells what decides on an activity.
+-- The target of a start shows what decides on an activity.
 use Rattle.std.proofs.Common.{◌≡◌, ℕ, ℤ, Bool, true, false, ◌||◌, cond, List, [], ◌∷◌, Option, Some, None, refl, sym, ap, ◌∙◌, arith}
 use Rattle.std.specs.Prelude.{int_lt}
 use Rattle.std.specs.List.{filter, list_any, take_while}
@@ -45,19 +45,23 @@ leader_of_top (first ∷ others) =
     led (other ∷ l) = refl
 
 -- the first hit that a start is for is the first that the narrowing leaves
-pub leader_is_first : (board : Board) (intent : Intent) → leader (target board intent) ≡ first_hit (start_hits board intent)
+pub leader_is_first : (board : Board) (intent : Intent) → leader (target board intent)
+    ≡ first_hit (start_hits board intent)
 leader_is_first board intent = leader_of_top (start_hits board intent)
 
--- where none is above a number, no number that isn't below that is outranked
-none_outranks : (priority limit : ℤ) (found : List Hit) → int_lt priority limit ≡ false → AreNotAbove of_hit limit found → is_outranked priority found ≡ false
+-- if none is above a number, no number that isn't below that is outranked
+none_outranks : (priority limit : ℤ) (found : List Hit) → int_lt priority limit ≡ false → AreNotAbove of_hit limit found
+    → is_outranked priority found ≡ false
 none_outranks priority limit [] e a = refl
-none_outranks priority limit (first ∷ others) e a = rw (not_above priority limit first.priority e a.0) (none_outranks priority limit others e a.1)
+none_outranks priority limit (first ∷ others) e a = rw (not_above priority limit first.priority e a.0)
+    (none_outranks priority limit others e a.1)
   where
     not_above : (a b c : ℤ) → int_lt a b ≡ false → int_lt b c ≡ false → int_lt a c ≡ false
     not_above a b c e f = grind (arith, ints)
 
--- a priority is outranked among hits that fall where the first has a greater one
-pub outranked_by_first : (priority : ℤ) (found : List Hit) → IsFalling of_hit found → is_below priority (priority_of_hit (first_hit found)) ≡ is_outranked priority found
+-- a priority is outranked among hits that fall if the first has a greater one
+pub outranked_by_first : (priority : ℤ) (found : List Hit) → IsFalling of_hit found
+    → is_below priority (priority_of_hit (first_hit found)) ≡ is_outranked priority found
 outranked_by_first priority [] falls = refl
 outranked_by_first priority (first ∷ others) falls = by (int_lt priority first.priority) refl
   where
@@ -79,44 +83,54 @@ module _ (board : Board) (host : List ℕ) where
   first_kept [] e = absurd (false≢true e)
   first_kept (first ∷ others) e = by (is_approved board.links host first) refl e (first_kept others)
     where
-      by : (b : Bool) → is_approved board.links host first ≡ b → (b || list_any (is_approved board.links host) others) ≡ true
+      by : (b : Bool) → is_approved board.links host first ≡ b → (b || list_any (is_approved board.links host) others)
+          ≡ true
           → (list_any (is_approved board.links host) others ≡ true
           → is_approved_hit board.links (Some host) (first_hit (filter (is_approved board.links host) others)) ≡ true)
           → is_approved_hit board.links (Some host)
-          (first_hit (cond b (first ∷ filter (is_approved board.links host) others) (filter (is_approved board.links host) others))) ≡ true
+          (first_hit (cond b (first ∷ filter (is_approved board.links host) others)
+          (filter (is_approved board.links host) others))) ≡ true
       by true is e rest = is
       by false is e rest = rest e
 
-  -- where no hit is approved the first isn't
+  -- if no hit is approved, the first isn't
   none_first : (found : List Hit) → list_any (is_approved board.links host) found ≡ false
       → is_approved_hit board.links (Some host) (first_hit found) ≡ false
   none_first [] e = refl
-  none_first (first ∷ others) e = (neither (is_approved board.links host first) (list_any (is_approved board.links host) others) e).0
+  none_first (first ∷ others) e = (neither (is_approved board.links host first)
+      (list_any (is_approved board.links host) others) e).0
 
   -- what is left for a browser is a part
-  browser_part : (intent : Intent) (found : List Hit) (browser : Option (List ℕ)) → IsPart (browser_hits board intent found browser) found
+  browser_part : (intent : Intent) (found : List Hit) (browser : Option (List ℕ))
+      → IsPart (browser_hits board intent found browser) found
   browser_part intent found None = IsPart-filter (is_general board.packages intent) found
-  browser_part intent found (Some browser) = IsPart-filter (λ (hit : Hit). is_same hit.component.«package» browser) found
+  browser_part intent found (Some browser) = IsPart-filter (λ (hit : Hit). is_same hit.component.«package» browser)
+      found
 
-  -- some hit is approved exactly where the first that the narrowing leaves is
+  -- some hit is approved exactly if the first that the narrowing leaves is
   approved_by_first : (intent : Intent) (found : List Hit)
-      → is_approved_hit board.links (Some host) (first_hit (web_hits board intent found host)) ≡ list_any (is_approved board.links host) found
+      → is_approved_hit board.links (Some host) (first_hit (web_hits board intent found host))
+      ≡ list_any (is_approved board.links host) found
   approved_by_first intent found = by (list_any (is_approved board.links host) found) refl
     where
       by : (b : Bool) → list_any (is_approved board.links host) found ≡ b
           → is_approved_hit board.links (Some host)
-          (first_hit (cond b (filter (is_approved board.links host) found) (browser_hits board intent found board.browser))) ≡ b
+          (first_hit (cond b (filter (is_approved board.links host) found)
+          (browser_hits board intent found board.browser))) ≡ b
       by true e = first_kept found e
-      by false e = none_first _ (none_of_part (is_approved board.links host) _ found (browser_part intent found board.browser) e)
+      by false e = none_first _ (none_of_part (is_approved board.links host) _ found
+          (browser_part intent found board.browser) e)
 
 -- the same of an intent that may have no host
 approved_is : (board : Board) (intent : Intent) (host : Option (List ℕ))
-    → is_approved_hit board.links host (first_hit (narrowed board intent (hits board.packages Activity intent true) host)) ≡ is_some_approved board intent host
+    → is_approved_hit board.links host (first_hit (narrowed board intent (hits board.packages Activity intent true)
+    host)) ≡ is_some_approved board intent host
 approved_is board intent None = refl
 approved_is board intent (Some host) = approved_by_first board host intent (hits board.packages Activity intent true)
 
--- the target of a start tells what decides on an activity
-pub led : (board : Board) (intent : Intent) → IsLed board intent (leaders_of board.links (host_to_view intent) (target board intent))
+-- the target of a start shows what decides on an activity
+pub led : (board : Board) (intent : Intent) → IsLed board intent (leaders_of board.links (host_to_view intent)
+    (target board intent))
 led board intent = record {
   approved = ap (is_approved_hit board.links (host_to_view intent)) (leader_is_first board intent)
       ∙ approved_is board intent (host_to_view intent);

@@ -31,23 +31,27 @@ module _ (search : Search) (c : Component) (names : search.intent.component ≡ 
       (rivals_from search p place ds)
 
   is_one_more : (p : Package) (place : ℕ) (d : Decl) (ds : List Decl)
-      → rivals_from search p place (d ∷ ds) ≡ one_more p place d ds (is_same c.«package» p.name && is_same c.class d.class)
+      → rivals_from search p place (d ∷ ds) ≡ one_more p place d ds
+      (is_same c.«package» p.name && is_same c.class d.class)
   is_one_more p place d ds =
       ap (λ (component : Option Component). cond (is_kind search.kind d.kind)
       (cond d.enabled (rival_of search p place d component) [] ++ rivals_from search p (place + 1) ds)
       (rivals_from search p place ds)) names
 
-  no_more : (p : Package) (place : ℕ) (d : Decl) (ds : List Decl) → rivals_from search p (place + 1) ds ≡ [] → rivals_from search p place ds ≡ []
+  no_more : (p : Package) (place : ℕ) (d : Decl) (ds : List Decl) → rivals_from search p (place + 1) ds ≡ []
+      → rivals_from search p place ds ≡ []
       → one_more p place d ds false ≡ []
   no_more p place d ds next other = by (is_kind search.kind d.kind) d.enabled
     where
-      by : (kind on : Bool) → cond kind (cond on [] [] ++ rivals_from search p (place + 1) ds) (rivals_from search p place ds) ≡ []
+      by : (kind on : Bool) → cond kind (cond on [] [] ++ rivals_from search p (place + 1) ds)
+          (rivals_from search p place ds) ≡ []
       by true true = next
       by true false = next
       by false on = other
 
   -- a package of another name has none
-  other_package : (p : Package) (place : ℕ) (ds : List Decl) → is_same c.«package» p.name ≡ false → rivals_from search p place ds ≡ []
+  other_package : (p : Package) (place : ℕ) (ds : List Decl) → is_same c.«package» p.name ≡ false
+      → rivals_from search p place ds ≡ []
   other_package p place [] other = refl
   other_package p place (d ∷ ds) other =
       is_one_more p place d ds
@@ -55,7 +59,8 @@ module _ (search : Search) (c : Component) (names : search.intent.component ≡ 
       ∙ no_more p place d ds (other_package p (place + 1) ds other) (other_package p place ds other)
 
   -- nor have components of other classes
-  other_class : (p : Package) (place : ℕ) (ds : List Decl) → AllByRecursion (λ y. is_same c.class y ≡ false) (classes_of ds) → rivals_from search p place ds ≡ []
+  other_class : (p : Package) (place : ℕ) (ds : List Decl) → AllByRecursion (λ y. is_same c.class y ≡ false)
+      (classes_of ds) → rivals_from search p place ds ≡ []
   other_class p place [] none = refl
   other_class p place (d ∷ ds) none =
       is_one_more p place d ds
@@ -64,14 +69,17 @@ module _ (search : Search) (c : Component) (names : search.intent.component ≡ 
 
   module _ (to : Rival → Account) (out : Option (ℕ × Decl) → List Account) (nothing : out None ≡ [])
       (one : (r : Rival) → component_of r.owner r.decl ≡ c → to r ∷ [] ≡ out (Some (r.owner.uid, r.decl))) where
-    in_package : (p : Package) (place : ℕ) (ds : List Decl) → is_same c.«package» p.name ≡ true → AreDistinct (classes_of ds)
+    in_package : (p : Package) (place : ℕ) (ds : List Decl) → is_same c.«package» p.name ≡ true
+        → AreDistinct (classes_of ds)
         → map to (rivals_from search p place ds) ≡ out (with_uid p.uid (decl_in search.kind c.class ds))
     unfolding IsDistinct
     in_package p place [] own distinct = sym nothing
     in_package p place (d ∷ ds) own distinct =
         ap (map to) (is_one_more p place d ds ∙ ap (λ b. one_more p place d ds (b && is_same c.class d.class)) own)
-        ∙ by (is_kind search.kind d.kind) d.enabled (is_same c.class d.class) refl (in_package p (place + 1) ds own distinct.1) (in_package p place ds own distinct.1)
-        ∙ ap (λ b. out (with_uid p.uid (cond ((d.enabled && is_kind search.kind d.kind) && b) (Some d) (decl_in search.kind c.class ds)))) (nat_list_eq_equiv.symm c.class d.class)
+        ∙ by (is_kind search.kind d.kind) d.enabled (is_same c.class d.class) refl
+        (in_package p (place + 1) ds own distinct.1) (in_package p place ds own distinct.1)
+        ∙ ap (λ b. out (with_uid p.uid (cond ((d.enabled && is_kind search.kind d.kind) && b) (Some d)
+        (decl_in search.kind c.class ds)))) (nat_list_eq_equiv.symm c.class d.class)
       where
         found : Option Decl
         found = decl_in search.kind c.class ds
@@ -80,15 +88,19 @@ module _ (search : Search) (c : Component) (names : search.intent.component ≡ 
         same_class e = (is_same-Decides c.class d.class).0 e
 
         alone : is_same c.class d.class ≡ true → rivals_from search p (place + 1) ds ≡ []
-        alone e = other_class p (place + 1) ds (subst (λ (class : List ℕ). AllByRecursion (λ y. is_same class y ≡ false) (classes_of ds)) (sym (same_class e)) distinct.0)
+        alone e = other_class p (place + 1) ds (subst (λ (class : List ℕ). AllByRecursion (λ y. is_same class y ≡ false)
+            (classes_of ds)) (sym (same_class e)) distinct.0)
 
         itself : is_same c.class d.class ≡ true → component_of p d ≡ c
         itself e = ap (λ (class : List ℕ). record { «package» = p.name; class = class }) (sym (same_class e))
-            ∙ ap (λ (name : List ℕ). record { «package» = name; class = c.class }) (sym ((is_same-Decides c.«package» p.name).0 own))
+            ∙ ap (λ (name : List ℕ). record { «package» = name; class = c.class })
+            (sym ((is_same-Decides c.«package» p.name).0 own))
 
         by : (kind on same : Bool) → is_same c.class d.class ≡ same
-            → map to (rivals_from search p (place + 1) ds) ≡ out (with_uid p.uid found) → map to (rivals_from search p place ds) ≡ out (with_uid p.uid found)
-            → map to (cond kind (cond on (cond same (rival p place d ∷ []) []) [] ++ rivals_from search p (place + 1) ds) (rivals_from search p place ds))
+            → map to (rivals_from search p (place + 1) ds) ≡ out (with_uid p.uid found)
+            → map to (rivals_from search p place ds) ≡ out (with_uid p.uid found)
+            → map to (cond kind (cond on (cond same (rival p place d ∷ []) []) []
+            ++ rivals_from search p (place + 1) ds) (rivals_from search p place ds))
             ≡ out (with_uid p.uid (cond ((on && kind) && same) (Some d) found))
         by true true true is next other =
             ap (λ l. to (rival p place d) ∷ map to l) (alone is) ∙ one (rival p place d) (itself is)
@@ -98,7 +110,8 @@ module _ (search : Search) (c : Component) (names : search.intent.component ≡ 
         by false false same is next other = other
 
     -- of packages of other names
-    others : (ps : List Package) → AllByRecursion (λ y. is_same c.«package» y ≡ false) (names_of ps) → rivals_in search ps ≡ []
+    others : (ps : List Package) → AllByRecursion (λ y. is_same c.«package» y ≡ false) (names_of ps)
+        → rivals_in search ps ≡ []
     others [] none = refl
     others (p ∷ ps) none =
         ap (λ l. l ++ rivals_in search ps) (other_package p 0 p.decls none.0) ∙ others ps none.1
@@ -109,12 +122,15 @@ module _ (search : Search) (c : Component) (names : search.intent.component ≡ 
     in_packages [] distinct each = sym nothing
     in_packages (p ∷ ps) distinct each =
         by (is_same c.«package» p.name) refl (in_packages ps distinct.1 each.1)
-        ∙ ap (λ b. out (cond b (with_uid p.uid (decl_in search.kind c.class p.decls)) (declared ps search.kind c))) (nat_list_eq_equiv.symm c.«package» p.name)
+        ∙ ap (λ b. out (cond b (with_uid p.uid (decl_in search.kind c.class p.decls)) (declared ps search.kind c)))
+        (nat_list_eq_equiv.symm c.«package» p.name)
       where
         alone : is_same c.«package» p.name ≡ true → rivals_in search ps ≡ []
-        alone e = others ps (subst (λ (name : List ℕ). AllByRecursion (λ y. is_same name y ≡ false) (names_of ps)) (sym ((is_same-Decides c.«package» p.name).0 e)) distinct.0)
+        alone e = others ps (subst (λ (name : List ℕ). AllByRecursion (λ y. is_same name y ≡ false) (names_of ps))
+            (sym ((is_same-Decides c.«package» p.name).0 e)) distinct.0)
 
-        by : (b : Bool) → is_same c.«package» p.name ≡ b → map to (rivals_in search ps) ≡ out (declared ps search.kind c)
+        by : (b : Bool) → is_same c.«package» p.name ≡ b → map to (rivals_in search ps)
+            ≡ out (declared ps search.kind c)
             → map to (rivals_from search p 0 p.decls ++ rivals_in search ps)
             ≡ out (cond b (with_uid p.uid (decl_in search.kind c.class p.decls)) (declared ps search.kind c))
         by true is next =
@@ -125,6 +141,7 @@ module _ (search : Search) (c : Component) (names : search.intent.component ≡ 
         by false is next =
             ap (λ l. map to (l ++ rivals_in search ps)) (other_package p 0 p.decls is) ∙ next
 
-    -- what is said of the component that is named is said of it as it is declared
-    pub as_declared : (ps : List Package) → AreInstalled ps → map to (rivals_in search ps) ≡ out (declared ps search.kind c)
+    -- the account of the component that is named is its account as it is declared
+    pub as_declared : (ps : List Package) → AreInstalled ps → map to (rivals_in search ps)
+        ≡ out (declared ps search.kind c)
     as_declared ps installed = in_packages ps installed.names (recursion_from_All IsInstalled ps installed.each)

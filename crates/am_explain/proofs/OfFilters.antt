@@ -1,4 +1,4 @@
--- The reasons that are told are those for which the intent doesn't pass the filters.
+-- The reasons in an account are those for which the intent doesn't pass the filters.
 use Rattle.std.proofs.Common.{◌≡◌, ℤ, Bool, true, false, not, cond, List, [], ◌∷◌, ◌++◌, map, Option, Some, None, refl, sym, ap, ◌∙◌}
 use Rattle.std.specs.Prelude.{is_none}
 use Rattle.am_types.specs.declared.intent.Component.{Component}
@@ -20,7 +20,7 @@ use Rattle.am_types.specs.declared.account.Narrowing.{Narrowing}
 use Rattle.am_types.specs.declared.account.Standing.{Standing}
 use Rattle.am_types.specs.declared.account.Standing.TheVariants.{Disabled, Filters, OtherComponent, OtherPackage, Outranked, Tied, Refused}
 
--- what is said isn't that no filter passes
+-- the account isn't that no filter passes
 abbrev IsOther : Standing → Type 0
 IsOther s = (rs : List Why) → s ≡ Filters rs → ⊥
 
@@ -41,21 +41,27 @@ service_other true first rule verdict rs e = cc
 service_other false true rule verdict rs e = cc
 service_other false false rule verdict rs e = refused_other verdict rs e
 
-kind_other : (kind : Kind) (activity service receiver : Standing) → IsOther activity → IsOther service → IsOther receiver → IsOther (by_kind kind activity service receiver)
+kind_other : (kind : Kind) (activity service receiver : Standing) → IsOther activity → IsOther service
+    → IsOther receiver → IsOther (by_kind kind activity service receiver)
 kind_other Activity activity service receiver a s r = a
 kind_other Service activity service receiver a s r = s
 kind_other Receiver activity service receiver a s r = r
 
--- where the intent passes no filter each has its reason
-all_failed : (kind : Kind) (intent : Intent) (need_default : Bool) (fs : List Filter) → priority_of kind intent need_default fs ≡ None
+-- if the intent passes no filter, each has its reason
+all_failed : (kind : Kind) (intent : Intent) (need_default : Bool) (fs : List Filter)
+    → priority_of kind intent need_default fs ≡ None
     → map Some (reasons intent need_default fs) ≡ map (λ (f : Filter). why f intent need_default) fs
 all_failed kind intent need_default [] e = refl
-all_failed kind intent need_default (f ∷ fs) e = by (why f intent need_default) e (all_failed kind intent need_default fs)
+all_failed kind intent need_default (f ∷ fs) e = by (why f intent need_default) e
+    (all_failed kind intent need_default fs)
   where
     by : (reason : Option Why)
-        → cond (is_none reason) (Some (greatest (counted_priority kind f.priority) (priority_of kind intent need_default fs))) (priority_of kind intent need_default fs) ≡ None
-        → (priority_of kind intent need_default fs ≡ None → map Some (reasons intent need_default fs) ≡ map (λ (f : Filter). why f intent need_default) fs)
-        → map Some (listed reason ++ reasons intent need_default fs) ≡ reason ∷ map (λ (f : Filter). why f intent need_default) fs
+        → cond (is_none reason) (Some (greatest (counted_priority kind f.priority)
+        (priority_of kind intent need_default fs))) (priority_of kind intent need_default fs) ≡ None
+        → (priority_of kind intent need_default fs ≡ None → map Some (reasons intent need_default fs)
+        ≡ map (λ (f : Filter). why f intent need_default) fs)
+        → map Some (listed reason ++ reasons intent need_default fs) ≡ reason
+        ∷ map (λ (f : Filter). why f intent need_default) fs
     by None e rest = absurd cc
     by (Some reason) e rest = ap (λ l. Some reason ∷ l) (rest e)
 
@@ -64,13 +70,15 @@ module _ (board : Board) (asked : Question) (owner : Package) (decl : Decl) (rs 
   abbrev AreReasons : Type 0
   AreReasons = map Some rs ≡ map (λ (f : Filter). why f asked.intent (needs_default asked.kind)) decl.filters
 
-  of_found : (priority : Option ℤ) → priority_of asked.kind asked.intent (needs_default asked.kind) decl.filters ≡ priority
+  of_found : (priority : Option ℤ) → priority_of asked.kind asked.intent (needs_default asked.kind) decl.filters
+      ≡ priority
       → found board asked owner decl priority ≡ Filters rs → AreReasons
   of_found None is e =
       let same : reasons asked.intent (needs_default asked.kind) decl.filters ≡ rs = cc in
       ap (map Some) (sym same) ∙ all_failed asked.kind asked.intent (needs_default asked.kind) decl.filters is
   of_found (Some priority) is e =
-      absurd (kind_other asked.kind _ _ _ (activity_other _ _ _ _) (service_other _ _ rules.ImplicitService _) (refused_other _) rs e)
+      absurd (kind_other asked.kind _ _ _ (activity_other _ _ _ _) (service_other _ _ rules.ImplicitService _)
+      (refused_other _) rs e)
 
   of_enabled : (component : Option Component) → enabled board asked owner decl component ≡ Filters rs → AreReasons
   of_enabled (Some component) e =
@@ -78,7 +86,8 @@ module _ (board : Board) (asked : Question) (owner : Package) (decl : Decl) (rs 
   of_enabled None e = of_found (priority_of asked.kind asked.intent (needs_default asked.kind) decl.filters) refl e
 
   of_component : (other elsewhere on : Bool)
-      → cond other OtherComponent (cond elsewhere OtherPackage (cond (not on) Disabled (enabled board asked owner decl asked.intent.component))) ≡ Filters rs → AreReasons
+      → cond other OtherComponent (cond elsewhere OtherPackage (cond (not on) Disabled
+      (enabled board asked owner decl asked.intent.component))) ≡ Filters rs → AreReasons
   of_component true elsewhere on e = absurd cc
   of_component false true on e = absurd cc
   of_component false false false e = absurd cc
@@ -86,7 +95,8 @@ module _ (board : Board) (asked : Question) (owner : Package) (decl : Decl) (rs 
 
 -- the one reason of a registered receiver
 of_registered : (other here : Bool) (reason : Option Why) (rule : Option Rule) (rs : List Why)
-    → cond other OtherComponent (cond (not here) OtherPackage (unless_failed reason (unless_refused rule))) ≡ Filters rs → map Some rs ≡ reason ∷ []
+    → cond other OtherComponent (cond (not here) OtherPackage (unless_failed reason (unless_refused rule))) ≡ Filters rs
+    → map Some rs ≡ reason ∷ []
 of_registered true here reason rule rs e = absurd cc
 of_registered false false reason rule rs e = absurd cc
 of_registered false true None rule rs e = absurd (refused_other rule rs e)

@@ -25,22 +25,24 @@ module _ {X Y : Type 0} (f : X → List Y) where
       (subst (λ l. IsPermutation ((f x ++ f y) ++ flat f xs) l) (append_assoc (f y) (f x) (flat f xs))
       (IsPermutation-append_left (flat f xs) (f x ++ f y) (f y ++ f x) (IsPermutation-append_comm (f x) (f y))))
 
-  -- an element that is placed behind some others
+  -- an element that is placed after some others
   behind : (x y : X) (xs placed : List X) → IsPermutation (f x ++ flat f xs) (flat f placed)
       → IsPermutation (f x ++ (f y ++ flat f xs)) (f y ++ flat f placed)
   behind x y xs placed p =
       IsPermutation-trans _ _ _ (turned x y xs) (IsPermutation-append_right (f y) _ _ p)
 
--- what places an element behind those of greater priority, and what so places each in turn
+-- a function places an element after those of greater priority, and another places each in turn in the same way
 module _ {X Y : Type 0} (f : X → List Y) (priority : X → ℤ) (put : X → List X → List X) (order : List X → List X)
     (alone : (x : X) → put x [] ≡ x ∷ [])
-    (among : (x first : X) (others : List X) → put x (first ∷ others) ≡ cond (int_lt (priority x) (priority first)) (first ∷ put x others) (x ∷ first ∷ others))
+    (among : (x first : X) (others : List X) → put x (first ∷ others)
+    ≡ cond (int_lt (priority x) (priority first)) (first ∷ put x others) (x ∷ first ∷ others))
     (none : order [] ≡ [])
     (more : (first : X) (others : List X) → order (first ∷ others) ≡ put first (order others)) where
   placed : (x : X) (xs : List X) → IsPermutation (f x ++ flat f xs) (flat f (put x xs))
   placed x [] = subst (λ l. IsPermutation (f x ++ []) (flat f l)) (sym (alone x)) (IsPermutation-refl _)
   placed x (y ∷ ys) =
-      subst (λ l. IsPermutation (f x ++ flat f (y ∷ ys)) (flat f l)) (sym (among x y ys)) (by (int_lt (priority x) (priority y)) (placed x ys))
+      subst (λ l. IsPermutation (f x ++ flat f (y ∷ ys)) (flat f l)) (sym (among x y ys))
+      (by (int_lt (priority x) (priority y)) (placed x ys))
     where
       by : (b : Bool) → IsPermutation (f x ++ flat f ys) (flat f (put x ys))
           → IsPermutation (f x ++ flat f (y ∷ ys)) (flat f (cond b (y ∷ put x ys) (x ∷ y ∷ ys)))
@@ -53,11 +55,14 @@ module _ {X Y : Type 0} (f : X → List Y) (priority : X → ℤ) (put : X → L
       subst (λ l. IsPermutation (flat f (x ∷ xs)) (flat f l)) (sym (more x xs))
       (IsPermutation-trans _ _ _ (IsPermutation-append_right (f x) _ _ (ordered xs)) (placed x (order xs)))
 
-pub ordered_offers : {Y : Type 0} (f : Offer → List Y) (os : List Offer) → IsPermutation (flat f os) (flat f (in_order os))
-ordered_offers f = ordered f (λ (o : Offer). o.priority) place_offer in_order (λ o. refl) (λ o first others. refl) refl (λ first others. refl)
+pub ordered_offers : {Y : Type 0} (f : Offer → List Y) (os : List Offer)
+    → IsPermutation (flat f os) (flat f (in_order os))
+ordered_offers f = ordered f (λ (o : Offer). o.priority) place_offer in_order (λ o. refl) (λ o first others. refl) refl
+    (λ first others. refl)
 
 pub ordered_hits : {Y : Type 0} (f : Hit → List Y) (hs : List Hit) → IsPermutation (flat f hs) (flat f (by_priority hs))
-ordered_hits f = ordered f (λ (h : Hit). h.priority) place_hit by_priority (λ h. refl) (λ h first others. refl) refl (λ first others. refl)
+ordered_hits f = ordered f (λ (h : Hit). h.priority) place_hit by_priority (λ h. refl) (λ h first others. refl) refl
+    (λ first others. refl)
 
 -- a filter gives its elements, one after the other
 flat_kept : {X : Type 0} (keeps : X → Bool) (xs : List X) → flat (λ x. cond (keeps x) (x ∷ []) []) xs ≡ filter keeps xs

@@ -1,4 +1,4 @@
--- What filters say is gathered one by one.
+-- The outcome of testing filters is gathered one by one.
 use Rattle.std.proofs.Common.{◌≡◌, ℕ, ◌+◌, ◌<◌, ℤ, Bool, true, false, ◌||◌, cond, List, ◌∷◌, Option, Some, None, drop, get_or, length, refl, sym, ap, ◌∙◌}
 use Rattle.std.proofs.lemmas.List.{at_drop_more}
 use Rattle.std.specs.Prelude.{is_none}
@@ -17,7 +17,8 @@ same_reason (Some reason) (Some other) e = cc
 
 -- the priority of one more filter joins the best so far, or the best of the rest
 pub joined-with_priority : (reason : Option Why) (priority : ℤ) (best rest : Option ℤ)
-    → joined (with_priority reason priority best) rest ≡ joined best (cond (is_none reason) (Some (greatest priority rest)) rest)
+    → joined (with_priority reason priority best) rest ≡ joined best
+    (cond (is_none reason) (Some (greatest priority rest)) rest)
 joined-with_priority None priority best rest = joined-greatest priority best rest
 joined-with_priority (Some reason) priority best rest = refl
 
@@ -26,7 +27,7 @@ pub or_assoc : (a b c : Bool) → ((a || b) || c) ≡ (a || (b || c))
 or_assoc true b c = refl
 or_assoc false b c = refl
 
--- a function of what is left of a list, where its next element is known
+-- a function of the rest of a list, if its next element is known
 pub at_drop_item : {X Y : Type 0} (f : List X → Y) (xs : List X) (i : ℕ) (x : X) → i < length xs → x ≡ get_or xs i x
     → f (drop i xs) ≡ f (x ∷ drop (i + 1) xs)
 at_drop_item f xs i x bound is = at_drop_more f xs i x bound ∙ ap (λ y. f (y ∷ drop (i + 1) xs)) (sym is)

@@ -1,4 +1,5 @@
--- The components that an intent finds, with their packages: its hits, and the accounts that say more than that it finds nothing there.
+-- The components that an intent finds, with their packages: its hits, and the accounts that say more than that it finds
+-- nothing there.
 use Rattle.std.proofs.Common.{◌≡◌, ℕ, ◌+◌, ℤ, pos, Bool, true, false, not, ◌&&◌, cond, List, [], ◌∷◌, ◌++◌, map, Option, Some, None, refl, sym, ap, ◌∙◌}
 use Rattle.std.specs.Prelude.{is_none}
 use Rattle.std.specs.List.{AllByRecursion}
@@ -28,11 +29,18 @@ pub record Rival : Type 0 where
 
 -- as a hit
 abbrev pub hit_of_rival : Rival → Hit
-hit_of_rival r = record { component = component_of r.owner r.decl; uid = r.owner.uid; place = r.place; priority = r.priority }
+hit_of_rival r = record {
+  component = component_of r.owner r.decl;
+  uid = r.owner.uid;
+  place = r.place;
+  priority =
+      r.priority;
+}
 
 abbrev pub rival_at : Package → ℕ → Decl → Option ℤ → List Rival
 rival_at owner place decl None = []
-rival_at owner place decl (Some priority) = record { owner = owner; place = place; decl = decl; priority = priority } ∷ []
+rival_at owner place decl (Some priority) = record { owner = owner; place = place; decl = decl; priority = priority }
+    ∷ []
 
 -- the component, if the intent finds it
 abbrev pub rival_of : Search → Package → ℕ → Decl → Option Component → List Rival
@@ -47,7 +55,8 @@ abbrev pub rivals_from : Search → Package → ℕ → List Decl → List Rival
 rivals_from search owner place [] = []
 rivals_from search owner place (d ∷ ds) =
     cond (is_kind search.kind d.kind)
-    (cond d.enabled (rival_of search owner place d search.intent.component) [] ++ rivals_from search owner (place + 1) ds)
+    (cond d.enabled (rival_of search owner place d search.intent.component) []
+    ++ rivals_from search owner (place + 1) ds)
     (rivals_from search owner place ds)
 
 -- those of packages
@@ -57,21 +66,26 @@ rivals_in search (p ∷ ps) = rivals_from search p 0 p.decls ++ rivals_in search
 
 module _ (search : Search) where
   -- the hits are the components that are found
-  as_hit_at : (owner : Package) (place : ℕ) (d : Decl) (priority : Option ℤ) → hit_at owner place d priority ≡ map hit_of_rival (rival_at owner place d priority)
+  as_hit_at : (owner : Package) (place : ℕ) (d : Decl) (priority : Option ℤ) → hit_at owner place d priority
+      ≡ map hit_of_rival (rival_at owner place d priority)
   as_hit_at owner place d None = refl
   as_hit_at owner place d (Some priority) = refl
 
-  when : (b : Bool) (hs : List Hit) (rs : List Rival) → hs ≡ map hit_of_rival rs → cond b hs [] ≡ map hit_of_rival (cond b rs [])
+  when : (b : Bool) (hs : List Hit) (rs : List Rival) → hs ≡ map hit_of_rival rs → cond b hs []
+      ≡ map hit_of_rival (cond b rs [])
   when true hs rs e = e
   when false hs rs e = refl
 
-  as_hit_of : (owner : Package) (place : ℕ) (d : Decl) (component : Option Component) → hit_of search owner place d component ≡ map hit_of_rival (rival_of search owner place d component)
+  as_hit_of : (owner : Package) (place : ℕ) (d : Decl) (component : Option Component)
+      → hit_of search owner place d component ≡ map hit_of_rival (rival_of search owner place d component)
   as_hit_of owner place d (Some component) =
       when (is_named component owner.name d.class) _ (rival_at owner place d (Some (pos 0))) refl
   as_hit_of owner place d None =
-      when (is_in search.intent.«package» owner) _ _ (as_hit_at owner place d (priority_of search.kind search.intent search.need_default d.filters))
+      when (is_in search.intent.«package» owner) _ _ (as_hit_at owner place d
+      (priority_of search.kind search.intent search.need_default d.filters))
 
-  as_hits_from : (owner : Package) (place : ℕ) (ds : List Decl) → hits_from search owner place ds ≡ map hit_of_rival (rivals_from search owner place ds)
+  as_hits_from : (owner : Package) (place : ℕ) (ds : List Decl) → hits_from search owner place ds
+      ≡ map hit_of_rival (rivals_from search owner place ds)
   as_hits_from owner place [] = refl
   as_hits_from owner place (d ∷ ds) =
       by (is_kind search.kind d.kind) (as_hits_from owner (place + 1) ds) (as_hits_from owner place ds)
@@ -79,10 +93,13 @@ module _ (search : Search) where
       rs : List Rival
       rs = cond d.enabled (rival_of search owner place d search.intent.component) []
 
-      by : (b : Bool) → hits_from search owner (place + 1) ds ≡ map hit_of_rival (rivals_from search owner (place + 1) ds)
+      by : (b : Bool) → hits_from search owner (place + 1) ds ≡ map hit_of_rival
+          (rivals_from search owner (place + 1) ds)
           → hits_from search owner place ds ≡ map hit_of_rival (rivals_from search owner place ds)
-          → cond b (enabled_hit search owner place d ++ hits_from search owner (place + 1) ds) (hits_from search owner place ds)
-          ≡ map hit_of_rival (cond b (rs ++ rivals_from search owner (place + 1) ds) (rivals_from search owner place ds))
+          → cond b (enabled_hit search owner place d ++ hits_from search owner (place + 1) ds)
+          (hits_from search owner place ds)
+          ≡ map hit_of_rival (cond b (rs ++ rivals_from search owner (place + 1) ds)
+          (rivals_from search owner place ds))
       by true next other =
           ap (λ l. l ++ hits_from search owner (place + 1) ds)
           (when d.enabled _ _ (as_hit_of owner place d search.intent.component))
@@ -105,7 +122,7 @@ of_kind asked kind = record { caller = asked.caller; kind = kind; intent = asked
 abbrev pub search_of : Question → Search
 search_of asked = record { kind = asked.kind; intent = asked.intent; need_default = needs_default asked.kind }
 
--- what is said of a component that is found: as of one that is named, or as of one whose filters pass
+-- the account of a component that is found: as of one that is named, or as of one whose filters pass
 abbrev pub met : Board → Question → Option Component → Rival → Standing
 met board asked (Some component) r = named board asked r.owner r.decl
 met board asked None r = found board asked r.owner r.decl (Some r.priority)
@@ -127,7 +144,7 @@ module _ (board : Board) (asked : Question) (test : Standing → Bool) (of_found
   abbrev said : Package → Decl → Standing → Account
   said owner d s = record { to = Declared (component_of owner d); standing = s }
 
-  -- what is said of a component, with what the intent names held apart
+  -- the account of a component, with what the intent names held apart
   abbrev standing_with : Package → Decl → Option Component → Standing
   standing_with owner d component =
       cond (is_other_component component owner d) OtherComponent
@@ -138,16 +155,20 @@ module _ (board : Board) (asked : Question) (test : Standing → Bool) (of_found
   failed owner d s e = ap (λ b. cond b (said owner d s ∷ []) []) e
 
   one_named : (owner : Package) (place : ℕ) (d : Decl) (component : Component) (is on : Bool)
-      → standing_at test (said owner d (cond (not is) OtherComponent (cond (not on) Disabled (named board asked owner d))) ∷ [])
-      ≡ standing_at test (map (met_account board asked (Some component)) (cond on (cond is (rival_at owner place d (Some (pos 0))) []) []))
+      → standing_at test (said owner d (cond (not is) OtherComponent
+      (cond (not on) Disabled (named board asked owner d))) ∷ [])
+      ≡ standing_at test (map (met_account board asked (Some component))
+      (cond on (cond is (rival_at owner place d (Some (pos 0))) []) []))
   one_named owner place d component true true = refl
   one_named owner place d component false true = failed owner d OtherComponent of_found.component
   one_named owner place d component true false = failed owner d Disabled of_found.disabled
   one_named owner place d component false false = failed owner d OtherComponent of_found.component
 
   one_found : (owner : Package) (place : ℕ) (d : Decl) (priority : Option ℤ) (is on : Bool)
-      → standing_at test (said owner d (cond (not is) OtherPackage (cond (not on) Disabled (found board asked owner d priority))) ∷ [])
-      ≡ standing_at test (map (met_account board asked None) (cond on (cond is (rival_at owner place d priority) []) []))
+      → standing_at test (said owner d (cond (not is) OtherPackage
+      (cond (not on) Disabled (found board asked owner d priority))) ∷ [])
+      ≡ standing_at test (map (met_account board asked None) (cond on (cond is (rival_at owner place d priority) [])
+      []))
   one_found owner place d (Some priority) true true = refl
   one_found owner place d None true true = failed owner d (found board asked owner d None) (of_found.filters _)
   one_found owner place d priority false true = failed owner d OtherPackage of_found.«package»
@@ -156,15 +177,19 @@ module _ (board : Board) (asked : Question) (test : Standing → Bool) (of_found
 
   one : (owner : Package) (place : ℕ) (d : Decl) (component : Option Component)
       → standing_at test (said owner d (standing_with owner d component) ∷ [])
-      ≡ standing_at test (map (met_account board asked component) (cond d.enabled (rival_of (search_of asked) owner place d component) []))
-  one owner place d (Some component) = one_named owner place d component (is_named component owner.name d.class) d.enabled
+      ≡ standing_at test (map (met_account board asked component) (cond d.enabled
+      (rival_of (search_of asked) owner place d component) []))
+  one owner place d (Some component) = one_named owner place d component (is_named component owner.name d.class)
+      d.enabled
   one owner place d None =
-      one_found owner place d (priority_of asked.kind asked.intent (needs_default asked.kind) d.filters) (is_in asked.intent.«package» owner) d.enabled
+      one_found owner place d (priority_of asked.kind asked.intent (needs_default asked.kind) d.filters)
+      (is_in asked.intent.«package» owner) d.enabled
 
   -- the accounts of a package that pass the test are those of components that are found
   of_found_from : (owner : Package) (place : ℕ) (ds : List Decl)
       → standing_at test (accounts_from board asked owner ds)
-      ≡ standing_at test (map (met_account board asked asked.intent.component) (rivals_from (search_of asked) owner place ds))
+      ≡ standing_at test (map (met_account board asked asked.intent.component)
+      (rivals_from (search_of asked) owner place ds))
   of_found_from owner place [] = refl
   of_found_from owner place (d ∷ ds) =
       by (is_kind asked.kind d.kind) (of_found_from owner (place + 1) ds) (of_found_from owner place ds)
@@ -179,15 +204,21 @@ module _ (board : Board) (asked : Question) (test : Standing → Bool) (of_found
       to = met_account board asked asked.intent.component
 
       by : (b : Bool)
-          → standing_at test (accounts_from board asked owner ds) ≡ standing_at test (map to (rivals_from (search_of asked) owner (place + 1) ds))
-          → standing_at test (accounts_from board asked owner ds) ≡ standing_at test (map to (rivals_from (search_of asked) owner place ds))
-          → standing_at test (cond b (account ∷ accounts_from board asked owner ds) (accounts_from board asked owner ds))
-          ≡ standing_at test (map to (cond b (rs ++ rivals_from (search_of asked) owner (place + 1) ds) (rivals_from (search_of asked) owner place ds)))
+          → standing_at test (accounts_from board asked owner ds) ≡ standing_at test
+          (map to (rivals_from (search_of asked) owner (place + 1) ds))
+          → standing_at test (accounts_from board asked owner ds) ≡ standing_at test
+          (map to (rivals_from (search_of asked) owner place ds))
+          → standing_at test (cond b (account ∷ accounts_from board asked owner ds)
+          (accounts_from board asked owner ds))
+          ≡ standing_at test (map to (cond b (rs ++ rivals_from (search_of asked) owner (place + 1) ds)
+          (rivals_from (search_of asked) owner place ds)))
       by true next other =
           filter-append (λ (a : Account). test a.standing) (account ∷ []) (accounts_from board asked owner ds)
-          ∙ ap (λ l. l ++ standing_at test (accounts_from board asked owner ds)) (one owner place d asked.intent.component)
+          ∙ ap (λ l. l ++ standing_at test (accounts_from board asked owner ds))
+          (one owner place d asked.intent.component)
           ∙ ap (λ l. standing_at test (map to rs) ++ l) next
-          ∙ sym (filter-append (λ (a : Account). test a.standing) (map to rs) (map to (rivals_from (search_of asked) owner (place + 1) ds)))
+          ∙ sym (filter-append (λ (a : Account). test a.standing) (map to rs)
+          (map to (rivals_from (search_of asked) owner (place + 1) ds)))
           ∙ ap (standing_at test) (sym (map-append to rs (rivals_from (search_of asked) owner (place + 1) ds)))
       by false next other = other
 
@@ -198,11 +229,14 @@ module _ (board : Board) (asked : Question) (test : Standing → Bool) (of_found
   of_found_in [] = refl
   of_found_in (p ∷ ps) =
       let to = met_account board asked asked.intent.component in
-      filter-append (λ (a : Account). test a.standing) (accounts_from board asked p p.decls) (declared_accounts board asked None ps)
+      filter-append (λ (a : Account). test a.standing) (accounts_from board asked p p.decls)
+      (declared_accounts board asked None ps)
       ∙ ap (λ l. l ++ standing_at test (declared_accounts board asked None ps)) (of_found_from p 0 p.decls)
       ∙ ap (λ l. standing_at test (map to (rivals_from (search_of asked) p 0 p.decls)) ++ l) (of_found_in ps)
-      ∙ sym (filter-append (λ (a : Account). test a.standing) (map to (rivals_from (search_of asked) p 0 p.decls)) (map to (rivals_in (search_of asked) ps)))
-      ∙ ap (standing_at test) (sym (map-append to (rivals_from (search_of asked) p 0 p.decls) (rivals_in (search_of asked) ps)))
+      ∙ sym (filter-append (λ (a : Account). test a.standing) (map to (rivals_from (search_of asked) p 0 p.decls))
+      (map to (rivals_in (search_of asked) ps)))
+      ∙ ap (standing_at test) (sym (map-append to (rivals_from (search_of asked) p 0 p.decls)
+      (rivals_in (search_of asked) ps)))
 
 -- what holds of each enabled component of the kind of the packages holds of each that is found
 module _ (search : Search) (Q : Package → Decl → Type 0) where
@@ -214,11 +248,13 @@ module _ (search : Search) (Q : Package → Decl → Type 0) where
   abbrev pub HoldsOf : Rival → Type 0
   HoldsOf r = Q r.owner r.decl
 
-  all_append : (rs others : List Rival) → AllByRecursion HoldsOf rs → AllByRecursion HoldsOf others → AllByRecursion HoldsOf (rs ++ others)
+  all_append : (rs others : List Rival) → AllByRecursion HoldsOf rs → AllByRecursion HoldsOf others
+      → AllByRecursion HoldsOf (rs ++ others)
   all_append [] others a b = b
   all_append (r ∷ rs) others a b = (a.0, all_append rs others a.1 b)
 
-  all_at : (p : Package) (place : ℕ) (d : Decl) (priority : Option ℤ) → Q p d → AllByRecursion HoldsOf (rival_at p place d priority)
+  all_at : (p : Package) (place : ℕ) (d : Decl) (priority : Option ℤ) → Q p d
+      → AllByRecursion HoldsOf (rival_at p place d priority)
   all_at p place d None q = tt
   all_at p place d (Some priority) q = (q, tt)
 
@@ -226,19 +262,25 @@ module _ (search : Search) (Q : Package → Decl → Type 0) where
   all_when true rs a = a
   all_when false rs a = tt
 
-  all_of : (p : Package) (place : ℕ) (d : Decl) (component : Option Component) → Q p d → AllByRecursion HoldsOf (rival_of search p place d component)
-  all_of p place d (Some component) q = all_when (is_named component p.name d.class) _ (all_at p place d (Some (pos 0)) q)
+  all_of : (p : Package) (place : ℕ) (d : Decl) (component : Option Component) → Q p d
+      → AllByRecursion HoldsOf (rival_of search p place d component)
+  all_of p place d (Some component) q = all_when (is_named component p.name d.class) _
+      (all_at p place d (Some (pos 0)) q)
   all_of p place d None q =
-      all_when (is_in search.intent.«package» p) _ (all_at p place d (priority_of search.kind search.intent search.need_default d.filters) q)
+      all_when (is_in search.intent.«package» p) _ (all_at p place d
+      (priority_of search.kind search.intent search.need_default d.filters) q)
 
-  pub all_from : (p : Package) (place : ℕ) (ds : List Decl) → AllByRecursion (Holds p) ds → AllByRecursion HoldsOf (rivals_from search p place ds)
+  pub all_from : (p : Package) (place : ℕ) (ds : List Decl) → AllByRecursion (Holds p) ds
+      → AllByRecursion HoldsOf (rivals_from search p place ds)
   all_from p place [] a = tt
   all_from p place (d ∷ ds) a =
       by (is_kind search.kind d.kind) d.enabled a.0 (all_from p (place + 1) ds a.1) (all_from p place ds a.1)
     where
       by : (kind on : Bool) → (on && kind ≡ true → Q p d)
-          → AllByRecursion HoldsOf (rivals_from search p (place + 1) ds) → AllByRecursion HoldsOf (rivals_from search p place ds)
-          → AllByRecursion HoldsOf (cond kind (cond on (rival_of search p place d search.intent.component) [] ++ rivals_from search p (place + 1) ds) (rivals_from search p place ds))
+          → AllByRecursion HoldsOf (rivals_from search p (place + 1) ds)
+          → AllByRecursion HoldsOf (rivals_from search p place ds)
+          → AllByRecursion HoldsOf (cond kind (cond on (rival_of search p place d search.intent.component) []
+          ++ rivals_from search p (place + 1) ds) (rivals_from search p place ds))
       by true true holds next other = all_append _ _ (all_of p place d search.intent.component (holds refl)) next
       by true false holds next other = next
       by false on holds next other = other

@@ -39,7 +39,8 @@ name_of_rival r = component_of r.owner r.decl
 -- no component is found twice
 abbrev Distinct : List Rival → Type 0
 Distinct [] = Unit {0}
-Distinct (r ∷ rs) = AllByRecursion (λ (o : Rival). is_same_component (name_of_rival r) (name_of_rival o) ≡ false) rs × Distinct rs
+Distinct (r ∷ rs) = AllByRecursion (λ (o : Rival). is_same_component (name_of_rival r) (name_of_rival o) ≡ false) rs
+    × Distinct rs
 
 module _ (search : Search) where
   one_more : (p : Package) (place : ℕ) (d : Decl) (rs : List Rival) (priority : Option ℤ) (is : Bool)
@@ -55,32 +56,39 @@ module _ (search : Search) where
   one_of p place d rs (Some component) others distinct =
       one_more p place d rs (Some (pos 0)) (is_named component p.name d.class) others distinct
   one_of p place d rs None others distinct =
-      one_more p place d rs (priority_of search.kind search.intent search.need_default d.filters) (is_in search.intent.«package» p) others distinct
+      one_more p place d rs (priority_of search.kind search.intent search.need_default d.filters)
+      (is_in search.intent.«package» p) others distinct
 
   -- components of other classes are others
-  other_classes : (p : Package) (d : Decl) (ds : List Decl) → AllByRecursion (λ y. is_same d.class y ≡ false) (classes_of ds)
-      → AllByRecursion (Holds search (λ (q : Package) (e : Decl). is_same_component (component_of p d) (component_of q e) ≡ false) p) ds
+  other_classes : (p : Package) (d : Decl) (ds : List Decl) → AllByRecursion (λ y. is_same d.class y ≡ false)
+      (classes_of ds)
+      → AllByRecursion (Holds search (λ (q : Package) (e : Decl). is_same_component (component_of p d)
+      (component_of q e) ≡ false) p) ds
   other_classes p d [] none = tt
   other_classes p d (e ∷ es) none =
       ((λ _. and_false (is_same p.name p.name) (is_same d.class e.class) none.0), other_classes p d es none.1)
 
   -- a package's are distinct
-  within : (p : Package) (place : ℕ) (ds : List Decl) → AreDistinct (classes_of ds) → Distinct (rivals_from search p place ds)
+  within : (p : Package) (place : ℕ) (ds : List Decl) → AreDistinct (classes_of ds)
+      → Distinct (rivals_from search p place ds)
   unfolding IsDistinct
   within p place [] distinct = tt
   within p place (d ∷ ds) distinct =
       by (is_kind search.kind d.kind) d.enabled (within p (place + 1) ds distinct.1) (within p place ds distinct.1)
     where
       by : (kind on : Bool) → Distinct (rivals_from search p (place + 1) ds) → Distinct (rivals_from search p place ds)
-          → Distinct (cond kind (cond on (rival_of search p place d search.intent.component) [] ++ rivals_from search p (place + 1) ds) (rivals_from search p place ds))
+          → Distinct (cond kind (cond on (rival_of search p place d search.intent.component) []
+          ++ rivals_from search p (place + 1) ds) (rivals_from search p place ds))
       by true true next other =
           one_of p place d (rivals_from search p (place + 1) ds) search.intent.component
-          (all_from search (λ (q : Package) (e : Decl). is_same_component (component_of p d) (component_of q e) ≡ false) p (place + 1) ds (other_classes p d ds distinct.0)) next
+          (all_from search (λ (q : Package) (e : Decl). is_same_component (component_of p d) (component_of q e) ≡ false)
+          p (place + 1) ds (other_classes p d ds distinct.0)) next
       by true false next other = next
       by false on next other = other
 
   -- those of a package bear its name
-  own_name : (p : Package) (ds : List Decl) → AllByRecursion (Holds search (λ (q : Package) (e : Decl). q.name ≡ p.name) p) ds
+  own_name : (p : Package) (ds : List Decl) → AllByRecursion (Holds search (λ (q : Package) (e : Decl). q.name ≡ p.name)
+      p) ds
   own_name p [] = tt
   own_name p (d ∷ ds) = ((λ _. refl), own_name p ds)
 
@@ -99,7 +107,8 @@ module _ (search : Search) where
   no_and true b e = absurd cc
   no_and false b e = refl
 
-  apart : (r : Rival) (name : List ℕ) (others : List Rival) → r.owner.name ≡ name → AllByRecursion (λ (o : Rival). is_same name o.owner.name ≡ false) others
+  apart : (r : Rival) (name : List ℕ) (others : List Rival) → r.owner.name ≡ name
+      → AllByRecursion (λ (o : Rival). is_same name o.owner.name ≡ false) others
       → AllByRecursion (λ (o : Rival). is_same_component (name_of_rival r) (name_of_rival o) ≡ false) others
   apart r name [] own other = tt
   apart r name (o ∷ others) own other = (
@@ -116,20 +125,23 @@ module _ (search : Search) where
   both r (x ∷ rs) others a b = (a.0, both r rs others a.1 b)
 
   join : (name : List ℕ) (rs others : List Rival) → AllByRecursion (λ (r : Rival). r.owner.name ≡ name) rs → Distinct rs
-      → AllByRecursion (λ (o : Rival). is_same name o.owner.name ≡ false) others → Distinct others → Distinct (rs ++ others)
+      → AllByRecursion (λ (o : Rival). is_same name o.owner.name ≡ false) others → Distinct others
+      → Distinct (rs ++ others)
   join name [] others own distinct other rest = rest
   join name (r ∷ rs) others own distinct other rest =
       (both r rs others distinct.0 (apart r name others own.0 other), join name rs others own.1 distinct.1 other rest)
 
   -- those of all packages are distinct
-  across : (ps : List Package) → AreDistinct (names_of ps) → AllByRecursion IsInstalled ps → Distinct (rivals_in search ps)
+  across : (ps : List Package) → AreDistinct (names_of ps) → AllByRecursion IsInstalled ps
+      → Distinct (rivals_in search ps)
   unfolding IsDistinct
   across [] distinct each = tt
   across (p ∷ ps) distinct each =
       join p.name (rivals_from search p 0 p.decls) (rivals_in search ps)
       (all_from search (λ (q : Package) (e : Decl). q.name ≡ p.name) p 0 p.decls (own_name p p.decls))
       (within p 0 p.decls each.0.classes)
-      (all_rivals search (λ (q : Package) (e : Decl). is_same p.name q.name ≡ false) ps (other_names p.name ps distinct.0))
+      (all_rivals search (λ (q : Package) (e : Decl). is_same p.name q.name ≡ false) ps
+      (other_names p.name ps distinct.0))
       (across ps distinct.1 each.1)
 
 -- a hit is one of those
@@ -142,7 +154,8 @@ first_is_one : (hs : List Hit) (h : Hit) (others : List Hit) → by_priority hs 
 first_is_one [] h others e = absurd cc
 first_is_one (x ∷ xs) h others e = by (by_priority xs) refl e (first_is_one xs)
   where
-    by_test : (b : Bool) (y : Hit) (ys placed : List Hit) → by_priority xs ≡ y ∷ ys → cond b (y ∷ placed) (x ∷ y ∷ ys) ≡ h ∷ others
+    by_test : (b : Bool) (y : Hit) (ys placed : List Hit) → by_priority xs ≡ y ∷ ys → cond b (y ∷ placed) (x ∷ y ∷ ys)
+        ≡ h ∷ others
         → ((h : Hit) (others : List Hit) → by_priority xs ≡ h ∷ others → IsOneOf h xs) → (x ≡ h) ⊎ IsOneOf h xs
     by_test true y ys placed is e rest =
         let same : y ≡ h = cc in
@@ -155,7 +168,8 @@ first_is_one (x ∷ xs) h others e = by (by_priority xs) refl e (first_is_one xs
     by (y ∷ ys) is e rest = by_test (int_lt x.priority y.priority) y ys (place_hit x ys) is e rest
 
 -- what differs from each differs from each hit
-differs_from : (c : Component) (rs : List Rival) (h : Hit) → AllByRecursion (λ (o : Rival). is_same_component c (name_of_rival o) ≡ false) rs
+differs_from : (c : Component) (rs : List Rival) (h : Hit) → AllByRecursion
+    (λ (o : Rival). is_same_component c (name_of_rival o) ≡ false) rs
     → IsOneOf h (map hit_of_rival rs) → is_same_component c h.component ≡ false
 differs_from c [] h others one = absurd one
 differs_from c (r ∷ rs) h others (inl same) = ap (λ (x : Hit). is_same_component c x.component) (sym same) ∙ others.0
@@ -182,7 +196,8 @@ module _ (board : Board) (caller : ℕ) (intent : Intent) (required : Option (Li
   abbrev is_it : Option Component → Rival → Bool
   is_it first r = is_that first (name_of_rival r)
 
-  none_else : (c : Component) (rs : List Rival) → AllByRecursion (λ (o : Rival). is_same_component c (name_of_rival o) ≡ false) rs
+  none_else : (c : Component) (rs : List Rival) → AllByRecursion (λ (o : Rival). is_same_component c (name_of_rival o)
+      ≡ false) rs
       → filter (is_it (Some c)) rs ≡ []
   none_else c [] others = refl
   none_else c (r ∷ rs) others =
@@ -194,15 +209,19 @@ module _ (board : Board) (caller : ℕ) (intent : Intent) (required : Option (Li
 
   -- of those that are found one is a hit's component
   one_is : (rs : List Rival) (h : Hit) → Distinct rs → AllByRecursion IsKnown rs → IsOneOf h (map hit_of_rival rs)
-      → map started_account (filter (is_it (Some h.component)) rs) ≡ started_component board caller h.component (declared board.packages Service h.component)
+      → map started_account (filter (is_it (Some h.component)) rs)
+      ≡ started_component board caller h.component (declared board.packages Service h.component)
   one_is [] h distinct known one = absurd one
   one_is (r ∷ rs) h distinct known (inl same) =
-      subst (λ (x : Hit). map started_account (filter (is_it (Some x.component)) (r ∷ rs)) ≡ started_component board caller x.component (declared board.packages Service x.component)) same
-      (ap (λ b. map started_account (cond b (r ∷ filter (is_it (Some (name_of_rival r))) rs) (filter (is_it (Some (name_of_rival r))) rs))) (itself (name_of_rival r))
+      subst (λ (x : Hit). map started_account (filter (is_it (Some x.component)) (r ∷ rs))
+      ≡ started_component board caller x.component (declared board.packages Service x.component)) same
+      (ap (λ b. map started_account (cond b (r ∷ filter (is_it (Some (name_of_rival r))) rs)
+      (filter (is_it (Some (name_of_rival r))) rs))) (itself (name_of_rival r))
       ∙ ap (λ l. started_account r ∷ map started_account l) (none_else (name_of_rival r) rs distinct.0)
       ∙ ap (started_component board caller (name_of_rival r)) (sym known.0))
   one_is (r ∷ rs) h distinct known (inr rest) =
-      ap (λ b. map started_account (cond b (r ∷ filter (is_it (Some h.component)) rs) (filter (is_it (Some h.component)) rs)))
+      ap (λ b. map started_account (cond b (r ∷ filter (is_it (Some h.component)) rs)
+      (filter (is_it (Some h.component)) rs)))
       (turned h.component (name_of_rival r) ∙ differs_from (name_of_rival r) rs h distinct.0 rest)
       ∙ one_is rs h distinct.1 known.1 rest
 
@@ -220,19 +239,27 @@ module _ (board : Board) (caller : ℕ) (intent : Intent) (required : Option (Li
       none (r ∷ rs) = none rs
   first_is (h ∷ others) e installed =
       one_is rivals h
-      (across (search_of asked) board.packages installed.names (recursion_from_All IsInstalled board.packages installed.each))
-      (all_rivals (search_of asked) (λ (p : Package) (d : Decl). declared board.packages Service (component_of p d) ≡ Some (p.uid, d)) board.packages (all_known board.packages Service installed))
+      (across (search_of asked) board.packages installed.names (recursion_from_All IsInstalled board.packages
+      installed.each))
+      (all_rivals (search_of asked) (λ (p : Package) (d : Decl). declared board.packages Service (component_of p d)
+      ≡ Some (p.uid, d)) board.packages (all_known board.packages Service installed))
       (first_is_one (map hit_of_rival rivals) h others e)
 
-  -- what is decided where a package is named
+  -- what is decided if a package is named
   decided_in : (rs : List Rival) (name : List ℕ) → intent.«package» ≡ Some name
       → standing_at is_decided (map (met_account board asked None) rs)
       ≡ map started_account (filter (is_it (first_of (hits board.packages Service intent false))) rs)
   decided_in [] name e = refl
   decided_in (r ∷ rs) name e =
-      filter-append (λ (a : Account). is_decided a.standing) (met_account board asked None r ∷ []) (map (met_account board asked None) rs)
+      filter-append (λ (a : Account). is_decided a.standing) (met_account board asked None r ∷ [])
+      (map (met_account board asked None) rs)
       ∙ ap (λ l. standing_at is_decided (met_account board asked None r ∷ []) ++ l) (decided_in rs name e)
-      ∙ ap (λ (limited : Option (List ℕ)). standing_at is_decided (record { to = Declared (name_of_rival r); standing = cond (is_none limited) (Refused rules.ImplicitService) (cond (not (is_it (first_of (hits board.packages Service intent false)) r)) Outranked (started board caller r.owner r.decl)) } ∷ []) ++ others) e
+      ∙ ap (λ (limited : Option (List ℕ)). standing_at is_decided (record {
+        to = Declared (name_of_rival r);
+        standing = cond (is_none limited) (Refused rules.ImplicitService)
+            (cond (not (is_it (first_of (hits board.packages Service intent false)) r)) Outranked
+            (started board caller r.owner r.decl));
+      } ∷ []) ++ others) e
       ∙ by (is_it (first_of (hits board.packages Service intent false)) r)
     where
       kept : List Rival
@@ -241,40 +268,56 @@ module _ (board : Board) (caller : ℕ) (intent : Intent) (required : Option (Li
       others : List Account
       others = map started_account kept
 
-      by : (b : Bool) → standing_at is_decided (record { to = Declared (name_of_rival r); standing = cond (not b) Outranked (started board caller r.owner r.decl) } ∷ []) ++ others
+      by : (b : Bool) → standing_at is_decided (record {
+        to = Declared (name_of_rival r);
+        standing = cond (not b)
+            Outranked (started board caller r.owner r.decl);
+      } ∷ []) ++ others
           ≡ map started_account (cond b (r ∷ kept) kept)
-      by true = ap (λ t. cond t (started_account r ∷ []) [] ++ others) (decided_rule (rule_of (verdict board.grants caller r.owner.uid r.decl.exported r.decl.permission)))
+      by true = ap (λ t. cond t (started_account r ∷ []) [] ++ others)
+          (decided_rule (rule_of (verdict board.grants caller r.owner.uid r.decl.exported r.decl.permission)))
       by false = refl
 
-  -- and where none is
+  -- and if none is
   decided_nowhere : (rs : List Rival) → intent.«package» ≡ None
       → standing_at is_decided (map (met_account board asked None) rs) ≡ implicit_services (map hit_of_rival rs)
   decided_nowhere [] e = refl
   decided_nowhere (r ∷ rs) e =
-      filter-append (λ (a : Account). is_decided a.standing) (met_account board asked None r ∷ []) (map (met_account board asked None) rs)
+      filter-append (λ (a : Account). is_decided a.standing) (met_account board asked None r ∷ [])
+      (map (met_account board asked None) rs)
       ∙ ap (λ l. standing_at is_decided (met_account board asked None r ∷ []) ++ l) (decided_nowhere rs e)
-      ∙ ap (λ (limited : Option (List ℕ)). standing_at is_decided (record { to = Declared (name_of_rival r); standing = cond (is_none limited) (Refused rules.ImplicitService) (cond (not (is_it (first_of (hits board.packages Service intent false)) r)) Outranked (started board caller r.owner r.decl)) } ∷ []) ++ implicit_services (map hit_of_rival rs)) e
+      ∙ ap (λ (limited : Option (List ℕ)). standing_at is_decided (record {
+        to = Declared (name_of_rival r);
+        standing = cond (is_none limited) (Refused rules.ImplicitService)
+            (cond (not (is_it (first_of (hits board.packages Service intent false)) r)) Outranked
+            (started board caller r.owner r.decl));
+      } ∷ []) ++ implicit_services (map hit_of_rival rs)) e
 
   said : intent.component ≡ None
-      → standing_at is_decided (accounts board asked None) ≡ standing_at is_decided (map (met_account board asked None) rivals)
+      → standing_at is_decided (accounts board asked None) ≡ standing_at is_decided
+      (map (met_account board asked None) rivals)
   said none =
       ap (standing_at is_decided) (append-nil (declared_accounts board asked None board.packages))
       ∙ of_found_in board asked is_decided decided_found board.packages
-      ∙ ap (λ (component : Option Component). standing_at is_decided (map (met_account board asked component) rivals)) none
+      ∙ ap (λ (component : Option Component). standing_at is_decided (map (met_account board asked component) rivals))
+      none
 
-  decided : (component : Option Component) (name : Option (List ℕ)) → intent.component ≡ component → intent.«package» ≡ name → AreInstalled board.packages
+  decided : (component : Option Component) (name : Option (List ℕ)) → intent.component ≡ component → intent.«package»
+      ≡ name → AreInstalled board.packages
       → standing_at is_decided (accounts board asked None) ≡ started_service board asked component name
   decided (Some c) name names limits installed =
       ap (standing_at is_decided) (append-nil (declared_accounts board asked None board.packages))
       ∙ explicit_decided board asked c names (λ r. refl) installed
   decided None (Some name) names limits installed =
       said names ∙ decided_in rivals name limits
-      ∙ first_is (hits board.packages Service intent false) (ap by_priority (sym (as_hits (search_of asked) board.packages))) installed
+      ∙ first_is (hits board.packages Service intent false) (ap by_priority
+      (sym (as_hits (search_of asked) board.packages))) installed
   decided None None names limits installed =
       said names ∙ decided_nowhere rivals limits ∙ ap implicit_services (sym (as_hits (search_of asked) board.packages))
 
 -- the law
 pub services_are_started : ServicesAreStarted
 services_are_started board q installed e =
-    subst (λ (kind : Kind). standing_at is_decided (accounts board (of_kind q kind) None) ≡ started_service board (of_kind q kind) q.intent.component q.intent.«package») (sym e)
+    subst (λ (kind : Kind). standing_at is_decided (accounts board (of_kind q kind) None)
+    ≡ started_service board (of_kind q kind) q.intent.component q.intent.«package») (sym e)
     (decided board q.caller q.intent q.required q.intent.component q.intent.«package» refl refl installed)

@@ -1,4 +1,4 @@
--- What of the whole device decides on a component that an implicit start finds.
+-- What decides, across the whole device, on a component that an implicit start finds.
 use Rattle.std.specs.Prelude.{◌≡◌, ℕ, ℤ, Bool, false, List, [], ◌∷◌, Option, Some, None, int_lt}
 use Rattle.am_types.specs.declared.intent.Intent.{Intent}
 use Rattle.am_types.specs.declared.device.Link.{Link}
@@ -16,7 +16,7 @@ use Rattle.am_explain.specs.declared.contest.Contest.TheVariants.{Start, Service
 use Rattle.am_explain.specs.declared.contest.Grounds.{Grounds}
 use Rattle.am_explain.specs.declared.contest.Leaders.{Leaders}
 
--- the first hit that a start is for, if there is one
+-- the first hit that a start may reach, if there is one
 abbrev pub leader : Target → Option Hit
 leader Nothing = None
 leader (One hit) = Some hit
@@ -28,13 +28,13 @@ abbrev pub priority_of_hit : Option Hit → Option ℤ
 priority_of_hit None = None
 priority_of_hit (Some hit) = Some hit.priority
 
--- the hit is there, and its package is approved for the host of a web intent
+-- there is a hit, and its package is approved for the host of a web intent
 abbrev pub is_approved_hit : List Link → Option (List ℕ) → Option Hit → Bool
 is_approved_hit links None hit = false
 is_approved_hit links (Some host) None = false
 is_approved_hit links (Some host) (Some hit) = is_approved links host hit
 
--- what the target of a start tells
+-- what the target of a start shows
 abbrev pub leaders_of : List Link → Option (List ℕ) → Target → Leaders
 leaders_of links host reached = record {
   approved = is_approved_hit links host (leader reached);
@@ -42,7 +42,7 @@ leaders_of links host reached = record {
   tied = is_choice reached;
 }
 
--- the priority is below that one, if there is one
+-- the priority is below the other, if there is one
 abbrev pub is_below : ℤ → Option ℤ → Bool
 is_below priority None = false
 is_below priority (Some greatest) = int_lt priority greatest
@@ -54,13 +54,13 @@ pub record IsLed (board : Board) (intent : Intent) (leaders : Leaders) : Type 0 
   pub greatest : (priority : ℤ) → is_below priority leaders.greatest ≡ is_outranked priority (start_hits board intent)
   pub tied : leaders.tied ≡ is_choice (target board intent)
 
--- what decides on a component of the kind that is asked for
+-- what decides on a component of the kind in question
 abbrev pub IsContest : Board → Question → Contest → Type 0
 IsContest board asked (Start leaders) = (asked.kind ≡ kinds.Activity) × IsLed board asked.intent leaders
 IsContest board asked (Service first) =
     (asked.kind ≡ kinds.Service) × (first ≡ first_of (hits board.packages kinds.Service asked.intent false))
 IsContest board asked Broadcast = asked.kind ≡ kinds.Receiver
 
--- what decides is that of the question on the board
+-- what decides is what decides on the question on the board
 abbrev pub AreGrounds : Grounds → Type 0
 AreGrounds grounds = IsContest grounds.installed.now (question_of grounds.question) grounds.contest.now

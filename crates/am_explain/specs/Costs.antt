@@ -1,11 +1,11 @@
--- How many filters there are to be asked.
+-- How many filters have to be tested.
 use Rattle.std.specs.Prelude.{ℕ, ◌+◌, List, [], ◌∷◌, length, if◌then◌else◌}
 use Rattle.am_types.specs.declared.manifest.Kind.{Kind}
 use Rattle.am_types.specs.declared.manifest.Decl.{Decl}
 use Rattle.am_types.specs.declared.device.Package.{Package}
 use Rattle.am_model.specs.Candidates.{is_kind}
 
--- the filters of some components, as far as they are of the kind
+-- the filters of those components that are of the kind
 abbrev pub filters_from : Kind → List Decl → ℕ
 filters_from kind [] = 0
 filters_from kind (first ∷ others) =

@@ -1,4 +1,5 @@
--- Laws of what is said: a component is decided on as a start or a broadcast of the intent then decides on it.
+-- Laws of the accounts: a component is decided on in the same way as a start or a broadcast of the intent decides on
+-- it.
 use Rattle.std.specs.Prelude.{◌≡◌, ℕ, Bool, true, false, List, [], ◌∷◌, map, filter, Option, Some, None}
 use Rattle.std.specs.List.Sorted.{IsPermutation}
 use Rattle.am_types.specs.declared.intent.Component.{Component}
@@ -38,16 +39,16 @@ abbrev pub is_reached : Standing → Bool
 is_reached Reached = true
 is_reached _ = false
 
--- the user would choose it among others
+-- the component is among those from which the user must choose
 abbrev pub is_tied : Standing → Bool
 is_tied Tied = true
 is_tied _ = false
 
--- the accounts of such a standing
+-- the accounts with such a standing
 abbrev pub standing_at : (Standing → Bool) → List Account → List Account
 standing_at test told = filter (λ (account : Account). test account.standing) told
 
--- what is said of a declared component that is started, if it is declared: the gate's verdict
+-- the account of a declared component that is started, if it is declared: the gate's verdict
 abbrev pub started_component : Board → ℕ → Component → Option (ℕ × Decl) → List Account
 started_component board caller component None = []
 started_component board caller component (Some found) =
@@ -56,7 +57,7 @@ started_component board caller component (Some found) =
       standing = unless_refused (rule_of (verdict board.grants caller found.0 found.1.exported found.1.permission));
     } ∷ []
 
--- what is said of the activity that a start reaches, if it is one
+-- the account of the activity that a start reaches, if it reaches one
 abbrev pub started_target : Board → ℕ → Target → List Account
 started_target board caller Nothing = []
 started_target board caller (One hit) =
@@ -69,7 +70,7 @@ started_activity board asked (Some component) =
     started_component board asked.caller component (declared board.packages kinds.Activity component)
 started_activity board asked None = started_target board asked.caller (target board asked.intent)
 
--- what is said of those among which the user must choose
+-- the accounts of the activities from which the user must choose
 abbrev pub tied_hits : Target → List Account
 tied_hits Nothing = []
 tied_hits (One hit) = []
@@ -80,26 +81,26 @@ abbrev pub tied_activities : Board → Question → Option Component → List Ac
 tied_activities board asked (Some component) = []
 tied_activities board asked None = tied_hits (target board asked.intent)
 
--- of activities those are decided on, by the gate's verdict, that the start is for, and those are tied among which the
--- user must choose
+-- the activities decided on, by the gate's verdict, are those that the start reaches, and the tied ones are those from
+-- which the user must choose
 pub record ActivitiesAreStarted : Type 0 where
   pub decided : (board : Board) (asked : Question) → AreInstalled board.packages → asked.kind ≡ kinds.Activity
       → standing_at is_decided (accounts board asked None) ≡ started_activity board asked asked.intent.component
   pub tied : (board : Board) (asked : Question) → AreInstalled board.packages → asked.kind ≡ kinds.Activity
       → standing_at is_tied (accounts board asked None) ≡ tied_activities board asked asked.intent.component
 
--- what is said of the first hit
+-- the account of the first hit
 abbrev pub started_first : Board → ℕ → List Hit → List Account
 started_first board caller [] = []
 started_first board caller (first ∷ others) =
     started_component board caller first.component (declared board.packages kinds.Service first.component)
 
--- what is said of each service that an intent finds that names neither component nor package
+-- the account of each service found by an intent that names neither a component nor a package
 abbrev pub implicit_services : List Hit → List Account
 implicit_services found =
     map (λ (hit : Hit). record { to = Declared hit.component; standing = Refused rules.ImplicitService }) found
 
--- a start of the service that the intent names, of the first that it finds in the package that it names, or of none
+-- a start of the service that the intent names, of the first one found in the package that it names, or of none
 abbrev pub started_service : Board → Question → Option Component → Option (List ℕ) → List Account
 started_service board asked (Some component) name =
     started_component board asked.caller component (declared board.packages kinds.Service component)
@@ -107,23 +108,23 @@ started_service board asked None (Some name) =
     started_first board asked.caller (hits board.packages kinds.Service asked.intent false)
 started_service board asked None None = implicit_services (candidates board.packages kinds.Service asked.intent false)
 
--- of services that is decided on, by the gate's verdict, which the start is for
+-- the service decided on, by the gate's verdict, is the one that the start reaches
 abbrev pub ServicesAreStarted : Type 0
 ServicesAreStarted =
     (board : Board) (asked : Question) → AreInstalled board.packages → asked.kind ≡ kinds.Service
     → standing_at is_decided (accounts board asked None)
     ≡ started_service board asked asked.intent.component asked.intent.«package»
 
--- what is said of a receiver that a broadcast is offered to: what becomes of it
+-- the account of a receiver that a broadcast is offered to: what becomes of the offer
 abbrev pub account_of : Receiving → Account
 account_of receiving = record { to = receiving.aim; standing = unless_refused receiving.skip }
 
--- what is said of those who are reached
+-- the accounts of those that are reached
 abbrev pub reached_spots : List Spot → List Account
 reached_spots spots = map (λ (spot : Spot). record { to = spot.aim; standing = Reached }) spots
 
--- of receivers those are decided on, as the broadcast decides, to whom it is offered, and those are reached who are
--- admitted; where the caller may not send the action none is reached
+-- the receivers decided on, as the broadcast decides, are those that it is offered to, and the reached ones are those
+-- that are admitted; if the caller may not send the action, none is reached
 pub record ReceiversAreSentTo : Type 0 where
   pub offered : (board : Board) (asked : Question) → AreInstalled board.packages → asked.kind ≡ kinds.Receiver
       → sending_rule board asked ≡ None
@@ -137,8 +138,8 @@ pub record ReceiversAreSentTo : Type 0 where
       → sending_rule board asked ≡ Some rules.ProtectedAction
       → standing_at is_reached (accounts board asked None) ≡ []
 
--- the reasons of a component are those for which the intent doesn't pass its filters, one for each; and so is that of a
--- registered receiver
+-- the reasons of a component are those for which the intent doesn't pass its filters, one for each; the same holds for
+-- the reason of a registered receiver
 pub record ReasonsAreOfFilters : Type 0 where
   pub components : (board : Board) (asked : Question) (owner : Package) (decl : Decl) (reasons : List Why)
       → standing board asked owner decl ≡ Filters reasons

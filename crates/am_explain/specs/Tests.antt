@@ -1,4 +1,4 @@
--- What the filters of a component say of an intent, gathered.
+-- The outcome of testing the filters of a component against an intent, gathered.
 use Rattle.std.specs.Prelude.{ℤ, Bool, ◌&&◌, List, Option, Some, None}
 use Rattle.std.specs.List.{list_any}
 use Rattle.am_types.specs.declared.filter.Filter.{Filter}
@@ -21,12 +21,12 @@ with_priority None priority best = Some (greatest priority best)
 with_priority (Some reason) priority best = best
 
 -- the greatest priority of the filters that the intent passes and whether one of them lists no authority, or the
--- reasons where it passes none
+-- reasons if it passes none
 abbrev pub tested_with : Option ℤ → Bool → List Why → Tested
 tested_with (Some priority) any_host reasons = Passed priority any_host
 tested_with None any_host reasons = Failed reasons
 
--- what the filters say of the intent
+-- the outcome of testing the filters against the intent
 abbrev pub tested_of : Kind → Intent → Bool → List Filter → Tested
 tested_of kind intent need_default filters =
     tested_with (priority_of kind intent need_default filters)

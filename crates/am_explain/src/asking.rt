@@ -1,13 +1,13 @@
-//! What is asked of an intent.
+//! What is asked about an intent.
 ghost use Rattle.std.specs.Prelude.{◌≡◌, option_copied};
 ghost use Rattle.am_explain.specs.Asking.{question_of};
 
 use am_types::{Intent, Kind, Text};
 
-/// What is asked: whom an intent of the caller reaches.
+/// The question: what an intent of the caller reaches.
 #[derive(Clone, Copy)]
 pub struct Question<'a> {
-    /// Whose start or broadcast it is.
+    /// The uid that starts or broadcasts.
     pub caller: u32,
     /// A start of an activity or of a service, or a normal broadcast.
     pub kind: Kind,
@@ -17,7 +17,7 @@ pub struct Question<'a> {
 }
 
 impl<'a> Question<'a> {
-    /// The question of a caller; `permission` is what the receivers of a broadcast must hold. Takes no
+    /// The question for a caller; `permission` is what the receivers of a broadcast must hold. Takes no
     /// memory.
     pub fn new(
         caller: u32,
@@ -36,7 +36,7 @@ impl<'a> Question<'a> {
         }
     }
 
-    /// The same question of another caller. Takes no memory.
+    /// The same question for another caller. Takes no memory.
     pub fn of_caller(&self, caller: u32) -> Question<'a>
         ensures { question_of result ≡ record (question_of self.now) { caller = caller } }
     {

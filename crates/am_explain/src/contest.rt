@@ -1,4 +1,4 @@
-//! What of the whole device decides on a component that an implicit start finds.
+//! What decides, across the whole device, on a component that an implicit start finds.
 ghost use Rattle.std.specs.Prelude.{◌≡◌, ◌+◌, ◌*◌, ◌≤◌, IsSome, IfOk, false, option_copied};
 ghost use Rattle.am_types.specs.declared.manifest.Kind.TheVariants.{Activity, Service};
 ghost use Rattle.am_model.specs.Candidates.{hits};
@@ -15,30 +15,30 @@ use am_types::{Component, Hit, Intent, Kind, Link, List, NoMemory, Steps, Target
 use std::alloc::Global;
 use std::sync::ledger::Ledger;
 
-/// What decides on a component of a kind that the intent finds, beside the component itself.
+/// What decides on a component of a kind that the intent finds, apart from the component itself.
 #[derive(Drop)]
 pub(crate) enum Contest {
-    /// A start of an activity, for which others may be before it.
+    /// A start of an activity, for which others may take precedence.
     Start(Leaders),
     /// A start of a service: the first component that is found.
     Service(Option<Component>),
-    /// A broadcast, which no receiver keeps from another.
+    /// A broadcast, in which no receiver gets in another's way.
     Broadcast,
 }
 
 /// What decides on an activity.
 #[derive(Clone, Copy)]
 pub(crate) struct Leaders {
-    /// Some activity that is found is of a package that is approved for the host of the web intent.
+    /// Some activity that is found belongs to a package that is approved for the host of the web intent.
     pub(crate) approved: bool,
-    /// The greatest priority of those that the narrowing leaves.
+    /// The greatest priority among those that the narrowing leaves.
     pub(crate) greatest: Option<i32>,
-    /// Several have it.
+    /// Several have this priority.
     pub(crate) tied: bool,
 }
 
-/// On which grounds components are judged: what is installed, what is asked, and what decides beside the component
-/// itself.
+/// The grounds on which components are judged: what is installed, what is asked, and what decides apart from the
+/// component itself.
 #[derive(Clone, Copy)]
 pub(crate) struct Grounds<'a> {
     pub(crate) installed: &'a Installed,
@@ -46,7 +46,7 @@ pub(crate) struct Grounds<'a> {
     pub(crate) contest: &'a Contest,
 }
 
-/// The first hit that a start is for, if there is one.
+/// The first hit that a start may reach, if there is one.
 fn leader(reached: &Target) -> Option<&Hit>
     ensures { option_copied result ≡ leader reached.now }
 {
@@ -67,7 +67,7 @@ fn is_choice(reached: &Target) -> bool
     }
 }
 
-/// The hit is there, and its package is approved for the host of a web intent.
+/// There is a hit, and its package is approved for the host of a web intent.
 fn is_approved_hit(links: &List<Link>, intent: &Intent, hit: Option<&Hit>) -> bool
     ensures { result ≡ is_approved_hit links.now (host_to_view intent.now) (option_copied hit.entry) }
 {
@@ -87,7 +87,7 @@ fn priority_of_hit(hit: Option<&Hit>) -> Option<i32>
     }
 }
 
-/// What the target of a start tells.
+/// What the target of a start shows.
 fn leaders_of(links: &List<Link>, intent: &Intent, reached: &Target) -> Leaders
     ensures { result ≡ leaders_of links.now (host_to_view intent.now) reached.now }
 {
@@ -143,7 +143,7 @@ fn first_of(found: &List<Hit>) -> Result<Option<Component>, NoMemory>
     }
 }
 
-/// What decides on components of the kind that is asked for. Each full test of a filter is a step.
+/// What decides on components of the kind in question. Each full test of a filter is a step.
 pub(crate) fn find_contest<L: Ledger>(
     alloc: Global,
     board: &Board,

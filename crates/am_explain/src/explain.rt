@@ -1,4 +1,4 @@
-//! What is said of each component of a device.
+//! The account of each component of a device.
 ghost use Rattle.std.specs.Prelude.{◌≡◌, ◌+◌, ◌*◌, ◌≤◌, IsSome, IfOk, length};
 ghost use Rattle.am_index.specs.Groups.{group_size};
 ghost use Rattle.am_model.specs.Accounts.{accounts};
@@ -14,11 +14,11 @@ use am_types::{Account, Kind, List, NoMemory, Steps};
 use std::alloc::Global;
 use std::sync::ledger::Ledger;
 
-/// Whom the intent reaches, and why not the others: an account of each component of the kind by uid,
-/// then place, and if receivers are asked for then of each registered one by number. With `shown` only
-/// those of that uid are shown, but they are judged among all. Each full test of a filter is a step:
+/// What the intent reaches, and why it doesn't reach the rest: an account of each component of the kind by
+/// uid, then place, and for a question about receivers then of each registered one by number. With `shown` only
+/// those of this uid are shown, but they are judged among all. Each full test of a filter is a step:
 /// finding what is reached takes at most two for each filter of the intent's group, and then each
-/// filter is asked once. ("Intents and intent filters"; which reason comes first is (own).)
+/// filter is tested once. ("Intents and intent filters"; which reason comes first is (own).)
 pub fn accounts<L: Ledger>(
     alloc: Global,
     board: &Board,
@@ -42,7 +42,7 @@ pub fn accounts<L: Ledger>(
     told
 }
 
-/// The accounts, where it is known what decides.
+/// The accounts, once it is known what decides.
 fn told<L: Ledger>(
     alloc: Global,
     grounds: &Grounds,

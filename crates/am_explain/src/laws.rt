@@ -1,27 +1,27 @@
-//! Laws of what is said. They have no code: each function does nothing, and its contract is the law.
+//! Laws of the accounts. They have no code: each function does nothing, and its contract is the law.
 ghost use Rattle.am_explain.specs.Laws.{ActivitiesAreStarted, ReasonsAreOfFilters, ReceiversAreSentTo, ServicesAreStarted};
 
-/// Of activities those are decided on, by the gate's verdict, that a start of the intent is for, and
-/// those are tied among which its user must choose. Takes no memory.
+/// The activities decided on, by the gate's verdict, are those that a start of the intent reaches, and the
+/// tied ones are those from which its user must choose. Takes no memory.
 pub fn activities_are_started()
     ensures { ActivitiesAreStarted }
 {}
 
-/// Of services that is decided on, by the gate's verdict, which a start of the intent is for. Takes no
+/// The service decided on, by the gate's verdict, is the one that a start of the intent reaches. Takes no
 /// memory.
 pub fn services_are_started()
     ensures { ServicesAreStarted }
 {}
 
-/// Of receivers those are decided on to whom a broadcast of the intent is offered, as it decides, and
-/// those are reached who are admitted; nobody is where the caller may not send the action. Takes no
+/// The receivers decided on, as a broadcast of the intent decides, are those that it is offered to, and the
+/// reached ones are those that are admitted; if the caller may not send the action, none is reached. Takes no
 /// memory.
 pub fn receivers_are_sent_to()
     ensures { ReceiversAreSentTo }
 {}
 
 /// The reasons of a component are those for which the intent doesn't pass its filters, one for each;
-/// and so is that of a registered receiver. Takes no memory.
+/// the same holds for the reason of a registered receiver. Takes no memory.
 pub fn reasons_are_of_filters()
     ensures { ReasonsAreOfFilters }
 {}

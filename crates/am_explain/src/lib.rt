@@ -1,4 +1,4 @@
-//! Whom an intent reaches, component by component, and why it doesn't reach the others.
+//! What an intent reaches, component by component, and why it doesn't reach the others.
 #![tactic(auto)]
 
 mod asking;

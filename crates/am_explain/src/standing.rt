@@ -1,4 +1,4 @@
-//! What is said of a component or a registered receiver.
+//! The standing of a component or a registered receiver.
 ghost use Rattle.std.specs.Prelude.{◌≡◌, ◌+◌, ◌≤◌, ◌∷◌, [], IsSome, IfOk, length, Some, None, false, option_copied};
 ghost use Rattle.std.specs.List.{list_any};
 ghost use Rattle.am_types.specs.declared.manifest.Kind.TheVariants.{Service};
@@ -25,7 +25,7 @@ use am_types::{
 use std::alloc::{AllocError, Global};
 use std::sync::ledger::Ledger;
 
-/// The intent names a component, and not this one.
+/// The intent names another component than this one.
 fn is_other_component(component: &Option<Component>, owner: &Package, decl: &Decl) -> bool
     ensures { result ≡ is_other_component component.now owner.now decl.now }
 {
@@ -42,14 +42,14 @@ fn is_named(component: &Component, owner: &Package, decl: &Decl) -> bool
     component.package == owner.name && component.class == decl.class
 }
 
-/// The intent names no component, but a package, and not this one.
+/// The intent names no component, but a package other than this one.
 fn is_other_package(intent: &Intent, owner: &Package) -> bool
     ensures { result ≡ is_other_package intent.now owner.now }
 {
     intent.component.is_none() && !is_in(&intent.package, owner)
 }
 
-/// No package is named, or this one.
+/// No package is named, or this one is.
 fn is_in(name: &Option<Text>, owner: &Package) -> bool
     ensures { result ≡ is_in name.now owner.now }
 {
@@ -104,7 +104,6 @@ fn started(
     }
 }
 
-/// The action is there and is protected.
 fn is_protected(protected: &List<Text>, action: &Option<Text>) -> bool
     ensures { result ≡ is_protected protected.now action.now }
 {
@@ -179,14 +178,14 @@ fn offered_to(
     standing
 }
 
-/// Left out, unless it is kept.
+/// Left out, unless the component is kept.
 fn unless_kept(kept: bool, narrowing: Narrowing) -> Option<Narrowing>
     ensures { result ≡ unless_kept kept narrowing }
 {
     if kept { None } else { Some(narrowing) }
 }
 
-/// Left out for the browser that the device names; without one for those that take any host.
+/// Left out in favor of the browser that the device names; without a browser, of those that take any host.
 fn left_out_for_browser(browser: Option<&Text>, name: &Text, any_host: bool) -> Option<Narrowing>
     ensures { result ≡ left_out_for_browser (option_copied browser.entry) name.now any_host }
 {
@@ -196,7 +195,7 @@ fn left_out_for_browser(browser: Option<&Text>, name: &Text, any_host: bool) -> 
     }
 }
 
-/// What the narrowing leaves an activity out for: only a web intent, which has a host, is narrowed.
+/// The reason for which the narrowing leaves an activity out: only a web intent, which has a host, is narrowed.
 fn left_out(
     installed: &Installed,
     intent: &Intent,
@@ -219,7 +218,7 @@ fn left_out(
     }
 }
 
-/// The priority is below that one, if there is one.
+/// The priority is below the other, if there is one.
 fn is_below(priority: i32, greatest: Option<i32>) -> bool
     ensures { result ≡ is_below priority greatest }
 {
@@ -229,7 +228,7 @@ fn is_below(priority: i32, greatest: Option<i32>) -> bool
     }
 }
 
-/// An activity that the intent finds with that priority; `any_host` tells whether a filter that the
+/// An activity that the intent finds with this priority; `any_host` tells whether a filter that the
 /// intent passes lists no authority.
 fn found_activity(
     installed: &Installed,
@@ -264,7 +263,7 @@ fn found_activity(
     started(installed, question.caller, owner, decl)
 }
 
-/// The component is there, and is this one.
+/// There is a named component, and it is this one.
 fn is_that(component: &Option<Component>, owner: &Package, decl: &Decl) -> bool
     ensures { result ≡ is_that component.now (component_of owner.now decl.now) }
 {
@@ -274,7 +273,7 @@ fn is_that(component: &Option<Component>, owner: &Package, decl: &Decl) -> bool
     }
 }
 
-/// A service that the intent finds, where that is the first.
+/// A service that the intent finds; `first` is the first such service.
 fn found_service(
     installed: &Installed,
     question: &Question,
@@ -294,7 +293,7 @@ fn found_service(
     started(installed, question.caller, owner, decl)
 }
 
-/// A component of which the intent passes filters.
+/// A component that has filters that the intent passes.
 fn passed(
     grounds: &Grounds,
     owner: &Package,
@@ -319,7 +318,7 @@ fn passed(
     }
 }
 
-/// An enabled component that the intent may find by its filters, which say this.
+/// An enabled component that the intent may find by its filters, with the outcome of testing them.
 fn found(
     grounds: &Grounds,
     owner: &Package,
@@ -353,7 +352,7 @@ fn named(
     }
 }
 
-/// What is said of a component of the kind. Each filter that is asked is a step.
+/// The standing of a component of the kind. Each filter that is tested is a step.
 pub(crate) fn standing_of<L: Ledger>(
     alloc: Global,
     grounds: &Grounds,
@@ -394,7 +393,7 @@ pub(crate) fn standing_of<L: Ledger>(
     }
 }
 
-/// What is said of a registered receiver. Its filter, if it is asked, is a step.
+/// The standing of a registered receiver. Its filter, if it is tested, is a step.
 pub(crate) fn registered_standing<L: Ledger>(
     alloc: Global,
     installed: &Installed,
@@ -419,7 +418,7 @@ pub(crate) fn registered_standing<L: Ledger>(
     }
 }
 
-/// The one filter isn't passed.
+/// The only filter isn't passed.
 fn failed(alloc: Global, reason: Why) -> Result<Standing, NoMemory>
     ensures { IfOk result (λ said. said ≡ Filters (reason ∷ [])) }
 {

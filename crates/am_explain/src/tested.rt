@@ -1,4 +1,4 @@
-//! What the filters of a component say of an intent.
+//! The outcome of testing the filters of a component against an intent.
 ghost use Rattle.std.specs.Prelude.{◌≡◌, ◌+◌, ◌≤◌, ◌++◌, ◌&&◌, ◌||◌, IfOk, OnOk, is_none, length};
 ghost use Rattle.am_model.specs.Candidates.{counted_priority};
 ghost use Rattle.am_model.specs.Filters.{is_empty, why};
@@ -12,16 +12,16 @@ use am_types::{Filter, Intent, Kind, List, NoMemory, Steps, Why};
 use std::alloc::Global;
 use std::sync::ledger::Ledger;
 
-/// What the filters of a component say of an intent.
+/// The outcome of testing the filters of a component against an intent.
 #[derive(Drop)]
 pub(crate) enum Tested {
     /// It passes some: the greatest priority of these, and whether one of them lists no authority.
     Passed(i32, bool),
-    /// It passes none: the reason of each.
+    /// It passes none: the reason for each.
     Failed(List<Why>),
 }
 
-/// Asks each filter once, which is a step.
+/// Tests each filter once, which is a step.
 pub(crate) fn ask_filters<L: Ledger>(
     alloc: Global,
     kind: Kind,
@@ -48,7 +48,7 @@ pub(crate) fn ask_filters<L: Ledger>(
     }
 }
 
-/// The one place that asks a filter: why the intent doesn't pass it, if it doesn't. Each call is
+/// The only place that tests a filter: why the intent doesn't pass it, if it doesn't. Each call is
 /// counted.
 pub(crate) fn test<L: Ledger>(
     filter: &Filter,
@@ -73,7 +73,7 @@ fn reason_of(answer: Result<(), Why>) -> Option<Why>
     }
 }
 
-/// The best priority so far, or that of the filter, if it is passed and counts more.
+/// The best priority so far, or the filter's priority, if the filter is passed and its priority is greater.
 fn with_priority(kind: Kind, filter: &Filter, reason: Option<Why>, best: Option<i32>) -> Option<i32>
     ensures { result ≡ with_priority reason (counted_priority kind filter.now.priority) best }
 {
@@ -83,7 +83,7 @@ fn with_priority(kind: Kind, filter: &Filter, reason: Option<Why>, best: Option<
     }
 }
 
-/// It was so before, or the filter is passed and lists no authority.
+/// It already held, or the filter is passed and lists no authority.
 fn or_takes_all_hosts(any_host: bool, reason: Option<Why>, filter: &Filter) -> bool
     ensures { result ≡ (any_host || (is_none reason && is_empty filter.now.authorities)) }
 {

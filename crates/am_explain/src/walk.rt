@@ -1,4 +1,4 @@
-//! The components of a device and its registered receivers, one after the other.
+//! Goes through the components of a device and its registered receivers, one after the other.
 ghost use Rattle.std.specs.Prelude.{◌≡◌, ◌∷◌, ◌++◌, [], ◌+◌, ◌≤◌, IsSome, OnOk, length, if◌then◌else◌};
 ghost use Rattle.am_types.specs.declared.broadcast.Aim.TheVariants.{Declared};
 ghost use Rattle.am_model.specs.Candidates.{is_kind};
@@ -15,7 +15,7 @@ use am_types::{Account, Aim, Decl, NoMemory, Package, Standing, Steps};
 use std::alloc::Global;
 use std::sync::ledger::Ledger;
 
-/// All are shown, or what has that uid.
+/// All are shown, or only what has this uid.
 fn is_shown(shown: Option<u32>, uid: u32) -> bool
     ensures { result ≡ is_shown shown uid }
 {
@@ -33,8 +33,8 @@ fn tell(told: &mut Vec<Account>, to: Aim, standing: Standing) -> Result<(), NoMe
     Ok(())
 }
 
-/// Adds the accounts of the components that packages declare, as far as they are shown. Each filter
-/// that is asked is a step.
+/// Adds the accounts of the components that packages declare, if they are shown. Each filter
+/// that is tested is a step.
 pub(crate) fn add_declared<L: Ledger>(
     told: &mut Vec<Account>,
     alloc: Global,
@@ -101,7 +101,7 @@ fn add_component<L: Ledger>(
     tell(told, to, standing)
 }
 
-/// Adds the accounts of the registered receivers, as far as they are shown. Each filter that is asked
+/// Adds the accounts of the registered receivers, if they are shown. Each filter that is tested
 /// is a step.
 pub(crate) fn add_registered<L: Ledger>(
     told: &mut Vec<Account>,

@@ -1,4 +1,4 @@
--- What the code says of a caller, as the verdict that it is.
+-- What the code decides about a caller, as the verdict that it is.
 use Rattle.std.specs.Prelude.{ℕ, List}
 use Rattle.am_model.specs.Gates as gates
 use Rattle.am_gates.specs.declared.gate.Ruling.{Ruling}

@@ -6,7 +6,7 @@ ghost use Rattle.am_gates.specs.Rulings.{verdict_of};
 
 use am_types::{Grant, List, ROOT, SYSTEM, Text};
 
-/// What is said of a caller.
+/// What is decided about a caller.
 #[derive(Clone, Copy, Debug, PartialEq, Eq)]
 pub enum Ruling<'a> {
     /// It may reach the component.
@@ -17,9 +17,9 @@ pub enum Ruling<'a> {
     NeedsPermission(&'a Text),
 }
 
-/// What is said of a caller of a component of that owner: the system, the root and the owner are
-/// admitted; others where the component is exported and they hold its permission, if it asks for
-/// one. Uids are any; the grants may stand in any order. (AOSP,
+/// What is decided about a caller of a component with this owner: the system, the root and the owner are
+/// admitted; others are admitted if the component is exported and they hold its permission, if it asks for
+/// one. Uids may be any; the grants may be in any order. (AOSP,
 /// `ActivityManager.checkComponentPermission`.) Takes no memory.
 pub fn verdict<'a>(
     caller: u32,
@@ -45,22 +45,22 @@ pub fn verdict<'a>(
     }
 }
 
-/// Whether the uid holds the permission: the system and the root hold every one, an app what was
-/// granted to it. (AOSP, the same method; that grants are handed in is (own).) Takes no memory.
+/// Whether the uid holds the permission: the system and the root hold every permission, an app those that
+/// were granted to it. (AOSP, the same method; that grants are handed in is (own).) Takes no memory.
 pub fn holds(uid: u32, permission: &Text, grants: &List<Grant>) -> bool
     ensures { result ≡ holds grants.now uid permission.now }
 {
     holds_named(uid, permission.as_str(), grants)
 }
 
-/// Whether the uid holds the permission of that name, as [`holds`] has it. Takes no memory.
+/// Whether the uid holds the permission with this name, as in [`holds`]. Takes no memory.
 pub fn holds_named(uid: u32, permission: &str, grants: &List<Grant>) -> bool
     ensures { result ≡ holds grants.now uid permission.now }
 {
     is_privileged(uid) || is_granted(grants, uid, permission)
 }
 
-/// Whether the uid was granted the permission of that name itself, whoever it is. Takes no memory.
+/// Whether the permission with this name was granted to the uid itself, whichever uid it is. Takes no memory.
 pub fn is_granted(grants: &List<Grant>, uid: u32, permission: &str) -> bool
     ensures { result ≡ is_granted grants.now uid permission.now }
 {
@@ -77,7 +77,7 @@ pub fn is_privileged(uid: u32) -> bool
     uid == ROOT || uid == SYSTEM
 }
 
-/// The grant is of that uid and permission.
+/// The grant is for this uid and permission.
 fn is_grant(grant: &Grant, uid: u32, permission: &str) -> bool
     ensures { result ≡ is_grant uid permission.now grant.now }
 {

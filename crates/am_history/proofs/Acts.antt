@@ -5,6 +5,7 @@ use Rattle.am_types.specs.declared.request.Request.{Request}
 use Rattle.am_history.specs.State.{State}
 use Rattle.am_history.specs.Steps.{act, comes_to}
 
-pub act_is : (state : State) (before : List Entry) (caller : ℕ) (request : Request) → act state before caller request ≡ comes_to state before caller request
+pub act_is : (state : State) (before : List Entry) (caller : ℕ) (request : Request) → act state before caller request
+    ≡ comes_to state before caller request
 unfolding act
 act_is state before caller request = refl

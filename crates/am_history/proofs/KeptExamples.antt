@@ -12,7 +12,8 @@ abbrev one : State
 one = opening (device (app 10000 (codes "com.a") (codes "ka") [] ∷ []))
 
 -- a removal keeps the uid and the name of a package that is there
-pub removal_keeps_the_name : row_of one (asks.Uninstall (codes "com.a")) ≡ Some (rows.Package (record { uid = 10000; name = codes "com.a"; key = []; text = []; gone = true }))
+pub removal_keeps_the_name : row_of one (asks.Uninstall (codes "com.a"))
+    ≡ Some (rows.Package (record { uid = 10000; name = codes "com.a"; key = []; text = []; gone = true }))
 removal_keeps_the_name = refl
 
 -- and has nothing to keep of another
@@ -20,11 +21,13 @@ pub removal_of_none : row_of one (asks.Uninstall (codes "com.b")) ≡ None
 removal_of_none = refl
 
 -- a permission that is taken back is kept as not held
-pub taken_back : row_of one (asks.Grant (codes "com.a") (codes "p.X") false) ≡ Some (rows.Grant (record { uid = 10000; text = codes "p.X"; held = false }))
+pub taken_back : row_of one (asks.Grant (codes "com.a") (codes "p.X") false)
+    ≡ Some (rows.Grant (record { uid = 10000; permission = codes "p.X"; held = false }))
 taken_back = refl
 
 -- a link is kept by its host
-pub approved : row_of one (asks.Link (codes "com.a") (codes "a.org") true) ≡ Some (rows.Link (record { uid = 10000; text = codes "a.org"; held = true }))
+pub approved : row_of one (asks.Link (codes "com.a") (codes "a.org") true)
+    ≡ Some (rows.Link (record { uid = 10000; host = codes "a.org"; approved = true }))
 approved = refl
 
 -- a tick has no row

@@ -26,14 +26,16 @@ a_gone_package_stays_away = refl
 
 -- the greatest uid is never given, and its row is refused
 pub the_greatest_uid_is_refused :
-    opening_with (device apps) (record no_rows { packages = gone 4294967295 (codes "com.x") ∷ [] }) ≡ Err (codes "com.x")
+    opening_with (device apps) (record no_rows { packages = gone 4294967295 (codes "com.x") ∷ [] })
+    ≡ Err (codes "com.x")
 unfolding opening_with
 the_greatest_uid_is_refused = refl
 
 -- a grant is added; one of a uid that isn't there is ignored, though its uid counts as given
 pub grants_are_found_again :
     opening_with (device apps) (record no_rows {
-      grants = record { uid = 10001; text = codes "p.S"; held = true } ∷ record { uid = 10007; text = codes "p.S"; held = true } ∷ [];
+      grants = record { uid = 10001; permission = codes "p.S"; held = true }
+          ∷ record { uid = 10007; permission = codes "p.S"; held = true } ∷ [];
     })
     ≡ Ok (record (opening (device apps)) {
       board = record ((opening (device apps)).board) { grants = record { uid = 10001; permission = codes "p.S" } ∷ [] };
@@ -44,7 +46,10 @@ grants_are_found_again = refl
 
 -- a link whose host isn't in lower case is ignored
 pub a_host_in_upper_case_is_ignored :
-    opening_with (device apps) (record no_rows { links = record { uid = 10001; text = codes "A.org"; held = true } ∷ [] })
+    opening_with (device apps) (record no_rows {
+      links = record { uid = 10001; host = codes "A.org"; approved = true }
+          ∷ [];
+    })
     ≡ Ok (opening (device apps))
 unfolding opening_with
 a_host_in_upper_case_is_ignored = refl

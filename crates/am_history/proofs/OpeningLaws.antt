@@ -22,12 +22,14 @@ use Rattle.am_history.specs.Opening.{after_row, and_then_row, opening_with, comp
 module _ {R : Type 0} (right_of : R → Right) where
   -- counting goes on in the same way
   counted_from : (uid n : ℕ) (rights : List R)
-      → fold (λ a (r : R). a + cond ((right_of r).0 == uid) 1 0) n rights ≡ fold (λ a (r : Right). a + cond (r.0 == uid) 1 0) n (map right_of rights)
+      → fold (λ a (r : R). a + cond ((right_of r).0 == uid) 1 0) n rights
+      ≡ fold (λ a (r : Right). a + cond (r.0 == uid) 1 0) n (map right_of rights)
   counted_from uid n [] = refl
   counted_from uid n (right ∷ rights) = counted_from uid (n + cond ((right_of right).0 == uid) 1 0) rights
 
   -- as many of a uid as rights of it
-  count_rights : (uid : ℕ) (rights : List R) → count_by (λ (r : R). (right_of r).0 == uid) rights ≡ count_by (λ (r : Right). r.0 == uid) (map right_of rights)
+  count_rights : (uid : ℕ) (rights : List R) → count_by (λ (r : R). (right_of r).0 == uid) rights
+      ≡ count_by (λ (r : Right). r.0 == uid) (map right_of rights)
   count_rights uid rights = counted_from uid 0 rights
 
 -- a number that is at most another isn't above it
@@ -48,14 +50,16 @@ none_found p never (x ∷ xs) = ap (λ b. cond b (Some x) (find p xs)) (never x)
 
 -- without rows the device's own uids alone count
 same_uids : (device : Device) → completed device no_rows (opening device) ≡ opening device
-same_uids device = ap (λ uids. record (opening device) { next_uid = uid_after uids }) (append-nil (uids_of device.packages))
+same_uids device = ap (λ uids. record (opening device) { next_uid = uid_after uids })
+    (append-nil (uids_of device.packages))
 
 -- without rows a sound device is opened as it is
 pub no_rows_open_the_device : (device : Device) → IsSound device → opening_with device no_rows ≡ Ok (opening device)
 unfolding opening_with
 no_rows_open_the_device device sound =
     ap (λ after. unless_too_many after (find (has_too_many after.board) after.board.packages)) (same_uids device)
-    ∙ ap (unless_too_many (opening device)) (none_found (has_too_many (board_of device)) (few_rights device sound) device.packages)
+    ∙ ap (unless_too_many (opening device)) (none_found (has_too_many (board_of device)) (few_rights device sound)
+    device.packages)
 
 -- a manager of a sound device that kept nothing begins with the device's own state
 pub opening_without_rows : (device : Device) (place : Option (List ℕ)) → IsSound device
@@ -72,7 +76,8 @@ pub record IsGoodRow (state : State) (row : PackageRow) (manifest : Manifest) : 
   pub key_unused : is_key_used state row.key ≡ false
   pub room : nat_lt (length state.board.packages) 256 ≡ true
 
-pub good_parts : (state : State) (row : PackageRow) (manifest : Manifest) → is_row_good state row manifest ≡ true → IsGoodRow state row manifest
+pub good_parts : (state : State) (row : PackageRow) (manifest : Manifest) → is_row_good state row manifest ≡ true
+    → IsGoodRow state row manifest
 good_parts state row manifest good =
     let first = and_parts _ _ good in
     let second = and_parts _ _ first.0 in
@@ -104,28 +109,34 @@ module _ (P : State → Type 0) where
   -- where each package row leaves it
   module _ (Q : PackageRow → Type 0)
       (gone : (state : State) (row : PackageRow) → P state → P (record state { board = removed state.board row.uid }))
-      (read : (state : State) (row : PackageRow) (manifest : Manifest) → Q row → manifest_of row.text ≡ Ok manifest → is_row_good state row manifest ≡ true
+      (read : (state : State) (row : PackageRow) (manifest : Manifest) → Q row → manifest_of row.text ≡ Ok manifest
+      → is_row_good state row manifest ≡ true
       → P state → P (with_packages state (place_package (kept_package row manifest) state.board.packages))) where
-    read_leaves : (state : State) (row : PackageRow) (manifest : Result Manifest ManifestFault) → Q row → manifest_of row.text ≡ manifest → P state
+    read_leaves : (state : State) (row : PackageRow) (manifest : Result Manifest ManifestFault) → Q row
+        → manifest_of row.text ≡ manifest → P state
         → IfOpened (with_read state row manifest)
     read_leaves state row (Err fault) asked is here = tt
     read_leaves state row (Ok manifest) asked is here = by (is_row_good state row manifest) refl
       where
         by : (b : Bool) → is_row_good state row manifest ≡ b
-            → IfOpened (cond b (Ok (with_packages state (place_package (kept_package row manifest) state.board.packages))) (Err row.name))
+            → IfOpened (cond b (Ok (with_packages state (place_package (kept_package row manifest)
+            state.board.packages))) (Err row.name))
         by true good = read state row manifest asked is good here
         by false good = tt
 
     row_leaves : (state : State) (row : PackageRow) → Q row → P state → IfOpened (after_row state row)
     row_leaves state row asked here = by (row.uid == no_uid) row.gone
       where
-        by : (none gone : Bool) → IfOpened (cond none (Err row.name) (cond gone (Ok (record state { board = removed state.board row.uid })) (with_read state row (manifest_of row.text))))
+        by : (none gone : Bool) → IfOpened (cond none (Err row.name)
+            (cond gone (Ok (record state { board = removed state.board row.uid }))
+            (with_read state row (manifest_of row.text))))
         by true c = tt
         by false true = gone state row here
         by false false = read_leaves state row (manifest_of row.text) asked refl here
 
     -- all of them, one after the other, do
-    pub rows_leave : (before : Result State (List ℕ)) (rows : List PackageRow) → AllByRecursion Q rows → IfOpened before → IfOpened (fold and_then_row before rows)
+    pub rows_leave : (before : Result State (List ℕ)) (rows : List PackageRow) → AllByRecursion Q rows → IfOpened before
+        → IfOpened (fold and_then_row before rows)
     rows_leave before [] asked here = here
     rows_leave before (row ∷ rows) asked here = rows_leave (and_then_row before row) rows asked.1 (by before here)
       where

@@ -6,7 +6,8 @@ use Rattle.am_history.specs.Steps.{step}
 use Rattle.am_history.specs.History.{replay, replay_from, MayBeNext, IsLegal, IsLegalFrom}
 
 -- the last of the entries behind `before` would be stored at its place
-legal_last_from : (opening : State) (before entries : List Entry) (entry : Entry) → IsLegalFrom opening before (entries ++ entry ∷ [])
+legal_last_from : (opening : State) (before entries : List Entry) (entry : Entry)
+    → IsLegalFrom opening before (entries ++ entry ∷ [])
     → MayBeNext (replay opening (before ++ entries)) (before ++ entries) entry
 legal_last_from opening before [] entry legal =
     subst (λ (h : List Entry). MayBeNext (replay opening h) h entry) (sym (append-nil before)) legal.0
@@ -21,12 +22,14 @@ legal_last opening entries entry legal = legal_last_from opening [] entries entr
 
 -- entries behind `before` and one more
 replay_from_more : (state : State) (before entries : List Entry) (entry : Entry)
-    → replay_from state before (entries ++ entry ∷ []) ≡ (step (replay_from state before entries) (before ++ entries) entry).1
+    → replay_from state before (entries ++ entry ∷ []) ≡ (step (replay_from state before entries) (before ++ entries)
+    entry).1
 replay_from_more state before [] entry =
     ap (λ h. (step state h entry).1) (sym (append-nil before))
 replay_from_more state before (first ∷ others) entry =
     replay_from_more (step state before first).1 (before ++ first ∷ []) others entry
-    ∙ ap (λ h. (step (replay_from (step state before first).1 (before ++ first ∷ []) others) h entry).1) (append_assoc before (first ∷ []) others)
+    ∙ ap (λ h. (step (replay_from (step state before first).1 (before ++ first ∷ []) others) h entry).1)
+    (append_assoc before (first ∷ []) others)
 
 -- the state after one more entry is what its step leaves
 pub replay_more : (opening : State) (entries : List Entry) (entry : Entry)
@@ -42,7 +45,8 @@ legal_from_more opening before [] entry legal next =
 legal_from_more opening before (first ∷ others) entry legal next = (
   legal.0,
   legal_from_more opening (before ++ first ∷ []) others entry legal.1
-      (subst (λ (h : List Entry). MayBeNext (replay opening h) h entry) (sym (append_assoc before (first ∷ []) others)) next),
+      (subst (λ (h : List Entry). MayBeNext (replay opening h) h entry) (sym (append_assoc before (first ∷ []) others))
+      next),
 )
 
 -- a legal history and an entry that may be next

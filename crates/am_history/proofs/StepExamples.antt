@@ -33,8 +33,10 @@ use Rattle.am_history.proofs.Samples.{listing, component, app, device, act_on, e
 -- two apps with an activity each for the same action, of priorities 0 and -5
 abbrev two_apps : List Package
 two_apps =
-    app 10000 (codes "com.one") (codes "k1") (component Activity (codes "com.one.Main") None (listing (codes "x.A") (pos 0)) ∷ [])
-    ∷ app 10001 (codes "com.two") (codes "k2") (component Activity (codes "com.two.Main") None (listing (codes "x.A") (negsuc 4)) ∷ [])
+    app 10000 (codes "com.one") (codes "k1") (component Activity (codes "com.one.Main") None
+    (listing (codes "x.A") (pos 0)) ∷ [])
+    ∷ app 10001 (codes "com.two") (codes "k2") (component Activity (codes "com.two.Main") None
+    (listing (codes "x.A") (negsuc 4)) ∷ [])
     ∷ []
 
 -- an action, in a new task
@@ -51,8 +53,10 @@ a_start_is_placed = refl
 -- the same two apps, with priorities above 0, which both count as 0
 abbrev two_equals : List Package
 two_equals =
-    app 10000 (codes "com.one") (codes "k1") (component Activity (codes "com.one.Main") None (listing (codes "x.A") (pos 2147483647)) ∷ [])
-    ∷ app 10001 (codes "com.two") (codes "k2") (component Activity (codes "com.two.Main") None (listing (codes "x.A") (pos 5)) ∷ [])
+    app 10000 (codes "com.one") (codes "k1") (component Activity (codes "com.one.Main") None
+    (listing (codes "x.A") (pos 2147483647)) ∷ [])
+    ∷ app 10001 (codes "com.two") (codes "k2") (component Activity (codes "com.two.Main") None
+    (listing (codes "x.A") (pos 5)) ∷ [])
     ∷ []
 
 -- among equals the user must choose
@@ -73,8 +77,12 @@ a_choice_needs_a_task = refl
 -- and so it is explained, without a task too
 pub a_tie_is_explained :
     replies_of two_equals (entry 10001 0 (asks.Explain Activity (act_on (codes "x.A") no_flags) None None None) ∷ [])
-    ≡ replies.Accounts (record { to = Declared (record { «package» = codes "com.one"; class = codes "com.one.Main" }); standing = Tied }
-    ∷ record { to = Declared (record { «package» = codes "com.two"; class = codes "com.two.Main" }); standing = Tied } ∷ []) ∷ []
+    ≡ replies.Accounts (record {
+      to = Declared (record { «package» = codes "com.one"; class = codes "com.one.Main" });
+      standing = Tied;
+    }
+    ∷ record { to = Declared (record { «package» = codes "com.two"; class = codes "com.two.Main" }); standing = Tied }
+    ∷ []) ∷ []
 unfolding act explain
 a_tie_is_explained = refl
 
@@ -85,7 +93,8 @@ hidden decl = record decl { exported = false }
 -- an app whose activity isn't exported, and another app
 abbrev hidden_app : List Package
 hidden_app =
-    app 10000 (codes "com.one") (codes "k1") (hidden (component Activity (codes "com.one.Main") (Some (codes "p.M")) (listing (codes "x.A") (pos 0))) ∷ [])
+    app 10000 (codes "com.one") (codes "k1") (hidden (component Activity (codes "com.one.Main") (Some (codes "p.M"))
+    (listing (codes "x.A") (pos 0))) ∷ [])
     ∷ app 10001 (codes "com.two") (codes "k2") []
     ∷ []
 
@@ -102,14 +111,16 @@ pub a_hidden_activity_is_its_owners :
     replies_of hidden_app
     (entry 10001 0 (asks.Start (naming main_of_one) None)
     ∷ entry 10000 0 (asks.Start (naming main_of_one) None)
-    ∷ entry 10000 0 (asks.Start (naming (record { «package» = codes "com.one"; class = codes "com.one.None" })) None) ∷ [])
+    ∷ entry 10000 0 (asks.Start (naming (record { «package» = codes "com.one"; class = codes "com.one.None" })) None)
+    ∷ [])
     ≡ replies.Refused rules.NotExported
     ∷ replies.Placed (record { how = Fresh; task = 1; instance = 1 })
     ∷ replies.Refused rules.NoComponent ∷ []
 unfolding act start place
 a_hidden_activity_is_its_owners = refl
 
--- an activity that isn't exported is explained to another app, and to the system as its owner's start of it; only what one
+-- an activity that isn't exported is explained to another app, and to the system as its owner's start of it; only what
+-- one
 -- app has may be shown, only the system and the root may ask for others, and `as` comes before what is shown
 pub a_hidden_activity_is_explained :
     replies_of hidden_app
@@ -131,7 +142,8 @@ a_hidden_activity_is_explained = refl
 -- an app with a service that asks for a permission, and another app
 abbrev service_app : List Package
 service_app =
-    app 10000 (codes "com.one") (codes "k1") (component Service (codes "com.one.S") (Some (codes "p.S")) (listing (codes "x.S") (pos 0)) ∷ [])
+    app 10000 (codes "com.one") (codes "k1") (component Service (codes "com.one.S") (Some (codes "p.S"))
+    (listing (codes "x.S") (pos 0)) ∷ [])
     ∷ app 10001 (codes "com.two") (codes "k2") []
     ∷ []
 
@@ -225,7 +237,8 @@ an_abort_counts_for_nothing = refl
 
 -- a sender and one receiver
 abbrev one_receiver : List Package
-one_receiver = app 10000 (codes "com.s") (codes "ks") [] ∷ receiver_app 10001 (codes "com.p") (codes "com.p.R") (pos 10) ∷ []
+one_receiver = app 10000 (codes "com.s") (codes "ks") [] ∷ receiver_app 10001 (codes "com.p") (codes "com.p.R") (pos 10)
+    ∷ []
 
 abbrev only_one : List Receiving
 only_one = admitted 10001 (codes "com.p") (codes "com.p.R") ∷ []
@@ -259,7 +272,8 @@ too_late = refl
 pub the_foreground_does_not_wait :
     replies_of one_receiver
     (entry 10000 0 (asks.Send (act_on (codes "x.O") no_flags) None in_order)
-    ∷ entry 10000 0 (asks.Send (act_on (codes "x.O") no_flags) None (Some (record { initial = outcome (pos 0); wanted = false })))
+    ∷ entry 10000 0 (asks.Send (act_on (codes "x.O") no_flags) None
+    (Some (record { initial = outcome (pos 0); wanted = false })))
     ∷ entry 10001 0 (asks.Finish 2 plainly)
     ∷ entry 10000 0 (asks.Send in_foreground None in_order)
     ∷ entry 10001 0 (asks.Finish 2 plainly) ∷ [])
@@ -274,7 +288,8 @@ the_foreground_does_not_wait = refl
 -- only the system and the root broadcast what is protected
 pub a_protected_action_is_the_systems :
     replies_of one_receiver
-    (entry 10000 0 (asks.Send (act_on (codes "x.Z") no_flags) None None) ∷ entry 1000 0 (asks.Send (act_on (codes "x.Z") no_flags) None None) ∷ [])
+    (entry 10000 0 (asks.Send (act_on (codes "x.Z") no_flags) None None)
+    ∷ entry 1000 0 (asks.Send (act_on (codes "x.Z") no_flags) None None) ∷ [])
     ≡ replies.Refused rules.ProtectedAction ∷ replies.Sent 1 [] ∷ []
 unfolding act send sending.send
 a_protected_action_is_the_systems = refl
@@ -291,7 +306,12 @@ pub a_registered_receiver :
     ∷ entry 10000 0 asks.Inbox ∷ [])
     ≡ replies.Registered 1
     ∷ replies.Sent 1 (record { uid = 10000; aim = Registered 1; skip = None } ∷ [])
-    ∷ replies.Items (record { delivery = 1; broadcast = 1; what = items.Normal (Registered 1) (act_on (codes "x.E") no_flags) } ∷ [])
+    ∷ replies.Items (record {
+      delivery = 1;
+      broadcast = 1;
+      what = items.Normal (Registered 1)
+          (act_on (codes "x.E") no_flags);
+    } ∷ [])
     ∷ replies.Refused rules.NotYours
     ∷ replies.Refused rules.NoReceiver
     ∷ replies.Plain
@@ -301,7 +321,15 @@ a_registered_receiver = refl
 
 -- the flags of a pending intent: one use, one of immutable and mutable
 abbrev lasting : PendingFlags
-lasting = record { one_shot = false; no_create = false; cancel_current = false; update_current = false; immutable = false; mutable = true }
+lasting = record {
+  one_shot = false;
+  no_create = false;
+  cancel_current = false;
+  update_current = false;
+  immutable =
+      false;
+  mutable = true;
+}
 
 -- a token is its creator's and those' to whom it was given; one that is for one use is used up by it
 pub a_token_is_lent :
@@ -324,14 +352,23 @@ pub a_token_is_lent :
     ∷ replies.Refused rules.Canceled
     ∷ replies.Refused rules.NoToken
     ∷ replies.Refused rules.Mutability ∷ []
-unfolding act pending_get pending_give pending_send pendings.get pendings.give pendings.use_token pendings.cancel start_service
+unfolding act pending_get pending_give pending_send pendings.get pendings.give pendings.use_token pendings.cancel
+    start_service
 a_token_is_lent = refl
 
 -- a token for one use is used up also where what it stands for is refused
 pub a_refused_use_counts :
     replies_of hidden_app
-    (entry 10000 0 (asks.PendingGet Activity (pos 0) (naming (record { «package» = codes "com.one"; class = codes "com.one.None" }))
-    (record { one_shot = true; no_create = false; cancel_current = false; update_current = false; immutable = true; mutable = false }))
+    (entry 10000 0 (asks.PendingGet Activity (pos 0) (naming (record
+    { «package» = codes "com.one"; class = codes "com.one.None" }))
+    (record {
+      one_shot = true;
+      no_create = false;
+      cancel_current = false;
+      update_current = false;
+      immutable = true;
+      mutable = false;
+    }))
     ∷ entry 10000 0 (asks.PendingSend 1 None)
     ∷ entry 10000 0 (asks.PendingSend 1 None) ∷ [])
     ≡ replies.Token (Some 1) ∷ replies.Refused rules.NoComponent ∷ replies.Refused rules.Canceled ∷ []

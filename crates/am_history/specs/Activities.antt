@@ -45,7 +45,7 @@ start_call caller intent source component found = record {
   intent = intent;
 }
 
--- the rule by which a start isn't placed (want of memory, which a placement never gives, stands with the last)
+-- the rule by which a start isn't placed (out of memory, which a placement never returns, falls under the last case)
 abbrev pub place_rule : PlaceFault → Rule
 place_rule faults.NoSource = rules.NoInstance
 place_rule faults.NotYours = rules.NotYours
@@ -53,18 +53,21 @@ place_rule faults.NeedsNewTask = rules.NeedsNewTask
 place_rule faults.TasksFull = rules.OverLimit limits.Tasks
 place_rule _ = rules.OverLimit limits.Activities
 
--- the start was placed, and the package isn't stopped any more; or it wasn't placed
+-- the start was placed, and the package is no longer stopped; or it wasn't placed
 abbrev pub after_place : State → ℕ → Result (Landed × Tasks) PlaceFault → Reply × State
 after_place state uid (Err fault) = refused state (place_rule fault)
-after_place state uid (Ok landed) =
-    (replies.Placed landed.0, record (with_packages state (with_stopped state.board.packages uid false)) { tasks = landed.1 })
+after_place state uid (Ok landed) = (
+  replies.Placed landed.0,
+  record (with_packages state (with_stopped state.board.packages uid false))
+      { tasks = landed.1 },
+)
 
--- the rule where the source, of which this is the owner, isn't there
+-- the rule that applies if the source with this owner isn't there
 abbrev pub absent_rule : Option ℕ → Option Rule
 absent_rule None = Some rules.NoInstance
 absent_rule (Some uid) = None
 
--- the rule where a source is named that isn't there
+-- the rule that applies if the named source isn't there
 abbrev pub source_rule : Tasks → Option ℕ → Option Rule
 source_rule all None = None
 source_rule all (Some number) = absent_rule (owner all number)
@@ -77,10 +80,11 @@ start_declared state caller intent source component found =
     (rule_of (verdict state.board.grants caller found.0 found.1.exported found.1.permission)))
     (after_place state found.0 (place state.tasks (start_call caller intent source component found)))
 
--- a start of an activity that may be declared, and the rule where it isn't
+-- a start of an activity that may be declared, and the rule that applies if it isn't
 abbrev pub start_maybe : State → ℕ → Intent → Option ℕ → Component → Rule → Option (ℕ × Decl) → Reply × State
 start_maybe state caller intent source component rule None = refused state rule
-start_maybe state caller intent source component rule (Some found) = start_declared state caller intent source component found
+start_maybe state caller intent source component rule (Some found) = start_declared state caller intent source component
+    found
 
 -- the rule by which a start whose source has that owner isn't placed, whatever its target
 abbrev pub owned_rule : ℕ → Option ℕ → Option Rule
@@ -96,14 +100,16 @@ caller_rule all caller intent (Some number) = owned_rule caller (owner all numbe
 abbrev pub start_target : State → ℕ → Intent → Option ℕ → Target → Reply × State
 start_target state caller intent source Nothing = refused state rules.NoActivity
 start_target state caller intent source (One hit) =
-    start_maybe state caller intent source hit.component rules.NoActivity (declared state.board.packages Activity hit.component)
+    start_maybe state caller intent source hit.component rules.NoActivity
+    (declared state.board.packages Activity hit.component)
 start_target state caller intent source (Choose found) =
     unless_refused state (caller_rule state.tasks caller intent source) (replies.Choose (components_of found), state)
 
 -- a start of the component that the intent names, or of what the intent finds
 abbrev pub start_aimed : State → ℕ → Intent → Option ℕ → Option Component → Reply × State
 start_aimed state caller intent source (Some component) =
-    start_maybe state caller intent source component rules.NoComponent (declared state.board.packages Activity component)
+    start_maybe state caller intent source component rules.NoComponent
+    (declared state.board.packages Activity component)
 start_aimed state caller intent source None = start_target state caller intent source (target state.board intent)
 
 -- an activity is started

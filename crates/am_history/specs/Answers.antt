@@ -36,6 +36,6 @@ abbrev pub for_found : State → Option Package → (Package → Reply × State)
 for_found state None next = refused state rules.NoPackage
 for_found state (Some owner) next = next owner
 
--- what follows for the installed package of that name, if there is one
+-- what follows for the installed package with that name, if there is one
 abbrev pub for_package : State → List ℕ → (Package → Reply × State) → Reply × State
 for_package state name next = for_found state (package_named state.board.packages name) next

@@ -24,7 +24,7 @@ use Rattle.am_model.specs.Sending as sending
 use Rattle.am_history.specs.State.{State}
 use Rattle.am_history.specs.Answers.{refused, done, done_or}
 
--- the rule by which a broadcast isn't sent (want of memory, which a sending never gives, stands with the last)
+-- the rule by which a broadcast isn't sent (out of memory, which a sending never returns, falls under the last case)
 abbrev pub send_rule : SendFault → Rule
 send_rule sends.Full = rules.OverLimit limits.Broadcasts
 send_rule _ = rules.OverLimit limits.Receivers
@@ -78,10 +78,11 @@ register state caller filter permission =
           },
     )
 
--- the registered receiver is taken back, and no broadcast is for it any more
+-- the registered receiver is taken back, and no broadcast goes to it any longer
 abbrev pub taken_back : State → Registration → State
 taken_back state found =
-    record (with_registered state (filter (λ (r : Registration). not (r.number == found.number)) state.board.registered)) {
+    record (with_registered state (filter (λ (r : Registration). not (r.number == found.number))
+    state.board.registered)) {
       broadcasts = sending.forget_registered state.broadcasts found.number state.moment;
     }
 

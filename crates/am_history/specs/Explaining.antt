@@ -1,4 +1,4 @@
--- Whom an intent reaches and why not the others, as callers ask for it.
+-- Who is reached by an intent and why the others aren't, as callers ask for it.
 use Rattle.std.specs.Prelude.{ℕ, List, if◌then◌else◌, Option, Some, None}
 use Rattle.am_types.specs.declared.reply.Reply.{Reply}
 use Rattle.am_types.specs.declared.reply.Reply.TheVariants.{Accounts, Refused}
@@ -22,8 +22,8 @@ abbrev pub told_as : Board → Question → Option (List ℕ) → Option ℕ →
 told_as board asked shown None = Refused NoPackage
 told_as board asked shown (Some uid) = told board (record asked { caller = uid }) shown
 
--- whom the intent of the one that asks reaches, and why not the others; or that of the caller of a name, which only the
--- system and the root may ask, also of their own name
+-- who is reached by the intent of the caller that asks, and why the others aren't; or by the intent of a named caller,
+-- which only the system and the root may ask, even for their own name
 unfoldable pub explain : Board → Question → Option (List ℕ) → Option (List ℕ) → Reply
 explain board asked None shown = told board asked shown
 explain board asked (Some name) shown =

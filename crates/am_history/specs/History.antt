@@ -8,7 +8,7 @@ use Rattle.am_types.specs.declared.rule.Rule.TheVariants.{UnknownKey, HistoryFul
 use Rattle.am_history.specs.State.{State, uid_of, has_uid}
 use Rattle.am_history.specs.Steps.{Call, act, after_due, due, is_changing, asks_keeper, step}
 
--- the state after these entries, where the entries `before` came first
+-- the state after these entries, if the entries `before` came first
 abbrev pub replay_from : State → List Entry → List Entry → State
 replay_from state before [] = state
 replay_from state before (first ∷ others) = replay_from (step state before first).1 (before ++ first ∷ []) others
@@ -34,7 +34,7 @@ abbrev pub is_stored : State → List Entry → Call → Bool
 is_stored state history call =
     is_some (uid_of state call.key) && may_change state call.now call.request && has_room history call.weight
 
--- the entry that a call of that uid becomes; `kept` is false where its row couldn't be kept
+-- the entry that a call of that uid becomes; `kept` is false if its row couldn't be kept
 abbrev pub entry_of : Call → ℕ → Bool → Entry
 entry_of call uid kept =
     record { desk = call.desk; uid = uid; now = call.now; weight = call.weight; request = call.request; kept = kept }
@@ -47,7 +47,7 @@ reply_to state history call kept (Some uid) =
     then (if has_room history call.weight then (step state history (entry_of call uid kept)).0 else Refused HistoryFull)
     else (act state history uid call.request).0
 
--- the reply to a call after a history that begins at the opening state; `kept` is false where the call is
+-- the reply to a call after a history that begins at the opening state; `kept` is false if the call is
 -- stored and its row couldn't be kept
 abbrev pub reply_after : State → List Entry → Call → Bool → Reply
 reply_after opening history call kept =
@@ -74,7 +74,7 @@ pub record MayBeNext (state : State) (before : List Entry) (entry : Entry) : Typ
   pub room : IsTrue (has_room before entry.weight)
   pub kept : IsTrue (entry.kept || asks_keeper (after_due state entry.now) before entry.uid entry.request)
 
--- each of these entries would be stored at its place behind the entries `before`
+-- each of these entries would be stored at its place after the entries `before`
 abbrev pub IsLegalFrom : State → List Entry → List Entry → Type 0
 IsLegalFrom opening before [] = Unit {0}
 IsLegalFrom opening before (first ∷ others) =

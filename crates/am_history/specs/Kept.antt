@@ -27,9 +27,9 @@ abbrev pub row_of : State → Request → Option Row
 row_of state (asks.Install text key) = installed_row state.next_uid text key (manifest_of text)
 row_of state (asks.Uninstall name) = option_map gone_row (package_named state.board.packages name)
 row_of state (asks.Grant name permission held) =
-    option_map (λ (owner : Package). rows.Grant (record { uid = owner.uid; text = permission; held = held }))
+    option_map (λ (owner : Package). rows.Grant (record { uid = owner.uid; permission = permission; held = held }))
     (package_named state.board.packages name)
 row_of state (asks.Link name host approved) =
-    option_map (λ (owner : Package). rows.Link (record { uid = owner.uid; text = host; held = approved }))
+    option_map (λ (owner : Package). rows.Link (record { uid = owner.uid; host = host; approved = approved }))
     (package_named state.board.packages name)
 row_of state _ = None

@@ -14,6 +14,6 @@ pub record HasNumbersTo (n : ℕ) (state : State) : Type 0 where
   pub starts : All (λ (service : Service). service.starts ≤ n) state.services
   pub registered : All (λ (r : Registration). r.number < state.next_registration) state.board.registered
 
--- there are numbers left for a call: none is beyond 2^50
+-- there are numbers left for a call: none is greater than 2^50
 abbrev pub HasNumbers : State → Type 0
 HasNumbers state = HasNumbersTo 1125899906842624 state

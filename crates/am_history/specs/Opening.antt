@@ -8,7 +8,8 @@ use Rattle.am_types.specs.declared.device.Link.{Link}
 use Rattle.am_types.specs.declared.manifest.Manifest.{Manifest}
 use Rattle.am_types.specs.declared.manifest.ManifestFault.{ManifestFault}
 use Rattle.am_keeper.specs.declared.rows.PackageRow.{PackageRow}
-use Rattle.am_keeper.specs.declared.rows.RightRow.{RightRow}
+use Rattle.am_keeper.specs.declared.rows.GrantRow.{GrantRow}
+use Rattle.am_keeper.specs.declared.rows.LinkRow.{LinkRow}
 use Rattle.am_keeper.specs.declared.rows.Rows.{Rows}
 use Rattle.am_model.specs.Lists.{inserted}
 use Rattle.am_model.specs.Texts.{is_same, lowered}
@@ -18,7 +19,7 @@ use Rattle.am_manifest.specs.Manifests.{manifest_of}
 use Rattle.am_history.specs.State.{State, opening, uid_after, uids_of, with_packages}
 use Rattle.am_history.specs.Packages.{no_uid, is_name_used, is_key_used, removed}
 
--- a package stands before another
+-- a package comes before another
 abbrev pub before_package : Package → Package → Bool
 before_package owner other = nat_lt owner.uid other.uid
 
@@ -28,7 +29,14 @@ place_package owner packages = inserted before_package owner packages
 
 -- a package as it is kept: it is stopped
 abbrev pub kept_package : PackageRow → Manifest → Package
-kept_package row manifest = record { uid = row.uid; name = row.name; key = row.key; stopped = true; decls = manifest.decls }
+kept_package row manifest = record {
+  uid = row.uid;
+  name = row.name;
+  key = row.key;
+  stopped = true;
+  decls =
+      manifest.decls;
+}
 
 -- the row's uid, name and key are free and of the right form, and there is room for its package
 abbrev pub is_row_good : State → PackageRow → Manifest → Bool
@@ -49,7 +57,7 @@ with_read state row (Ok manifest) =
     then Ok (with_packages state (place_package (kept_package row manifest) state.board.packages))
     else Err row.name
 
--- the state after a package row: a gone package isn't there any more, with its grants and links; another one is added
+-- the state after a package row: a gone package is removed, with its grants and links; any other one is added
 abbrev pub after_row : State → PackageRow → Result State (List ℕ)
 after_row state row =
     if row.uid == no_uid then Err row.name
@@ -66,17 +74,17 @@ abbrev pub after_rows : State → List PackageRow → Result State (List ℕ)
 after_rows state rows = fold and_then_row (Ok state) rows
 
 -- the grants after a grant row; a row of a uid that isn't live is ignored
-abbrev pub after_grant : Board → RightRow → Board
+abbrev pub after_grant : Board → GrantRow → Board
 after_grant board row =
     if is_package_uid board.packages row.uid
-    then record board { grants = with_grant board.grants row.uid row.text row.held }
+    then record board { grants = with_grant board.grants row.uid row.permission row.held }
     else board
 
 -- the links after a link row; a row of a uid that isn't live, or whose host isn't in lower case, is ignored
-abbrev pub after_link : Board → RightRow → Board
+abbrev pub after_link : Board → LinkRow → Board
 after_link board row =
-    if is_package_uid board.packages row.uid && is_same (lowered row.text) row.text
-    then record board { links = with_link board.links row.uid row.text row.held }
+    if is_package_uid board.packages row.uid && is_same (lowered row.host) row.host
+    then record board { links = with_link board.links row.uid row.host row.approved }
     else board
 
 -- the board after all rows of grants and links
@@ -99,9 +107,9 @@ abbrev pub row_uids : Rows → List ℕ
 row_uids rows =
     map (λ (row : PackageRow). row.uid) rows.packages
     ++ filter (λ uid. not (uid == no_uid))
-    (map (λ (row : RightRow). row.uid) rows.grants ++ map (λ (row : RightRow). row.uid) rows.links)
+    (map (λ (row : GrantRow). row.uid) rows.grants ++ map (λ (row : LinkRow). row.uid) rows.links)
 
--- the state with the rights that were kept, and the next uid behind all that were ever given
+-- the state with the rights that were kept, and the next uid after all that were ever given
 abbrev pub completed : Device → Rows → State → State
 completed device rows state = record state {
   board = with_rights state.board rows;

@@ -24,7 +24,7 @@ abbrev pub no_uid : ℕ
 no_uid = 4294967295
 
 -- a uid is forgotten: its instances, services and registered receivers go, its pending records are canceled and it
--- holds no token, it wants no results, and no broadcast is for it any more
+-- holds no token, it waits for no results, and no broadcast goes to it any longer
 abbrev pub forget : State → ℕ → State
 forget state uid = record state {
   board = record (state.board) { registered = registered_without state.board.registered uid };
@@ -62,7 +62,7 @@ abbrev pub installed : State → Manifest → List ℕ → Package
 installed state manifest key =
     record { uid = state.next_uid; name = manifest.«package»; key = key; stopped = true; decls = manifest.decls }
 
--- no package can be added any more
+-- no more packages can be added
 abbrev pub is_full : State → Bool
 is_full state = nat_le 256 (length state.board.packages) || (state.next_uid == no_uid)
 
@@ -74,7 +74,8 @@ install_read state key (Ok manifest) =
     else if is_full state then refused state (rules.OverLimit limits.Packages)
     else (
       replies.Installed state.next_uid,
-      record (with_packages state (state.board.packages ++ installed state manifest key ∷ [])) { next_uid = state.next_uid + 1 },
+      record (with_packages state (state.board.packages ++ installed state manifest key ∷ []))
+          { next_uid = state.next_uid + 1 },
     )
 
 -- a package is installed from the text of its manifest
@@ -106,7 +107,11 @@ too_many_grants grants uid permission held =
 abbrev pub grant_to : State → ℕ → List ℕ → Bool → Reply × State
 grant_to state uid permission held =
     if too_many_grants state.board.grants uid permission held then refused state (rules.OverLimit limits.Grants)
-    else done (record state { board = record (state.board) { grants = with_grant state.board.grants uid permission held } })
+    else done (record state {
+      board = record (state.board) {
+        grants = with_grant state.board.grants uid permission held;
+      };
+    })
 
 -- a permission is given to a package by its name, or taken
 unfoldable pub grant : State → ℕ → List ℕ → List ℕ → Bool → Reply × State
@@ -118,13 +123,13 @@ abbrev pub too_many_links : List Link → ℕ → List ℕ → Bool → Bool
 too_many_links links uid host approved =
     (approved && not (is_linked links uid host)) && nat_le 256 (count_by (λ (l : Link). l.uid == uid) links)
 
--- a package is approved for the links of a host, or no more
+-- a package is approved for the links of a host, or no longer is
 abbrev pub link_to : State → ℕ → List ℕ → Bool → Reply × State
 link_to state uid host approved =
     if too_many_links state.board.links uid host approved then refused state (rules.OverLimit limits.Links)
     else done (record state { board = record (state.board) { links = with_link state.board.links uid host approved } })
 
--- a package is approved by its name for the links of a host, or no more
+-- a package is approved by its name for the links of a host, or no longer is
 unfoldable pub link : State → ℕ → List ℕ → List ℕ → Bool → Reply × State
 link state caller name host approved =
     for_admin state caller (for_package state name (λ (owner : Package). link_to state owner.uid host approved))

@@ -21,7 +21,7 @@ use Rattle.am_history.specs.Activities.{start}
 use Rattle.am_history.specs.Services.{start_service}
 use Rattle.am_history.specs.BroadcastCalls.{send}
 
--- the rule by which a call on a pending intent is refused (want of memory, which no call gives, stands with the last)
+-- the rule by which a pending-intent call is refused (out of memory, which no call returns, falls under the last case)
 abbrev pub pending_rule : PendingFault → Rule
 pending_rule faults.Mutability = rules.Mutability
 pending_rule faults.Full = rules.OverLimit limits.Pending
@@ -40,7 +40,13 @@ after_get state (Ok got) = (replies.Token got.0, record state { pendings = got.1
 -- a token is asked for by a caller
 unfoldable pub pending_get : State → ℕ → Kind → ℤ → Intent → PendingFlags → Reply × State
 pending_get state caller kind code intent flags =
-    after_get state (pendings.get state.pendings (record { creator = caller; kind = kind; code = code; intent = intent; flags = flags }))
+    after_get state (pendings.get state.pendings (record {
+      creator = caller;
+      kind = kind;
+      code = code;
+      intent = intent;
+      flags = flags;
+    }))
 
 -- the records after a call, or the rule that refuses it
 abbrev pub after_change : State → Result Pendings PendingFault → Reply × State
@@ -70,7 +76,7 @@ abbrev pub left_of : Pendings → Result Pendings PendingFault → Pendings
 left_of all (Ok left) = left
 left_of all (Err fault) = all
 
--- the token is used up, whatever was answered
+-- the token is used up, whatever the answer was
 abbrev pub used_up : ℕ → ℕ → Reply × State → Reply × State
 used_up token creator after =
     (after.0, record (after.1) { pendings = left_of after.1.pendings (pendings.cancel after.1.pendings token creator) })

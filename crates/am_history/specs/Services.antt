@@ -28,12 +28,12 @@ is_service component service = is_same_component component service.component
 abbrev pub running : List Service → Component → Option Service
 running services component = find (is_service component) services
 
--- the service, started once more with an intent where it is that component
+-- the service, started once more with an intent if it is that component
 abbrev pub restarted : Component → Intent → Service → Service
 restarted component intent service =
     if is_service component service then record service { intent = intent; starts = service.starts + 1 } else service
 
--- the services with a service that runs started once more, or with a new one behind them
+-- the services with a service that runs started once more, or with a new one after them
 abbrev pub with_start : List Service → Component → ℕ → Intent → Option Service → List Service
 with_start services component uid intent (Some service) = map (restarted component intent) services
 with_start services component uid intent None =
@@ -48,7 +48,7 @@ starts_with (Some service) = service.starts + 1
 abbrev pub is_too_many : List Service → Option Service → Bool
 is_too_many services service = is_none service && nat_le 256 (length services)
 
--- a service that passed the gate is started, and its package isn't stopped any more
+-- a service that passed the gate is started, and its package is no longer stopped
 abbrev pub started : State → Intent → Component → ℕ → Option Service → Reply × State
 started state intent component uid service =
     if is_too_many state.services service then refused state (rules.OverLimit limits.Services)
@@ -63,7 +63,7 @@ started state intent component uid service =
 abbrev pub gate_rule : State → ℕ → ℕ × Decl → Option Rule
 gate_rule state caller found = rule_of (verdict state.board.grants caller found.0 found.1.exported found.1.permission)
 
--- a start of a service that may be declared, and the rule where it isn't
+-- a start of a service that may be declared, and the rule that applies if it isn't
 abbrev pub start_maybe : State → ℕ → Intent → Component → Rule → Option (ℕ × Decl) → Reply × State
 start_maybe state caller intent component rule None = refused state rule
 start_maybe state caller intent component rule (Some found) =
@@ -74,7 +74,8 @@ start_maybe state caller intent component rule (Some found) =
 abbrev pub start_first : State → ℕ → Intent → List Hit → Reply × State
 start_first state caller intent [] = refused state rules.NoService
 start_first state caller intent (hit ∷ others) =
-    start_maybe state caller intent hit.component rules.NoService (declared state.board.packages kinds.Service hit.component)
+    start_maybe state caller intent hit.component rules.NoService (declared state.board.packages kinds.Service
+    hit.component)
 
 -- a start of the component that the intent names; of one of the package that it names; or of neither, which is refused
 abbrev pub start_aimed : State → ℕ → Intent → Option Component → Option (List ℕ) → Reply × State
@@ -88,7 +89,7 @@ start_aimed state caller intent None None = refused state rules.ImplicitService
 unfoldable pub start_service : State → ℕ → Intent → Reply × State
 start_service state caller intent = start_aimed state caller intent intent.component intent.«package»
 
--- the rule where a service doesn't run
+-- the rule that applies if a service doesn't run
 abbrev pub stopped_rule : Option Service → Option Rule
 stopped_rule None = Some rules.NoService
 stopped_rule (Some service) = None
@@ -110,7 +111,7 @@ stop_service state caller component =
 abbrev pub view_of : Service → ServiceView
 view_of service = record { component = service.component; intent = service.intent; starts = service.starts }
 
--- the running services that a caller sees: its own, or all where it is the system or the root
+-- the running services that a caller sees: its own, or all if it is the system or the root
 abbrev pub services_of : List Service → ℕ → List ServiceView
 services_of services caller =
     map view_of (filter (λ (service : Service). is_privileged caller || (service.owner == caller)) services)

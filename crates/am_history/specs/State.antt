@@ -68,7 +68,7 @@ abbrev pub uid_of_package : List Package → List ℕ → Option ℕ
 uid_of_package [] key = None
 uid_of_package (first ∷ others) key = if is_same first.key key then Some first.uid else uid_of_package others key
 
--- the root's uid where this is its key, else what others say
+-- the root's uid if this is its key, else what others say
 abbrev pub root_or : Option (List ℕ) → List ℕ → Option ℕ → Option ℕ
 root_or None key others = others
 root_or (Some root_key) key others = if is_same root_key key then Some root_uid else others
@@ -76,11 +76,13 @@ root_or (Some root_key) key others = if is_same root_key key then Some root_uid 
 -- the uid that has the key, if there is one
 abbrev pub uid_of : State → List ℕ → Option ℕ
 uid_of state key =
-    if is_same state.system_key key then Some system_uid else root_or state.root_key key (uid_of_package state.board.packages key)
+    if is_same state.system_key key then Some system_uid else root_or state.root_key key
+    (uid_of_package state.board.packages key)
 
 -- some caller of the state has the uid
 abbrev pub has_uid : State → ℕ → Bool
-has_uid state uid = uid == system_uid || (uid == root_uid && is_some state.root_key) || is_package_uid state.board.packages uid
+has_uid state uid = uid == system_uid || (uid == root_uid && is_some state.root_key) || is_package_uid
+    state.board.packages uid
 
 -- the state with other packages
 abbrev pub with_packages : State → List Package → State

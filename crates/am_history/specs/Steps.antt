@@ -1,4 +1,4 @@
--- What one call does to the state, and what it is answered.
+-- What one call does to the state, and its answer.
 use Rattle.std.specs.Prelude.{ℕ, ◌+◌, Bool, true, false, List, length, max, min, nat_le, drop, take, is_none, if◌then◌else◌}
 use Rattle.am_types.specs.declared.broadcast.Answer.{Answer}
 use Rattle.am_types.specs.declared.history.Entry.{Entry}
@@ -49,7 +49,7 @@ at_moment state moment =
 abbrev pub after_due : State → ℕ → State
 after_due state now = at_moment state (moment_after state now)
 
--- what a move of the moment is answered in the state that it leaves: the earliest deadline that is left, and the moment
+-- the answer to a move of the moment, in the state that it leaves: the earliest deadline that is left, and the moment
 abbrev pub advanced : State → Reply × State
 advanced state = (replies.Advanced (broadcasts.earliest_deadline state.broadcasts) state.moment, state)
 
@@ -64,12 +64,15 @@ advance state by =
 abbrev pub page : List Entry → ℕ → List Entry
 page before from = take 64 (drop from before)
 
--- what the request of the caller with that uid comes to after the entries `before`: the answer, and the state that it leaves
+-- what the request of the caller with that uid comes to after the entries `before`: the answer, and the state that it
+-- leaves
 abbrev pub comes_to : State → List Entry → ℕ → Request → Reply × State
 comes_to state before caller (asks.Query kind intent default_only) =
     (replies.Components (components_of (hits state.board.packages kind intent default_only)), state)
-comes_to state before caller (asks.Explain kind intent name permission shown) =
-    (explain state.board (record { caller = caller; kind = kind; intent = intent; required = permission }) name shown, state)
+comes_to state before caller (asks.Explain kind intent name permission shown) = (
+  explain state.board (record { caller = caller; kind = kind; intent = intent; required = permission }) name shown,
+  state,
+)
 comes_to state before caller (asks.Start intent source) = start state caller intent source
 comes_to state before caller (asks.FinishActivity instance) = finish_activity state caller instance
 comes_to state before caller asks.Back = for_admin state caller (back state)
@@ -93,7 +96,8 @@ comes_to state before caller (asks.Link name host approved) = link state caller 
 comes_to state before caller (asks.ForceStop name) = force_stop state caller name
 comes_to state before caller asks.Tick = for_admin state caller (done state)
 comes_to state before caller (asks.Advance by) = for_admin state caller (advance state by)
-comes_to state before caller (asks.History from) = for_admin state caller (replies.Entries from (page before from), state)
+comes_to state before caller (asks.History from) = for_admin state caller
+    (replies.Entries from (page before from), state)
 comes_to state before caller asks.Status =
     for_admin state caller (replies.Status (length before) state.moment (length state.board.packages), state)
 
@@ -181,7 +185,7 @@ is_calm (asks.Finish delivery answer) = sets_nothing answer
 is_calm (asks.PendingCancel token) = true
 is_calm _ = false
 
--- what an entry is answered after the entries `before`, and the state that it leaves: what is due comes first,
+-- the answer to an entry after the entries `before`, and the state that it leaves: what is due comes first,
 -- and a request whose row wasn't kept does nothing more
 abbrev pub step : State → List Entry → Entry → Reply × State
 step state before entry =

@@ -54,13 +54,14 @@ abbrev pub sought : Intent → Member → Bool
 sought intent m = sought_by intent.component intent.«package» intent.action intent.uri intent.mime m
 
 -- a test is a test of each
-same_spots : (p q : Member → Bool) → ((m : Member) → p m ≡ q m) → (ms : List Member) → spots_where p ms ≡ spots_where q ms
+same_spots : (p q : Member → Bool) → ((m : Member) → p m ≡ q m) → (ms : List Member) → spots_where p ms
+    ≡ spots_where q ms
 same_spots p q h [] = refl
 same_spots p q h (m ∷ ms) =
     ap (λ t. cond t (spot_of m ∷ spots_where p ms) (spots_where p ms)) (h m)
     ∙ ap (λ l. cond (q m) (spot_of m ∷ l) l) (same_spots p q h ms)
 
--- no component stands where none passes
+-- there are no components if none passes
 no_spots : (ms : List Member) → spots_where (λ m. false) ms ≡ []
 no_spots [] = refl
 no_spots (m ∷ ms) = no_spots ms
@@ -70,12 +71,14 @@ or_assoc true b c = refl
 or_assoc false b c = refl
 
 -- two searches of filters are one
-either : (k : Bool) (p q : Filter → Bool) (fs : List Filter) → (k && list_any p fs || k && list_any q fs) ≡ (k && list_any (λ f. p f || q f) fs)
+either : (k : Bool) (p q : Filter → Bool) (fs : List Filter) → (k && list_any p fs || k && list_any q fs)
+    ≡ (k && list_any (λ f. p f || q f) fs)
 either false p q fs = refl
 either true p q [] = refl
 either true p q (f ∷ fs) = by (p f) (q f) (either true p q fs)
   where
-    by : (a b : Bool) → (list_any p fs || list_any q fs) ≡ list_any (λ f. p f || q f) fs → ((a || list_any p fs) || (b || list_any q fs)) ≡ ((a || b) || list_any (λ f. p f || q f) fs)
+    by : (a b : Bool) → (list_any p fs || list_any q fs) ≡ list_any (λ f. p f || q f) fs
+        → ((a || list_any p fs) || (b || list_any q fs)) ≡ ((a || b) || list_any (λ f. p f || q f) fs)
     by true b h = refl
     by false true h = or_true_left (list_any p fs) (list_any q fs)
       where
@@ -114,7 +117,8 @@ type_by_filters mime = by (is_any_type mime)
     by false = (λ d. refl, (λ d. refl, tt))
 
 -- the groups of an intent that names no component are of what filters list
-all_by_filters : (a : Option (List ℕ)) (u : Option Uri) (m : Option Mime) → AllByRecursion ByFilter (groups_for None a u m)
+all_by_filters : (a : Option (List ℕ)) (u : Option Uri) (m : Option Mime)
+    → AllByRecursion ByFilter (groups_for None a u m)
 all_by_filters (Some a) u m = (λ d. refl, tt)
 all_by_filters None None None = (λ d. refl, tt)
 all_by_filters None (Some u) None = (λ d. refl, tt)
@@ -123,28 +127,34 @@ all_by_filters None (Some u) (Some m) = (λ d. refl, type_by_filters m)
 
 module _ {S : Type 0} (listed : HashMap Key (Vec Spot Global) S) (kind : Kind) (packages : List Package)
     (stands : (key : Key) → spots_at listed key ≡ spots_under key packages)
-    (merges : (p q : Member → Bool) → merged (spots_where p (members kind packages)) (spots_where q (members kind packages)) ≡ spots_where (λ m. p m || q m) (members kind packages)) where
-  -- where components stand that pass a test, or are under the keys of some groups
+    (merges : (p q : Member → Bool) → merged (spots_where p (members kind packages))
+    (spots_where q (members kind packages)) ≡ spots_where (λ m. p m || q m) (members kind packages)) where
+  -- the spots of components that pass a test, or are under the keys of some groups
   gathered : (owner : Option (List ℕ)) (groups : List Group) (test : Member → Bool)
       → with_keys listed (spots_where test (members kind packages)) (map (key_of kind owner) groups)
       ≡ spots_where (λ m. test m || under_some owner groups m) (members kind packages)
   gathered owner [] test = same_spots _ _ (λ m. sym (or_false (test m))) (members kind packages)
   gathered owner (g ∷ gs) test =
-      ap (λ l. with_keys listed (merged (spots_where test (members kind packages)) l) (map (key_of kind owner) gs)) (stands (key_of kind owner g))
-      ∙ ap (λ l. with_keys listed l (map (key_of kind owner) gs)) (merges test (λ m. is_under (key_of kind owner g) m.owner m.decl))
+      ap (λ l. with_keys listed (merged (spots_where test (members kind packages)) l) (map (key_of kind owner) gs))
+      (stands (key_of kind owner g))
+      ∙ ap (λ l. with_keys listed l (map (key_of kind owner) gs)) (merges test
+      (λ m. is_under (key_of kind owner g) m.owner m.decl))
       ∙ gathered owner gs (λ m. test m || is_under (key_of kind owner g) m.owner m.decl)
-      ∙ same_spots _ _ (λ m. or_assoc (test m) (is_under (key_of kind owner g) m.owner m.decl) (under_some owner gs m)) (members kind packages)
+      ∙ same_spots _ _ (λ m. or_assoc (test m) (is_under (key_of kind owner g) m.owner m.decl) (under_some owner gs m))
+      (members kind packages)
 
   -- and that are under the keys alone
   gathered_all : (owner : Option (List ℕ)) (groups : List Group)
-      → with_keys listed [] (map (key_of kind owner) groups) ≡ spots_where (under_some owner groups) (members kind packages)
+      → with_keys listed [] (map (key_of kind owner) groups) ≡ spots_where (under_some owner groups)
+      (members kind packages)
   gathered_all owner groups =
       ap (λ l. with_keys listed l (map (key_of kind owner) groups)) (sym (no_spots (members kind packages)))
       ∙ gathered owner groups (λ m. false)
 
-  -- under the keys of an intent stand the components that it seeks
+  -- under the keys of an intent are the components that it seeks
   asked : (c : Option Component) (l a : Option (List ℕ)) (u : Option Uri) (m : Option Mime)
-      → with_keys listed [] (map (key_of kind (owner_of c l)) (groups_for c a u m)) ≡ spots_where (sought_by c l a u m) (members kind packages)
+      → with_keys listed [] (map (key_of kind (owner_of c l)) (groups_for c a u m))
+      ≡ spots_where (sought_by c l a u m) (members kind packages)
   asked (Some c) l a u m =
       gathered_all (Some c.«package») (Class c.class ∷ [])
       ∙ same_spots _ _ (λ n. or_false (is_named c n.owner.name n.decl.class)) (members kind packages)
@@ -156,51 +166,61 @@ neither : (a b : Bool) → (a || b) ≡ false → (a ≡ false) × (b ≡ false)
 neither true b h = absurd (false≢true (sym h))
 neither false b h = (refl, h)
 
--- types of which none has the main part, or the one that stands for every other, don't go with a type
-types_apart : (mime : Mime) → is_any_type mime ≡ false → (types : List Mime) → lists_main types mime.main ≡ false → lists_main types (codes "*") ≡ false → passes_type types mime ≡ false
+-- types of which none has the main part, or the one that covers every other, don't match a type
+types_apart : (mime : Mime) → is_any_type mime ≡ false → (types : List Mime) → lists_main types mime.main ≡ false
+    → lists_main types (codes "*") ≡ false → passes_type types mime ≡ false
 types_apart mime some [] h k = refl
 types_apart mime some (t ∷ ts) h k =
     let own = neither (is_same t.main mime.main) (lists_main ts mime.main) h in
     let any = neither (is_same t.main (codes "*")) (lists_main ts (codes "*")) k in
-    ap (λ b. (((b && ((is_same t.sub mime.sub || is_same t.sub (codes "*")) || is_same mime.sub (codes "*"))) || is_any_type t) || is_any_type mime) || passes_type ts mime) own.0
+    ap (λ b. (((b && ((is_same t.sub mime.sub || is_same t.sub (codes "*")) || is_same mime.sub (codes "*"))) ||
+    is_any_type t) || is_any_type mime) || passes_type ts mime) own.0
     ∙ ap (λ b. ((b && is_same t.sub (codes "*")) || is_any_type mime) || passes_type ts mime) any.0
     ∙ ap (λ b. b || passes_type ts mime) some
     ∙ types_apart mime some ts own.1 any.1
 
 -- a filter that isn't listed for the groups of a type has a scheme, or no type that goes with it
-type_outside : (mime : Mime) (filter : Filter) → in_some (type_groups mime) filter ≡ false → (is_empty filter.schemes && passes_type filter.types mime) ≡ false
+type_outside : (mime : Mime) (filter : Filter) → in_some (type_groups mime) filter ≡ false
+    → (is_empty filter.schemes && passes_type filter.types mime) ≡ false
 type_outside mime filter h = by (is_any_type mime) refl h
   where
-    any : (s : Bool) (types : List Mime) → ((s && not (is_empty types)) || false) ≡ false → (s && passes_type types mime) ≡ false
+    any : (s : Bool) (types : List Mime) → ((s && not (is_empty types)) || false) ≡ false
+        → (s && passes_type types mime) ≡ false
     any true [] h = refl
     any true (t ∷ ts) h = absurd (false≢true (sym h))
     any false types h = refl
 
-    main : is_any_type mime ≡ false → (s : Bool) → ((s && lists_main filter.types mime.main) || ((s && lists_main filter.types (codes "*")) || false)) ≡ false → (s && passes_type filter.types mime) ≡ false
+    main : is_any_type mime ≡ false → (s : Bool) → ((s && lists_main filter.types mime.main) ||
+        ((s && lists_main filter.types (codes "*")) || false)) ≡ false → (s && passes_type filter.types mime) ≡ false
     main some false h = refl
     main some true h =
         let parts = neither (lists_main filter.types mime.main) (lists_main filter.types (codes "*") || false) h in
         types_apart mime some filter.types parts.0 (neither (lists_main filter.types (codes "*")) false parts.1).0
 
-    by : (b : Bool) → is_any_type mime ≡ b → in_some (cond b (Typed ∷ []) (Main mime.main ∷ Main (codes "*") ∷ [])) filter ≡ false → (is_empty filter.schemes && passes_type filter.types mime) ≡ false
+    by : (b : Bool) → is_any_type mime ≡ b → in_some (cond b (Typed ∷ []) (Main mime.main ∷ Main (codes "*") ∷ []))
+        filter ≡ false → (is_empty filter.schemes && passes_type filter.types mime) ≡ false
     by true e h = any (is_empty filter.schemes) filter.types h
     by false e h = main e (is_empty filter.schemes) h
 
 -- a scheme that isn't listed fails the test
-scheme_fails : (b : Bool) (rest after : Option Why) → b ≡ false → is_none (or_else (or_else (unless b OfScheme) rest) after) ≡ false
+scheme_fails : (b : Bool) (rest after : Option Why) → b ≡ false → is_none
+    (or_else (or_else (unless b OfScheme) rest) after) ≡ false
 scheme_fails true rest after h = absurd (false≢true (sym h))
 scheme_fails false rest after h = refl
 
 -- the data of an intent fails a filter that isn't listed for a group of theirs
-outside_data : (u : Option Uri) (m : Option Mime) (filter : Filter) → in_some (data_groups_for u m) filter ≡ false → is_none (data_why filter u m) ≡ false
+outside_data : (u : Option Uri) (m : Option Mime) (filter : Filter) → in_some (data_groups_for u m) filter ≡ false
+    → is_none (data_why filter u m) ≡ false
 outside_data None None filter h = by (is_empty filter.schemes) (is_empty filter.types) h
   where
     by : (s t : Bool) → ((s && t) || false) ≡ false → is_none (or_else (unless s OfScheme) (unless t Type_)) ≡ false
     by true true h = absurd (false≢true (sym h))
     by true false h = refl
     by false t h = refl
-outside_data (Some u) None filter h = scheme_fails (lists filter.schemes u.scheme) _ _ (neither (lists filter.schemes u.scheme) false h).0
-outside_data None (Some m) filter h = by (is_empty filter.schemes) (passes_type filter.types m) (type_outside m filter h)
+outside_data (Some u) None filter h = scheme_fails (lists filter.schemes u.scheme) _ _
+    (neither (lists filter.schemes u.scheme) false h).0
+outside_data None (Some m) filter h = by (is_empty filter.schemes) (passes_type filter.types m)
+    (type_outside m filter h)
   where
     by : (s p : Bool) → (s && p) ≡ false → is_none (or_else (unless s OfScheme) (unless p Type_)) ≡ false
     by true true h = absurd (false≢true (sym h))
@@ -208,7 +228,8 @@ outside_data None (Some m) filter h = by (is_empty filter.schemes) (passes_type 
     by false p h = refl
 outside_data (Some u) (Some m) filter h =
     let parts = neither (lists filter.schemes u.scheme) (in_some (type_groups m) filter) h in
-    by (is_empty filter.schemes) (is_local u) (lists filter.schemes u.scheme) (passes_type filter.types m) _ parts.0 (type_outside m filter parts.1)
+    by (is_empty filter.schemes) (is_local u) (lists filter.schemes u.scheme) (passes_type filter.types m) _ parts.0
+    (type_outside m filter parts.1)
   where
     by : (s local listed p : Bool) (rest : Option Why) → listed ≡ false → (s && p) ≡ false
         → is_none (or_else (cond (s && local) None (or_else (unless listed OfScheme) rest)) (unless p Type_)) ≡ false
@@ -219,35 +240,44 @@ outside_data (Some u) (Some m) filter h =
     by false local false p rest l h = refl
 
 -- an action that isn't listed fails the test
-action_fails : (actions : List (List ℕ)) (action : List ℕ) (rest : Option Why) → lists actions action ≡ false → is_none (or_else (unless (passes_action actions (Some action)) OfAction) rest) ≡ false
+action_fails : (actions : List (List ℕ)) (action : List ℕ) (rest : Option Why) → lists actions action ≡ false
+    → is_none (or_else (unless (passes_action actions (Some action)) OfAction) rest) ≡ false
 action_fails [] action rest h = refl
 action_fails (a ∷ others) action rest h = ap (λ b. is_none (or_else (unless b OfAction) rest)) h
 
 -- and so do data
-data_fail : (b : Bool) (d after : Option Why) → is_none d ≡ false → is_none (or_else (unless b OfAction) (or_else d after)) ≡ false
+data_fail : (b : Bool) (d after : Option Why) → is_none d ≡ false → is_none
+    (or_else (unless b OfAction) (or_else d after)) ≡ false
 data_fail true None after h = absurd (false≢true (sym h))
 data_fail true (Some reason) after h = refl
 data_fail false d after h = refl
 
-outside_by : (action : Option (List ℕ)) (u : Option Uri) (m : Option Mime) (filter : Filter) (after : Option Why) → in_some (groups_for None action u m) filter ≡ false
-    → is_none (or_else (unless (passes_action filter.actions action) OfAction) (or_else (data_why filter u m) after)) ≡ false
-outside_by (Some action) u m filter after h = action_fails filter.actions action _ (neither (lists filter.actions action) false h).0
-outside_by None u m filter after h = data_fail (passes_action filter.actions None) (data_why filter u m) after (outside_data u m filter h)
+outside_by : (action : Option (List ℕ)) (u : Option Uri) (m : Option Mime) (filter : Filter) (after : Option Why)
+    → in_some (groups_for None action u m) filter ≡ false
+    → is_none (or_else (unless (passes_action filter.actions action) OfAction) (or_else (data_why filter u m) after))
+    ≡ false
+outside_by (Some action) u m filter after h = action_fails filter.actions action _
+    (neither (lists filter.actions action) false h).0
+outside_by None u m filter after h = data_fail (passes_action filter.actions None) (data_why filter u m) after
+    (outside_data u m filter h)
 
 -- a filter is listed for a group of the intent, which names no component
 abbrev asked_of : Intent → Filter → Bool
 asked_of intent filter = in_some (groups_for None intent.action intent.uri intent.mime) filter
 
 -- an intent passes no other filter
-outside : (filter : Filter) (intent : Intent) (need_default : Bool) → asked_of intent filter ≡ false → passes filter intent need_default ≡ false
+outside : (filter : Filter) (intent : Intent) (need_default : Bool) → asked_of intent filter ≡ false
+    → passes filter intent need_default ≡ false
 outside filter intent need_default h = outside_by intent.action intent.uri intent.mime filter _ h
 
 -- so none of a component of which no filter is listed for a group of the intent
-no_priority : (kind : Kind) (intent : Intent) (need_default : Bool) (filters : List Filter) → list_any (asked_of intent) filters ≡ false → priority_of kind intent need_default filters ≡ None
+no_priority : (kind : Kind) (intent : Intent) (need_default : Bool) (filters : List Filter)
+    → list_any (asked_of intent) filters ≡ false → priority_of kind intent need_default filters ≡ None
 no_priority kind intent need_default [] h = refl
 no_priority kind intent need_default (f ∷ fs) h =
     let parts = neither (asked_of intent f) (list_any (asked_of intent) fs) h in
-    ap (λ b. cond b (Some (greatest (counted_priority kind f.priority) (priority_of kind intent need_default fs))) (priority_of kind intent need_default fs)) (outside f intent need_default parts.0)
+    ap (λ b. cond b (Some (greatest (counted_priority kind f.priority) (priority_of kind intent need_default fs)))
+    (priority_of kind intent need_default fs)) (outside f intent need_default parts.0)
     ∙ no_priority kind intent need_default fs parts.1
 
 -- the intent names no package, or this one
@@ -271,16 +301,22 @@ module _ (kind : Kind) (intent : Intent) (need_default : Bool) where
 
   all_found-append : (xs ys : List Member) → all_found (xs ++ ys) ≡ all_found xs ++ all_found ys
   all_found-append [] ys = refl
-  all_found-append (x ∷ xs) ys = ap (λ l. found_of x ++ l) (all_found-append xs ys) ∙ sym (append_assoc (found_of x) (all_found xs) (all_found ys))
+  all_found-append (x ∷ xs) ys = ap (λ l. found_of x ++ l) (all_found-append xs ys)
+      ∙ sym (append_assoc (found_of x) (all_found xs) (all_found ys))
 
-  from_hits : (owner : Package) (at n : ℕ) (ds : List Decl) → hits_from what owner n ds ≡ all_found (members_from kind owner at n ds)
+  from_hits : (owner : Package) (at n : ℕ) (ds : List Decl) → hits_from what owner n ds
+      ≡ all_found (members_from kind owner at n ds)
   from_hits owner at n [] = refl
-  from_hits owner at n (d ∷ ds) = by (is_kind kind d.kind) d.enabled (from_hits owner (at + 1) (n + 1) ds) (from_hits owner (at + 1) n ds)
+  from_hits owner at n (d ∷ ds) = by (is_kind kind d.kind) d.enabled (from_hits owner (at + 1) (n + 1) ds)
+      (from_hits owner (at + 1) n ds)
     where
       by : (k e : Bool) → hits_from what owner (n + 1) ds ≡ all_found (members_from kind owner (at + 1) (n + 1) ds)
           → hits_from what owner n ds ≡ all_found (members_from kind owner (at + 1) n ds)
-          → cond k (cond e (hit_of what owner n d intent.component) [] ++ hits_from what owner (n + 1) ds) (hits_from what owner n ds)
-          ≡ all_found (cond k (cond e (record { owner = owner; position = at; place = n; decl = d } ∷ members_from kind owner (at + 1) (n + 1) ds) (members_from kind owner (at + 1) (n + 1) ds)) (members_from kind owner (at + 1) n ds))
+          → cond k (cond e (hit_of what owner n d intent.component) [] ++ hits_from what owner (n + 1) ds)
+          (hits_from what owner n ds)
+          ≡ all_found (cond k (cond e (record { owner = owner; position = at; place = n; decl = d }
+          ∷ members_from kind owner (at + 1) (n + 1) ds) (members_from kind owner (at + 1) (n + 1) ds))
+          (members_from kind owner (at + 1) n ds))
       by true true p q = ap (λ l. hit_of what owner n d intent.component ++ l) p
       by true false p q = p
       by false e p q = q
@@ -293,20 +329,23 @@ module _ (kind : Kind) (intent : Intent) (need_default : Bool) where
       ∙ ap (λ l. all_found (members_from kind p 0 0 p.decls) ++ l) (candidates_found ps)
       ∙ sym (all_found-append (members_from kind p 0 0 p.decls) (members kind ps))
 
-  -- the intent seeks the component where it names its component, or its package or none
+  -- the intent seeks the component if it names its component, or its package or none
   abbrev seeks : Option Component → Member → Bool
   seeks c m = sought_by c intent.«package» intent.action intent.uri intent.mime m
 
   -- a component that the intent seeks is found with the priority that its filters give
   seen : (m : Member) (c : Option Component) → seeks c m ≡ true
-      → hit_at m.owner m.place m.decl (priority_found c kind intent need_default m.decl) ≡ hit_of what m.owner m.place m.decl c
+      → hit_at m.owner m.place m.decl (priority_found c kind intent need_default m.decl)
+      ≡ hit_of what m.owner m.place m.decl c
   seen m (Some c) h = sym (ap (λ b. cond b (hit_at m.owner m.place m.decl (Some (pos 0))) []) h)
   seen m None h =
       sym (ap (λ b. cond b (implicit_hit what m.owner m.place m.decl) [])
-      (package_asked intent.«package» m.owner ∙ (both (is_for intent.«package» m.owner.name) (list_any (asked_of intent) m.decl.filters) h).0))
+      (package_asked intent.«package» m.owner ∙ (both (is_for intent.«package» m.owner.name)
+      (list_any (asked_of intent) m.decl.filters) h).0))
 
   -- nothing is found of another
-  unseen_implicit : (m : Member) → list_any (asked_of intent) m.decl.filters ≡ false → implicit_hit what m.owner m.place m.decl ≡ []
+  unseen_implicit : (m : Member) → list_any (asked_of intent) m.decl.filters ≡ false
+      → implicit_hit what m.owner m.place m.decl ≡ []
   unseen_implicit m h = ap (hit_at m.owner m.place m.decl) (no_priority kind intent need_default m.decl.filters h)
 
   unseen : (m : Member) (c : Option Component) → seeks c m ≡ false → hit_of what m.owner m.place m.decl c ≡ []
@@ -315,35 +354,43 @@ module _ (kind : Kind) (intent : Intent) (need_default : Bool) where
       ap (λ b. cond b (implicit_hit what m.owner m.place m.decl) []) (package_asked intent.«package» m.owner)
       ∙ by (is_for intent.«package» m.owner.name) h
     where
-      by : (b : Bool) → (b && list_any (asked_of intent) m.decl.filters) ≡ false → cond b (implicit_hit what m.owner m.place m.decl) [] ≡ []
+      by : (b : Bool) → (b && list_any (asked_of intent) m.decl.filters) ≡ false
+          → cond b (implicit_hit what m.owner m.place m.decl) [] ≡ []
       by true h = unseen_implicit m h
       by false h = refl
 
   module _ (packages : List Package) where
-    -- what stands at the spot of a component
-    at_spot : (m : Member) → Located packages m → hit_of_spot packages kind intent need_default (spot_of m) ≡ hit_at m.owner m.place m.decl (priority_found intent.component kind intent need_default m.decl)
+    -- the component at a spot
+    at_spot : (m : Member) → Located packages m → hit_of_spot packages kind intent need_default (spot_of m)
+        ≡ hit_at m.owner m.place m.decl (priority_found intent.component kind intent need_default m.decl)
     at_spot m there =
         ap (λ o. hit_in o (decl_in o m.position) m.place kind intent need_default) there.owner
         ∙ ap (λ d. hit_in (Some m.owner) d m.place kind intent need_default) there.decl
 
     -- at the spots of the components that the intent seeks all is found
-    walked : (ms : List Member) → AllByRecursion (Located packages) ms → hits_of_spots packages kind intent need_default (spots_where (sought intent) ms) ≡ all_found ms
+    walked : (ms : List Member) → AllByRecursion (Located packages) ms
+        → hits_of_spots packages kind intent need_default (spots_where (sought intent) ms) ≡ all_found ms
     walked [] there = refl
     walked (m ∷ ms) there = by (sought intent m) refl (walked ms there.1)
       where
-        by : (b : Bool) → sought intent m ≡ b → hits_of_spots packages kind intent need_default (spots_where (sought intent) ms) ≡ all_found ms
-            → hits_of_spots packages kind intent need_default (cond b (spot_of m ∷ spots_where (sought intent) ms) (spots_where (sought intent) ms)) ≡ found_of m ++ all_found ms
+        by : (b : Bool) → sought intent m ≡ b → hits_of_spots packages kind intent need_default
+            (spots_where (sought intent) ms) ≡ all_found ms
+            → hits_of_spots packages kind intent need_default (cond b (spot_of m ∷ spots_where (sought intent) ms)
+            (spots_where (sought intent) ms)) ≡ found_of m ++ all_found ms
         by true e rest =
-            ap (λ l. l ++ hits_of_spots packages kind intent need_default (spots_where (sought intent) ms)) (at_spot m there.0 ∙ seen m intent.component e)
+            ap (λ l. l ++ hits_of_spots packages kind intent need_default (spots_where (sought intent) ms))
+            (at_spot m there.0 ∙ seen m intent.component e)
             ∙ ap (λ l. found_of m ++ l) rest
         by false e rest = rest ∙ sym (ap (λ l. l ++ all_found ms) (unseen m intent.component e))
 
   -- the tests at the spot of a component are at most those of its filters in the group
-  cost_at : (packages : List Package) (m : Member) → Located packages m → cost_of_spot packages intent (spot_of m) ≤ count_by (in_group intent) m.decl.filters
+  cost_at : (packages : List Package) (m : Member) → Located packages m
+      → cost_of_spot packages intent (spot_of m) ≤ count_by (in_group intent) m.decl.filters
   cost_at packages m there =
       let same : cost_of_spot packages intent (spot_of m) ≡ cost_found intent.component intent m.decl =
       ap (λ o. cost_in (decl_in o m.position) intent) there.owner ∙ ap (λ d. cost_in d intent) there.decl in
-      let few : cost_found intent.component intent m.decl ≤ count_by (in_group intent) m.decl.filters = by intent.component in
+      let few : cost_found intent.component intent m.decl ≤ count_by (in_group intent) m.decl.filters = by
+      intent.component in
       omega arith
     where
       by : (c : Option Component) → cost_found c intent m.decl ≤ count_by (in_group intent) m.decl.filters
@@ -351,13 +398,16 @@ module _ (kind : Kind) (intent : Intent) (need_default : Bool) where
       by None = omega arith
 
   -- and those of all at most the size of the group
-  cost_within : (packages : List Package) (ms : List Member) → AllByRecursion (Located packages) ms → cost_of_spots packages intent (spots_where (sought intent) ms) ≤ size_of intent ms
+  cost_within : (packages : List Package) (ms : List Member) → AllByRecursion (Located packages) ms
+      → cost_of_spots packages intent (spots_where (sought intent) ms) ≤ size_of intent ms
   cost_within packages [] there = omega arith
-  cost_within packages (m ∷ ms) there = by (sought intent m) (cost_within packages ms there.1) (cost_at packages m there.0)
+  cost_within packages (m ∷ ms) there = by (sought intent m) (cost_within packages ms there.1)
+      (cost_at packages m there.0)
     where
       by : (b : Bool) → cost_of_spots packages intent (spots_where (sought intent) ms) ≤ size_of intent ms
           → cost_of_spot packages intent (spot_of m) ≤ count_by (in_group intent) m.decl.filters
-          → cost_of_spots packages intent (cond b (spot_of m ∷ spots_where (sought intent) ms) (spots_where (sought intent) ms)) ≤ count_by (in_group intent) m.decl.filters + size_of intent ms
+          → cost_of_spots packages intent (cond b (spot_of m ∷ spots_where (sought intent) ms)
+          (spots_where (sought intent) ms)) ≤ count_by (in_group intent) m.decl.filters + size_of intent ms
       by true p q = omega arith
       by false p q = omega arith
 
@@ -366,27 +416,33 @@ module _ (kind : Kind) (intent : Intent) (need_default : Bool) where
     pub listed : spots_for index.lists kind intent ≡ spots_where (sought intent) (members kind packages)
     listed =
         asked index.lists kind packages stands.lists
-        (λ p q. merged_where p q (members kind packages) (members_in_order kind packages (rises packages stands.rising)))
+        (λ p q. merged_where p q (members kind packages) (members_in_order kind packages
+        (rises packages stands.rising)))
         intent.component intent.«package» intent.action intent.uri intent.mime
 
     -- what is found there are the candidates
-    pub finds_candidates : hits_of_spots packages kind intent need_default (spots_for index.lists kind intent) ≡ candidates.candidates packages kind intent need_default
+    pub finds_candidates : hits_of_spots packages kind intent need_default (spots_for index.lists kind intent)
+        ≡ candidates.candidates packages kind intent need_default
     finds_candidates =
         ap (hits_of_spots packages kind intent need_default) listed
         ∙ walked packages (members kind packages) (members_located kind packages (rises packages stands.rising))
         ∙ sym (candidates_found packages)
 
     -- what is looked up is within as many tests as the group has filters
-    pub within_group : (spots : List Spot) → spots ≡ spots_for index.lists kind intent → cost_of_spots packages intent spots ≤ group_size packages kind intent
+    pub within_group : (spots : List Spot) → spots ≡ spots_for index.lists kind intent
+        → cost_of_spots packages intent spots ≤ group_size packages kind intent
     within_group spots found =
-        subst (λ (l : List Spot). cost_of_spots packages intent l ≤ group_size packages kind intent) (sym (found ∙ listed))
+        subst (λ (l : List Spot). cost_of_spots packages intent l ≤ group_size packages kind intent)
+        (sym (found ∙ listed))
         (cost_within packages (members kind packages) (members_located kind packages (rises packages stands.rising)))
 
 -- an intent that names a component takes no test
-pub explicit_free : (packages : List Package) (intent : Intent) (spots : List Spot) → IsSome intent.component → cost_of_spots packages intent spots ≡ 0
+pub explicit_free : (packages : List Package) (intent : Intent) (spots : List Spot) → IsSome intent.component
+    → cost_of_spots packages intent spots ≡ 0
 explicit_free packages intent [] named = refl
 explicit_free packages intent (s ∷ ss) named =
-    ap (λ n. n + cost_of_spots packages intent ss) (by (decl_in (package_at packages s.uid) s.position) named) ∙ zero-add _ ∙ explicit_free packages intent ss named
+    ap (λ n. n + cost_of_spots packages intent ss) (by (decl_in (package_at packages s.uid) s.position) named)
+    ∙ zero-add _ ∙ explicit_free packages intent ss named
   where
     none : (c : Option Component) → IsSome c → (d : Decl) → cost_found c intent d ≡ 0
     none (Some c) h d = refl

@@ -64,7 +64,8 @@ by_both = refl
 pub of_another_kind : group_size device Service (asking (codes "x.A")) ≡ 0
 of_another_kind = refl
 
--- an intent with a type asks for those that list its main part, and for those that list the one that stands for every other
+-- an intent with a type asks for those that list its main part, and for those that list the one that stands for every
+-- other
 pub asked_by_type : groups_for None None None (Some picture) ≡ Main (codes "image") ∷ Main (codes "*") ∷ []
 asked_by_type = refl
 
@@ -73,7 +74,8 @@ pub asked_by_any_type : groups_for None None None (Some (mime_at (codes "*") (co
 asked_by_any_type = refl
 
 -- with a URI for its scheme besides
-pub asked_by_both : groups_for None None (Some page) (Some picture) ≡ Scheme (codes "http") ∷ Main (codes "image") ∷ Main (codes "*") ∷ []
+pub asked_by_both : groups_for None None (Some page) (Some picture) ≡ Scheme (codes "http") ∷ Main (codes "image")
+    ∷ Main (codes "*") ∷ []
 asked_by_both = refl
 
 -- a filter without schemes is listed for the main parts of its types
@@ -82,5 +84,6 @@ pub listed_by_types : groups_of_filter (lists (codes "x.A") [] (picture ∷ mime
 listed_by_types = refl
 
 -- one with a scheme by no type
-pub listed_by_scheme : groups_of_filter (lists (codes "x.A") (codes "http" ∷ []) (picture ∷ [])) ≡ Action (codes "x.A") ∷ Scheme (codes "http") ∷ []
+pub listed_by_scheme : groups_of_filter (lists (codes "x.A") (codes "http" ∷ []) (picture ∷ [])) ≡ Action (codes "x.A")
+    ∷ Scheme (codes "http") ∷ []
 listed_by_scheme = refl

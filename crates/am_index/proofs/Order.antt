@@ -19,20 +19,22 @@ not_true false never = refl
 never_both : (b : Bool) → b ≡ true → b ≡ false → ⊥
 never_both b t f = false≢true (sym f ∙ t)
 
--- where neither of two tests succeeds, both fail
+-- if neither of two tests succeeds, both fail
 both_false : (a b : Bool) → not a && not b ≡ true → (a ≡ false) × (b ≡ false)
 both_false true b e = absurd (false≢true e)
 both_false false true e = absurd (false≢true e)
 both_false false false e = (refl, refl)
 
 -- two elements of which one test keeps at most one may be exchanged before it
-turned : {X : Type 0} (a b : Bool) (x y : X) (rest : List X) → (a ≡ true → b ≡ true → ⊥) → cond a (x ∷ cond b (y ∷ rest) rest) (cond b (y ∷ rest) rest) ≡ cond b (y ∷ cond a (x ∷ rest) rest) (cond a (x ∷ rest) rest)
+turned : {X : Type 0} (a b : Bool) (x y : X) (rest : List X) → (a ≡ true → b ≡ true → ⊥)
+    → cond a (x ∷ cond b (y ∷ rest) rest) (cond b (y ∷ rest) rest)
+    ≡ cond b (y ∷ cond a (x ∷ rest) rest) (cond a (x ∷ rest) rest)
 turned true true x y rest never = absurd (never refl refl)
 turned true false x y rest never = refl
 turned false true x y rest never = refl
 turned false false x y rest never = refl
 
--- what stands behind an element that is kept, or left out, in both lists
+-- what comes after an element that is kept, or left out, in both lists
 same_tail : {X : Type 0} (b : Bool) (x : X) (xs ys : List X) → cond b (x ∷ xs) xs ≡ cond b (x ∷ ys) ys → xs ≡ ys
 same_tail true x xs ys e = cc
 same_tail false x xs ys e = e
@@ -48,12 +50,12 @@ module _ {X : Type 0} (lt : X → X → Bool) (o : IsStrictWeakOrder lt) where
   Rises [] = Unit {0}
   Rises (x ∷ xs) = Above x xs × Rises xs
 
-  -- an element behind those that are less, in front of the others
+  -- an element after those that are less, in front of the others
   abbrev pub place : X → List X → List X
   place x [] = x ∷ []
   place x (y ∷ ys) = cond (lt y x) (y ∷ place x ys) (x ∷ y ∷ ys)
 
-  -- each element placed among those behind it
+  -- each element placed among those after it
   abbrev pub insertion : List X → List X
   insertion [] = []
   insertion (x ∷ xs) = place x (insertion xs)
@@ -75,7 +77,8 @@ module _ {X : Type 0} (lt : X → X → Bool) (o : IsStrictWeakOrder lt) where
   Above-place : (x y : X) (zs : List X) → lt y x ≡ false → Above x zs → Above x (place y zs)
   Above-place x y [] h a = (h, tt)
   Above-place x y (z ∷ zs) h a =
-      by_test (λ b. Above x (cond b (z ∷ place y zs) (y ∷ z ∷ zs))) (lt z y) (λ _. (a.0, Above-place x y zs h a.1)) (λ _. (h, a))
+      by_test (λ b. Above x (cond b (z ∷ place y zs) (y ∷ z ∷ zs))) (lt z y) (λ _. (a.0, Above-place x y zs h a.1))
+      (λ _. (h, a))
 
   -- placing an element keeps a list in order
   Rises-place : (x : X) (ys : List X) → Rises ys → Rises (place x ys)
@@ -98,7 +101,8 @@ module _ {X : Type 0} (lt : X → X → Bool) (o : IsStrictWeakOrder lt) where
       let first : lt y x ≡ false = s 0 x (omega arith) (omega arith) in
       let rest : Rises (y ∷ ys) = Rises-from_sorted (y ∷ ys) (λ k d low high.
       let next : suc k + 1 ≡ suc (k + 1) = omega arith in
-      subst (λ (n : ℕ). lt (get_or (x ∷ y ∷ ys) n d) (get_or (y ∷ ys) k d) ≡ false) next (s (suc k) d (omega arith) (omega arith))) in
+      subst (λ (n : ℕ). lt (get_or (x ∷ y ∷ ys) n d) (get_or (y ∷ ys) k d) ≡ false) next
+      (s (suc k) d (omega arith) (omega arith))) in
       ((first, Above-weaker x y ys first rest.0), rest)
 
   -- placing keeps the order of each tie
@@ -119,11 +123,12 @@ module _ {X : Type 0} (lt : X → X → Bool) (o : IsStrictWeakOrder lt) where
   filter-insertion w (x ∷ xs) =
       filter-place w x (insertion xs) ∙ ap (λ l. cond (ties lt w x) (x ∷ l) l) (filter-insertion w xs)
 
-  -- nothing that ties with y stands behind a z above it
+  -- nothing that ties with y comes after a z above it
   none_tied : (y z : X) (zs : List X) → lt y z ≡ true → Above z zs → filter (ties lt y) zs ≡ []
   none_tied y z [] e a = refl
   none_tied y z (w ∷ zs) e a =
-      let missed : ties lt y w ≡ false = not_true (ties lt y w) (λ at_w. never_both (lt y z) e (o.chain y w z (both_false (lt y w) (lt w y) at_w).0 a.0)) in
+      let missed : ties lt y w ≡ false = not_true (ties lt y w) (λ at_w. never_both (lt y z) e
+      (o.chain y w z (both_false (lt y w) (lt w y) at_w).0 a.0)) in
       let rest = filter (ties lt y) zs in
       ap (λ b. cond b (w ∷ rest) rest) missed ∙ none_tied y z zs e a.1
 
@@ -146,7 +151,8 @@ module _ {X : Type 0} (lt : X → X → Bool) (o : IsStrictWeakOrder lt) where
   same_first y z ys zs e = cc
 
   -- two lists in order, of which each tie has the same elements in the same order, are one
-  one_order : (ys zs : List X) → Rises ys → Rises zs → ((w : X) → filter (ties lt w) ys ≡ filter (ties lt w) zs) → ys ≡ zs
+  one_order : (ys zs : List X) → Rises ys → Rises zs → ((w : X) → filter (ties lt w) ys ≡ filter (ties lt w) zs) → ys
+      ≡ zs
   one_order [] [] r s h = refl
   one_order [] (z ∷ zs) r s h = absurd (not_empty z _ (sym (h z ∙ kept_first z zs)))
   one_order (y ∷ ys) [] r s h = absurd (not_empty y _ (sym (kept_first y ys) ∙ h y))

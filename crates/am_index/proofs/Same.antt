@@ -25,7 +25,8 @@ pub is_same_itself : (a : List ℕ) → is_same a a ≡ true
 is_same_itself a = (is_same-Decides a a).1 refl
 
 -- a text is sought among others by either order
-pub sought_either_way : {X : Type 0} (f : X → List ℕ) (text : List ℕ) (xs : List X) → list_any (λ x. is_same text (f x)) xs ≡ list_any (λ x. is_same (f x) text) xs
+pub sought_either_way : {X : Type 0} (f : X → List ℕ) (text : List ℕ) (xs : List X)
+    → list_any (λ x. is_same text (f x)) xs ≡ list_any (λ x. is_same (f x) text) xs
 sought_either_way f text [] = refl
 sought_either_way f text (x ∷ xs) =
     ap (λ b. b || list_any (λ y. is_same text (f y)) xs) (nat_list_eq_equiv.symm text (f x))
@@ -137,12 +138,15 @@ kinds_are Receiver Activity = refl
 kinds_are Receiver Service = refl
 kinds_are Receiver Receiver = refl
 
--- keys are the same where their parts are
-pub same_parts : (a b : Key) → same_key a b ≡ (is_kind a.kind b.kind && (same_owner a.owner b.owner && same_group a.group b.group))
+-- keys are the same if their parts are
+pub same_parts : (a b : Key) → same_key a b ≡ (is_kind a.kind b.kind &&
+    (same_owner a.owner b.owner && same_group a.group b.group))
 same_parts a b =
-    by a.owner b.owner ∙ ap (λ k. k && (same_owner a.owner b.owner && same_group a.group b.group)) (kinds_are a.kind b.kind)
+    by a.owner b.owner ∙ ap (λ k. k && (same_owner a.owner b.owner && same_group a.group b.group))
+    (kinds_are a.kind b.kind)
   where
-    by : (o p : Option (List ℕ)) → same_key (record a { owner = o }) (record b { owner = p }) ≡ (kinds.ghosts.eq a.kind b.kind && (same_owner o p && same_group a.group b.group))
+    by : (o p : Option (List ℕ)) → same_key (record a { owner = o }) (record b { owner = p })
+        ≡ (kinds.ghosts.eq a.kind b.kind && (same_owner o p && same_group a.group b.group))
     by None None = refl
     by None (Some p) = refl
     by (Some o) None = refl

@@ -1,4 +1,4 @@
--- What is listed for packages, with one more behind them and without one of them.
+-- What is listed for packages, with one more after them and without one of them.
 use Rattle.std.proofs.Common.{◌≡◌, ℕ, ◌+◌, Bool, true, false, not, cond, eqb, List, [], ◌∷◌, ◌++◌, Result, Ok, Err, refl, sym, ap, ◌∙◌}
 use Rattle.std.specs.Prelude.{OnOk, OnErr}
 use Rattle.std.specs.List.{AllByRecursion}
@@ -18,22 +18,26 @@ use Rattle.am_index.specs.Members.{Member, members_from, members, spot_of, spots
 use Rattle.am_index.specs.Standing.{CanBeListed, StandsFor, ListsTheSame}
 use Rattle.am_installed.proofs.Rising.{rises, below_last, without_new, increasing_without}
 
-spots_where-append : (test : Member → Bool) (xs ys : List Member) → spots_where test (xs ++ ys) ≡ spots_where test xs ++ spots_where test ys
+spots_where-append : (test : Member → Bool) (xs ys : List Member) → spots_where test (xs ++ ys) ≡ spots_where test xs
+    ++ spots_where test ys
 spots_where-append test [] ys = refl
 spots_where-append test (x ∷ xs) ys = by (test x) (spots_where-append test xs ys)
   where
     by : (b : Bool) → spots_where test (xs ++ ys) ≡ spots_where test xs ++ spots_where test ys
-        → cond b (spot_of x ∷ spots_where test (xs ++ ys)) (spots_where test (xs ++ ys)) ≡ cond b (spot_of x ∷ spots_where test xs) (spots_where test xs) ++ spots_where test ys
+        → cond b (spot_of x ∷ spots_where test (xs ++ ys)) (spots_where test (xs ++ ys))
+        ≡ cond b (spot_of x ∷ spots_where test xs) (spots_where test xs) ++ spots_where test ys
     by true e = ap (λ l. spot_of x ∷ l) e
     by false e = e
 
 -- what a first package and the others have under a key
-pub spots_under-cons : (key : Key) (p : Package) (ps : List Package) → spots_under key (p ∷ ps) ≡ spots_of_package key p ++ spots_under key ps
+pub spots_under-cons : (key : Key) (p : Package) (ps : List Package) → spots_under key (p ∷ ps) ≡ spots_of_package key p
+    ++ spots_under key ps
 spots_under-cons key p ps =
     spots_where-append (λ m. is_under key m.owner m.decl) (members_from key.kind p 0 0 p.decls) (members key.kind ps)
 
--- what packages and one behind them have under a key
-pub spots_under-append : (key : Key) (ps : List Package) (p : Package) → spots_under key (ps ++ p ∷ []) ≡ spots_under key ps ++ spots_of_package key p
+-- what packages and one after them have under a key
+pub spots_under-append : (key : Key) (ps : List Package) (p : Package) → spots_under key (ps ++ p ∷ [])
+    ≡ spots_under key ps ++ spots_of_package key p
 spots_under-append key [] p = spots_under-cons key p [] ∙ append-nil (spots_of_package key p)
 spots_under-append key (q ∷ qs) p =
     spots_under-cons key q (qs ++ p ∷ [])
@@ -53,7 +57,8 @@ are_of : (kind : Kind) (owner : Package) (at n : ℕ) (ds : List Decl) → Are o
 are_of kind owner at n [] = tt
 are_of kind owner at n (d ∷ ds) =
     are-cond (is_kind kind d.kind) owner.uid _ _
-    (are-cond d.enabled owner.uid _ _ (refl, are_of kind owner (at + 1) (n + 1) ds) (are_of kind owner (at + 1) (n + 1) ds))
+    (are-cond d.enabled owner.uid _ _ (refl, are_of kind owner (at + 1) (n + 1) ds)
+    (are_of kind owner (at + 1) (n + 1) ds))
     (are_of kind owner (at + 1) n ds)
 
 -- without the uid of a package its spots are gone, and without another they stay
@@ -67,14 +72,18 @@ without_one test own uid b (m ∷ ms) e a = by b (test m) e (without_one test ow
     at = ap (λ u. eqb u uid) a.0
 
     by : (b t : Bool) → eqb own uid ≡ b → spots_without (spots_where test ms) uid ≡ cond b [] (spots_where test ms)
-        → spots_without (cond t (spot_of m ∷ spots_where test ms) (spots_where test ms)) uid ≡ cond b [] (cond t (spot_of m ∷ spots_where test ms) (spots_where test ms))
-    by true true e h = ap (λ c. cond (not c) (spot_of m ∷ spots_without (spots_where test ms) uid) (spots_without (spots_where test ms) uid)) (at ∙ e) ∙ h
-    by false true e h = ap (λ c. cond (not c) (spot_of m ∷ spots_without (spots_where test ms) uid) (spots_without (spots_where test ms) uid)) (at ∙ e) ∙ ap (λ l. spot_of m ∷ l) h
+        → spots_without (cond t (spot_of m ∷ spots_where test ms) (spots_where test ms)) uid
+        ≡ cond b [] (cond t (spot_of m ∷ spots_where test ms) (spots_where test ms))
+    by true true e h = ap (λ c. cond (not c) (spot_of m ∷ spots_without (spots_where test ms) uid)
+        (spots_without (spots_where test ms) uid)) (at ∙ e) ∙ h
+    by false true e h = ap (λ c. cond (not c) (spot_of m ∷ spots_without (spots_where test ms) uid)
+        (spots_without (spots_where test ms) uid)) (at ∙ e) ∙ ap (λ l. spot_of m ∷ l) h
     by true false e h = h
     by false false e h = h
 
 -- without a uid what is listed is what the other packages have
-pub spots_under-without : (key : Key) (ps : List Package) (uid : ℕ) → spots_without (spots_under key ps) uid ≡ spots_under key (without_package ps uid)
+pub spots_under-without : (key : Key) (ps : List Package) (uid : ℕ) → spots_without (spots_under key ps) uid
+    ≡ spots_under key (without_package ps uid)
 spots_under-without key [] uid = refl
 spots_under-without key (p ∷ ps) uid =
     ap (λ l. spots_without l uid) (spots_under-cons key p ps)
@@ -82,34 +91,44 @@ spots_under-without key (p ∷ ps) uid =
     ∙ ap (λ l. spots_without (spots_of_package key p) uid ++ l) (spots_under-without key ps uid)
     ∙ by (eqb p.uid uid) refl
   where
-    by : (b : Bool) → eqb p.uid uid ≡ b → spots_without (spots_of_package key p) uid ++ spots_under key (without_package ps uid) ≡ spots_under key (cond (not b) (p ∷ without_package ps uid) (without_package ps uid))
-    by true e = ap (λ l. l ++ spots_under key (without_package ps uid)) (without_one (λ m. is_under key m.owner m.decl) p.uid uid true (members_from key.kind p 0 0 p.decls) e (are_of key.kind p 0 0 p.decls))
+    by : (b : Bool) → eqb p.uid uid ≡ b → spots_without (spots_of_package key p) uid
+        ++ spots_under key (without_package ps uid) ≡ spots_under key
+        (cond (not b) (p ∷ without_package ps uid) (without_package ps uid))
+    by true e = ap (λ l. l ++ spots_under key (without_package ps uid))
+        (without_one (λ m. is_under key m.owner m.decl) p.uid uid true (members_from key.kind p 0 0 p.decls) e
+        (are_of key.kind p 0 0 p.decls))
     by false e =
-        ap (λ l. l ++ spots_under key (without_package ps uid)) (without_one (λ m. is_under key m.owner m.decl) p.uid uid false (members_from key.kind p 0 0 p.decls) e (are_of key.kind p 0 0 p.decls))
+        ap (λ l. l ++ spots_under key (without_package ps uid)) (without_one (λ m. is_under key m.owner m.decl) p.uid
+        uid false (members_from key.kind p 0 0 p.decls) e (are_of key.kind p 0 0 p.decls))
         ∙ sym (spots_under-cons key p (without_package ps uid))
 
--- an index that lists the package behind what it listed stands for the packages with it
-stands_with : (old new : FilterIndex) (p : Package) → ((key : Key) → spots_at new.lists key ≡ spots_at old.lists key ++ spots_of_package key p)
+-- an index that lists the package after what it listed represents the packages with it
+stands_with : (old new : FilterIndex) (p : Package) → ((key : Key) → spots_at new.lists key ≡ spots_at old.lists key
+    ++ spots_of_package key p)
     → (ps : List Package) → StandsFor old ps → CanBeListed (ps ++ p ∷ []) → StandsFor new (ps ++ p ∷ [])
 stands_with old new p more ps stands listed = record {
   rising = listed.rising;
-  lists = λ key. more key ∙ ap (λ l. l ++ spots_of_package key p) (stands.lists key) ∙ sym (spots_under-append key ps p);
+  lists = λ key. more key ∙ ap (λ l. l ++ spots_of_package key p) (stands.lists key)
+      ∙ sym (spots_under-append key ps p);
 }
 
--- an index that lists the spots of other packages alone stands for those
-pub stands_without : (old new : FilterIndex) (uid : ℕ) → ((key : Key) → spots_at new.lists key ≡ spots_without (spots_at old.lists key) uid)
+-- an index that lists only the spots of other packages represents those
+pub stands_without : (old new : FilterIndex) (uid : ℕ) → ((key : Key) → spots_at new.lists key
+    ≡ spots_without (spots_at old.lists key) uid)
     → (ps : List Package) → StandsFor old ps → StandsFor new (without_package ps uid)
 stands_without old new uid fewer ps stands = record {
   rising = increasing_without ps uid stands.rising;
   lists = λ key. fewer key ∙ ap (λ l. spots_without l uid) (stands.lists key) ∙ spots_under-without key ps uid;
 }
 
--- an index that lists the same stands for the same
-pub stands_same : (old new : FilterIndex) → ListsTheSame old new → (ps : List Package) → StandsFor old ps → StandsFor new ps
+-- an index that lists the same represents the same
+pub stands_same : (old new : FilterIndex) → ListsTheSame old new → (ps : List Package) → StandsFor old ps
+    → StandsFor new ps
 stands_same old new same ps stands = record { rising = stands.rising; lists = λ key. same key ∙ stands.lists key }
 
 -- taking a new package out of lists that kept the others gives those that were before
-pub as_before : (old new : FilterIndex) (ps : List Package) (p : Package) → StandsFor old ps → CanBeListed (ps ++ p ∷ [])
+pub as_before : (old new : FilterIndex) (ps : List Package) (p : Package) → StandsFor old ps
+    → CanBeListed (ps ++ p ∷ [])
     → ((key : Key) → spots_at new.lists key ≡ spots_without (spots_at old.lists key) p.uid) → ListsTheSame old new
 as_before old new ps p stands listed fewer key =
     fewer key
@@ -118,12 +137,12 @@ as_before old new ps p stands listed fewer key =
     ∙ ap (spots_under key) (without_new ps p.uid (below_last ps p (rises (ps ++ p ∷ []) listed.rising)))
     ∙ sym (stands.lists key)
 
--- what holds of the index holds where a call failed
+-- what holds of the index holds if a call failed
 pub on_err : {X E : Type 0} (r : Result X E) (P : Type 0) → P → OnErr r P
 on_err (Ok x) P p = tt
 on_err (Err e) P p = p
 
--- where a call went well the index stands for the packages with the new one
+-- if a call went well, the index represents the packages with the new one
 pub stands_with_ok : {X E : Type 0} (old new : FilterIndex) (p : Package) (r : Result X E)
     → OnOk r ((key : Key) → spots_at new.lists key ≡ spots_at old.lists key ++ spots_of_package key p)
     → OnOk r ((ps : List Package) → StandsFor old ps → CanBeListed (ps ++ p ∷ []) → StandsFor new (ps ++ p ∷ []))

@@ -10,15 +10,15 @@ use Rattle.am_model.specs.Texts.{lists}
 use Rattle.am_index.specs.Keys.{is_bare, is_typed}
 use Rattle.am_index.specs.Members.{Member, members}
 
--- what an intent without an action is tested against: without URI and type a filter that lists neither scheme nor
--- type; with a URI one that lists its scheme; with a type also one that lists no scheme and some type
+-- the filters that an intent without an action is tested against: without URI and type, those that list neither scheme
+-- nor type; with a URI, those that list its scheme; with a type, also those that list no scheme and some type
 abbrev pub in_data_group : Option Uri → Option Mime → Filter → Bool
 in_data_group None None filter = is_bare filter
 in_data_group (Some uri) None filter = lists filter.schemes uri.scheme
 in_data_group None (Some mime) filter = is_typed filter
 in_data_group (Some uri) (Some mime) filter = is_typed filter || lists filter.schemes uri.scheme
 
--- what an intent is tested against: with an action a filter that lists it, else by its data
+-- the filters that an intent is tested against: with an action those that list it, otherwise those that its data select
 abbrev pub in_group_by : Option (List ℕ) → Option Uri → Option Mime → Filter → Bool
 in_group_by (Some action) uri mime filter = lists filter.actions action
 in_group_by None uri mime filter = in_data_group uri mime filter

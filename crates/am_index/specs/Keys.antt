@@ -1,4 +1,4 @@
--- Under what components are listed: a kind, one package or every one, and what they are or their filters list.
+-- The keys that components are listed under: a kind, one package or all, and what they are or what their filters list.
 use Rattle.std.specs.Prelude.{ℕ, Bool, true, not, ◌&&◌, List, [], ◌∷◌, ◌++◌, map, Option, Some, None, if◌then◌else◌}
 use Rattle.std.specs.List.{list_any}
 use Rattle.am_types.specs.declared.device.Package.{Package}
@@ -21,7 +21,7 @@ same_group = groups.ghosts.eq
 abbrev pub same_key : Key → Key → Bool
 same_key = keys.ghosts.eq
 
--- that package is asked for, or every one is
+-- the key is for this package or for all
 abbrev pub is_for : Option (List ℕ) → List ℕ → Bool
 is_for None name = true
 is_for (Some asked) name = is_same asked name
@@ -34,15 +34,15 @@ is_bare filter = is_empty filter.schemes && is_empty filter.types
 abbrev pub is_typed : Filter → Bool
 is_typed filter = is_empty filter.schemes && not (is_empty filter.types)
 
--- some listed type has that main part
+-- some listed type has this main part
 abbrev pub lists_main : List Mime → List ℕ → Bool
 lists_main types main = list_any (λ (t : Mime). is_same t.main main) types
 
--- a filter lists no scheme and some type with that main part
+-- a filter lists no scheme and some type with this main part
 abbrev pub has_main : List ℕ → Filter → Bool
 has_main main filter = is_empty filter.schemes && lists_main filter.types main
 
--- a component is of that class, or has a filter that lists such a thing
+-- a component is of this class, or has a filter that lists such a thing
 abbrev pub is_in : Group → Decl → Bool
 is_in (Class class) decl = is_same class decl.class
 is_in (Action action) decl = list_any (λ (f : Filter). lists f.actions action) decl.filters
@@ -55,28 +55,28 @@ is_in (Main main) decl = list_any (has_main main) decl.filters
 abbrev pub is_under : Key → Package → Decl → Bool
 is_under key owner decl = is_for key.owner owner.name && is_in key.group decl
 
--- for what a type of a filter without schemes lists its component
+-- the groups under which a type of a filter without schemes lists its component
 abbrev pub type_group : Mime → Group
 type_group mime = Main mime.main
 
--- for what the types of a filter without schemes list its component, repeats included
+-- the groups under which the types of a filter without schemes list its component, repeats included
 abbrev pub groups_of_types : List Mime → List Group
 groups_of_types [] = Bare ∷ []
 groups_of_types (first ∷ others) = Typed ∷ map type_group (first ∷ others)
 
--- for what the data of a filter list its component, beside the schemes
+-- the groups under which the data of a filter list its component, apart from the schemes
 abbrev pub data_groups : Filter → List Group
 data_groups filter = if is_empty filter.schemes then groups_of_types filter.types else []
 
--- for what a filter lists its component
+-- the groups under which a filter lists its component
 abbrev pub groups_of_filter : Filter → List Group
 groups_of_filter filter = (map Action filter.actions ++ map Scheme filter.schemes) ++ data_groups filter
 
--- for what the filters list their component
+-- the groups under which the filters list their component
 abbrev pub groups_of_filters : List Filter → List Group
 groups_of_filters [] = []
 groups_of_filters (first ∷ others) = groups_of_filter first ++ groups_of_filters others
 
--- for what a component is listed, repeats included
+-- the groups under which a component is listed, repeats included
 abbrev pub groups_of : Decl → List Group
 groups_of decl = Class decl.class ∷ groups_of_filters decl.filters

@@ -20,11 +20,11 @@ spots_in (Some spots) = spots.items
 abbrev pub spots_at : {S : Type 0} → HashMap Key (Vec Spot Global) S → Key → List Spot
 spots_at lists key = spots_in (get same_key lists key)
 
--- the spots, and that one behind them if it belongs there
+-- the spots, followed by this one if it belongs there
 abbrev pub noted : Bool → Spot → List Spot → List Spot
 noted belongs spot spots = spots ++ (if belongs then spot ∷ [] else [])
 
--- a key asks for one of some groups of a component of that kind and package
+-- a key is for one of some groups of a component of this kind and package
 abbrev pub asks_for : Kind → List ℕ → List Group → Key → Bool
 asks_for kind owner groups key =
     is_kind key.kind kind && (is_for key.owner owner && list_any (same_group key.group) groups)

@@ -20,8 +20,8 @@ use Rattle.am_index.specs.declared.key.Spot.{Spot}
 use Rattle.am_index.specs.Groups.{in_group}
 use Rattle.am_index.specs.Lists.{spots_at}
 
--- the groups of a type: of the one that stands for every other all types; else those with its main part, and with the
--- one that stands for every other
+-- the groups of a type: all types if it covers every other type; otherwise the types with its main part, and those
+-- whose main part covers every other
 abbrev pub type_groups : Mime → List Group
 type_groups mime = if is_any_type mime then Typed ∷ [] else Main mime.main ∷ Main (codes "*") ∷ []
 
@@ -32,13 +32,13 @@ data_groups_for (Some uri) None = Scheme uri.scheme ∷ []
 data_groups_for None (Some mime) = type_groups mime
 data_groups_for (Some uri) (Some mime) = Scheme uri.scheme ∷ type_groups mime
 
--- the groups of an intent: of the class that it names, else of its action, else of its data
+-- the groups of an intent: of the class that it names, otherwise of its action, otherwise of its data
 abbrev pub groups_for : Option Component → Option (List ℕ) → Option Uri → Option Mime → List Group
 groups_for (Some component) action uri mime = Class component.class ∷ []
 groups_for None (Some action) uri mime = Action action ∷ []
 groups_for None None uri mime = data_groups_for uri mime
 
--- the package that an intent names, by its component or alone
+-- the package that an intent names, through its component or directly
 abbrev pub owner_of : Option Component → Option (List ℕ) → Option (List ℕ)
 owner_of (Some component) limited = Some component.«package»
 owner_of None limited = limited
@@ -53,7 +53,7 @@ keys_of kind intent =
     map (key_of kind (owner_of intent.component intent.«package»))
     (groups_for intent.component intent.action intent.uri intent.mime)
 
--- one spot stands before another: by uid, then by position
+-- one spot comes before another: by uid, then by position
 abbrev pub stands_before : Spot → Spot → Bool
 stands_before a b = nat_lt a.uid b.uid || ((a.uid == b.uid) && nat_lt a.position b.position)
 
@@ -61,17 +61,17 @@ stands_before a b = nat_lt a.uid b.uid || ((a.uid == b.uid) && nat_lt a.position
 abbrev pub same_spot : Spot → Spot → Bool
 same_spot a b = (a.uid == b.uid) && (a.position == b.position)
 
--- the first of the spots, which stand before that one
+-- the spots at the start that come before this one
 abbrev pub spots_before : Spot → List Spot → List Spot
 spots_before spot [] = []
 spots_before spot (first ∷ others) = if stands_before first spot then first ∷ spots_before spot others else []
 
--- the spots without that one, if it is the first
+-- the spots without this one, if it is the first
 abbrev pub without_first : Spot → List Spot → List Spot
 without_first spot [] = []
 without_first spot (first ∷ others) = if same_spot first spot then others else first ∷ others
 
--- the spots behind those before that one, without it
+-- the spots after those that come before this one, without it
 abbrev pub spots_after : Spot → List Spot → List Spot
 spots_after spot [] = []
 spots_after spot (first ∷ others) =
@@ -91,12 +91,12 @@ with_keys lists spots (first ∷ others) = with_keys lists (merged spots (spots_
 abbrev pub spots_for : {S : Type 0} → HashMap Key (Vec Spot Global) S → Kind → Intent → List Spot
 spots_for lists kind intent = with_keys lists [] (keys_of kind intent)
 
--- the priority with which the intent finds a component that is listed under its key
+-- the priority with which the intent finds a component that is listed under one of its keys
 abbrev pub priority_found : Option Component → Kind → Intent → Bool → Decl → Option ℤ
 priority_found (Some component) kind intent need_default decl = Some (pos 0)
 priority_found None kind intent need_default decl = priority_of kind intent need_default decl.filters
 
--- how many tests finding that takes
+-- how many tests it takes to find that
 abbrev pub cost_found : Option Component → Intent → Decl → ℕ
 cost_found (Some component) intent decl = 0
 cost_found None intent decl = count_by (in_group intent) decl.filters
@@ -115,7 +115,8 @@ hit_in _ _ place kind intent need_default = []
 -- what the intent finds at a spot
 abbrev pub hit_of_spot : List Package → Kind → Intent → Bool → Spot → List Hit
 hit_of_spot packages kind intent need_default spot =
-    hit_in (package_at packages spot.uid) (decl_in (package_at packages spot.uid) spot.position) spot.place kind intent need_default
+    hit_in (package_at packages spot.uid) (decl_in (package_at packages spot.uid) spot.position) spot.place kind intent
+    need_default
 
 -- what the intent finds at some spots
 abbrev pub hits_of_spots : List Package → Kind → Intent → Bool → List Spot → List Hit
@@ -135,4 +136,5 @@ cost_of_spot packages intent spot = cost_in (decl_in (package_at packages spot.u
 -- how many tests some spots take
 abbrev pub cost_of_spots : List Package → Intent → List Spot → ℕ
 cost_of_spots packages intent [] = 0
-cost_of_spots packages intent (first ∷ others) = cost_of_spot packages intent first + cost_of_spots packages intent others
+cost_of_spots packages intent (first ∷ others) = cost_of_spot packages intent first + cost_of_spots packages intent
+    others

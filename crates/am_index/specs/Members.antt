@@ -1,4 +1,4 @@
--- The enabled components of a kind with the places where they stand.
+-- The enabled components of a kind with their spots.
 use Rattle.std.specs.Prelude.{ℕ, ◌+◌, Bool, not, ◌==◌, List, [], ◌∷◌, ◌++◌, filter, if◌then◌else◌}
 use Rattle.am_types.specs.declared.device.Package.{Package}
 use Rattle.am_types.specs.declared.manifest.Decl.{Decl}
@@ -15,13 +15,14 @@ pub record Member : Type 0 where
   pub place : ℕ
   pub decl : Decl
 
--- the enabled components of a kind among those from that position and place on
+-- the enabled components of a kind among those from this position and place on
 abbrev pub members_from : Kind → Package → ℕ → ℕ → List Decl → List Member
 members_from kind owner position place [] = []
 members_from kind owner position place (first ∷ others) =
     if is_kind kind first.kind
     then (if first.enabled
-    then record { owner = owner; position = position; place = place; decl = first } ∷ members_from kind owner (position + 1) (place + 1) others
+    then record { owner = owner; position = position; place = place; decl = first }
+    ∷ members_from kind owner (position + 1) (place + 1) others
     else members_from kind owner (position + 1) (place + 1) others)
     else members_from kind owner (position + 1) place others
 
@@ -30,21 +31,22 @@ abbrev pub members : Kind → List Package → List Member
 members kind [] = []
 members kind (first ∷ others) = members_from kind first 0 0 first.decls ++ members kind others
 
--- where a component stands
+-- the spot of a component
 abbrev pub spot_of : Member → Spot
 spot_of m = record { uid = m.owner.uid; position = m.position; place = m.place }
 
--- where those components stand that pass a test
+-- the spots of those components that pass a test
 abbrev pub spots_where : (Member → Bool) → List Member → List Spot
 spots_where test [] = []
-spots_where test (first ∷ others) = if test first then spot_of first ∷ spots_where test others else spots_where test others
+spots_where test (first ∷ others) = if test first then spot_of first
+    ∷ spots_where test others else spots_where test others
 
--- where the components of a package stand that are listed under a key
+-- the spots of the components of a package that are listed under a key
 abbrev pub spots_of_package : Key → Package → List Spot
 spots_of_package key owner =
     spots_where (λ m. is_under key m.owner m.decl) (members_from key.kind owner 0 0 owner.decls)
 
--- where the components stand that are listed under a key
+-- the spots of the components that are listed under a key
 abbrev pub spots_under : Key → List Package → List Spot
 spots_under key packages = spots_where (λ m. is_under key m.owner m.decl) (members key.kind packages)
 

@@ -82,7 +82,7 @@ fn decl_at(decls: &List<Decl>, position: usize) -> Option<&Decl>
     decls.as_slice().get(position)
 }
 
-/// Adds the component at that place, with that priority.
+/// Adds the component at this place, with this priority.
 fn push_hit(
     found: &mut Vec<Hit>,
     owner: &Package,
@@ -106,7 +106,7 @@ fn push_hit(
     Ok(())
 }
 
-/// With which priority the intent finds a component that is listed for it.
+/// The priority with which the intent finds a component that is listed for it.
 fn priority_found<L: Ledger>(
     kind: Kind,
     intent: &Intent,
@@ -123,8 +123,8 @@ fn priority_found<L: Ledger>(
     }
 }
 
-/// The greatest priority of the filters that the intent passes; none where it passes none. Only
-/// those of the intent's group are tested.
+/// The greatest priority of the filters that the intent passes; none if it passes none. Only
+/// filters of the intent's group are tested.
 fn priority_of<L: Ledger>(
     kind: Kind,
     intent: &Intent,
@@ -219,7 +219,7 @@ pub fn counted_priority(kind: Kind, priority: i32) -> i32
     }
 }
 
-/// The greater of a priority and of another, if there is one.
+/// The greater of a priority and another one, if there is one.
 pub fn greatest(priority: i32, other: Option<i32>) -> i32
     ensures { result ≡ greatest priority other }
 {
@@ -229,7 +229,7 @@ pub fn greatest(priority: i32, other: Option<i32>) -> i32
     }
 }
 
-/// The hits by falling priority; where it ties the order stays.
+/// The hits by falling priority; hits of equal priority keep their order.
 pub(crate) fn by_priority(mut found: Vec<Hit>) -> Result<List<Hit>, NoMemory>
     ensures { IfOk result (λ hits. hits ≡ by_priority found.items) }
 {

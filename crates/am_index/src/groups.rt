@@ -1,4 +1,4 @@
-//! For what a component is listed.
+//! The groups under which a component is listed.
 ghost use Rattle.std.specs.Prelude.{◌≡◌, ◌++◌, OnOk, IfOk, map};
 ghost use Rattle.am_index.specs.declared.key.Group.TheVariants.{Action, Scheme};
 ghost use Rattle.am_index.specs.Keys.{data_groups, groups_of, groups_of_filter, groups_of_types, type_group};
@@ -46,7 +46,7 @@ fn add_schemes(groups: &mut Vec<Group>, schemes: &List<Text>) -> Result<(), NoMe
     Ok(())
 }
 
-/// Adds what the data of a filter list, beside the schemes.
+/// Adds what the data of a filter list, apart from the schemes.
 fn add_data(groups: &mut Vec<Group>, filter: &Filter) -> Result<(), NoMemory>
     ensures { OnOk result (groups.new.items ≡ groups.old.items ++ data_groups filter.now) }
 {
@@ -56,7 +56,7 @@ fn add_data(groups: &mut Vec<Group>, filter: &Filter) -> Result<(), NoMemory>
     Ok(())
 }
 
-/// Adds that a filter without schemes lists no type, or which main parts its types have.
+/// Adds whether a filter without schemes lists no type, or which main parts its types have.
 fn add_types(groups: &mut Vec<Group>, types: &List<Mime>) -> Result<(), NoMemory>
     ensures { OnOk result (groups.new.items ≡ groups.old.items ++ groups_of_types types.now) }
 {

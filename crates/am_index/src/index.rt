@@ -1,4 +1,4 @@
-//! The index, and the packages for which it stands.
+//! The index, and the packages that it represents.
 ghost use Rattle.std.specs.Prelude.{◌≡◌, ◌∷◌, ◌++◌, [], List as Items, ◌+◌, ◌≤◌, IfOk, IsSome, OnOk, OnErr};
 ghost use Rattle.am_types.specs.declared.device.Package.{Package};
 ghost use Rattle.am_model.specs.Boards.{without_package};
@@ -14,7 +14,7 @@ use std::alloc::Global;
 use std::collections::HashMap;
 use std::sync::ledger::Ledger;
 
-/// Where the enabled components of packages stand, by their names and by what their filters list:
+/// Where the enabled components of packages are, by their names and by what their filters list:
 /// action, scheme and type.
 #[derive(Drop)]
 pub struct FilterIndex {
@@ -23,7 +23,7 @@ pub struct FilterIndex {
 }
 
 impl FilterIndex {
-    /// The index that stands for the packages, as those of a sound device: in the order of their
+    /// The index of the packages, which are like those of a sound device: in the order of their
     /// uids, each with at most 256 components.
     pub fn build(alloc: Global, packages: &List<Package>) -> Result<FilterIndex, NoMemory>
         requires { CanBeListed packages.now }
@@ -36,8 +36,8 @@ impl FilterIndex {
         Ok(FilterIndex { lists, alloc })
     }
 
-    /// Adds a package behind those for which the index stands: its uid is greater than every uid
-    /// there, and it has at most 256 components. Without memory the index is as before.
+    /// Adds a package after those in the index: its uid is greater than every uid
+    /// there, and it has at most 256 components. If memory runs out, the index doesn't change.
     pub fn add(&mut self, package: &Package) -> Result<(), NoMemory>
         requires { CanTake self.old «package».now }
         ensures added { OnOk result
@@ -56,7 +56,7 @@ impl FilterIndex {
         noted
     }
 
-    /// Takes out the package of the uid, if there is one. Takes no memory.
+    /// Removes the package of the uid, if there is one. Takes no memory.
     pub fn drop_uid(&mut self, uid: u32)
         ensures { (packages : Items Package) →
             StandsFor self.old packages →
@@ -65,10 +65,10 @@ impl FilterIndex {
         drop_spots(&mut self.lists, uid);
     }
 
-    /// The components of the kind that the intent finds in the packages for which the index stands,
+    /// The components of the kind that the intent finds in the packages of the index,
     /// by falling priority, then uid, then place. With `need_default` a filter must list the
     /// default category. Each full test of a filter is a step: at most as many as the intent's
-    /// group has filters, and none where the intent names a component.
+    /// group has filters, and none if the intent names a component.
     pub fn candidates<L: Ledger>(
         &self,
         alloc: Global,

@@ -1,10 +1,10 @@
-//! Under what components are listed, and where they stand.
+//! The keys that components are listed under, and the spots where they are.
 ghost use Rattle.std.specs.Prelude.{◌≡◌};
 
 use am_types::{Kind, Text};
 use std::alloc::AllocError;
 
-/// What a component is, or what a filter of it lists.
+/// What a component is, or what one of its filters lists.
 #[derive(Drop, PartialEq, Eq, Hash)]
 pub(crate) enum Group {
     /// It has this class.
@@ -21,16 +21,16 @@ pub(crate) enum Group {
     Main(Text),
 }
 
-/// A kind, one package or every one, and a group.
+/// A kind, one package or all, and a group.
 #[derive(Drop, PartialEq, Eq, Hash)]
 pub(crate) struct Key {
     pub(crate) kind: Kind,
-    /// The name of the package; none for every one.
+    /// The name of the package; none for all packages.
     pub(crate) owner: Option<Text>,
     pub(crate) group: Group,
 }
 
-/// Where a component stands.
+/// Where a component is.
 #[derive(Clone, Copy)]
 pub(crate) struct Spot {
     /// The uid of its package.

@@ -1,4 +1,4 @@
-//! The lists of an index: which spots stand under which keys.
+//! The lists of an index: which spots are under which keys.
 ghost use Rattle.std.specs.Prelude.{◌≡◌, ◌&&◌, ◌++◌, ◌≤◌, [], length, not, if◌then◌else◌, OnOk};
 ghost use Rattle.am_model.specs.Filters.{is_empty};
 ghost use Rattle.am_index.specs.declared.key.Key.{Key};
@@ -16,7 +16,7 @@ use std::collections::HashMap;
 /// The lists by their keys.
 pub(crate) type Lists = HashMap<Key, Vec<Spot>>;
 
-/// Adds a spot to the list under a key. Without memory the lists are as before.
+/// Adds a spot to the list under a key. If memory runs out, the lists don't change.
 pub(crate) fn note(alloc: Global, lists: &mut Lists, key: Key, spot: Spot) -> Result<(), NoMemory>
     ensures noted { OnOk result
         ((k : Key) → spots_at lists.new k ≡ noted (same_key k key) spot (spots_at lists.old k)) }
@@ -33,7 +33,7 @@ pub(crate) fn note(alloc: Global, lists: &mut Lists, key: Key, spot: Spot) -> Re
     Ok(())
 }
 
-/// Adds a spot to the lists of a group: of every package, and of its own.
+/// Adds a spot to the lists of a group: the one for all packages, and the one for its own package.
 fn note_group(
     alloc: Global,
     lists: &mut Lists,
@@ -160,14 +160,14 @@ pub(crate) fn note_package(
     Ok(())
 }
 
-/// Takes the spots of a uid out of all lists, and the lists that are then empty. Takes no memory.
+/// Removes the spots of a uid from all lists, and removes the lists that are then empty. Takes no memory.
 pub(crate) fn drop_spots(lists: &mut Lists, uid: u32)
     ensures { (key : Key) → spots_at lists.new key ≡ spots_without (spots_at lists.old key) uid }
 {
     lists.retain(|_key, spots| keep_others(spots, uid));
 }
 
-/// Takes the spots of a uid out of a list, and tells whether some are left. Takes no memory.
+/// Removes the spots of a uid from a list, and returns whether some are left. Takes no memory.
 fn keep_others(spots: &mut Vec<Spot>, uid: u32) -> bool
     ensures spots { spots.new.items ≡ spots_without spots.old.items uid }
     ensures some { result ≡ not (is_empty spots.new.items) }

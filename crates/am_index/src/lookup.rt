@@ -1,4 +1,4 @@
-//! Which keys an intent asks for, and what is listed there.
+//! Which keys an intent asks for, and what is listed under them.
 ghost use Rattle.std.specs.Prelude.{◌≡◌, ◌++◌, codes, IfOk, OnOk};
 ghost use Rattle.am_index.specs.Lists.{spots_at};
 ghost use Rattle.am_index.specs.Lookups.{data_groups_for, groups_for, key_of, keys_of, owner_of, spots_for, type_groups};
@@ -59,7 +59,7 @@ fn key_of(kind: Kind, owner: &Option<Text>, group: &Group) -> Result<Key, AllocE
     Ok(Key { kind, owner, group })
 }
 
-/// The package that an intent names, by its component or alone.
+/// The package that an intent names, through its component or directly.
 fn owner_of(
     component: &Option<Component>,
     limited: &Option<Text>,
@@ -73,7 +73,7 @@ fn owner_of(
     }
 }
 
-/// The groups of an intent: of the class that it names, else of its action, else of its data.
+/// The groups of an intent: of the class that it names, otherwise of its action, otherwise of its data.
 fn groups_for(alloc: Global, intent: &Intent) -> Result<Vec<Group>, NoMemory>
     ensures { IfOk result
         (λ groups. groups.items ≡ groups_for intent.now.component intent.now.action intent.now.uri intent.now.mime) }
@@ -108,8 +108,8 @@ fn add_data(
     Ok(())
 }
 
-/// Adds the groups of a type: all types where it stands for every other, else those with its main
-/// part, and with the one that stands for every other.
+/// Adds the groups of a type: all types if it covers every other type; otherwise the types with its
+/// main part, and those whose main part covers every other.
 fn add_type(alloc: Global, groups: &mut Vec<Group>, mime: &Mime) -> Result<(), NoMemory>
     ensures { OnOk result (groups.new.items ≡ groups.old.items ++ type_groups mime.now) }
 {

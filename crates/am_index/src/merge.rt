@@ -1,4 +1,4 @@
-//! The spots of two lists in one.
+//! Merges the spots of two lists into one.
 ghost use Rattle.std.specs.Prelude.{◌≡◌, IfOk};
 ghost use Rattle.am_index.specs.Lookups.{merged, same_spot, spots_after, spots_before, stands_before, without_first};
 
@@ -22,7 +22,7 @@ pub(crate) fn merged(alloc: Global, spots: &[Spot], others: &[Spot]) -> Result<V
     Ok(all)
 }
 
-/// Those before a spot, and those behind it.
+/// The spots before this one, and the spots after it.
 fn parted(others: &[Spot], spot: Spot) -> (&[Spot], &[Spot])
     ensures before { result.0.now ≡ spots_before spot others.now }
     ensures after { result.1.now ≡ spots_after spot others.now }
@@ -36,7 +36,7 @@ fn parted(others: &[Spot], spot: Spot) -> (&[Spot], &[Spot])
     (others, &[])
 }
 
-/// The spots without that one, if it is the first.
+/// The spots without this one, if it is the first.
 fn without_first(spots: &[Spot], spot: Spot) -> &[Spot]
     ensures { result.now ≡ without_first spot spots.now }
 {
@@ -46,14 +46,14 @@ fn without_first(spots: &[Spot], spot: Spot) -> &[Spot]
     }
 }
 
-/// One spot stands before another: by uid, then by position.
+/// One spot comes before another: by uid, then by position.
 fn stands_before(a: Spot, b: Spot) -> bool
     ensures { result ≡ stands_before a b }
 {
     a.uid < b.uid || (a.uid == b.uid && a.position < b.position)
 }
 
-/// The two spots are of one component.
+/// The two spots are of the same component.
 fn same_spot(a: Spot, b: Spot) -> bool
     ensures { result ≡ same_spot a b }
 {

@@ -16,45 +16,59 @@ use Rattle.am_installed.specs.Installed.{IsInOrder}
 use Rattle.am_installed.specs.Places.{AreByNumber, before_registered, place_registered}
 
 -- grants stay in order when some go
-pub fewer_grants : (p : Grant → Bool) (gs : List Grant) → IsStrictlySortedBy right_cmp (rights_granted gs) → IsStrictlySortedBy right_cmp (rights_granted (filter p gs))
+pub fewer_grants : (p : Grant → Bool) (gs : List Grant) → IsStrictlySortedBy right_cmp (rights_granted gs)
+    → IsStrictlySortedBy right_cmp (rights_granted (filter p gs))
 fewer_grants p gs sorted = fewer_in_order of_grant p gs sorted
 
 -- and links
-pub fewer_links : (p : Link → Bool) (ls : List Link) → IsStrictlySortedBy right_cmp (rights_approved ls) → IsStrictlySortedBy right_cmp (rights_approved (filter p ls))
+pub fewer_links : (p : Link → Bool) (ls : List Link) → IsStrictlySortedBy right_cmp (rights_approved ls)
+    → IsStrictlySortedBy right_cmp (rights_approved (filter p ls))
 fewer_links p ls sorted = fewer_in_order of_link p ls sorted
 
 -- grants stay in order when one is given or taken away
 pub grants_in_order : (grants : List Grant) (uid : ℕ) (permission : List ℕ) (held : Bool)
-    → IsStrictlySortedBy right_cmp (rights_granted grants) → IsStrictlySortedBy right_cmp (rights_granted (with_grant grants uid permission held))
-grants_in_order grants uid permission held sorted = with_in_order of_grant grant_of (λ u t. refl) grants uid permission held sorted
+    → IsStrictlySortedBy right_cmp (rights_granted grants) → IsStrictlySortedBy right_cmp
+    (rights_granted (with_grant grants uid permission held))
+grants_in_order grants uid permission held sorted = with_in_order of_grant grant_of (λ u t. refl) grants uid permission
+    held sorted
 
 -- and links
 pub links_in_order : (links : List Link) (uid : ℕ) (host : List ℕ) (approved : Bool)
-    → IsStrictlySortedBy right_cmp (rights_approved links) → IsStrictlySortedBy right_cmp (rights_approved (with_link links uid host approved))
-links_in_order links uid host approved sorted = with_in_order of_link link_of (λ u t. refl) links uid host approved sorted
+    → IsStrictlySortedBy right_cmp (rights_approved links) → IsStrictlySortedBy right_cmp
+    (rights_approved (with_link links uid host approved))
+links_in_order links uid host approved sorted = with_in_order of_link link_of (λ u t. refl) links uid host approved
+    sorted
 
-no_less_all : (n m : ℕ) (rs : List Registration) → n ≤ m → AllByRecursion (λ (s : Registration). m ≤ s.number) rs → AllByRecursion (λ (s : Registration). n ≤ s.number) rs
+no_less_all : (n m : ℕ) (rs : List Registration) → n ≤ m → AllByRecursion (λ (s : Registration). m ≤ s.number) rs
+    → AllByRecursion (λ (s : Registration). n ≤ s.number) rs
 no_less_all n m [] h a = tt
 no_less_all n m (s ∷ rs) h a = (let k : m ≤ s.number = a.0 in omega (arith, h, k), no_less_all n m rs h a.1)
 
 -- registered receivers stay in order when one comes
-pub registered_in_order : (r : Registration) (rs : List Registration) → AreByNumber rs → AreByNumber (place_registered r rs)
+pub registered_in_order : (r : Registration) (rs : List Registration) → AreByNumber rs
+    → AreByNumber (place_registered r rs)
 registered_in_order r [] sorted = (tt, tt)
 registered_in_order r (s ∷ rs) sorted = by (ltb r.number s.number) refl (registered_in_order r rs sorted.1)
   where
-    by : (b : Bool) → ltb r.number s.number ≡ b → AreByNumber (place_registered r rs) → AreByNumber (cond b (r ∷ s ∷ rs) (s ∷ place_registered r rs))
+    by : (b : Bool) → ltb r.number s.number ≡ b → AreByNumber (place_registered r rs)
+        → AreByNumber (cond b (r ∷ s ∷ rs) (s ∷ place_registered r rs))
     by true e rest =
         let lower : r.number < s.number = ltb-true r.number s.number e in
         let no_greater : r.number ≤ s.number = omega (arith, lower) in
         ((no_greater, no_less_all r.number s.number rs no_greater sorted.0), sorted)
-    by false e rest = (all_inserted before_registered (λ (t : Registration). s.number ≤ t.number) r rs (ltb-false r.number s.number e) sorted.0, rest)
+    by false e rest = (
+      all_inserted before_registered (λ (t : Registration). s.number ≤ t.number) r rs
+          (ltb-false r.number s.number e) sorted.0,
+      rest,
+    )
 
 -- and when some go
 pub fewer_registered : (p : Registration → Bool) (rs : List Registration) → AreByNumber rs → AreByNumber (filter p rs)
 fewer_registered p rs sorted = ascends_by_left (λ (first r : Registration). first.number ≤ r.number) p rs sorted
 
--- and so does all else that is installed
-pub in_order_left : (board : Board) (keeps : Registration → Bool) → IsInOrder board → IsInOrder (record board { registered = filter keeps board.registered })
+-- and so does everything else that is installed
+pub in_order_left : (board : Board) (keeps : Registration → Bool) → IsInOrder board
+    → IsInOrder (record board { registered = filter keeps board.registered })
 in_order_left board keeps order = record {
   packages = order.packages;
   grants = order.grants;
@@ -63,6 +77,7 @@ in_order_left board keeps order = record {
 }
 
 -- what holds of both outcomes of a change holds after it
-pub whatever : {T E X : Type 0} (P : X → Type 0) (r : Result T E) (old new changed : X) → OnOk r (new ≡ changed) → OnErr r (new ≡ old) → P old → P changed → P new
+pub whatever : {T E X : Type 0} (P : X → Type 0) (r : Result T E) (old new changed : X) → OnOk r (new ≡ changed)
+    → OnErr r (new ≡ old) → P old → P changed → P new
 whatever P (Ok x) old new changed ok err before after = subst P (sym ok) after
 whatever P (Err e) old new changed ok err before after = subst P (sym err) before

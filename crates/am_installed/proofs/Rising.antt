@@ -16,7 +16,7 @@ abbrev pub Above : ℕ → List Package → Type 0
 Above uid [] = Unit {0}
 Above uid (p ∷ ps) = (uid < p.uid) × Above uid ps
 
--- each uid is below those behind it
+-- each uid is below those after it
 abbrev pub Rises : List Package → Type 0
 Rises [] = Unit {0}
 Rises (p ∷ ps) = Above p.uid ps × Rises ps
@@ -60,19 +60,24 @@ apart a b h false e = refl
 pub without_new : (ps : List Package) (uid : ℕ) → Below ps uid → without_package ps uid ≡ ps
 without_new [] uid b = refl
 without_new (p ∷ ps) uid b =
-    ap (λ t. cond (not t) (p ∷ without_package ps uid) (without_package ps uid)) (apart p.uid uid b.0 (eqb p.uid uid) refl)
+    ap (λ t. cond (not t) (p ∷ without_package ps uid) (without_package ps uid))
+    (apart p.uid uid b.0 (eqb p.uid uid) refl)
     ∙ ap (λ l. p ∷ l) (without_new ps uid b.1)
 
-uids_without : (ps : List Package) (uid : ℕ) → uids_of (without_package ps uid) ≡ filter (λ u. not (eqb u uid)) (uids_of ps)
+uids_without : (ps : List Package) (uid : ℕ) → uids_of (without_package ps uid)
+    ≡ filter (λ u. not (eqb u uid)) (uids_of ps)
 uids_without [] uid = refl
 uids_without (p ∷ ps) uid = by (not (eqb p.uid uid)) (uids_without ps uid)
   where
     by : (b : Bool) → uids_of (without_package ps uid) ≡ filter (λ u. not (eqb u uid)) (uids_of ps)
-        → uids_of (cond b (p ∷ without_package ps uid) (without_package ps uid)) ≡ cond b (p.uid ∷ filter (λ u. not (eqb u uid)) (uids_of ps)) (filter (λ u. not (eqb u uid)) (uids_of ps))
+        → uids_of (cond b (p ∷ without_package ps uid) (without_package ps uid))
+        ≡ cond b (p.uid ∷ filter (λ u. not (eqb u uid)) (uids_of ps)) (filter (λ u. not (eqb u uid)) (uids_of ps))
     by true e = ap (λ l. p.uid ∷ l) e
     by false e = e
 
 -- packages rise without one of them
-pub increasing_without : (ps : List Package) (uid : ℕ) → IsStrictlyIncreasing (uids_of ps) → IsStrictlyIncreasing (uids_of (without_package ps uid))
+pub increasing_without : (ps : List Package) (uid : ℕ) → IsStrictlyIncreasing (uids_of ps)
+    → IsStrictlyIncreasing (uids_of (without_package ps uid))
 increasing_without ps uid up =
-    subst (λ (l : List ℕ). IsStrictlyIncreasing l) (sym (uids_without ps uid)) (IsStrictlyIncreasing-filter (λ u. not (eqb u uid)) (uids_of ps) up)
+    subst (λ (l : List ℕ). IsStrictlyIncreasing l) (sym (uids_without ps uid))
+    (IsStrictlyIncreasing-filter (λ u. not (eqb u uid)) (uids_of ps) up)

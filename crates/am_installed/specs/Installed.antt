@@ -1,4 +1,4 @@
--- What holds of what is installed at every moment.
+-- What always holds of the installed things.
 use Rattle.std.specs.Prelude.{◌≤◌, List, length, All}
 use Rattle.std.specs.List.{IsDistinct}
 use Rattle.std.specs.List.Sorted.{IsStrictlyIncreasing, IsStrictlySortedBy}
@@ -15,7 +15,7 @@ pub record IsInstalled (p : Package) : Type 0 where
   pub few : length p.decls ≤ 256
   pub classes : AreDistinct (classes_of p.decls)
 
--- packages of distinct names in rising order of their uids
+-- packages of distinct names, with rising uids
 pub record AreInstalled (packages : List Package) : Type 0 where
   pub rising : IsStrictlyIncreasing (uids_of packages)
   pub names : AreDistinct (names_of packages)
@@ -29,14 +29,14 @@ AreGrantsInOrder grants = IsStrictlySortedBy right_cmp (rights_granted grants)
 abbrev pub AreLinksInOrder : List Link → Type 0
 AreLinksInOrder links = IsStrictlySortedBy right_cmp (rights_approved links)
 
--- packages, grants, links and registered receivers stand in their orders
+-- packages, grants, links and registered receivers are in their orders
 pub record IsInOrder (board : Board) : Type 0 where
   pub packages : AreInstalled board.packages
   pub grants : AreGrantsInOrder board.grants
   pub links : AreLinksInOrder board.links
   pub registered : AreByNumber board.registered
 
--- packages of a sound device are installed
+-- the packages of a sound device are installed
 pub sound_are_installed : (device : Device) → IsSound device → AreInstalled device.packages
 unfolding IsDistinct
 sound_are_installed device sound = record {
@@ -45,7 +45,7 @@ sound_are_installed device sound = record {
   each = λ k d h. record { few = (sound.packages.each k d h).few; classes = (sound.packages.each k d h).classes };
 }
 
--- what a sound device has stands in order
+-- what a sound device has is in order
 pub sound_in_order : (device : Device) → IsSound device → IsInOrder (board_of device)
 sound_in_order device sound = record {
   packages = sound_are_installed device sound;

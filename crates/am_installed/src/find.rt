@@ -1,4 +1,4 @@
-//! Where packages and their components are found.
+//! Finds packages and their components.
 ghost use Rattle.std.specs.Prelude.{◌≡◌, option_copied};
 ghost use Rattle.std.specs.Option.{option_map};
 ghost use Rattle.std.specs.List.Sorted.{IsStrictlyIncreasing};
@@ -11,7 +11,7 @@ use am_types::{Component, Decl, Kind, List, Package, SYSTEM, Text};
 /// The name of the system's package.
 const SYSTEM_NAME: &str = "android";
 
-/// The package of the uid, if there is one, by halving: packages stand in the order of their uids.
+/// The package of the uid, if there is one, by halving: packages are in the order of their uids.
 /// Takes no memory.
 pub fn package_at(packages: &List<Package>, uid: u32) -> Option<&Package>
     requires { IsStrictlyIncreasing (uids_of packages.now) }
@@ -24,7 +24,7 @@ pub fn package_at(packages: &List<Package>, uid: u32) -> Option<&Package>
     }
 }
 
-/// The package of the name, if there is one. Takes no memory.
+/// The package with this name, if there is one. Takes no memory.
 pub(crate) fn package_named<'a>(packages: &'a List<Package>, name: &Text) -> Option<&'a Package>
     ensures { option_copied result ≡ package_named packages.now name.now }
 {
@@ -36,7 +36,7 @@ pub(crate) fn package_named<'a>(packages: &'a List<Package>, name: &Text) -> Opt
     None
 }
 
-/// The uid of the caller of that name, if there is one: a package, or `android`, which is the system.
+/// The uid of the caller with this name, if there is one: a package, or `android`, which is the system.
 /// Takes no memory.
 pub fn caller_named(packages: &List<Package>, name: &Text) -> Option<u32>
     ensures { result ≡ caller_of packages.now name.now }
@@ -47,7 +47,7 @@ pub fn caller_named(packages: &List<Package>, name: &Text) -> Option<u32>
     uid_named(packages, name)
 }
 
-/// The uid of the package of that name, if there is one. Takes no memory.
+/// The uid of the package with this name, if there is one. Takes no memory.
 pub fn uid_named(packages: &List<Package>, name: &Text) -> Option<u32>
     ensures { result ≡ uid_named packages.now name.now }
 {
@@ -72,7 +72,7 @@ pub fn decl_in<'a>(kind: Kind, class: &Text, decls: &'a List<Decl>) -> Option<&'
     None
 }
 
-/// An enabled component of a kind with the uid of its package, if there is one. Takes no memory.
+/// An enabled component of a kind, in the package of a uid, if there is one. Takes no memory.
 pub fn declared<'a>(
     packages: &'a List<Package>,
     kind: Kind,

@@ -54,7 +54,7 @@ impl Model for Installed {
 }
 
 impl Installed {
-    /// What a device, such as a sound one, has before anything happened. Takes no memory.
+    /// What a device, such as a sound one, has before anything has happened. Takes no memory.
     pub fn from_device(alloc: Global, device: Device) -> Self
         requires { IsInOrder (board_of device) }
         ensures { result ≡ board_of device }
@@ -143,7 +143,7 @@ impl Installed {
         find::package_at(&self.packages, uid)
     }
 
-    /// The package of the name, if there is one. Takes no memory.
+    /// The package with this name, if there is one. Takes no memory.
     pub fn package_named(&self, name: &Text) -> Option<&Package>
         ensures { option_copied result ≡ package_named self.now.packages name.now }
     {
@@ -157,8 +157,8 @@ impl Installed {
         find::declared(&self.packages, kind, component)
     }
 
-    /// Installs a package behind the others: its uid is greater than every uid there, its name is
-    /// new, and it has at most 256 components, of distinct classes. Without memory all is as before.
+    /// Installs a package after the others: its uid is greater than every uid there, its name is
+    /// new, and it has at most 256 components, of distinct classes. If memory runs out, nothing changes.
     pub fn add_package(&mut self, package: Package) -> Result<(), NoMemory>
         requires { AreInstalled (self.old.packages ++ «package» ∷ []) }
         ensures added { OnOk result (self.new ≡ record self.old { packages = self.old.packages ++ «package» ∷ [] }) }
@@ -170,7 +170,7 @@ impl Installed {
         added
     }
 
-    /// Takes the package of the uid out, and nothing else. Takes no memory.
+    /// Removes the package of the uid, and nothing else. Takes no memory.
     pub fn drop_package(&mut self, uid: u32)
         ensures { self.new ≡ record self.old { packages = without_package self.old.packages uid } }
     {
@@ -179,7 +179,7 @@ impl Installed {
         self.packages = List::new(packages);
     }
 
-    /// The package of the uid is stopped, or isn't any more. Takes no memory.
+    /// Makes the package of the uid stopped, or no longer stopped. Takes no memory.
     pub fn set_stopped(&mut self, uid: u32, stopped: bool)
         ensures { self.new ≡ record self.old { packages = with_stopped self.old.packages uid stopped } }
     {
@@ -188,8 +188,8 @@ impl Installed {
         self.packages = List::new(packages);
     }
 
-    /// The uid holds the permission, or doesn't any more; taking it away takes no memory. Without
-    /// memory all is as before.
+    /// Grants the permission to the uid, or takes it away; taking it away takes no memory. If memory
+    /// runs out, nothing changes.
     pub fn set_grant(&mut self, uid: u32, permission: &Text, held: bool) -> Result<(), NoMemory>
         ensures set { OnOk result (self.new ≡ record self.old { grants = with_grant self.old.grants uid permission.now held }) }
         ensures same { OnErr result (self.new ≡ self.old) }
@@ -201,8 +201,8 @@ impl Installed {
         set
     }
 
-    /// The uid is approved for the host, or isn't any more; taking it away takes no memory. Without
-    /// memory all is as before.
+    /// Approves the uid for the host, or takes the approval away; taking it away takes no memory. If memory
+    /// runs out, nothing changes.
     pub fn set_link(&mut self, uid: u32, host: &Text, approved: bool) -> Result<(), NoMemory>
         ensures set { OnOk result (self.new ≡ record self.old { links = with_link self.old.links uid host.now approved }) }
         ensures same { OnErr result (self.new ≡ self.old) }
@@ -214,7 +214,7 @@ impl Installed {
         set
     }
 
-    /// Takes the grants and the links of the uid out. Takes no memory.
+    /// Removes the grants and the links of the uid. Takes no memory.
     pub fn drop_rights(&mut self, uid: u32)
         ensures { self.new ≡ record self.old { grants = grants_without self.old.grants uid; links = links_without self.old.links uid } }
     {
@@ -226,7 +226,7 @@ impl Installed {
         self.links = List::new(links);
     }
 
-    /// Registers a receiver, in its place by number. Without memory all is as before.
+    /// Registers a receiver, in its place by number. If memory runs out, nothing changes.
     pub fn register(&mut self, registration: Registration) -> Result<(), NoMemory>
         ensures registered { OnOk result (self.new ≡ record self.old { registered = place_registered registration self.old.registered }) }
         ensures same { OnErr result (self.new ≡ self.old) }
@@ -237,7 +237,7 @@ impl Installed {
         put
     }
 
-    /// Takes the registered receiver of the number out. Takes no memory.
+    /// Removes the registered receiver with this number. Takes no memory.
     pub fn unregister(&mut self, number: u64)
         ensures { self.new ≡ record self.old { registered = filter (λ (r : Registration). not (r.number == number)) self.old.registered } }
     {
@@ -246,7 +246,7 @@ impl Installed {
         self.registered = List::new(registered);
     }
 
-    /// Takes the registered receivers of the uid out; the others stay in their order. Takes no memory.
+    /// Removes the registered receivers of the uid; the others stay in their order. Takes no memory.
     pub fn unregister_uid(&mut self, uid: u32)
         ensures { self.new ≡ record self.old { registered = registered_without self.old.registered uid } }
     {

@@ -1,4 +1,4 @@
-//! Packages and registered receivers as they come and go.
+//! Adds and removes packages and registered receivers.
 ghost use Rattle.std.specs.Prelude.{◌≡◌, ◌∷◌, ◌++◌, [], not, ◌==◌, if◌then◌else◌, OnOk, OnErr, filter};
 ghost use Rattle.am_model.specs.Boards.{registered_without, with_stopped, without_package};
 ghost use Rattle.am_model.specs.Lists.{place_of};
@@ -17,7 +17,7 @@ pub fn take<T>(list: &mut List<T>, alloc: Global) -> Vec<T>
     mem::replace(list, List::new(Vec::new(alloc))).into_items()
 }
 
-/// Puts a package behind the others. Without memory all stay.
+/// Puts a package after the others. If memory runs out, all stay.
 pub(crate) fn push_package(packages: &mut Vec<Package>, package: Package) -> Result<(), NoMemory>
     ensures put { OnOk result (packages.new.items ≡ packages.old.items ++ «package» ∷ []) }
     ensures same { OnErr result (packages.new.items ≡ packages.old.items) }
@@ -26,14 +26,14 @@ pub(crate) fn push_package(packages: &mut Vec<Package>, package: Package) -> Res
     Ok(())
 }
 
-/// Takes the package of the uid out. Takes no memory.
+/// Removes the package of the uid.
 pub fn drop_package(packages: &mut Vec<Package>, uid: u32)
     ensures { packages.new.items ≡ without_package packages.old.items uid }
 {
     packages.retain(|package| package.uid != uid);
 }
 
-/// A package is stopped, or isn't any more, if it has the uid.
+/// Makes a package stopped, or no longer stopped, if it has the uid.
 fn stop_if(package: &mut Package, uid: u32, stopped: bool)
     ensures { «package».new ≡ (if «package».old.uid == uid then record «package».old { stopped = stopped } else «package».old) }
 {
@@ -42,7 +42,7 @@ fn stop_if(package: &mut Package, uid: u32, stopped: bool)
     }
 }
 
-/// The package of the uid is stopped, or isn't any more.
+/// Makes the package of the uid stopped, or no longer stopped.
 pub(crate) fn set_stopped(packages: &mut Vec<Package>, uid: u32, stopped: bool)
     ensures { packages.new.items ≡ with_stopped packages.old.items uid stopped }
 {
@@ -52,7 +52,7 @@ pub(crate) fn set_stopped(packages: &mut Vec<Package>, uid: u32, stopped: bool)
     }
 }
 
-/// How many registered receivers stand before the first of a greater number.
+/// How many registered receivers come before the first with a greater number.
 fn place_of(registered: &[Registration], registration: &Registration) -> usize
     ensures { result ≡ place_of before_registered registration.now registered.now }
 {
@@ -64,7 +64,7 @@ fn place_of(registered: &[Registration], registration: &Registration) -> usize
     registered.len()
 }
 
-/// Puts a registered receiver in its place by number. Without memory all stay.
+/// Puts a registered receiver in its place by number. If memory runs out, all stay.
 pub(crate) fn put_registered(
     registered: &mut Vec<Registration>,
     registration: Registration,
@@ -77,14 +77,14 @@ pub(crate) fn put_registered(
     Ok(())
 }
 
-/// Takes the registered receiver of the number out.
+/// Removes the registered receiver with this number.
 pub(crate) fn drop_registered(registered: &mut Vec<Registration>, number: u64)
     ensures { registered.new.items ≡ filter (λ (r : Registration). not (r.number == number)) registered.old.items }
 {
     registered.retain(|registration| registration.number != number);
 }
 
-/// Takes the registered receivers of the uid out.
+/// Removes the registered receivers of the uid.
 pub(crate) fn drop_registered_of(registered: &mut Vec<Registration>, uid: u32)
     ensures { registered.new.items ≡ registered_without registered.old.items uid }
 {

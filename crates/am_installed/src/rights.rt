@@ -1,4 +1,5 @@
-//! Rights, each of which is of a uid and a text: grants and links. They stand by uid and then by the bytes of the text.
+//! Rights, each of which has a uid and a text: grants and links. They are ordered by uid and then by the bytes of the
+//! text.
 ghost use Rattle.std.specs.Prelude.{◌≡◌, not, false, OnOk, OnErr, IsOk, filter};
 ghost use Rattle.am_model.specs.Lists.{inserted, place_of};
 ghost use Rattle.am_model.specs.Rights.{before_right, has_right, is_right, rights_without, stands_before, with_right};
@@ -67,28 +68,28 @@ impl Right for Link {
     }
 }
 
-/// One uid and text stand before another.
+/// One uid and text come before another.
 pub fn stands_before(uid: u32, text: &Text, other_uid: u32, other: &Text) -> bool
     ensures { result ≡ stands_before uid text.now other_uid other.now }
 {
     uid < other_uid || uid == other_uid && text < other
 }
 
-/// The right is of that uid and text.
+/// The right has this uid and text.
 fn is_right<T: Right>(uid: u32, text: &Text, right: &T) -> bool
     ensures { result ≡ is_right T.right_of uid text.now right.now }
 {
     right.uid() == uid && *right.text() == *text
 }
 
-/// One of the rights is of that uid and text.
+/// One of the rights has this uid and text.
 fn has_right<T: Right>(rights: &[T], uid: u32, text: &Text) -> bool
     ensures { result ≡ has_right T.right_of rights.now uid text.now }
 {
     rights.iter().any(|right| is_right(uid, text, right))
 }
 
-/// How many rights stand before the first that this one belongs before.
+/// How many rights come before the first that this one belongs before.
 fn place_of<T: Right>(rights: &[T], right: &T) -> usize
     ensures { result ≡ place_of (before_right T.right_of) right.now rights.now }
 {
@@ -100,7 +101,7 @@ fn place_of<T: Right>(rights: &[T], right: &T) -> usize
     rights.len()
 }
 
-/// Puts a right in its place. Without memory all stay.
+/// Puts a right in its place. If memory runs out, all stay.
 fn put_right<T: Right>(rights: &mut Vec<T>, uid: u32, text: &Text) -> Result<(), NoMemory>
     ensures put { OnOk result (rights.new.items ≡ inserted (before_right T.right_of) (T.made uid text.now) rights.old.items) }
     ensures same { OnErr result (rights.new.items ≡ rights.old.items) }
@@ -112,14 +113,14 @@ fn put_right<T: Right>(rights: &mut Vec<T>, uid: u32, text: &Text) -> Result<(),
     Ok(())
 }
 
-/// Takes a right out.
+/// Removes a right.
 fn drop_right<T: Right>(rights: &mut Vec<T>, uid: u32, text: &Text)
     ensures { rights.new.items ≡ filter (λ right. not (is_right T.right_of uid text.now right)) rights.old.items }
 {
     rights.retain(|right| !is_right(uid, text, right));
 }
 
-/// The uid holds the right, or doesn't any more. Without memory all stay.
+/// Gives the uid the right, or takes it away. If memory runs out, all stay.
 pub(crate) fn set_right<T: Right>(
     rights: &mut Vec<T>,
     uid: u32,
@@ -140,7 +141,7 @@ pub(crate) fn set_right<T: Right>(
     put_right(rights, uid, text)
 }
 
-/// Takes the rights of the uid out. Takes no memory.
+/// Removes the rights of the uid. Takes no memory.
 pub fn drop_rights_of<T: Right>(rights: &mut Vec<T>, uid: u32)
     ensures { rights.new.items ≡ rights_without T.right_of rights.old.items uid }
 {

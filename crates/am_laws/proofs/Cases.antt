@@ -1,4 +1,5 @@
--- What starts, sendings, uses of tokens and ends of deliveries leave, by cases: the state as it was, or what was admitted.
+-- What starts, sendings, uses of tokens and ends of deliveries leave, by cases: the state as it was, or what was
+-- admitted.
 use Rattle.std.proofs.Common.{◌≡◌, ℕ, Bool, true, false, not, ◌&&◌, cond, List, [], ◌∷◌, refl}
 use Rattle.std.specs.Prelude.{Option, Some, None, Result, Ok, Err, ◌==◌, nat_le, nat_lt, length}
 use Rattle.std.proofs.lemmas.Bool.{eqb-true}
@@ -60,14 +61,16 @@ second_none None second none = none
 second_none (Some rule) second none = absurd cc
 
 -- an answer that a rule may refuse, and what follows without it
-unless_cases : (P : State → Type 0) (state : State) (rule : Option Rule) (next : Reply × State) → P state → (rule ≡ None → P next.1) → P (unless_refused state rule next).1
+unless_cases : (P : State → Type 0) (state : State) (rule : Option Rule) (next : Reply × State) → P state
+    → (rule ≡ None → P next.1) → P (unless_refused state rule next).1
 unless_cases P state None next here after = after refl
 unless_cases P state (Some rule) next here after = here
 
 module _ (P : State → Type 0) (state : State) (caller : ℕ) (intent : Intent) (here : P state) where
   -- what holds after every placement that the gate admits holds after a start
   pub start_cases : (source : Option ℕ)
-      → ((component : Component) (found : ℕ × Decl) (landed : Landed × Tasks) → declared state.board.packages kinds.Activity component ≡ Some found
+      → ((component : Component) (found : ℕ × Decl) (landed : Landed × Tasks)
+      → declared state.board.packages kinds.Activity component ≡ Some found
       → verdict state.board.grants caller found.0 found.1.exported found.1.permission ≡ Admit
       → place state.tasks (start_call caller intent source component found) ≡ Ok landed
       → P (record (with_packages state (with_stopped state.board.packages found.0 false)) { tasks = landed.1 }))
@@ -75,32 +78,40 @@ module _ (P : State → Type 0) (state : State) (caller : ℕ) (intent : Intent)
   unfolding start
   start_cases source after = by intent.component
     where
-      placed : (component : Component) (found : ℕ × Decl) (result : Result (Landed × Tasks) PlaceFault) → declared state.board.packages kinds.Activity component ≡ Some found
-          → verdict state.board.grants caller found.0 found.1.exported found.1.permission ≡ Admit → place state.tasks (start_call caller intent source component found) ≡ result
+      placed : (component : Component) (found : ℕ × Decl) (result : Result (Landed × Tasks) PlaceFault)
+          → declared state.board.packages kinds.Activity component ≡ Some found
+          → verdict state.board.grants caller found.0 found.1.exported found.1.permission ≡ Admit
+          → place state.tasks (start_call caller intent source component found) ≡ result
           → P (after_place state found.0 result).1
       placed component found (Err fault) is admits done = here
       placed component found (Ok landed) is admits done = after component found landed is admits done
 
-      maybe : (component : Component) (rule : Rule) (found : Option (ℕ × Decl)) → declared state.board.packages kinds.Activity component ≡ found
+      maybe : (component : Component) (rule : Rule) (found : Option (ℕ × Decl))
+          → declared state.board.packages kinds.Activity component ≡ found
           → P (activities.start_maybe state caller intent source component rule found).1
       maybe component rule None is = here
       maybe component rule (Some found) is =
           let gate = verdict state.board.grants caller found.0 found.1.exported found.1.permission in
           let call = start_call caller intent source component found in
-          unless_cases P state (or_rule (source_rule state.tasks source) (rule_of gate)) (after_place state found.0 (place state.tasks call)) here
-          (λ none. placed component found (place state.tasks call) is (admitted_by gate (second_none (source_rule state.tasks source) (rule_of gate) none)) refl)
+          unless_cases P state (or_rule (source_rule state.tasks source) (rule_of gate))
+          (after_place state found.0 (place state.tasks call)) here
+          (λ none. placed component found (place state.tasks call) is
+          (admitted_by gate (second_none (source_rule state.tasks source) (rule_of gate) none)) refl)
 
       targeted : (found : Target) → P (start_target state caller intent source found).1
       targeted Nothing = here
-      targeted (One hit) = maybe hit.component rules.NoActivity (declared state.board.packages kinds.Activity hit.component) refl
+      targeted (One hit) = maybe hit.component rules.NoActivity (declared state.board.packages kinds.Activity
+          hit.component) refl
       targeted (Choose found) = unless_leaves P state (caller_rule state.tasks caller intent source) _ here here
 
       by : (aim : Option Component) → P (activities.start_aimed state caller intent source aim).1
-      by (Some component) = maybe component rules.NoComponent (declared state.board.packages kinds.Activity component) refl
+      by (Some component) = maybe component rules.NoComponent (declared state.board.packages kinds.Activity component)
+          refl
       by None = targeted (target state.board intent)
 
   -- and so for services
-  pub service_cases : ((component : Component) (found : ℕ × Decl) → declared state.board.packages kinds.Service component ≡ Some found
+  pub service_cases : ((component : Component) (found : ℕ × Decl) → declared state.board.packages kinds.Service
+      component ≡ Some found
       → verdict state.board.grants caller found.0 found.1.exported found.1.permission ≡ Admit
       → P (record (with_packages state (with_stopped state.board.packages found.0 false)) {
         services = with_start state.services component found.0 intent (running state.services component);
@@ -109,31 +120,40 @@ module _ (P : State → Type 0) (state : State) (caller : ℕ) (intent : Intent)
   unfolding start_service
   service_cases after = by intent.component intent.«package»
     where
-      maybe : (component : Component) (rule : Rule) (found : Option (ℕ × Decl)) → declared state.board.packages kinds.Service component ≡ found
+      maybe : (component : Component) (rule : Rule) (found : Option (ℕ × Decl))
+          → declared state.board.packages kinds.Service component ≡ found
           → P (services.start_maybe state caller intent component rule found).1
       maybe component rule None is = here
       maybe component rule (Some found) is =
           let gate = verdict state.board.grants caller found.0 found.1.exported found.1.permission in
-          unless_cases P state (rule_of gate) (started state intent component found.0 (running state.services component)) here
-          (λ none. either_leaves P (is_too_many state.services (running state.services component)) (refused state (rules.OverLimit limits.Services)) _ here
+          unless_cases P state (rule_of gate) (started state intent component found.0
+          (running state.services component)) here
+          (λ none. either_leaves P (is_too_many state.services (running state.services component))
+          (refused state (rules.OverLimit limits.Services)) _ here
           (after component found is (admitted_by gate none)))
 
       first : (found : List Hit) → P (start_first state caller intent found).1
       first [] = here
-      first (hit ∷ others) = maybe hit.component rules.NoService (declared state.board.packages kinds.Service hit.component) refl
+      first (hit ∷ others) = maybe hit.component rules.NoService (declared state.board.packages kinds.Service
+          hit.component) refl
 
       by : (aim : Option Component) (name : Option (List ℕ)) → P (services.start_aimed state caller intent aim name).1
-      by (Some component) name = maybe component rules.NoComponent (declared state.board.packages kinds.Service component) refl
+      by (Some component) name = maybe component rules.NoComponent
+          (declared state.board.packages kinds.Service component) refl
       by None (Some name) = first (hits state.board.packages kinds.Service intent false)
       by None None = here
 
   -- what holds after every broadcast whose action isn't kept from its sender holds after a sending
   pub send_cases : (permission : Option (List ℕ)) (ordered : Option Ordered)
       → (is_protected state.board.protected intent.action && not (is_privileged caller) ≡ false
-      → P (record state { broadcasts = with_sent state.broadcasts (sending_of state caller intent ordered (receivers state.board intent caller permission)) ordered }))
+      → P (record state {
+        broadcasts = with_sent state.broadcasts (sending_of state caller intent ordered
+            (receivers state.board intent caller permission)) ordered;
+      }))
       → P (send state caller intent permission ordered).1
   unfolding send sending.send
-  send_cases permission ordered after = by (is_protected state.board.protected intent.action && not (is_privileged caller)) refl
+  send_cases permission ordered after = by (is_protected state.board.protected intent.action && not
+      (is_privileged caller)) refl
     where
       offered : List Receiving
       offered = receivers state.board intent caller permission
@@ -145,7 +165,8 @@ module _ (P : State → Type 0) (state : State) (caller : ℕ) (intent : Intent)
       given = (state.broadcasts.next_broadcast, with_sent state.broadcasts sent ordered)
 
       room : (full many : Bool) → P (record state { broadcasts = given.1 })
-          → P (after_send state offered (cond {A = Result (ℕ × Broadcasts) SendFault} full (Err Full) (cond many (Err TooMany) (Ok given)))).1
+          → P (after_send state offered (cond {A = Result (ℕ × Broadcasts) SendFault} full (Err Full)
+          (cond many (Err TooMany) (Ok given)))).1
       room true many done = here
       room false true done = here
       room false false done = done
@@ -157,22 +178,28 @@ module _ (P : State → Type 0) (state : State) (caller : ℕ) (intent : Intent)
 
 -- what holds after all that is done for a creator holds after the use of a token
 pub use_cases : (P : State → Type 0) (state : State) (caller token : ℕ) (fill : Option Intent) → P state
-    → ((after : State) (left : Pendings) → left.next ≡ after.pendings.next → P after → P (record after { pendings = left }))
-    → ((used : Used) → pendings.use_token state.pendings token caller fill ≡ Ok used → P (lend state used.creator used.intent used.kind).1)
+    → ((after : State) (left : Pendings) → left.next ≡ after.pendings.next → P after
+    → P (record after { pendings = left }))
+    → ((used : Used) → pendings.use_token state.pendings token caller fill ≡ Ok used
+    → P (lend state used.creator used.intent used.kind).1)
     → P (pending_send state caller token fill).1
 unfolding pending_send
 use_cases P state caller token fill here keeps after = by (pendings.use_token state.pendings token caller fill) refl
   where
-    by : (used : Result Used PendingFault) → pendings.use_token state.pendings token caller fill ≡ used → P (after_use state token used).1
+    by : (used : Result Used PendingFault) → pendings.use_token state.pendings token caller fill ≡ used
+        → P (after_use state token used).1
     by (Err fault) is = here
     by (Ok used) is =
         let lent = lend state used.creator used.intent used.kind in
         either_leaves P used.one_shot (used_up token used.creator lent) lent
         (keeps lent.1 (left_of lent.1.pendings (pendings.cancel lent.1.pendings token used.creator))
-        (used_up_keeps lent.1.pendings (pendings.cancel lent.1.pendings token used.creator) (cancel_keeps lent.1.pendings token used.creator)) (after used is)) (after used is)
+        (used_up_keeps lent.1.pendings (pendings.cancel lent.1.pendings token used.creator)
+        (cancel_keeps lent.1.pendings token used.creator)) (after used is)) (after used is)
 
--- what holds of every refusal, and of the holder's finished delivery, holds of what the end of a delivery is answered and leaves
-pub finish_cases : (Q : Reply × State → Type 0) (state : State) (caller number : ℕ) (answer : Answer) → ((rule : Rule) → Q (refused state rule))
+-- what holds of every refusal, and of the holder's finished delivery, holds of what the end of a delivery is answered
+-- and leaves
+pub finish_cases : (Q : Reply × State → Type 0) (state : State) (caller number : ℕ) (answer : Answer)
+    → ((rule : Rule) → Q (refused state rule))
     → ((holder : Held) → held state.broadcasts number ≡ Some holder → holder.uid ≡ caller
     → Q (done (record state { broadcasts = finished state.broadcasts number answer state.moment })))
     → Q (finish state caller number answer)
@@ -182,12 +209,15 @@ finish_cases Q state caller number answer refuses after = by (held state.broadca
     left : Broadcasts
     left = finished state.broadcasts number answer state.moment
 
-    tests : (holder : Held) → held state.broadcasts number ≡ Some holder → (same unfit : Bool) → (holder.uid == caller) ≡ same
-        → Q (after_finish state (cond {A = Result Broadcasts FinishFault} (not same) (Err ends.NotYours) (cond unfit (Err ends.NotOrdered) (Ok left))))
+    tests : (holder : Held) → held state.broadcasts number ≡ Some holder → (same unfit : Bool) → (holder.uid == caller)
+        ≡ same
+        → Q (after_finish state (cond {A = Result Broadcasts FinishFault} (not same) (Err ends.NotYours)
+        (cond unfit (Err ends.NotOrdered) (Ok left))))
     tests holder is false unfit same = refuses rules.NotYours
     tests holder is true true same = refuses rules.NotOrdered
     tests holder is true false same = after holder is (eqb-true holder.uid caller same)
 
-    by : (found : Option Held) → held state.broadcasts number ≡ found → Q (after_finish state (finish_held state.broadcasts number caller answer state.moment found))
+    by : (found : Option Held) → held state.broadcasts number ≡ found
+        → Q (after_finish state (finish_held state.broadcasts number caller answer state.moment found))
     by None is = refuses rules.NoDelivery
     by (Some holder) is = tests holder is (holder.uid == caller) (is_for_ordered answer && not holder.ordered) refl

@@ -23,21 +23,27 @@ moment_stays state caller request here =
     (λ uid intent source component found landed did is admits placed. here) (λ keeps. here) (λ by fits. fits)
 
 -- an entry leaves it within its bound
-moment_more : (opening : State) (before : List Entry) (entry : Entry) → HasMoment (replay opening before) → HasMoment (step (replay opening before) before entry).1
-moment_more opening before entry here = step_leaves HasMoment (replay opening before) before entry due (λ kept. moment_stays _ entry.uid entry.request due)
+moment_more : (opening : State) (before : List Entry) (entry : Entry) → HasMoment (replay opening before)
+    → HasMoment (step (replay opening before) before entry).1
+moment_more opening before entry here = step_leaves HasMoment (replay opening before) before entry due
+    (λ kept. moment_stays _ entry.uid entry.request due)
   where
     due : moment_after (replay opening before) entry.now ≤ 4611686018427387904
     due = omega arith
 
 -- so it is at most 2^62 after every history
-pub moments_fit : (origin : Origin) (history : List Entry) → (replay (opening_of origin) history).moment ≤ 4611686018427387904
+pub moments_fit : (origin : Origin) (history : List Entry) → (replay (opening_of origin) history).moment ≤
+    4611686018427387904
 moments_fit origin history =
-    by_history (opening_of origin) (λ h state. HasMoment state) (opening_leaves HasMoment (λ state board uid same one. one) origin (omega arith)) (moment_more (opening_of origin)) history
+    by_history (opening_of origin) (λ h state. HasMoment state) (opening_leaves HasMoment
+    (λ state board uid same one. one) origin (omega arith)) (moment_more (opening_of origin)) history
 
 -- an entry takes it no further back than it was
 moment_on : (state : State) (before : List Entry) (entry : Entry) → state.moment ≤ (step state before entry).1.moment
-moment_on state before entry = step_leaves (λ (after : State). state.moment ≤ after.moment) state before entry due (λ kept.
-    task_steps (λ (tasks : Tasks) (moment : ℕ). state.moment ≤ moment) (after_due state entry.now) entry.uid entry.request due
+moment_on state before entry = step_leaves (λ (after : State). state.moment ≤ after.moment) state before entry due
+    (λ kept.
+    task_steps (λ (tasks : Tasks) (moment : ℕ). state.moment ≤ moment) (after_due state entry.now) entry.uid
+    entry.request due
     (λ uid intent source component found landed did is admits placed. due) (λ keeps. due) (λ by fits. omega arith))
   where
     due : state.moment ≤ moment_after state entry.now
@@ -47,5 +53,6 @@ moment_on state before entry = step_leaves (λ (after : State). state.moment ≤
 pub moments_rise : (origin : Origin) (history : List Entry) (next : Entry)
     → (replay (opening_of origin) history).moment ≤ (replay (opening_of origin) (history ++ next ∷ [])).moment
 moments_rise origin history next =
-    subst (λ (s : State). (replay (opening_of origin) history).moment ≤ s.moment) (sym (replay_more (opening_of origin) history next))
+    subst (λ (s : State). (replay (opening_of origin) history).moment ≤ s.moment)
+    (sym (replay_more (opening_of origin) history next))
     (moment_on (replay (opening_of origin) history) history next)

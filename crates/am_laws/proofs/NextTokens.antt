@@ -14,24 +14,29 @@ GotTo n (Ok got) = got.1.next ≤ n
 GotTo n (Err fault) = Unit {0}
 
 -- either of two
-either_got : (n : ℕ) (test : Bool) (first second : Result (Option ℕ × Pendings) PendingFault) → GotTo n first → GotTo n second → GotTo n (cond test first second)
+either_got : (n : ℕ) (test : Bool) (first second : Result (Option ℕ × Pendings) PendingFault) → GotTo n first
+    → GotTo n second → GotTo n (cond test first second)
 either_got n true first second one other = one
 either_got n false first second one other = other
 
 -- a record that may be made
-made_got : (n : ℕ) (all : Pendings) (stay : List Pending) (asked : Asked) → all.next ≤ n → GotTo (n + 1) (made all stay asked)
+made_got : (n : ℕ) (all : Pendings) (stay : List Pending) (asked : Asked) → all.next ≤ n
+    → GotTo (n + 1) (made all stay asked)
 made_got n all stay asked few =
-    either_got (n + 1) asked.flags.no_create (Ok (None, record all { records = stay })) (cond (nat_le 1024 (count_of stay asked.creator)) (Err Full) one) (omega arith)
+    either_got (n + 1) asked.flags.no_create (Ok (None, record all { records = stay }))
+    (cond (nat_le 1024 (count_of stay asked.creator)) (Err Full) one) (omega arith)
     (either_got (n + 1) (nat_le 1024 (count_of stay asked.creator)) (Err Full) one tt (omega arith))
   where
     one : Result (Option ℕ × Pendings) PendingFault
     one = Ok (Some all.next, record { records = stay ++ fresh all.next asked ∷ []; next = all.next + 1 })
 
 -- a record that may be found
-found_got : (n : ℕ) (all : Pendings) (asked : Asked) (kept : Option Pending) → all.next ≤ n → GotTo (n + 1) (found all asked kept)
+found_got : (n : ℕ) (all : Pendings) (asked : Asked) (kept : Option Pending) → all.next ≤ n
+    → GotTo (n + 1) (found all asked kept)
 found_got n all asked None few = made_got n all all.records asked few
 found_got n all asked (Some kept) few =
-    either_got (n + 1) asked.flags.cancel_current (made all (without_token all.records kept.token) asked) (cond asked.flags.update_current other same)
+    either_got (n + 1) asked.flags.cancel_current (made all (without_token all.records kept.token) asked)
+    (cond asked.flags.update_current other same)
     (made_got n all (without_token all.records kept.token) asked few)
     (either_got (n + 1) asked.flags.update_current other same (omega arith) (omega arith))
   where
@@ -45,7 +50,8 @@ found_got n all asked (Some kept) few =
 pub get_gives_one : (n : ℕ) (all : Pendings) (asked : Asked) → all.next ≤ n → GotTo (n + 1) (pendings.get all asked)
 unfolding pendings.get
 get_gives_one n all asked few =
-    either_got (n + 1) (is_clear asked.flags) (found all asked kept) (Err Mutability) (found_got n all asked kept few) tt
+    either_got (n + 1) (is_clear asked.flags) (found all asked kept) (Err Mutability) (found_got n all asked kept few)
+    tt
   where
     kept : Option Pending
     kept = find (has_key asked) all.records
@@ -56,7 +62,8 @@ Keeps next (Ok left) = left.next ≡ next
 Keeps next (Err fault) = Unit {0}
 
 -- either of two
-either_keeps : (next : ℕ) (test : Bool) (first second : Result Pendings PendingFault) → Keeps next first → Keeps next second → Keeps next (cond test first second)
+either_keeps : (next : ℕ) (test : Bool) (first second : Result Pendings PendingFault) → Keeps next first
+    → Keeps next second → Keeps next (cond test first second)
 either_keeps next true first second one other = one
 either_keeps next false first second one other = other
 
@@ -64,7 +71,8 @@ either_keeps next false first second one other = other
 canceled_keeps : (all : Pendings) (uid : ℕ) (kept : Option Pending) → Keeps all.next (canceled all uid kept)
 canceled_keeps all uid None = tt
 canceled_keeps all uid (Some kept) =
-    either_keeps all.next (kept.creator == uid) (Ok (record all { records = without_token all.records kept.token })) (Err NotCreator) refl tt
+    either_keeps all.next (kept.creator == uid) (Ok (record all { records = without_token all.records kept.token }))
+    (Err NotCreator) refl tt
 
 -- a token that is canceled
 pub cancel_keeps : (all : Pendings) (token uid : ℕ) → Keeps all.next (pendings.cancel all token uid)
@@ -75,8 +83,10 @@ cancel_keeps all token uid = canceled_keeps all uid (record_of all token)
 given_keeps : (all : Pendings) (uid to : ℕ) (kept : Option Pending) → Keeps all.next (given all uid to kept)
 given_keeps all uid to None = tt
 given_keeps all uid to (Some kept) =
-    either_keeps all.next (not (kept.creator == uid)) (Err NotCreator) (cond (is_holder kept to) (Ok all) (cond (nat_le 64 (length kept.holders)) (Err HoldersFull) held)) tt
-    (either_keeps all.next (is_holder kept to) (Ok all) (cond (nat_le 64 (length kept.holders)) (Err HoldersFull) held) refl
+    either_keeps all.next (not (kept.creator == uid)) (Err NotCreator)
+    (cond (is_holder kept to) (Ok all) (cond (nat_le 64 (length kept.holders)) (Err HoldersFull) held)) tt
+    (either_keeps all.next (is_holder kept to) (Ok all) (cond (nat_le 64 (length kept.holders)) (Err HoldersFull) held)
+    refl
     (either_keeps all.next (nat_le 64 (length kept.holders)) (Err HoldersFull) held tt refl))
   where
     held : Result Pendings PendingFault
@@ -88,6 +98,7 @@ unfolding pendings.give
 give_keeps all token uid to = given_keeps all uid to (record_of all token)
 
 -- a token that is used up
-pub used_up_keeps : (all : Pendings) (left : Result Pendings PendingFault) → Keeps all.next left → (left_of all left).next ≡ all.next
+pub used_up_keeps : (all : Pendings) (left : Result Pendings PendingFault) → Keeps all.next left
+    → (left_of all left).next ≡ all.next
 used_up_keeps all (Ok left) same = same
 used_up_keeps all (Err fault) same = refl

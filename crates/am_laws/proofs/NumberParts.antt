@@ -34,7 +34,8 @@ pub next_bound : (n : ℕ) (state : State) → HasNumbersTo n state → HasNumbe
 next_bound n state has = raised n (n + 1) state (omega arith) has
 
 -- numbers with these bounds
-pub bounded : (n : ℕ) (state : State) → state.tasks.next_task ≤ n → state.tasks.next_instance ≤ n → state.broadcasts.next_broadcast ≤ n → state.pendings.next ≤ n
+pub bounded : (n : ℕ) (state : State) → state.tasks.next_task ≤ n → state.tasks.next_instance ≤ n
+    → state.broadcasts.next_broadcast ≤ n → state.pendings.next ≤ n
     → state.next_registration ≤ n → All (λ (service : Service). service.starts ≤ n) state.services
     → All (λ (r : Registration). r.number < state.next_registration) state.board.registered → HasNumbersTo n state
 bounded n state tasks instances broadcasts tokens registrations starts registered = record {
@@ -48,40 +49,58 @@ bounded n state tasks instances broadcasts tokens registrations starts registere
 }
 
 -- other packages, grants and links, and another next uid
-pub with_installed : (n : ℕ) (state : State) (packages : List Package) (grants : List Grant) (links : List Link) (uid : ℕ) → HasNumbersTo n state
-    → HasNumbersTo n (record state { board = record (state.board) { packages = packages; grants = grants; links = links }; next_uid = uid })
+pub with_installed : (n : ℕ) (state : State) (packages : List Package) (grants : List Grant) (links : List Link)
+    (uid : ℕ) → HasNumbersTo n state
+    → HasNumbersTo n (record state {
+      board = record (state.board) {
+        packages = packages;
+        grants = grants;
+        links = links;
+      };
+      next_uid = uid;
+    })
 with_installed n state packages grants links uid has =
-    bounded n (record state { board = record (state.board) { packages = packages; grants = grants; links = links }; next_uid = uid })
+    bounded n (record state {
+      board = record (state.board) { packages = packages; grants = grants; links = links };
+      next_uid = uid;
+    })
     has.tasks has.instances has.broadcasts has.tokens has.registrations has.starts has.registered
 
 -- other packages
 pub with_other_packages : (n : ℕ) (state : State) (packages : List Package) → HasNumbersTo n state
     → HasNumbersTo n (record state { board = record (state.board) { packages = packages } })
-with_other_packages n state packages has = with_installed n state packages state.board.grants state.board.links state.next_uid has
+with_other_packages n state packages has = with_installed n state packages state.board.grants state.board.links
+    state.next_uid has
 
 -- other tasks
-pub with_tasks : (n : ℕ) (state : State) (tasks : Tasks) → HasNumbersTo n state → tasks.next_task ≤ n → tasks.next_instance ≤ n
+pub with_tasks : (n : ℕ) (state : State) (tasks : Tasks) → HasNumbersTo n state → tasks.next_task ≤ n
+    → tasks.next_instance ≤ n
     → HasNumbersTo n (record state { tasks = tasks })
 with_tasks n state tasks has few few_instances =
-    bounded n (record state { tasks = tasks }) few few_instances has.broadcasts has.tokens has.registrations has.starts has.registered
+    bounded n (record state { tasks = tasks }) few few_instances has.broadcasts has.tokens has.registrations has.starts
+    has.registered
 
 -- other broadcasts
-pub with_broadcasts : (n : ℕ) (state : State) (broadcasts : Broadcasts) → HasNumbersTo n state → broadcasts.next_broadcast ≤ n
+pub with_broadcasts : (n : ℕ) (state : State) (broadcasts : Broadcasts) → HasNumbersTo n state
+    → broadcasts.next_broadcast ≤ n
     → HasNumbersTo n (record state { broadcasts = broadcasts })
 with_broadcasts n state broadcasts has few =
-    bounded n (record state { broadcasts = broadcasts }) has.tasks has.instances few has.tokens has.registrations has.starts has.registered
+    bounded n (record state { broadcasts = broadcasts }) has.tasks has.instances few has.tokens has.registrations
+    has.starts has.registered
 
 -- other pending intents
 pub with_pendings : (n : ℕ) (state : State) (pendings : Pendings) → HasNumbersTo n state → pendings.next ≤ n
     → HasNumbersTo n (record state { pendings = pendings })
 with_pendings n state pendings has few =
-    bounded n (record state { pendings = pendings }) has.tasks has.instances has.broadcasts few has.registrations has.starts has.registered
+    bounded n (record state { pendings = pendings }) has.tasks has.instances has.broadcasts few has.registrations
+    has.starts has.registered
 
 -- other running services
 pub with_services : (n : ℕ) (state : State) (services : List Service) → HasNumbersTo n state
     → All (λ (service : Service). service.starts ≤ n) services → HasNumbersTo n (record state { services = services })
 with_services n state services has few =
-    bounded n (record state { services = services }) has.tasks has.instances has.broadcasts has.tokens has.registrations few has.registered
+    bounded n (record state { services = services }) has.tasks has.instances has.broadcasts has.tokens has.registrations
+    few has.registered
 
 -- other registered receivers
 pub with_receivers : (n : ℕ) (state : State) (registered : List Registration) → HasNumbersTo n state

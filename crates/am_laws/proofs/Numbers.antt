@@ -38,32 +38,41 @@ opening_has_numbers origin = opening_leaves (HasNumbersTo 1) stays origin (openi
     stays state board uid same has =
         bounded 1 (record state { board = board; next_uid = uid })
         has.tasks has.instances has.broadcasts has.tokens has.registrations has.starts
-        (subst (λ (l : List Registration). All (λ (r : Registration). r.number < state.next_registration) l) (sym same) has.registered)
+        (subst (λ (l : List Registration). All (λ (r : Registration). r.number < state.next_registration) l) (sym same)
+        has.registered)
 
 -- a request raises each number by one at most
-pub act_keeps_numbers : (n : ℕ) (state : State) (before : List Entry) (caller : ℕ) (request : Request) → HasNumbersTo n state
+pub act_keeps_numbers : (n : ℕ) (state : State) (before : List Entry) (caller : ℕ) (request : Request)
+    → HasNumbersTo n state
     → HasNumbersTo (n + 1) (act state before caller request).1
-act_keeps_numbers n state before caller request has = act_leaves (HasNumbersTo (n + 1)) state caller before request (numbers_after n state has caller request)
+act_keeps_numbers n state before caller request has = act_leaves (HasNumbersTo (n + 1)) state caller before request
+    (numbers_after n state has caller request)
 
 -- one step raises each by one at most
-pub step_keeps_numbers : (n : ℕ) (state : State) (before : List Entry) (entry : Entry) → HasNumbersTo n state → HasNumbersTo (n + 1) (step state before entry).1
+pub step_keeps_numbers : (n : ℕ) (state : State) (before : List Entry) (entry : Entry) → HasNumbersTo n state
+    → HasNumbersTo (n + 1) (step state before entry).1
 step_keeps_numbers n state before entry has =
     let due = moment_keeps_numbers n state (moment_after state entry.now) has in
     step_leaves (HasNumbersTo (n + 1)) state before entry (next_bound n (after_due state entry.now) due)
     (λ kept. numbers_after n (after_due state entry.now) due entry.uid entry.request)
 
 -- these entries raise each by as many at most
-replayed_numbers : (n : ℕ) (state : State) (before entries : List Entry) → HasNumbersTo n state → HasNumbersTo (n + length entries) (replay_from state before entries)
+replayed_numbers : (n : ℕ) (state : State) (before entries : List Entry) → HasNumbersTo n state
+    → HasNumbersTo (n + length entries) (replay_from state before entries)
 replayed_numbers n state before [] has = raised n (n + length {A = Entry} []) state (omega arith) has
 replayed_numbers n state before (first ∷ others) has =
     let same : (n + 1) + length others ≡ n + length (first ∷ others) = omega arith in
     subst (λ (m : ℕ). HasNumbersTo m (replay_from state before (first ∷ others))) same
-    (replayed_numbers (n + 1) (step state before first).1 (before ++ first ∷ []) others (step_keeps_numbers n state before first has))
+    (replayed_numbers (n + 1) (step state before first).1 (before ++ first ∷ []) others
+    (step_keeps_numbers n state before first has))
 
 -- after every history each number is at most one more than its length
-pub replay_has_numbers : (origin : Origin) (history : List Entry) → HasNumbersTo (1 + length history) (replay (opening_of origin) history)
+pub replay_has_numbers : (origin : Origin) (history : List Entry) → HasNumbersTo (1 + length history)
+    (replay (opening_of origin) history)
 replay_has_numbers origin history = replayed_numbers 1 (opening_of origin) [] history (opening_has_numbers origin)
 
 -- so no history of a manager uses the numbers up
-pub enough_numbers : (origin : Origin) (history : List Entry) → length history ≤ 1048576 → HasNumbers (replay (opening_of origin) history)
-enough_numbers origin history few = raised (1 + length history) 1125899906842624 (replay (opening_of origin) history) (omega arith) (replay_has_numbers origin history)
+pub enough_numbers : (origin : Origin) (history : List Entry) → length history ≤ 1048576
+    → HasNumbers (replay (opening_of origin) history)
+enough_numbers origin history few = raised (1 + length history) 1125899906842624 (replay (opening_of origin) history)
+    (omega arith) (replay_has_numbers origin history)

@@ -5,7 +5,8 @@ use Rattle.std.specs.List.{fold, find}
 use Rattle.am_types.specs.declared.device.Device.{Device}
 use Rattle.am_types.specs.declared.device.Package.{Package}
 use Rattle.am_keeper.specs.declared.rows.PackageRow.{PackageRow}
-use Rattle.am_keeper.specs.declared.rows.RightRow.{RightRow}
+use Rattle.am_keeper.specs.declared.rows.GrantRow.{GrantRow}
+use Rattle.am_keeper.specs.declared.rows.LinkRow.{LinkRow}
 use Rattle.am_keeper.specs.declared.rows.Rows.{Rows}
 use Rattle.am_model.specs.Boards.{Board, is_package_uid, with_grant, with_link}
 use Rattle.am_model.specs.Texts.{is_same, lowered}
@@ -20,25 +21,31 @@ pub record IsSameElse (board after : Board) : Type 0 where
   pub packages : after.packages ≡ board.packages
   pub registered : after.registered ≡ board.registered
 
-pub grant_rows_else : (board : Board) (rows : List RightRow) → IsSameElse board (fold after_grant board rows)
+pub grant_rows_else : (board : Board) (rows : List GrantRow) → IsSameElse board (fold after_grant board rows)
 grant_rows_else board [] = record { packages = refl; registered = refl }
 grant_rows_else board (row ∷ rows) =
     let rest = grant_rows_else (after_grant board row) rows in
     let one = by (is_package_uid board.packages row.uid) in
     record { packages = rest.packages ∙ one.packages; registered = rest.registered ∙ one.registered }
   where
-    by : (b : Bool) → IsSameElse board (cond b (record board { grants = with_grant board.grants row.uid row.text row.held }) board)
+    by : (b : Bool) → IsSameElse board (cond b (record board {
+      grants = with_grant board.grants row.uid row.permission
+          row.held;
+    }) board)
     by true = record { packages = refl; registered = refl }
     by false = record { packages = refl; registered = refl }
 
-pub link_rows_else : (board : Board) (rows : List RightRow) → IsSameElse board (fold after_link board rows)
+pub link_rows_else : (board : Board) (rows : List LinkRow) → IsSameElse board (fold after_link board rows)
 link_rows_else board [] = record { packages = refl; registered = refl }
 link_rows_else board (row ∷ rows) =
     let rest = link_rows_else (after_link board row) rows in
-    let one = by (is_package_uid board.packages row.uid && is_same (lowered row.text) row.text) in
+    let one = by (is_package_uid board.packages row.uid && is_same (lowered row.host) row.host) in
     record { packages = rest.packages ∙ one.packages; registered = rest.registered ∙ one.registered }
   where
-    by : (b : Bool) → IsSameElse board (cond b (record board { links = with_link board.links row.uid row.text row.held }) board)
+    by : (b : Bool) → IsSameElse board (cond b (record board {
+      links = with_link board.links row.uid row.host
+          row.approved;
+    }) board)
     by true = record { packages = refl; registered = refl }
     by false = record { packages = refl; registered = refl }
 
@@ -50,27 +57,35 @@ rights_else board rows =
     record { packages = second.packages ∙ first.packages; registered = second.registered ∙ first.registered }
 
 module _ (P : State → Type 0)
-    (stays : (state : State) (board : Board) (uid : ℕ) → board.registered ≡ state.board.registered → P state → P (record state { board = board; next_uid = uid })) where
+    (stays : (state : State) (board : Board) (uid : ℕ) → board.registered ≡ state.board.registered → P state
+    → P (record state { board = board; next_uid = uid })) where
   -- package rows, one after the other
-  rows_opened : (before : Result State (List ℕ)) (rows : List PackageRow) → IfOpened P before → IfOpened P (fold and_then_row before rows)
+  rows_opened : (before : Result State (List ℕ)) (rows : List PackageRow) → IfOpened P before
+      → IfOpened P (fold and_then_row before rows)
   rows_opened before rows here =
-      rows_leave P (λ (row : PackageRow). Unit {0}) (λ state row one. stays state (removed state.board row.uid) state.next_uid refl one)
-      (λ state row manifest asked is good one. stays state (record (state.board) { packages = place_package (kept_package row manifest) state.board.packages }) state.next_uid refl one)
+      rows_leave P (λ (row : PackageRow). Unit {0}) (λ state row one. stays state (removed state.board row.uid)
+      state.next_uid refl one)
+      (λ state row manifest asked is good one. stays state (record (state.board)
+      { packages = place_package (kept_package row manifest) state.board.packages }) state.next_uid refl one)
       before rows (nothing_asked rows) here
 
   -- the packages were opened
-  all_opened : (device : Device) (rows : Rows) (state : Result State (List ℕ)) → IfOpened P state → IfOpened P (opened device rows state)
+  all_opened : (device : Device) (rows : Rows) (state : Result State (List ℕ)) → IfOpened P state
+      → IfOpened P (opened device rows state)
   all_opened device rows (Err name) here = tt
-  all_opened device rows (Ok state) here = by (find (has_too_many (with_rights state.board rows)) (with_rights state.board rows).packages)
+  all_opened device rows (Ok state) here = by (find (has_too_many (with_rights state.board rows))
+      (with_rights state.board rows).packages)
     where
       by : (found : Option Package) → IfOpened P (unless_too_many (completed device rows state) found)
-      by None = stays state (with_rights state.board rows) (uid_after (uids_of device.packages ++ row_uids rows)) (rights_else state.board rows).registered here
+      by None = stays state (with_rights state.board rows) (uid_after (uids_of device.packages ++ row_uids rows))
+          (rights_else state.board rows).registered here
       by (Some owner) = tt
 
   -- a device is opened with rows
   opened_with : (device : Device) (rows : Rows) → P (opening device) → IfOpened P (opening_with device rows)
   unfolding opening_with
-  opened_with device rows here = all_opened device rows (after_rows (opening device) rows.packages) (rows_opened (Ok (opening device)) rows.packages here)
+  opened_with device rows here = all_opened device rows (after_rows (opening device) rows.packages)
+      (rows_opened (Ok (opening device)) rows.packages here)
 
   -- a manager begins
   pub opening_leaves : (origin : Origin) → P (opening origin.device) → P (opening_of origin)

@@ -1,4 +1,5 @@
--- What a request is answered and what it leaves, by cases: it is refused, a start that the gate admitted lands, or it is
+-- What a request is answered and what it leaves, by cases: it is refused, a start that the gate admitted lands, or it
+-- is
 -- answered otherwise.
 use Rattle.std.proofs.Common.{◌≡◌, ℕ, ℤ, Bool, true, false, not, ◌&&◌, ◌||◌, cond, List, [], ◌∷◌, refl, ap, ◌∙◌}
 use Rattle.std.specs.Prelude.{Option, Some, None, Result, Ok, Err, nat_le, ◌+◌, ◌==◌}
@@ -85,11 +86,16 @@ is_other _ = true
 -- keeper's; its start lands, which the gate admitted; or it is answered otherwise
 pub data Comes (state : State) (deed : Option Deed) : Reply × State → Type 0 where
   refuses : (rule : Rule) → is_fault rule ≡ false → Comes state deed (refused state rule)
-  lands : (uid : ℕ) (intent : Intent) (source : Option ℕ) (component : Component) (found : ℕ × Decl) (landed : Landed × Tasks)
+  lands : (uid : ℕ) (intent : Intent) (source : Option ℕ) (component : Component) (found : ℕ × Decl)
+      (landed : Landed × Tasks)
       → deed ≡ Some (Starts uid intent) → declared state.board.packages kinds.Activity component ≡ Some found
       → verdict state.board.grants uid found.0 found.1.exported found.1.permission ≡ Admit
       → place state.tasks (start_call uid intent source component found) ≡ Ok landed
-      → Comes state deed (replies.Placed landed.0, record (with_packages state (with_stopped state.board.packages found.0 false)) { tasks = landed.1 })
+      → Comes state deed (
+        replies.Placed landed.0,
+        record (with_packages state
+            (with_stopped state.board.packages found.0 false)) { tasks = landed.1 },
+      )
   tells : (reply : Reply) (after : State) → is_other reply ≡ true → Comes state deed (reply, after)
 
 -- if there is a rule, it isn't the keeper's
@@ -98,7 +104,8 @@ IsOther None = Unit {0}
 IsOther (Some rule) = is_fault rule ≡ false
 
 -- either of two rules
-either_rule : (test : Bool) (first second : Option Rule) → IsOther first → IsOther second → IsOther (cond test first second)
+either_rule : (test : Bool) (first second : Option Rule) → IsOther first → IsOther second
+    → IsOther (cond test first second)
 either_rule true first second one other = one
 either_rule false first second one other = other
 
@@ -149,7 +156,8 @@ source_other all (Some number) = by (owner all number)
     by (Some uid) = tt
 
 -- the rule of a caller with a source, or without
-caller_other : (all : Tasks) (caller : ℕ) (intent : Intent) (source : Option ℕ) → IsOther (caller_rule all caller intent source)
+caller_other : (all : Tasks) (caller : ℕ) (intent : Intent) (source : Option ℕ)
+    → IsOther (caller_rule all caller intent source)
 caller_other all caller intent None = either_rule intent.flags.new_task None (Some rules.NeedsNewTask) tt refl
 caller_other all caller intent (Some number) = by (owner all number)
   where
@@ -164,25 +172,32 @@ stopped_other (Some service) = tt
 
 module _ (state : State) (deed : Option Deed) where
   -- either of two answers
-  either : (test : Bool) (first second : Reply × State) → Comes state deed first → Comes state deed second → Comes state deed (cond test first second)
+  either : (test : Bool) (first second : Reply × State) → Comes state deed first → Comes state deed second
+      → Comes state deed (cond test first second)
   either true first second one other = one
   either false first second one other = other
 
   -- an answer that a rule may refuse
-  unless : (rule : Option Rule) (next : Reply × State) → IsOther rule → (rule ≡ None → Comes state deed next) → Comes state deed (unless_refused state rule next)
+  unless : (rule : Option Rule) (next : Reply × State) → IsOther rule → (rule ≡ None → Comes state deed next)
+      → Comes state deed (unless_refused state rule next)
   unless None next other after = after refl
   unless (Some rule) next other after = refuses rule other
 
   -- an answer where something may be over its limit
-  limited : (many : Bool) (limit : Limit) (next : Reply × State) → Comes state deed next → Comes state deed (cond many (refused state (rules.OverLimit limit)) next)
-  limited many limit next after = either many (refused state (rules.OverLimit limit)) next (refuses (rules.OverLimit limit) refl) after
+  limited : (many : Bool) (limit : Limit) (next : Reply × State) → Comes state deed next
+      → Comes state deed (cond many (refused state (rules.OverLimit limit)) next)
+  limited many limit next after = either many (refused state (rules.OverLimit limit)) next
+      (refuses (rules.OverLimit limit) refl) after
 
   -- an answer for the system and the root alone
-  by_admin : (caller : ℕ) (next : Reply × State) → Comes state deed next → Comes state deed (for_admin state caller next)
-  by_admin caller next after = either (is_privileged caller) next (refused state rules.AdminOnly) after (refuses rules.AdminOnly refl)
+  by_admin : (caller : ℕ) (next : Reply × State) → Comes state deed next
+      → Comes state deed (for_admin state caller next)
+  by_admin caller next after = either (is_privileged caller) next (refused state rules.AdminOnly) after
+      (refuses rules.AdminOnly refl)
 
   -- an answer for the package of a name, if there is one
-  of_package : (name : List ℕ) (next : Package → Reply × State) → ((owner : Package) → Comes state deed (next owner)) → Comes state deed (for_package state name next)
+  of_package : (name : List ℕ) (next : Package → Reply × State) → ((owner : Package) → Comes state deed (next owner))
+      → Comes state deed (for_package state name next)
   of_package name next after = by (package_named state.board.packages name)
     where
       by : (found : Option Package) → Comes state deed (for_found state found next)
@@ -191,34 +206,44 @@ module _ (state : State) (deed : Option Deed) where
 
   module _ (caller : ℕ) (intent : Intent) where
     -- a start of an activity
-    start_comes : (source : Option ℕ) → deed ≡ Some (Starts caller intent) → Comes state deed (start state caller intent source)
+    start_comes : (source : Option ℕ) → deed ≡ Some (Starts caller intent)
+        → Comes state deed (start state caller intent source)
     unfolding start
     start_comes source did = by intent.component
       where
-        placed : (component : Component) (found : ℕ × Decl) (result : Result (Landed × Tasks) PlaceFault) → declared state.board.packages kinds.Activity component ≡ Some found
-            → verdict state.board.grants caller found.0 found.1.exported found.1.permission ≡ Admit → place state.tasks (start_call caller intent source component found) ≡ result
+        placed : (component : Component) (found : ℕ × Decl) (result : Result (Landed × Tasks) PlaceFault)
+            → declared state.board.packages kinds.Activity component ≡ Some found
+            → verdict state.board.grants caller found.0 found.1.exported found.1.permission ≡ Admit
+            → place state.tasks (start_call caller intent source component found) ≡ result
             → Comes state deed (after_place state found.0 result)
         placed component found (Err fault) is admits landed = refuses (place_rule fault) (place_other fault)
-        placed component found (Ok landed) is admits lands_so = lands caller intent source component found landed did is admits lands_so
+        placed component found (Ok landed) is admits lands_so = lands caller intent source component found landed did is
+            admits lands_so
 
-        maybe : (component : Component) (rule : Rule) (found : Option (ℕ × Decl)) → is_fault rule ≡ false → declared state.board.packages kinds.Activity component ≡ found
+        maybe : (component : Component) (rule : Rule) (found : Option (ℕ × Decl)) → is_fault rule ≡ false
+            → declared state.board.packages kinds.Activity component ≡ found
             → Comes state deed (activities.start_maybe state caller intent source component rule found)
         maybe component rule None other is = refuses rule other
         maybe component rule (Some found) other is =
             let gate = verdict state.board.grants caller found.0 found.1.exported found.1.permission in
-            unless (or_rule (source_rule state.tasks source) (rule_of gate)) (after_place state found.0 (place state.tasks (start_call caller intent source component found)))
-            (first_rule (source_rule state.tasks source) (rule_of gate) (source_other state.tasks source) (gate_other gate))
+            unless (or_rule (source_rule state.tasks source) (rule_of gate))
+            (after_place state found.0 (place state.tasks (start_call caller intent source component found)))
+            (first_rule (source_rule state.tasks source) (rule_of gate) (source_other state.tasks source)
+            (gate_other gate))
             (λ none. placed component found (place state.tasks (start_call caller intent source component found)) is
             (admitted_by gate (second_none (source_rule state.tasks source) (rule_of gate) none)) refl)
 
         targeted : (found : Target) → Comes state deed (start_target state caller intent source found)
         targeted Nothing = refuses rules.NoActivity refl
-        targeted (One hit) = maybe hit.component rules.NoActivity (declared state.board.packages kinds.Activity hit.component) refl refl
+        targeted (One hit) = maybe hit.component rules.NoActivity (declared state.board.packages kinds.Activity
+            hit.component) refl refl
         targeted (Choose found) =
-            unless (caller_rule state.tasks caller intent source) _ (caller_other state.tasks caller intent source) (λ none. tells (replies.Choose _) state refl)
+            unless (caller_rule state.tasks caller intent source) _ (caller_other state.tasks caller intent source)
+            (λ none. tells (replies.Choose _) state refl)
 
         by : (aim : Option Component) → Comes state deed (activities.start_aimed state caller intent source aim)
-        by (Some component) = maybe component rules.NoComponent (declared state.board.packages kinds.Activity component) refl refl
+        by (Some component) = maybe component rules.NoComponent (declared state.board.packages kinds.Activity component)
+            refl refl
         by None = targeted (target state.board intent)
 
     -- a start of a service
@@ -226,27 +251,35 @@ module _ (state : State) (deed : Option Deed) where
     unfolding start_service
     service_comes = by intent.component intent.«package»
       where
-        maybe : (component : Component) (rule : Rule) (found : Option (ℕ × Decl)) → is_fault rule ≡ false → Comes state deed (services.start_maybe state caller intent component rule found)
+        maybe : (component : Component) (rule : Rule) (found : Option (ℕ × Decl)) → is_fault rule ≡ false
+            → Comes state deed (services.start_maybe state caller intent component rule found)
         maybe component rule None other = refuses rule other
         maybe component rule (Some found) other =
-            unless (gate_rule state caller found) (started state intent component found.0 (running state.services component))
+            unless (gate_rule state caller found) (started state intent component found.0
+            (running state.services component))
             (gate_other (verdict state.board.grants caller found.0 found.1.exported found.1.permission))
-            (λ none. limited (is_too_many state.services (running state.services component)) limits.Services _ (tells (replies.Started component _) _ refl))
+            (λ none. limited (is_too_many state.services (running state.services component)) limits.Services _
+            (tells (replies.Started component _) _ refl))
 
         first : (found : List Hit) → Comes state deed (start_first state caller intent found)
         first [] = refuses rules.NoService refl
-        first (hit ∷ others) = maybe hit.component rules.NoService (declared state.board.packages kinds.Service hit.component) refl
+        first (hit ∷ others) = maybe hit.component rules.NoService
+            (declared state.board.packages kinds.Service hit.component) refl
 
-        by : (aim : Option Component) (name : Option (List ℕ)) → Comes state deed (services.start_aimed state caller intent aim name)
-        by (Some component) name = maybe component rules.NoComponent (declared state.board.packages kinds.Service component) refl
+        by : (aim : Option Component) (name : Option (List ℕ)) → Comes state deed
+            (services.start_aimed state caller intent aim name)
+        by (Some component) name = maybe component rules.NoComponent
+            (declared state.board.packages kinds.Service component) refl
         by None (Some name) = first (hits state.board.packages kinds.Service intent false)
         by None None = refuses rules.ImplicitService refl
 
     -- a broadcast
-    send_comes : (permission : Option (List ℕ)) (ordered : Option Ordered) → Comes state deed (send state caller intent permission ordered)
+    send_comes : (permission : Option (List ℕ)) (ordered : Option Ordered)
+        → Comes state deed (send state caller intent permission ordered)
     unfolding send
     send_comes permission ordered =
-        either (is_protected state.board.protected intent.action && not (is_privileged caller)) (refused state rules.ProtectedAction) _ (refuses rules.ProtectedAction refl)
+        either (is_protected state.board.protected intent.action && not (is_privileged caller))
+        (refused state rules.ProtectedAction) _ (refuses rules.ProtectedAction refl)
         (by (sending.send state.broadcasts (sending_of state caller intent ordered offered)))
       where
         offered : List Receiving
@@ -279,14 +312,17 @@ module _ (state : State) (deed : Option Deed) where
       by None = refuses rules.NoComponent refl
       by (Some found) =
           unless (stopped_rule (running state.services component)) _ (stopped_other (running state.services component))
-          (λ runs. unless (gate_rule state caller found) _ (gate_other (verdict state.board.grants caller found.0 found.1.exported found.1.permission))
+          (λ runs. unless (gate_rule state caller found) _ (gate_other
+          (verdict state.board.grants caller found.0 found.1.exported found.1.permission))
           (λ none. tells replies.Plain _ refl))
 
   -- a receiver that is registered
-  register_comes : (caller : ℕ) (filter : Filter) (permission : Option (List ℕ)) → Comes state deed (register state caller filter permission)
+  register_comes : (caller : ℕ) (filter : Filter) (permission : Option (List ℕ))
+      → Comes state deed (register state caller filter permission)
   unfolding register
   register_comes caller filter permission =
-      limited (nat_le 64 (count_of state.board.registered caller)) limits.Registered _ (tells (replies.Registered state.next_registration) _ refl)
+      limited (nat_le 64 (count_of state.board.registered caller)) limits.Registered _
+      (tells (replies.Registered state.next_registration) _ refl)
 
   -- a registered receiver that is taken back
   unregister_comes : (caller number : ℕ) → Comes state deed (unregister state caller number)
@@ -295,7 +331,8 @@ module _ (state : State) (deed : Option Deed) where
     where
       by : (found : Option Registration) → Comes state deed (unregister_found state caller found)
       by None = refuses rules.NoReceiver refl
-      by (Some found) = either (found.uid == caller) _ (refused state rules.NotYours) (tells replies.Plain _ refl) (refuses rules.NotYours refl)
+      by (Some found) = either (found.uid == caller) _ (refused state rules.NotYours) (tells replies.Plain _ refl)
+          (refuses rules.NotYours refl)
 
   -- a delivery that is finished
   finish_comes : (caller number : ℕ) (answer : Answer) → Comes state deed (finish state caller number answer)
@@ -307,10 +344,18 @@ module _ (state : State) (deed : Option Deed) where
       by (Ok left) = tells replies.Plain _ refl
 
   -- a token that is asked for
-  pending_get_comes : (caller : ℕ) (kind : Kind) (code : ℤ) (intent : Intent) (flags : PendingFlags) → Comes state deed (pending_get state caller kind code intent flags)
+  pending_get_comes : (caller : ℕ) (kind : Kind) (code : ℤ) (intent : Intent) (flags : PendingFlags)
+      → Comes state deed (pending_get state caller kind code intent flags)
   unfolding pending_get
   pending_get_comes caller kind code intent flags =
-      by (pendings.get state.pendings (record { creator = caller; kind = kind; code = code; intent = intent; flags = flags }))
+      by (pendings.get state.pendings (record {
+        creator = caller;
+        kind = kind;
+        code = code;
+        intent = intent;
+        flags =
+            flags;
+      }))
     where
       by : (got : Result (Option ℕ × Pendings) PendingFault) → Comes state deed (after_get state got)
       by (Err fault) = refuses (pending_rule fault) (pending_other fault)
@@ -334,7 +379,8 @@ module _ (state : State) (deed : Option Deed) where
       (λ to. change_comes (pendings.give state.pendings token caller to.uid))
 
   -- what is done for the creator of a token
-  lend_comes : (creator : ℕ) (intent : Intent) (kind : Kind) → deed ≡ Some (lent_deed creator intent kind) → Comes state deed (lend state creator intent kind)
+  lend_comes : (creator : ℕ) (intent : Intent) (kind : Kind) → deed ≡ Some (lent_deed creator intent kind)
+      → Comes state deed (lend state creator intent kind)
   lend_comes creator intent kinds.Activity did = start_comes creator (in_new_task intent) None did
   lend_comes creator intent kinds.Service did = service_comes creator intent
   lend_comes creator intent kinds.Receiver did = send_comes creator intent None None
@@ -347,7 +393,8 @@ module _ (state : State) (deed : Option Deed) where
       by : (manifest : Result Manifest ManifestFault) → Comes state deed (install_read state key manifest)
       by (Err fault) = refuses (rules.BadManifest fault) refl
       by (Ok manifest) =
-          either (is_name_used state.board.packages manifest.«package» || is_key_used state key) (refused state rules.Installed) _ (refuses rules.Installed refl)
+          either (is_name_used state.board.packages manifest.«package» || is_key_used state key)
+          (refused state rules.Installed) _ (refuses rules.Installed refl)
           (limited (is_full state) limits.Packages _ (tells (replies.Installed state.next_uid) _ refl))
 
   -- a package that is uninstalled
@@ -361,22 +408,27 @@ module _ (state : State) (deed : Option Deed) where
   force_stop_comes caller name = by_admin caller _ (of_package name _ (λ owner. tells replies.Plain _ refl))
 
   -- a permission that is given or taken
-  grant_comes : (caller : ℕ) (name permission : List ℕ) (held : Bool) → Comes state deed (grant state caller name permission held)
+  grant_comes : (caller : ℕ) (name permission : List ℕ) (held : Bool)
+      → Comes state deed (grant state caller name permission held)
   unfolding grant
   grant_comes caller name permission held =
-      by_admin caller _ (of_package name _ (λ owner. limited (too_many_grants state.board.grants owner.uid permission held) limits.Grants _ (tells replies.Plain _ refl)))
+      by_admin caller _ (of_package name _ (λ owner. limited (too_many_grants state.board.grants owner.uid permission
+      held) limits.Grants _ (tells replies.Plain _ refl)))
 
   -- a host that is approved or not
-  link_comes : (caller : ℕ) (name host : List ℕ) (approved : Bool) → Comes state deed (link state caller name host approved)
+  link_comes : (caller : ℕ) (name host : List ℕ) (approved : Bool)
+      → Comes state deed (link state caller name host approved)
   unfolding link
   link_comes caller name host approved =
-      by_admin caller _ (of_package name _ (λ owner. limited (too_many_links state.board.links owner.uid host approved) limits.Links _ (tells replies.Plain _ refl)))
+      by_admin caller _ (of_package name _ (λ owner. limited (too_many_links state.board.links owner.uid host approved)
+      limits.Links _ (tells replies.Plain _ refl)))
 
   -- the moment that is moved
   advance_comes : (by : ℕ) → Comes state deed (advance state by)
   unfolding advance
   advance_comes by =
-      either (nat_le (state.moment + by) 4611686018427387904) _ (refused state (rules.OverLimit limits.Moment)) (tells (replies.Advanced _ _) _ refl)
+      either (nat_le (state.moment + by) 4611686018427387904) _ (refused state (rules.OverLimit limits.Moment))
+      (tells (replies.Advanced _ _) _ refl)
       (refuses (rules.OverLimit limits.Moment) refl)
 
   -- the accounts of what has a uid, of what the package of a name has, and as a uid would ask for them
@@ -388,30 +440,39 @@ module _ (state : State) (deed : Option Deed) where
   told_comes asked None = tells (replies.Accounts _) state refl
   told_comes asked (Some name) = told_at_comes asked (uid_named state.board.packages name)
 
-  told_as_comes : (asked : Question) (shown : Option (List ℕ)) (uid : Option ℕ) → Comes state deed (told_as state.board asked shown uid, state)
+  told_as_comes : (asked : Question) (shown : Option (List ℕ)) (uid : Option ℕ)
+      → Comes state deed (told_as state.board asked shown uid, state)
   told_as_comes asked shown None = refuses rules.NoPackage refl
   told_as_comes asked shown (Some uid) = told_comes (record asked { caller = uid }) shown
 
   -- whom an intent reaches and why not the others
-  explain_comes : (asked : Question) (name shown : Option (List ℕ)) → Comes state deed (explain state.board asked name shown, state)
+  explain_comes : (asked : Question) (name shown : Option (List ℕ))
+      → Comes state deed (explain state.board asked name shown, state)
   unfolding explain
   explain_comes asked None shown = told_comes asked shown
   explain_comes asked (Some name) shown = by (is_privileged asked.caller)
     where
-      by : (privileged : Bool) → Comes state deed (cond privileged (told_as state.board asked shown (caller_of state.board.packages name)) (replies.Refused rules.AdminOnly), state)
+      by : (privileged : Bool) → Comes state deed (
+        cond privileged
+            (told_as state.board asked shown (caller_of state.board.packages name)) (replies.Refused rules.AdminOnly),
+        state,
+      )
       by true = told_as_comes asked shown (caller_of state.board.packages name)
       by false = refuses rules.AdminOnly refl
 
 -- what comes of a request: what comes of its deed; and if a one-shot token does it, that one is used up
 pub data ActComes (state : State) (caller : ℕ) (request : Request) : Reply × State → Type 0 where
-  acts : (next : Reply × State) → after_refused state caller request ≡ state → Comes state (deed_of state caller request) next
+  acts : (next : Reply × State) → after_refused state caller request ≡ state
+      → Comes state (deed_of state caller request) next
       → ActComes state caller request next
   uses : (token : ℕ) (fill : Option Intent) (used : Used) (next : Reply × State) → request ≡ asks.PendingSend token fill
-      → use_token state.pendings token caller fill ≡ Ok used → used.one_shot ≡ true → Comes state (deed_of state caller request) next
+      → use_token state.pendings token caller fill ≡ Ok used → used.one_shot ≡ true
+      → Comes state (deed_of state caller request) next
       → ActComes state caller request (used_up token used.creator next)
 
 -- a token that is used
-pending_send_comes : (state : State) (caller token : ℕ) (fill : Option Intent) → ActComes state caller (asks.PendingSend token fill) (pending_send state caller token fill)
+pending_send_comes : (state : State) (caller token : ℕ) (fill : Option Intent)
+    → ActComes state caller (asks.PendingSend token fill) (pending_send state caller token fill)
 unfolding pending_send
 pending_send_comes state caller token fill = by (use_token state.pendings token caller fill) refl
   where
@@ -419,48 +480,75 @@ pending_send_comes state caller token fill = by (use_token state.pendings token 
     asked = asks.PendingSend token fill
 
     does : (used : Used) → use_token state.pendings token caller fill ≡ Ok used → (once : Bool) → used.one_shot ≡ once
-        → ActComes state caller asked (cond once (used_up token used.creator (lend state used.creator used.intent used.kind)) (lend state used.creator used.intent used.kind))
+        → ActComes state caller asked (cond once (used_up token used.creator
+        (lend state used.creator used.intent used.kind)) (lend state used.creator used.intent used.kind))
     does used is true once =
         uses token fill used (lend state used.creator used.intent used.kind) refl is once
-        (lend_comes state (deed_of state caller asked) used.creator used.intent used.kind (ap (λ result. used_deed result) is))
+        (lend_comes state (deed_of state caller asked) used.creator used.intent used.kind
+        (ap (λ result. used_deed result) is))
     does used is false once =
         acts (lend state used.creator used.intent used.kind)
-        (ap (λ result. after_use_refused state token result) is ∙ ap (λ (b : Bool). cond b (without_record state token) state) once)
-        (lend_comes state (deed_of state caller asked) used.creator used.intent used.kind (ap (λ result. used_deed result) is))
+        (ap (λ result. after_use_refused state token result) is ∙ ap
+        (λ (b : Bool). cond b (without_record state token) state) once)
+        (lend_comes state (deed_of state caller asked) used.creator used.intent used.kind
+        (ap (λ result. used_deed result) is))
 
-    by : (result : Result Used PendingFault) → use_token state.pendings token caller fill ≡ result → ActComes state caller asked (after_use state token result)
-    by (Err fault) is = acts (refused state (pending_rule fault)) (ap (λ result. after_use_refused state token result) is) (refuses (pending_rule fault) (pending_other fault))
+    by : (result : Result Used PendingFault) → use_token state.pendings token caller fill ≡ result
+        → ActComes state caller asked (after_use state token result)
+    by (Err fault) is = acts (refused state (pending_rule fault)) (ap (λ result. after_use_refused state token result)
+        is) (refuses (pending_rule fault) (pending_other fault))
     by (Ok used) is = does used is used.one_shot refl
 
 -- each request
-pub act_comes : (state : State) (before : List Entry) (caller : ℕ) (request : Request) → ActComes state caller request (act state before caller request)
+pub act_comes : (state : State) (before : List Entry) (caller : ℕ) (request : Request)
+    → ActComes state caller request (act state before caller request)
 unfolding act
-act_comes state before caller (asks.Query kind intent default_only) = acts _ refl (tells (replies.Components _) state refl)
+act_comes state before caller (asks.Query kind intent default_only) = acts _ refl
+    (tells (replies.Components _) state refl)
 act_comes state before caller (asks.Explain kind intent name permission shown) =
-    acts _ refl (explain_comes state None (record { caller = caller; kind = kind; intent = intent; required = permission }) name shown)
-act_comes state before caller (asks.Start intent source) = acts _ refl (start_comes state (Some (Starts caller intent)) caller intent source refl)
-act_comes state before caller (asks.FinishActivity instance) = acts _ refl (finish_activity_comes state None caller instance)
+    acts _ refl (explain_comes state None (record {
+      caller = caller;
+      kind = kind;
+      intent = intent;
+      required = permission;
+    }) name shown)
+act_comes state before caller (asks.Start intent source) = acts _ refl
+    (start_comes state (Some (Starts caller intent)) caller intent source refl)
+act_comes state before caller (asks.FinishActivity instance) = acts _ refl
+    (finish_activity_comes state None caller instance)
 act_comes state before caller asks.Back = acts _ refl (by_admin state None caller (back state) (back_comes state None))
 act_comes state before caller asks.ListTasks = acts _ refl (tells (replies.Tasks _) state refl)
-act_comes state before caller (asks.StartService intent) = acts _ refl (service_comes state (Some (Serves caller intent)) caller intent)
-act_comes state before caller (asks.StopService component) = acts _ refl (stop_service_comes state None caller component)
+act_comes state before caller (asks.StartService intent) = acts _ refl
+    (service_comes state (Some (Serves caller intent)) caller intent)
+act_comes state before caller (asks.StopService component) = acts _ refl
+    (stop_service_comes state None caller component)
 act_comes state before caller asks.Services = acts _ refl (tells (replies.Services _) state refl)
 act_comes state before caller (asks.Send intent permission ordered) =
     acts _ refl (send_comes state (Some (Sends caller intent permission ordered)) caller intent permission ordered)
-act_comes state before caller (asks.Register filter permission) = acts _ refl (register_comes state None caller filter permission)
+act_comes state before caller (asks.Register filter permission) = acts _ refl
+    (register_comes state None caller filter permission)
 act_comes state before caller (asks.Unregister number) = acts _ refl (unregister_comes state None caller number)
 act_comes state before caller asks.Inbox = acts _ refl (tells (replies.Items _) state refl)
-act_comes state before caller (asks.Finish delivery answer) = acts _ refl (finish_comes state None caller delivery answer)
-act_comes state before caller (asks.PendingGet kind code intent flags) = acts _ refl (pending_get_comes state None caller kind code intent flags)
+act_comes state before caller (asks.Finish delivery answer) = acts _ refl
+    (finish_comes state None caller delivery answer)
+act_comes state before caller (asks.PendingGet kind code intent flags) = acts _ refl
+    (pending_get_comes state None caller kind code intent flags)
 act_comes state before caller (asks.PendingSend token fill) = pending_send_comes state caller token fill
 act_comes state before caller (asks.PendingCancel token) = acts _ refl (pending_cancel_comes state None caller token)
-act_comes state before caller (asks.PendingGive token name) = acts _ refl (pending_give_comes state None caller token name)
+act_comes state before caller (asks.PendingGive token name) = acts _ refl
+    (pending_give_comes state None caller token name)
 act_comes state before caller (asks.Install text key) = acts _ refl (install_comes state None caller text key)
 act_comes state before caller (asks.Uninstall name) = acts _ refl (uninstall_comes state None caller name)
-act_comes state before caller (asks.Grant name permission held) = acts _ refl (grant_comes state None caller name permission held)
-act_comes state before caller (asks.Link name host approved) = acts _ refl (link_comes state None caller name host approved)
+act_comes state before caller (asks.Grant name permission held) = acts _ refl
+    (grant_comes state None caller name permission held)
+act_comes state before caller (asks.Link name host approved) = acts _ refl
+    (link_comes state None caller name host approved)
 act_comes state before caller (asks.ForceStop name) = acts _ refl (force_stop_comes state None caller name)
-act_comes state before caller asks.Tick = acts _ refl (by_admin state None caller (done state) (tells replies.Plain state refl))
-act_comes state before caller (asks.Advance by) = acts _ refl (by_admin state None caller (advance state by) (advance_comes state None by))
-act_comes state before caller (asks.History from) = acts _ refl (by_admin state None caller _ (tells (replies.Entries from _) state refl))
-act_comes state before caller asks.Status = acts _ refl (by_admin state None caller _ (tells (replies.Status _ state.moment _) state refl))
+act_comes state before caller asks.Tick = acts _ refl (by_admin state None caller (done state)
+    (tells replies.Plain state refl))
+act_comes state before caller (asks.Advance by) = acts _ refl (by_admin state None caller (advance state by)
+    (advance_comes state None by))
+act_comes state before caller (asks.History from) = acts _ refl (by_admin state None caller _
+    (tells (replies.Entries from _) state refl))
+act_comes state before caller asks.Status = acts _ refl (by_admin state None caller _
+    (tells (replies.Status _ state.moment _) state refl))

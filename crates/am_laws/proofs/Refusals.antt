@@ -32,29 +32,36 @@ no_refusal (Refused rule) other refusal = false≢true other
 no_refusal _ other refusal = false≢true refusal
 
 -- a deed that is refused leaves the state as it was
-deed_stays : (state : State) (deed : Option Deed) (next : Reply × State) → Comes state deed next → is_refusal next.0 ≡ true → next.1 ≡ state
+deed_stays : (state : State) (deed : Option Deed) (next : Reply × State) → Comes state deed next → is_refusal next.0
+    ≡ true → next.1 ≡ state
 deed_stays state deed next (refuses rule other) refusal = refl
-deed_stays state deed next (lands uid intent source component found landed did is admits placed) refusal = absurd (false≢true refusal)
+deed_stays state deed next (lands uid intent source component found landed did is admits placed) refusal = absurd
+    (false≢true refusal)
 deed_stays state deed next (tells reply after other) refusal = absurd (no_refusal reply other refusal)
 
 -- the token of a record that could be used is its creator's, who can cancel it: then it is gone
-used_is_gone : (all : Pendings) (token uid : ℕ) (fill : Option Intent) (used : Used) → use_token all token uid fill ≡ Ok used
+used_is_gone : (all : Pendings) (token uid : ℕ) (fill : Option Intent) (used : Used) → use_token all token uid fill
+    ≡ Ok used
     → left_of all (cancel all token used.creator) ≡ record all { records = without_token all.records token }
 unfolding use_token cancel
 used_is_gone all token uid fill used is = by (record_of all token) refl is
   where
-    made_by : (kept : Pending) (intent : Result Intent FillFault) → used_as kept intent ≡ Ok used → kept.creator ≡ used.creator
+    made_by : (kept : Pending) (intent : Result Intent FillFault) → used_as kept intent ≡ Ok used → kept.creator
+        ≡ used.creator
     made_by kept (Err full) made = absurd cc
     made_by kept (Ok intent) made =
-        let e : record { creator = kept.creator; kind = kept.kind; intent = intent; one_shot = kept.one_shot } ≡ used = cc in
+        let e : record { creator = kept.creator; kind = kept.kind; intent = intent; one_shot = kept.one_shot }
+        ≡ used = cc in
         ap (λ (u : Used). u.creator) e
 
-    held : (kept : Pending) (holds : Bool) → cond {A = Result Used PendingFault} holds (used_as kept (lent kept fill)) (Err NotHolder) ≡ Ok used → kept.creator ≡ used.creator
+    held : (kept : Pending) (holds : Bool) → cond {A = Result Used PendingFault} holds (used_as kept (lent kept fill))
+        (Err NotHolder) ≡ Ok used → kept.creator ≡ used.creator
     held kept true made = made_by kept (lent kept fill) made
     held kept false made = absurd cc
 
     gone : (kept : Pending) → kept.token ≡ token → (test : Bool) → test ≡ true
-        → left_of all (cond {A = Result Pendings PendingFault} test (Ok (record all { records = without_token all.records kept.token })) (Err NotCreator))
+        → left_of all (cond {A = Result Pendings PendingFault} test
+        (Ok (record all { records = without_token all.records kept.token })) (Err NotCreator))
         ≡ record all { records = without_token all.records token }
     gone kept same true test = ap (λ (t : ℕ). record all { records = without_token all.records t }) same
     gone kept same false test = absurd (false≢true test)
@@ -67,9 +74,11 @@ used_is_gone all token uid fill used is = by (record_of all token) refl is
         (eqb kept.creator used.creator) (eq-eqb kept.creator used.creator (held kept (is_holder kept uid) made))
 
 -- a request that is refused
-request_stays : (state : State) (caller : ℕ) (request : Request) (next : Reply × State) → ActComes state caller request next → is_refusal next.0 ≡ true
+request_stays : (state : State) (caller : ℕ) (request : Request) (next : Reply × State)
+    → ActComes state caller request next → is_refusal next.0 ≡ true
     → next.1 ≡ after_refused state caller request
-request_stays state caller request next (acts after stays comes) refusal = deed_stays state _ after comes refusal ∙ sym stays
+request_stays state caller request next (acts after stays comes) refusal = deed_stays state _ after comes refusal
+    ∙ sym stays
 request_stays state caller request next (uses token fill used after asked is once comes) refusal =
     ap (λ (s : State). (used_up token used.creator (after.0, s)).1) (deed_stays state _ after comes refusal)
     ∙ ap (λ (all : Pendings). record state { pendings = all }) (used_is_gone state.pendings token caller fill used is)
@@ -85,13 +94,18 @@ step_stays state before entry = by entry.kept
     due : State
     due = after_due state entry.now
 
-    by : (kept : Bool) → is_refusal (cond kept (act due before entry.uid entry.request) (Refused KeeperFault, due)).0 ≡ true
-        → (cond kept (act due before entry.uid entry.request) (Refused KeeperFault, due)).1 ≡ cond kept (after_refused due entry.uid entry.request) due
-    by true refusal = request_stays due entry.uid entry.request (act due before entry.uid entry.request) (act_comes due before entry.uid entry.request) refusal
+    by : (kept : Bool) → is_refusal (cond kept (act due before entry.uid entry.request) (Refused KeeperFault, due)).0
+        ≡ true
+        → (cond kept (act due before entry.uid entry.request) (Refused KeeperFault, due)).1
+        ≡ cond kept (after_refused due entry.uid entry.request) due
+    by true refusal = request_stays due entry.uid entry.request (act due before entry.uid entry.request)
+        (act_comes due before entry.uid entry.request) refusal
     by false refusal = refl
 
 -- after every history
-pub refusals_change_nothing : (origin : Origin) (history : List Entry) (entry : Entry) → is_refusal (answer_after origin history entry).0 ≡ true
-    → (answer_after origin history entry).1 ≡ after_refused_entry (after_due (state_after origin history) entry.now) entry
+pub refusals_change_nothing : (origin : Origin) (history : List Entry) (entry : Entry)
+    → is_refusal (answer_after origin history entry).0 ≡ true
+    → (answer_after origin history entry).1 ≡ after_refused_entry (after_due (state_after origin history) entry.now)
+    entry
 refusals_change_nothing origin history entry refusal =
     replay_more (opening_of origin) history entry ∙ step_stays (state_after origin history) history entry refusal

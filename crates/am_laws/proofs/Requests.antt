@@ -59,12 +59,15 @@ stopped_of state uid = let left = forget state uid in with_packages left (with_s
 -- this holds in the state, and after each step that the request of a caller may take
 pub record Steps (P : State → Type 0) (state : State) (caller : ℕ) (request : Request) : Type 0 where
   pub here : P state
-  pub started : (uid : ℕ) (intent : Intent) (source : Option ℕ) (component : Component) (found : ℕ × Decl) (landed : Landed × Tasks)
-      → deed_of state caller request ≡ Some (Starts uid intent) → declared state.board.packages kinds.Activity component ≡ Some found
+  pub started : (uid : ℕ) (intent : Intent) (source : Option ℕ) (component : Component) (found : ℕ × Decl)
+      (landed : Landed × Tasks)
+      → deed_of state caller request ≡ Some (Starts uid intent) → declared state.board.packages kinds.Activity component
+      ≡ Some found
       → verdict state.board.grants uid found.0 found.1.exported found.1.permission ≡ Admit
       → place state.tasks (start_call uid intent source component found) ≡ Ok landed
       → P (record (with_packages state (with_stopped state.board.packages found.0 false)) { tasks = landed.1 })
-  pub served : (uid : ℕ) (intent : Intent) (component : Component) (found : ℕ × Decl) → deed_of state caller request ≡ Some (Serves uid intent)
+  pub served : (uid : ℕ) (intent : Intent) (component : Component) (found : ℕ × Decl) → deed_of state caller request
+      ≡ Some (Serves uid intent)
       → declared state.board.packages kinds.Service component ≡ Some found
       → verdict state.board.grants uid found.0 found.1.exported found.1.permission ≡ Admit
       → P (record (with_packages state (with_stopped state.board.packages found.0 false)) {
@@ -73,21 +76,32 @@ pub record Steps (P : State → Type 0) (state : State) (caller : ℕ) (request 
   pub sent : (sender : ℕ) (intent : Intent) (permission : Option (List ℕ)) (ordered : Option Ordered)
       → deed_of state caller request ≡ Some (Sends sender intent permission ordered)
       → is_protected state.board.protected intent.action && not (is_privileged sender) ≡ false
-      → P (record state { broadcasts = with_sent state.broadcasts (sending_of state sender intent ordered (receivers state.board intent sender permission)) ordered })
-  pub ended : (keeps : Instance → Bool) → P (record state { tasks = record (state.tasks) { tasks = tasks_keeping keeps state.tasks.tasks } })
+      → P (record state {
+        broadcasts = with_sent state.broadcasts (sending_of state sender intent ordered
+            (receivers state.board intent sender permission)) ordered;
+      })
+  pub ended : (keeps : Instance → Bool) → P (record state {
+    tasks = record (state.tasks)
+        { tasks = tasks_keeping keeps state.tasks.tasks };
+  })
   pub unserved : (keeps : Service → Bool) → P (record state { services = filter keeps state.services })
   pub registered : (filter : Filter) (permission : Option (List ℕ))
-      → P (record (with_registered state (state.board.registered ++ record { number = state.next_registration; uid = caller; filter = filter; permission = permission } ∷ [])) {
+      → P (record (with_registered state (state.board.registered ++ record
+      { number = state.next_registration; uid = caller; filter = filter; permission = permission } ∷ [])) {
         next_registration = state.next_registration + 1;
       })
   pub taken_back : (found : Registration) → P (taken_back state found)
-  pub finished : (number : ℕ) (answer : Answer) (holder : Held) → request ≡ asks.Finish number answer → held state.broadcasts number ≡ Some holder → holder.uid ≡ caller
+  pub finished : (number : ℕ) (answer : Answer) (holder : Held) → request ≡ asks.Finish number answer
+      → held state.broadcasts number ≡ Some holder → holder.uid ≡ caller
       → P (record state { broadcasts = finished state.broadcasts number answer state.moment })
   pub got : (left : Pendings) → left.next ≤ state.pendings.next + 1 → P (record state { pendings = left })
-  pub changed : (after : State) (left : Pendings) → left.next ≡ after.pendings.next → P after → P (record after { pendings = left })
-  pub installed : (text key : List ℕ) (manifest : Manifest) → manifest_of text ≡ Ok manifest → is_name_used state.board.packages manifest.«package» ≡ false
+  pub changed : (after : State) (left : Pendings) → left.next ≡ after.pendings.next → P after
+      → P (record after { pendings = left })
+  pub installed : (text key : List ℕ) (manifest : Manifest) → manifest_of text ≡ Ok manifest
+      → is_name_used state.board.packages manifest.«package» ≡ false
       → is_key_used state key ≡ false → is_full state ≡ false
-      → P (record (with_packages state (state.board.packages ++ installed state manifest key ∷ [])) { next_uid = state.next_uid + 1 })
+      → P (record (with_packages state (state.board.packages ++ installed state manifest key ∷ []))
+      { next_uid = state.next_uid + 1 })
   pub gone : (uid : ℕ) → P (without state uid)
   pub stopped : (uid : ℕ) → P (stopped_of state uid)
   pub granted : (uid : ℕ) (permission : List ℕ) (held : Bool) → is_package_uid state.board.packages uid ≡ true
@@ -100,11 +114,14 @@ pub record Steps (P : State → Type 0) (state : State) (caller : ℕ) (request 
 
 -- the steps of what is said of the tasks and the moment alone
 pub task_steps : (Q : Tasks → ℕ → Type 0) (state : State) (caller : ℕ) (request : Request) → Q state.tasks state.moment
-    → ((uid : ℕ) (intent : Intent) (source : Option ℕ) (component : Component) (found : ℕ × Decl) (landed : Landed × Tasks)
-    → deed_of state caller request ≡ Some (Starts uid intent) → declared state.board.packages kinds.Activity component ≡ Some found
+    → ((uid : ℕ) (intent : Intent) (source : Option ℕ) (component : Component) (found : ℕ × Decl)
+    (landed : Landed × Tasks)
+    → deed_of state caller request ≡ Some (Starts uid intent) → declared state.board.packages kinds.Activity component
+    ≡ Some found
     → verdict state.board.grants uid found.0 found.1.exported found.1.permission ≡ Admit
     → place state.tasks (start_call uid intent source component found) ≡ Ok landed → Q landed.1 state.moment)
-    → ((keeps : Instance → Bool) → Q (record (state.tasks) { tasks = tasks_keeping keeps state.tasks.tasks }) state.moment)
+    → ((keeps : Instance → Bool) → Q (record (state.tasks) { tasks = tasks_keeping keeps state.tasks.tasks })
+    state.moment)
     → ((by : ℕ) → state.moment + by ≤ 4611686018427387904 → Q state.tasks (state.moment + by))
     → Steps (λ (s : State). Q s.tasks s.moment) state caller request
 task_steps Q state caller request here starts keeping moves = record {
@@ -129,50 +146,64 @@ task_steps Q state caller request here starts keeping moves = record {
 
 module _ (P : State → Type 0) (state : State) (caller : ℕ) where
   -- the end of an instance
-  ended_leaves : (request : Request) (uid number : ℕ) (owned : Option ℕ) → Steps P state caller request → P (after_end state (ended state.tasks number uid owned)).1
+  ended_leaves : (request : Request) (uid number : ℕ) (owned : Option ℕ) → Steps P state caller request
+      → P (after_end state (ended state.tasks number uid owned)).1
   ended_leaves request uid number None steps = steps.here
   ended_leaves request uid number (Some own) steps = by (may_end uid own)
     where
-      by : (b : Bool) → P (after_end state (cond {A = Result Tasks TaskFault} b (Ok (without_instance state.tasks number)) (Err NotYours))).1
+      by : (b : Bool) → P (after_end state (cond {A = Result Tasks TaskFault} b
+          (Ok (without_instance state.tasks number)) (Err NotYours))).1
       by true = steps.ended (λ (i : Instance). not (i.number == number))
       by false = steps.here
 
   -- going back
-  back_leaves : (request : Request) (top : Option Instance) → Steps P state caller request → P (went_back state (back_from state.tasks top)).1
+  back_leaves : (request : Request) (top : Option Instance) → Steps P state caller request
+      → P (went_back state (back_from state.tasks top)).1
   back_leaves request None steps = steps.here
   back_leaves request (Some instance) steps = steps.ended (λ (i : Instance). not (i.number == instance.number))
 
   -- a delivery that is finished
-  finish_leaves : (number : ℕ) (answer : Answer) → Steps P state caller (asks.Finish number answer) → P (finish state caller number answer).1
+  finish_leaves : (number : ℕ) (answer : Answer) → Steps P state caller (asks.Finish number answer)
+      → P (finish state caller number answer).1
   finish_leaves number answer steps =
-      finish_cases (λ (next : Reply × State). P next.1) state caller number answer (λ rule. steps.here) (λ holder is own. steps.finished number answer holder refl is own)
+      finish_cases (λ (next : Reply × State). P next.1) state caller number answer (λ rule. steps.here)
+      (λ holder is own. steps.finished number answer holder refl is own)
 
   -- a token that is used
-  pending_send_leaves : (token : ℕ) (fill : Option Intent) → Steps P state caller (asks.PendingSend token fill) → P (pending_send state caller token fill).1
+  pending_send_leaves : (token : ℕ) (fill : Option Intent) → Steps P state caller (asks.PendingSend token fill)
+      → P (pending_send state caller token fill).1
   pending_send_leaves token fill steps =
-      use_cases P state caller token fill steps.here steps.changed (λ used is. by used.creator used.intent used.kind (ap (λ result. used_deed result) is))
+      use_cases P state caller token fill steps.here steps.changed
+      (λ used is. by used.creator used.intent used.kind (ap (λ result. used_deed result) is))
     where
-      by : (creator : ℕ) (intent : Intent) (kind : Kind) → deed_of state caller (asks.PendingSend token fill) ≡ Some (lent_deed creator intent kind)
+      by : (creator : ℕ) (intent : Intent) (kind : Kind) → deed_of state caller (asks.PendingSend token fill)
+          ≡ Some (lent_deed creator intent kind)
           → P (lend state creator intent kind).1
       by creator intent kinds.Activity did =
           start_cases P state creator (in_new_task intent) steps.here None
-          (λ component found landed is admits done. steps.started creator (in_new_task intent) None component found landed did is admits done)
+          (λ component found landed is admits done. steps.started creator (in_new_task intent) None component found
+          landed did is admits done)
       by creator intent kinds.Service did =
-          service_cases P state creator intent steps.here (λ component found is admits. steps.served creator intent component found did is admits)
-      by creator intent kinds.Receiver did = send_cases P state creator intent steps.here None None (steps.sent creator intent None None did)
+          service_cases P state creator intent steps.here (λ component found is admits. steps.served creator intent
+          component found did is admits)
+      by creator intent kinds.Receiver did = send_cases P state creator intent steps.here None None
+          (steps.sent creator intent None None did)
 
   -- after a token was asked for
-  got_leaves : (request : Request) (got : Result (Option ℕ × Pendings) PendingFault) → GotTo (state.pendings.next + 1) got → Steps P state caller request → P (after_get state got).1
+  got_leaves : (request : Request) (got : Result (Option ℕ × Pendings) PendingFault)
+      → GotTo (state.pendings.next + 1) got → Steps P state caller request → P (after_get state got).1
   got_leaves request (Err fault) few steps = steps.here
   got_leaves request (Ok got) few steps = steps.got got.1 few
 
   -- after a change of the records
-  change_leaves : (request : Request) (left : Result Pendings PendingFault) → Keeps state.pendings.next left → Steps P state caller request → P (after_change state left).1
+  change_leaves : (request : Request) (left : Result Pendings PendingFault) → Keeps state.pendings.next left
+      → Steps P state caller request → P (after_change state left).1
   change_leaves request (Err fault) same steps = steps.here
   change_leaves request (Ok left) same steps = steps.changed state left same steps.here
 
   -- a package whose manifest was read
-  read_leaves : (request : Request) (text key : List ℕ) (manifest : Result Manifest ManifestFault) → manifest_of text ≡ manifest → Steps P state caller request
+  read_leaves : (request : Request) (text key : List ℕ) (manifest : Result Manifest ManifestFault) → manifest_of text
+      ≡ manifest → Steps P state caller request
       → P (install_read state key manifest).1
   read_leaves request text key (Err fault) is steps = steps.here
   read_leaves request text key (Ok manifest) is steps =
@@ -181,11 +212,14 @@ module _ (P : State → Type 0) (state : State) (caller : ℕ) where
       more : Reply × State
       more = (
         replies.Installed state.next_uid,
-        record (with_packages state (state.board.packages ++ installed state manifest key ∷ [])) { next_uid = state.next_uid + 1 },
+        record (with_packages state (state.board.packages ++ installed state manifest key ∷ []))
+            { next_uid = state.next_uid + 1 },
       )
 
-      by : (used full : Bool) → is_name_used state.board.packages manifest.«package» || is_key_used state key ≡ used → is_full state ≡ full
-          → P (cond used (refused state rules.Installed) (cond full (refused state (rules.OverLimit limits.Packages)) more)).1
+      by : (used full : Bool) → is_name_used state.board.packages manifest.«package» || is_key_used state key ≡ used
+          → is_full state ≡ full
+          → P (cond used (refused state rules.Installed) (cond full (refused state (rules.OverLimit limits.Packages))
+          more)).1
       by true full unused room = steps.here
       by false true unused room = steps.here
       by false false unused room =
@@ -204,75 +238,105 @@ module _ (P : State → Type 0) (state : State) (caller : ℕ) where
   advance_leaves request by steps = fits (nat_le (state.moment + by) 4611686018427387904) refl
     where
       fits : (b : Bool) → nat_le (state.moment + by) 4611686018427387904 ≡ b
-          → P (cond b (advanced (at_moment state (state.moment + by))) (refused state (rules.OverLimit limits.Moment))).1
+          → P (cond b (advanced (at_moment state (state.moment + by)))
+          (refused state (rules.OverLimit limits.Moment))).1
       fits true is = steps.advanced by (leb-true (state.moment + by) 4611686018427387904 is)
       fits false is = steps.here
 
   -- each request
-  pub act_leaves : (before : List Entry) (request : Request) → Steps P state caller request → P (act state before caller request).1
-  unfolding act finish_activity tasks.finish back stop_service register unregister pending_get pending_cancel pending_give install uninstall grant link force_stop
+  pub act_leaves : (before : List Entry) (request : Request) → Steps P state caller request
+      → P (act state before caller request).1
+  unfolding act finish_activity tasks.finish back stop_service register unregister pending_get pending_cancel
+      pending_give install uninstall grant link force_stop
   act_leaves before (asks.Query kind intent default_only) steps = steps.here
   act_leaves before (asks.Explain kind intent name permission shown) steps = steps.here
   act_leaves before (asks.Start intent source) steps =
       start_cases P state caller intent steps.here source
-      (λ component found landed is admits done. steps.started caller intent source component found landed refl is admits done)
-  act_leaves before (asks.FinishActivity instance) steps = ended_leaves _ caller instance (owner state.tasks instance) steps
-  act_leaves before asks.Back steps = admin_leaves P state caller (back state) steps.here (back_leaves _ (seen state.tasks.tasks) steps)
+      (λ component found landed is admits done. steps.started caller intent source component found landed refl is admits
+      done)
+  act_leaves before (asks.FinishActivity instance) steps = ended_leaves _ caller instance (owner state.tasks instance)
+      steps
+  act_leaves before asks.Back steps = admin_leaves P state caller (back state) steps.here
+      (back_leaves _ (seen state.tasks.tasks) steps)
   act_leaves before asks.ListTasks steps = steps.here
   act_leaves before (asks.StartService intent) steps =
-      service_cases P state caller intent steps.here (λ component found is admits. steps.served caller intent component found refl is admits)
+      service_cases P state caller intent steps.here (λ component found is admits. steps.served caller intent component
+      found refl is admits)
   act_leaves before (asks.StopService component) steps = by (declared state.board.packages kinds.Service component)
     where
       by : (found : Option (ℕ × Decl)) → P (stop_maybe state caller component found).1
       by None = steps.here
       by (Some found) =
           unless_leaves P state (stopped_rule (running state.services component)) _ steps.here
-          (unless_leaves P state (gate_rule state caller found) _ steps.here (steps.unserved (λ (service : Service). not (is_service component service))))
+          (unless_leaves P state (gate_rule state caller found) _ steps.here
+          (steps.unserved (λ (service : Service). not (is_service component service))))
   act_leaves before asks.Services steps = steps.here
   act_leaves before (asks.Send intent permission ordered) steps =
       send_cases P state caller intent steps.here permission ordered (steps.sent caller intent permission ordered refl)
   act_leaves before (asks.Register filter permission) steps =
-      either_leaves P (nat_le 64 (count_of state.board.registered caller)) (refused state (rules.OverLimit limits.Registered)) _ steps.here (steps.registered filter permission)
-  act_leaves before (asks.Unregister number) steps = by (find (λ (r : Registration). r.number == number) state.board.registered)
+      either_leaves P (nat_le 64 (count_of state.board.registered caller))
+      (refused state (rules.OverLimit limits.Registered)) _ steps.here (steps.registered filter permission)
+  act_leaves before (asks.Unregister number) steps = by (find (λ (r : Registration). r.number == number)
+      state.board.registered)
     where
       by : (found : Option Registration) → P (unregister_found state caller found).1
       by None = steps.here
-      by (Some found) = either_leaves P (found.uid == caller) (done (taken_back state found)) (refused state rules.NotYours) (steps.taken_back found) steps.here
+      by (Some found) = either_leaves P (found.uid == caller) (done (taken_back state found))
+          (refused state rules.NotYours) (steps.taken_back found) steps.here
   act_leaves before asks.Inbox steps = steps.here
   act_leaves before (asks.Finish delivery answer) steps = finish_leaves delivery answer steps
   act_leaves before (asks.PendingGet kind code intent flags) steps =
-      got_leaves _ (pendings.get state.pendings asked) (get_gives_one state.pendings.next state.pendings asked (omega arith)) steps
+      got_leaves _ (pendings.get state.pendings asked) (get_gives_one state.pendings.next state.pendings asked
+      (omega arith)) steps
     where
       asked : Asked
       asked = record { creator = caller; kind = kind; code = code; intent = intent; flags = flags }
   act_leaves before (asks.PendingSend token fill) steps = pending_send_leaves token fill steps
-  act_leaves before (asks.PendingCancel token) steps = change_leaves _ (pendings.cancel state.pendings token caller) (cancel_keeps state.pendings token caller) steps
+  act_leaves before (asks.PendingCancel token) steps = change_leaves _ (pendings.cancel state.pendings token caller)
+      (cancel_keeps state.pendings token caller) steps
   act_leaves before (asks.PendingGive token name) steps =
       package_leaves P state name _ steps.here
-      (λ to is. change_leaves _ (pendings.give state.pendings token caller to.uid) (give_keeps state.pendings token caller to.uid) steps)
+      (λ to is. change_leaves _ (pendings.give state.pendings token caller to.uid)
+      (give_keeps state.pendings token caller to.uid) steps)
   act_leaves before (asks.Install text key) steps =
-      admin_leaves P state caller (install_read state key (manifest_of text)) steps.here (read_leaves _ text key (manifest_of text) refl steps)
-  act_leaves before (asks.Uninstall name) steps = admin_leaves P state caller _ steps.here (package_leaves P state name _ steps.here (λ owner is. steps.gone owner.uid))
+      admin_leaves P state caller (install_read state key (manifest_of text)) steps.here
+      (read_leaves _ text key (manifest_of text) refl steps)
+  act_leaves before (asks.Uninstall name) steps = admin_leaves P state caller _ steps.here
+      (package_leaves P state name _ steps.here (λ owner is. steps.gone owner.uid))
   act_leaves before (asks.Grant name permission held) steps =
-      admin_leaves P state caller _ steps.here (package_leaves P state name (λ (owner : Package). grant_to state owner.uid permission held) steps.here (λ owner is.
-      right_leaves limits.Grants (record state { board = record (state.board) { grants = with_grant state.board.grants owner.uid permission held } })
-      (too_many_grants state.board.grants owner.uid permission held) steps.here (steps.granted owner.uid permission held (named_is_live state.board.packages name owner is))))
+      admin_leaves P state caller _ steps.here (package_leaves P state name
+      (λ (owner : Package). grant_to state owner.uid permission held) steps.here (λ owner is.
+      right_leaves limits.Grants (record state {
+        board = record (state.board)
+            { grants = with_grant state.board.grants owner.uid permission held };
+      })
+      (too_many_grants state.board.grants owner.uid permission held) steps.here
+      (steps.granted owner.uid permission held (named_is_live state.board.packages name owner is))))
   act_leaves before (asks.Link name host approved) steps =
-      admin_leaves P state caller _ steps.here (package_leaves P state name (λ (owner : Package). link_to state owner.uid host approved) steps.here (λ owner is.
-      right_leaves limits.Links (record state { board = record (state.board) { links = with_link state.board.links owner.uid host approved } })
-      (too_many_links state.board.links owner.uid host approved) steps.here (steps.linked owner.uid host approved (named_is_live state.board.packages name owner is))))
-  act_leaves before (asks.ForceStop name) steps = admin_leaves P state caller _ steps.here (package_leaves P state name _ steps.here (λ owner is. steps.stopped owner.uid))
+      admin_leaves P state caller _ steps.here (package_leaves P state name
+      (λ (owner : Package). link_to state owner.uid host approved) steps.here (λ owner is.
+      right_leaves limits.Links (record state {
+        board = record (state.board)
+            { links = with_link state.board.links owner.uid host approved };
+      })
+      (too_many_links state.board.links owner.uid host approved) steps.here
+      (steps.linked owner.uid host approved (named_is_live state.board.packages name owner is))))
+  act_leaves before (asks.ForceStop name) steps = admin_leaves P state caller _ steps.here
+      (package_leaves P state name _ steps.here (λ owner is. steps.stopped owner.uid))
   act_leaves before asks.Tick steps = admin_leaves P state caller (done state) steps.here steps.here
-  act_leaves before (asks.Advance by) steps = admin_leaves P state caller (advance state by) steps.here (advance_leaves _ by steps)
+  act_leaves before (asks.Advance by) steps = admin_leaves P state caller (advance state by) steps.here
+      (advance_leaves _ by steps)
   act_leaves before (asks.History from) steps = admin_leaves P state caller _ steps.here steps.here
   act_leaves before asks.Status steps = admin_leaves P state caller _ steps.here steps.here
 
 -- what holds at the moment of an entry, and after its request if it was kept, holds after the entry
-pub step_leaves : (P : State → Type 0) (state : State) (before : List Entry) (entry : Entry) → P (after_due state entry.now)
+pub step_leaves : (P : State → Type 0) (state : State) (before : List Entry) (entry : Entry)
+    → P (after_due state entry.now)
     → (entry.kept ≡ true → Steps P (after_due state entry.now) entry.uid entry.request) → P (step state before entry).1
 step_leaves P state before entry due steps = by entry.kept refl
   where
     by : (kept : Bool) → entry.kept ≡ kept
-        → P (cond kept (act (after_due state entry.now) before entry.uid entry.request) (replies.Refused rules.KeeperFault, after_due state entry.now)).1
+        → P (cond kept (act (after_due state entry.now) before entry.uid entry.request)
+        (replies.Refused rules.KeeperFault, after_due state entry.now)).1
     by true kept = act_leaves P (after_due state entry.now) entry.uid before entry.request (steps kept)
     by false kept = due

@@ -1,4 +1,4 @@
--- Who reached what: by which entry of the history a broadcast was sent, and an activity or a service was started.
+-- Who reached what: which entry of the history sent a broadcast, or started an activity or a service.
 use Rattle.std.specs.Prelude.{◌≡◌, ℕ, true, false, not, ◌&&◌, List, ◌∷◌, ◌++◌, Option, Some, None, Result, Ok, Err, All}
 use Rattle.std.specs.List.{Contains}
 use Rattle.am_types.specs.declared.intent.Intent.{Intent}
@@ -41,7 +41,7 @@ abbrev pub used_deed : Result Used PendingFault → Option Deed
 used_deed (Ok used) = Some (lent_deed used.creator used.intent used.kind)
 used_deed (Err fault) = None
 
--- what the request of a caller does in somebody's name; through a pending intent it is its creator's
+-- what the request of a caller does in somebody's name; through a pending intent it is done in its creator's name
 abbrev pub deed_of : State → ℕ → Request → Option Deed
 deed_of state caller (asks.Start intent source) = Some (Starts caller intent)
 deed_of state caller (asks.StartService intent) = Some (Serves caller intent)
@@ -49,7 +49,7 @@ deed_of state caller (asks.Send intent permission ordered) = Some (Sends caller 
 deed_of state caller (asks.PendingSend token fill) = used_deed (use_token state.pendings token caller fill)
 deed_of state caller _ = None
 
--- an entry of the history did something of which this holds, in the state after what was due before it
+-- an entry of the history did something for which this holds, in the state after what was due before it
 pub record Once (opening : State) (history : List Entry) (P : State → Deed → Type 0) : Type 0 where
   pub before : List Entry
   pub at : Entry
@@ -60,7 +60,7 @@ pub record Once (opening : State) (history : List Entry) (P : State → Deed →
   pub did : deed_of (after_due (replay opening before) at.now) at.uid at.request ≡ Some deed
   pub holds : P (after_due (replay opening before) at.now) deed
 
--- the uid broadcasts the intent, its action isn't kept from it, and the receiver is one of those that are admitted
+-- the uid broadcasts the intent, which has no action that is protected from it, and the receiver is admitted
 pub record IsSentTo (sender : ℕ) (intent : Intent) (spot : Spot) (state : State) (deed : Deed) : Type 0 where
   pub permission : Option (List ℕ)
   pub ordered : Option Ordered
@@ -68,8 +68,9 @@ pub record IsSentTo (sender : ℕ) (intent : Intent) (spot : Spot) (state : Stat
   pub unprotected : is_protected state.board.protected intent.action && not (is_privileged sender) ≡ false
   pub admitted : Contains (admitted (receivers state.board intent sender permission)) spot
 
--- a uid asks by that intent for the component of a package, which is the deed, and the gate admits it
-pub record IsLetIn (kind : Kind) (deed_by : ℕ → Intent → Deed) (component : Component) (owner : ℕ) (intent : Intent) (state : State) (deed : Deed) : Type 0 where
+-- the deed is that a uid asks by that intent for the component of a package, and the gate admits it
+pub record IsLetIn (kind : Kind) (deed_by : ℕ → Intent → Deed) (component : Component) (owner : ℕ) (intent : Intent)
+    (state : State) (deed : Deed) : Type 0 where
   pub caller : ℕ
   pub is : deed ≡ deed_by caller intent
   pub decl : Decl
@@ -84,22 +85,22 @@ IsStarted component owner intent state deed = IsLetIn kinds.Activity Starts comp
 abbrev pub IsServed : Component → ℕ → Intent → State → Deed → Type 0
 IsServed component owner intent state deed = IsLetIn kinds.Service Serves component owner intent state deed
 
--- this holds of each receiver of an ordered broadcast, those that are past and those that are left
+-- this holds for each receiver of an ordered broadcast, past or left
 pub record OfTurn (B : ℕ → Intent → Spot → Type 0) (b : InTurn) : Type 0 where
   pub past : All (λ (p : Past). B b.sender b.intent p.spot) b.past
   pub rest : All (λ (spot : Spot). B b.sender b.intent spot) b.rest
 
--- this holds of each delivery of a normal broadcast
+-- this holds for each delivery of a normal broadcast
 abbrev pub OfNormal : (ℕ → Intent → Spot → Type 0) → Normal → Type 0
 OfNormal B n = All (λ (d : Delivery). B n.sender n.intent d.spot) n.deliveries
 
--- this holds of each receiver of each broadcast
+-- this holds for each receiver of each broadcast
 pub record OfEach (B : ℕ → Intent → Spot → Type 0) (all : Broadcasts) : Type 0 where
   pub normal : All (OfNormal B) all.normal
   pub foreground : All (OfTurn B) all.foreground
   pub background : All (OfTurn B) all.background
 
--- each receiver that has or had a broadcast was sent it by its sender, and was admitted
+-- each receiver that has or had a broadcast was sent it by the broadcast's sender, and was admitted
 abbrev pub AreSentByEntries : State → List Entry → Broadcasts → Type 0
 AreSentByEntries opening history all =
     OfEach (λ sender intent spot. Once opening history (IsSentTo sender intent spot)) all
@@ -114,6 +115,6 @@ pub record IsServedByEntries (opening : State) (history : List Entry) (s : Servi
   pub made : Once opening history (λ state deed. (intent : Intent) × IsServed s.component s.owner intent state deed)
   pub given : Once opening history (IsServed s.component s.owner s.intent)
 
--- this holds of each instance of each task
+-- this holds for each instance of each task
 abbrev pub OfInstances : (Instance → Type 0) → List Task → Type 0
 OfInstances Q tasks = All (λ (task : Task). All Q task.instances) tasks

@@ -11,11 +11,11 @@ use Rattle.am_history.specs.Desks.{Origin, opening_of}
 use Rattle.am_history.specs.History.{replay}
 use Rattle.am_history.specs.Numbers.{HasNumbersTo, HasNumbers}
 
--- the state of a manager of that origin after a history
+-- the state of a manager with that origin after a history
 abbrev pub state_after : Origin → List Entry → State
 state_after origin history = replay (opening_of origin) history
 
--- what an entry behind a history is answered, and the state after it
+-- the answer to an entry after a history, and the state after it
 abbrev pub answer_after : Origin → List Entry → Entry → Reply × State
 answer_after origin history entry =
     ((step (state_after origin history) history entry).0, state_after origin (history ++ entry ∷ []))
@@ -34,13 +34,13 @@ NumbersSuffice =
 abbrev pub MomentsFit : Type 0
 MomentsFit = (origin : Origin) (history : List Entry) → (state_after origin history).moment ≤ 4611686018427387904
 
--- an entry takes the last moment no further back than it was
+-- an entry never moves the last moment back
 abbrev pub MomentsRise : Type 0
 MomentsRise =
     (origin : Origin) (history : List Entry) (next : Entry)
     → (state_after origin history).moment ≤ (state_after origin (history ++ next ∷ [])).moment
 
--- no request is itself answered that its row couldn't be kept
+-- no request itself gives the answer that its row couldn't be kept
 abbrev pub NoRequestFaults : Type 0
 NoRequestFaults =
     (state : State) (before : List Entry) (caller : ℕ) (request : Request)

@@ -16,7 +16,7 @@ abbrev pub without_record : State → ℕ → State
 without_record state token =
     record state { pendings = record (state.pendings) { records = without_token state.pendings.records token } }
 
--- the state after the use of that token was refused, by what it stands for: a one-shot one that could be used is gone
+-- the state after the use of that token was refused by what it stands for: a one-shot one that could be used is gone
 abbrev pub after_use_refused : State → ℕ → Result Used PendingFault → State
 after_use_refused state token (Err fault) = state
 after_use_refused state token (Ok used) = if used.one_shot then without_record state token else state
@@ -31,10 +31,12 @@ after_refused state caller _ = state
 abbrev pub after_refused_entry : State → Entry → State
 after_refused_entry state entry = if entry.kept then after_refused state entry.uid entry.request else state
 
--- an entry that is refused leaves the state as it was at its moment, when what was due was handled, except for a one-shot
+-- an entry that is refused leaves the state as it was at its moment, when what was due was handled, except for a
+-- one-shot
 -- pending intent that it used
 abbrev pub RefusalsChangeNothing : Type 0
 RefusalsChangeNothing =
     (origin : Origin) (history : List Entry) (entry : Entry)
     → is_refusal (answer_after origin history entry).0 ≡ true
-    → (answer_after origin history entry).1 ≡ after_refused_entry (after_due (state_after origin history) entry.now) entry
+    → (answer_after origin history entry).1 ≡ after_refused_entry (after_due (state_after origin history) entry.now)
+    entry

@@ -5,7 +5,7 @@
 ghost use Rattle.am_laws.specs.Laws.{NumbersFollow, NumbersSuffice, MomentsFit, MomentsRise, NoRequestFaults};
 ghost use Rattle.am_laws.specs.Refusals.{RefusalsChangeNothing};
 
-/// After every history the numbers that are given out next are at most one more than the history's
+/// After every history, each number that is given out next is at most one more than the history's
 /// length, and so is the number of starts of each running service. Takes no memory.
 pub fn numbers_follow()
     ensures { NumbersFollow }
@@ -16,7 +16,7 @@ pub fn numbers_suffice()
     ensures { NumbersSuffice }
 {}
 
-/// The last moment is at most 2^62 milliseconds after every history. Takes no memory.
+/// After every history, the last moment is at most 2^62 milliseconds. Takes no memory.
 pub fn moments_fit()
     ensures { MomentsFit }
 {}
@@ -26,14 +26,14 @@ pub fn moments_rise()
     ensures { MomentsRise }
 {}
 
-/// No request is itself answered that its row couldn't be kept: that answer is the keeper's alone.
+/// No request itself gives the answer that its row couldn't be kept: only the keeper gives it.
 /// Takes no memory.
 pub fn no_request_faults()
     ensures { NoRequestFaults }
 {}
 
-/// After every history an entry that is refused leaves the state as it was at its moment, except for a one-shot pending
-/// intent that it used, which is gone. Takes no memory.
+/// After every history, an entry that is refused leaves the state as it was at its moment, except for a one-shot
+/// pending intent that it used, which is gone. Takes no memory.
 pub fn refusals_change_nothing()
     ensures { RefusalsChangeNothing }
 {}

@@ -33,7 +33,8 @@ use Rattle.am_laws.proofs.Requests.{Steps, step_leaves}
 module _ (opening : State) (h : List Entry) (entry : Entry) where
   started_longer : (i : Instance) → IsStartedByEntries opening h i → IsStartedByEntries opening (h ++ entry ∷ []) i
   started_longer i one = record {
-    made = once_before opening h (λ state deed. (intent : Intent) × IsStarted i.component i.owner intent state deed) entry one.made;
+    made = once_before opening h (λ state deed. (intent : Intent) × IsStarted i.component i.owner intent state deed)
+        entry one.made;
     given = once_before opening h (IsStarted i.component i.owner i.intent) entry one.given;
   }
 
@@ -44,11 +45,19 @@ module _ (opening : State) (h : List Entry) (entry : Entry) where
     count = one.count;
   }
 
-  known_longer : (packages : List Package) (all : Tasks) (services : List Service) → AreKnown opening h packages all services → AreKnown opening (h ++ entry ∷ []) packages all services
+  known_longer : (packages : List Package) (all : Tasks) (services : List Service)
+      → AreKnown opening h packages all services → AreKnown opening (h ++ entry ∷ []) packages all services
   known_longer packages all services known = record {
     of = known.of;
-    instances = tasks_follow (KnownInstance opening h packages known.of all.next_instance) (KnownInstance opening (h ++ entry ∷ []) packages known.of all.next_instance) all.tasks
-        (λ i one. record { started = started_longer i one.started; owned = one.owned; named = one.named; below = one.below }) known.instances;
+    instances = tasks_follow (KnownInstance opening h packages known.of all.next_instance)
+        (KnownInstance opening (h ++ entry ∷ []) packages known.of all.next_instance) all.tasks
+        (λ i one. record {
+          started = started_longer i one.started;
+          owned = one.owned;
+          named = one.named;
+          below =
+              one.below;
+        }) known.instances;
     services = All-weaker (KnownService opening h packages) (KnownService opening (h ++ entry ∷ []) packages)
         (λ s one. record { served = served_longer s one.served; owned = one.owned }) services known.services;
   }
@@ -56,16 +65,21 @@ module _ (opening : State) (h : List Entry) (entry : Entry) where
 -- the entry that started a service came behind others, after which the services were known
 abbrev HasServed : State → List Entry → State → Component → ℕ → Intent → Type 0
 HasServed opening h state component owner intent =
-    (start : Once opening h (IsServed component owner intent)) × All (λ (s : Service). IsStartedEachTime opening start.before s) state.services
+    (start : Once opening h (IsServed component owner intent)) × All
+    (λ (s : Service). IsStartedEachTime opening start.before s) state.services
 
 -- what a request does is done by an entry
 abbrev HasDone : State → List Entry → State → ℕ → Request → Type 0
 HasDone opening h state caller request =
-    ((uid : ℕ) (intent : Intent) (component : Component) (found : ℕ × Decl) → deed_of state caller request ≡ Some (Starts uid intent)
-    → declared state.board.packages kinds.Activity component ≡ Some found → verdict state.board.grants uid found.0 found.1.exported found.1.permission ≡ Admit
+    ((uid : ℕ) (intent : Intent) (component : Component) (found : ℕ × Decl) → deed_of state caller request
+    ≡ Some (Starts uid intent)
+    → declared state.board.packages kinds.Activity component ≡ Some found
+    → verdict state.board.grants uid found.0 found.1.exported found.1.permission ≡ Admit
     → Once opening h (IsStarted component found.0 intent))
-    × ((uid : ℕ) (intent : Intent) (component : Component) (found : ℕ × Decl) → deed_of state caller request ≡ Some (Serves uid intent)
-    → declared state.board.packages kinds.Service component ≡ Some found → verdict state.board.grants uid found.0 found.1.exported found.1.permission ≡ Admit
+    × ((uid : ℕ) (intent : Intent) (component : Component) (found : ℕ × Decl) → deed_of state caller request
+    ≡ Some (Serves uid intent)
+    → declared state.board.packages kinds.Service component ≡ Some found
+    → verdict state.board.grants uid found.0 found.1.exported found.1.permission ≡ Admit
     → HasServed opening h state component found.0 intent)
 
 module _ (opening : State) (h : List Entry) (state : State) (known : Known opening h state) where
@@ -75,17 +89,23 @@ module _ (opening : State) (h : List Entry) (state : State) (known : Known openi
   awake uid stopped name other is = named_stopped state.board.packages uid stopped name ∙ is
 
   -- each step
-  known_after : (caller : ℕ) (request : Request) → HasDone opening h state caller request → Steps (Known opening h) state caller request
+  known_after : (caller : ℕ) (request : Request) → HasDone opening h state caller request
+      → Steps (Known opening h) state caller request
   known_after caller request done = record {
     here = known;
     started = λ uid intent source component found landed did is admits placed.
-        known_among opening h state.board.packages (with_stopped state.board.packages found.0 false) landed.1 state.services (awake found.0 false)
-        (known_placed opening h state.board.packages state.tasks state.services (start_call uid intent source component found) landed
-        (declared_named state.board.packages kinds.Activity component found is) (done.0 uid intent component found did is admits) placed known);
+        known_among opening h state.board.packages (with_stopped state.board.packages found.0 false) landed.1
+        state.services (awake found.0 false)
+        (known_placed opening h state.board.packages state.tasks state.services
+        (start_call uid intent source component found) landed
+        (declared_named state.board.packages kinds.Activity component found is)
+        (done.0 uid intent component found did is admits) placed known);
     served = λ uid intent component found did is admits.
-        known_among opening h state.board.packages (with_stopped state.board.packages found.0 false) state.tasks _ (awake found.0 false)
+        known_among opening h state.board.packages (with_stopped state.board.packages found.0 false) state.tasks _
+        (awake found.0 false)
         (known_start opening h state.board.packages state.tasks state.services component found.0 intent
-        (declared_named state.board.packages kinds.Service component found is) (done.1 uid intent component found did is admits).0
+        (declared_named state.board.packages kinds.Service component found is)
+        (done.1 uid intent component found did is admits).0
         (done.1 uid intent component found did is admits).1 known);
     sent = λ sender intent permission ordered did unprotected. known;
     ended = λ keeps. known_kept opening h state.board.packages state.tasks state.services keeps known;
@@ -96,13 +116,16 @@ module _ (opening : State) (h : List Entry) (state : State) (known : Known openi
     got = λ left few. known;
     changed = λ after left same one. one;
     installed = λ text key manifest is name_unused key_unused room.
-        known_among opening h state.board.packages (state.board.packages ++ installed state manifest key ∷ []) state.tasks state.services
+        known_among opening h state.board.packages (state.board.packages ++ installed state manifest key ∷ [])
+        state.tasks state.services
         (λ name uid named. named_more state.board.packages (installed state manifest key) name uid named) known;
     gone = λ uid.
-        known_forgotten opening h state.board.packages (without_package state.board.packages uid) state.tasks state.services uid
+        known_forgotten opening h state.board.packages (without_package state.board.packages uid) state.tasks
+        state.services uid
         (λ name other differs named. named_without state.board.packages uid name other differs named) known;
     stopped = λ uid.
-        known_forgotten opening h state.board.packages (with_stopped state.board.packages uid true) state.tasks state.services uid
+        known_forgotten opening h state.board.packages (with_stopped state.board.packages uid true) state.tasks
+        state.services uid
         (λ name other differs named. awake uid true name other named) known;
     granted = λ uid permission held live room. known;
     linked = λ uid host approved live room. known;
@@ -131,23 +154,27 @@ module _ (opening : State) where
         λ uid intent component found is declared admits. (
           once_now opening before (IsServed component found.0 intent) entry (Serves uid intent) kept is
               (record { caller = uid; is = refl; decl = found.1; declared = declared; admitted = admits }),
-          All-weaker (KnownService opening before due.board.packages) (IsStartedEachTime opening before) (λ s one. one.served) due.services here.services,
+          All-weaker (KnownService opening before due.board.packages) (IsStartedEachTime opening before)
+              (λ s one. one.served) due.services here.services,
         ),
       )
 
 -- after every history all instances and services are known
-pub all_known : (origin : Origin) (history : List Entry) → Known (opening_of origin) history (replay (opening_of origin) history)
+pub all_known : (origin : Origin) (history : List Entry) → Known (opening_of origin) history
+    (replay (opening_of origin) history)
 all_known origin history =
     by_history (opening_of origin) (Known (opening_of origin)) begins (known_more (opening_of origin)) history
   where
     none : ((opening_of origin).tasks.tasks ≡ []) × ((opening_of origin).services ≡ [])
-    none = opening_leaves (λ (state : State). (state.tasks.tasks ≡ []) × (state.services ≡ [])) (λ state board uid same empty. empty) origin (refl, refl)
+    none = opening_leaves (λ (state : State). (state.tasks.tasks ≡ []) × (state.services ≡ []))
+        (λ state board uid same empty. empty) origin (refl, refl)
 
     no_component : ℕ → Component
     no_component number = record { «package» = []; class = [] }
 
     Q : Instance → Type 0
-    Q i = KnownInstance (opening_of origin) [] (opening_of origin).board.packages no_component (opening_of origin).tasks.next_instance i
+    Q i = KnownInstance (opening_of origin) [] (opening_of origin).board.packages no_component
+        (opening_of origin).tasks.next_instance i
 
     S : Service → Type 0
     S s = KnownService (opening_of origin) [] (opening_of origin).board.packages s
@@ -155,7 +182,8 @@ all_known origin history =
     begins : Known (opening_of origin) [] (opening_of origin)
     begins = record {
       of = no_component;
-      instances = All-same (λ (task : Task). All Q task.instances) (opening_of origin).tasks.tasks [] none.0 (All-nil (λ (task : Task). All Q task.instances));
+      instances = All-same (λ (task : Task). All Q task.instances) (opening_of origin).tasks.tasks [] none.0
+          (All-nil (λ (task : Task). All Q task.instances));
       services = All-same S (opening_of origin).services [] none.1 (All-nil S);
     }
 
@@ -165,12 +193,15 @@ pub instances_are_admitted : (origin : Origin) (history : List Entry)
 instances_are_admitted origin history =
     let known = all_known origin history in
     let state = replay (opening_of origin) history in
-    tasks_follow (KnownInstance (opening_of origin) history state.board.packages known.of state.tasks.next_instance) (IsStartedByEntries (opening_of origin) history)
+    tasks_follow (KnownInstance (opening_of origin) history state.board.packages known.of state.tasks.next_instance)
+    (IsStartedByEntries (opening_of origin) history)
     state.tasks.tasks (λ i one. one.started) known.instances
 
 -- and so was each running service, as often as it was started
-pub services_are_admitted : (origin : Origin) (history : List Entry) → All (IsStartedEachTime (opening_of origin) history) (replay (opening_of origin) history).services
+pub services_are_admitted : (origin : Origin) (history : List Entry)
+    → All (IsStartedEachTime (opening_of origin) history) (replay (opening_of origin) history).services
 services_are_admitted origin history =
     let state = replay (opening_of origin) history in
-    All-weaker (KnownService (opening_of origin) history state.board.packages) (IsStartedEachTime (opening_of origin) history) (λ s one. one.served)
+    All-weaker (KnownService (opening_of origin) history state.board.packages)
+    (IsStartedEachTime (opening_of origin) history) (λ s one. one.served)
     state.services (all_known origin history).services

@@ -25,7 +25,8 @@ module _ (opening : State) where
   -- an entry leaves each receiver sent to by an entry
   sent_more : (before : List Entry) (entry : Entry) → AreSentByEntries opening before (replay opening before).broadcasts
       → AreSentByEntries opening (before ++ entry ∷ []) (step (replay opening before) before entry).1.broadcasts
-  sent_more before entry here = step_leaves (λ (s : State). OfEach B s.broadcasts) (replay opening before) before entry passed steps
+  sent_more before entry here = step_leaves (λ (s : State). OfEach B s.broadcasts) (replay opening before) before entry
+      passed steps
     where
       B : ℕ → Intent → Spot → Type 0
       B sender intent spot = Once opening (before ++ entry ∷ []) (IsSentTo sender intent spot)
@@ -37,15 +38,18 @@ module _ (opening : State) where
       passed =
           expired_of B (replay opening before).broadcasts (moment_after (replay opening before) entry.now)
           (each_follows (λ sender intent spot. Once opening before (IsSentTo sender intent spot)) B
-          (λ sender intent spot once. once_before opening before (IsSentTo sender intent spot) entry once) (replay opening before).broadcasts here)
+          (λ sender intent spot once. once_before opening before (IsSentTo sender intent spot) entry once)
+          (replay opening before).broadcasts here)
 
-      each : entry.kept ≡ true → (sender : ℕ) (intent : Intent) (permission : Option (List ℕ)) (ordered : Option Ordered)
+      each : entry.kept ≡ true → (sender : ℕ) (intent : Intent) (permission : Option (List ℕ))
+          (ordered : Option Ordered)
           → deed_of due entry.uid entry.request ≡ Some (Sends sender intent permission ordered)
           → is_protected due.board.protected intent.action && not (is_privileged sender) ≡ false
           → All (λ (spot : Spot). B sender intent spot) (admitted (receivers due.board intent sender permission))
       each kept sender intent permission ordered did unprotected =
           All-weaker (Contains all) (λ (spot : Spot). B sender intent spot)
-          (λ spot one. once_now opening before (IsSentTo sender intent spot) entry (Sends sender intent permission ordered) kept did
+          (λ spot one. once_now opening before (IsSentTo sender intent spot) entry
+          (Sends sender intent permission ordered) kept did
           (record { permission = permission; ordered = ordered; is = refl; unprotected = unprotected; admitted = one }))
           all (All-contains_itself all)
         where
@@ -56,7 +60,8 @@ module _ (opening : State) where
       steps kept = broadcast_steps (OfEach B) due entry.uid entry.request (record {
         here = passed;
         sent = λ sender intent permission ordered did unprotected.
-            sent_of B due.broadcasts (sending_of due sender intent ordered (receivers due.board intent sender permission)) ordered
+            sent_of B due.broadcasts (sending_of due sender intent ordered
+            (receivers due.board intent sender permission)) ordered
             (each kept sender intent permission ordered did unprotected) passed;
         finished = λ number answer holder asked is own. finished_of B due.broadcasts number answer due.moment passed;
         forgotten = λ struck. forget_of B due.broadcasts struck due.moment passed;
@@ -65,9 +70,11 @@ module _ (opening : State) where
       })
 
 -- after every history each receiver that has or had a broadcast was sent it by an entry, and was admitted
-pub receivers_are_admitted : (origin : Origin) (history : List Entry) → AreSentByEntries (opening_of origin) history (replay (opening_of origin) history).broadcasts
+pub receivers_are_admitted : (origin : Origin) (history : List Entry)
+    → AreSentByEntries (opening_of origin) history (replay (opening_of origin) history).broadcasts
 receivers_are_admitted origin history =
     by_history (opening_of origin) (λ h state. AreSentByEntries (opening_of origin) h state.broadcasts)
-    (opening_leaves (λ (state : State). OfEach (λ sender intent spot. Once (opening_of origin) [] (IsSentTo sender intent spot)) state.broadcasts) (λ state board uid same of. of) origin
+    (opening_leaves (λ (state : State). OfEach (λ sender intent spot. Once (opening_of origin) []
+    (IsSentTo sender intent spot)) state.broadcasts) (λ state board uid same of. of) origin
     (of_none (λ sender intent spot. Once (opening_of origin) [] (IsSentTo sender intent spot))))
     (sent_more (opening_of origin)) history

@@ -49,11 +49,13 @@ each_delivery normal = λ k n below i d low. record {
 
 -- what holds of all holds of each
 of_delivery : (D : ℕ → ℕ → Intent → Delivery → Type 0) (normal : List Normal) → OfDeliveries D normal
-    → (number sender : ℕ) (intent : Intent) (d : Delivery) → IsDeliveryOf normal number sender intent d → D number sender intent d
+    → (number sender : ℕ) (intent : Intent) (d : Delivery) → IsDeliveryOf normal number sender intent d
+    → D number sender intent d
 of_delivery D normal all number sender intent d is =
     let n = is.broadcast in
     let each : All (λ (e : Delivery). D n.number n.sender n.intent e) n.deliveries =
-    All-contains (λ (m : Normal). All (λ (e : Delivery). D m.number m.sender m.intent e) m.deliveries) normal n all is.one in
+    All-contains (λ (m : Normal). All (λ (e : Delivery). D m.number m.sender m.intent e) m.deliveries) normal n all
+    is.one in
     subst (λ (k : ℕ). D k sender intent d) is.numbered
     (subst (λ (u : ℕ). D n.number u intent d) is.sent_by
     (subst (λ (i : Intent). D n.number n.sender i d) is.carries
@@ -61,7 +63,8 @@ of_delivery D normal all number sender intent d is =
 
 of_instance : (Q : Instance → Type 0) (tasks : List Task) → OfInstances Q tasks → (i : Instance) → IsAmong tasks i → Q i
 of_instance Q tasks all i is =
-    All-contains Q is.task.instances i (All-contains (λ (task : Task). All Q task.instances) tasks is.task all is.one) is.instance
+    All-contains Q is.task.instances i (All-contains (λ (task : Task). All Q task.instances) tasks is.task all is.one)
+    is.instance
 
 module _ (opening : State) (h : List Entry) (entry : Entry) (known : Known opening h (replay opening h)) where
   abbrev due : State
@@ -69,13 +72,16 @@ module _ (opening : State) (h : List Entry) (entry : Entry) (known : Known openi
 
   -- the delivery was there before, or the entry sent it
   abbrev D : ℕ → ℕ → Intent → Delivery → Type 0
-  D number sender intent d = IsDeliveryOf due.broadcasts.normal number sender intent d ⊎ IsAddedBy due entry (ADelivery number sender intent d)
+  D number sender intent d = IsDeliveryOf due.broadcasts.normal number sender intent d ⊎ IsAddedBy due entry
+      (ADelivery number sender intent d)
 
   here : OfDeliveries D due.broadcasts.normal
   here =
-      All-weaker (λ (n : Normal). All (λ (d : Delivery). IsDeliveryOf due.broadcasts.normal n.number n.sender n.intent d) n.deliveries)
+      All-weaker (λ (n : Normal). All (λ (d : Delivery). IsDeliveryOf due.broadcasts.normal n.number n.sender n.intent
+      d) n.deliveries)
       (λ (n : Normal). All (λ (d : Delivery). D n.number n.sender n.intent d) n.deliveries)
-      (λ n each. All-weaker (λ (d : Delivery). IsDeliveryOf due.broadcasts.normal n.number n.sender n.intent d) (λ (d : Delivery). D n.number n.sender n.intent d)
+      (λ n each. All-weaker (λ (d : Delivery). IsDeliveryOf due.broadcasts.normal n.number n.sender n.intent d)
+      (λ (d : Delivery). D n.number n.sender n.intent d)
       (λ d one. inl one) n.deliveries each)
       due.broadcasts.normal (each_delivery due.broadcasts.normal)
 
@@ -84,9 +90,15 @@ module _ (opening : State) (h : List Entry) (entry : Entry) (known : Known openi
       → deed_of due entry.uid entry.request ≡ Some (Sends sender intent permission ordered)
       → is_protected due.board.protected intent.action && not (is_privileged sender) ≡ false → ordered ≡ None
       → All (λ (spot : Spot). (delivery deadline : ℕ)
-      → D due.broadcasts.next_broadcast sender intent (record { number = delivery; spot = spot; deadline = deadline })) (admitted (receivers due.board intent sender permission))
+      → D due.broadcasts.next_broadcast sender intent (record { number = delivery; spot = spot; deadline = deadline }))
+      (admitted (receivers due.board intent sender permission))
   sent_to kept sender intent permission ordered did unprotected at_once =
-      All-weaker (Contains all) (λ (spot : Spot). (delivery deadline : ℕ) → D due.broadcasts.next_broadcast sender intent (record { number = delivery; spot = spot; deadline = deadline }))
+      All-weaker (Contains all) (λ (spot : Spot). (delivery deadline : ℕ)
+      → D due.broadcasts.next_broadcast sender intent (record {
+        number = delivery;
+        spot = spot;
+        deadline = deadline;
+      }))
       (λ spot one delivery deadline. inr (by spot one, refl)) all (All-contains_itself all)
     where
       all : List Spot
@@ -105,11 +117,13 @@ module _ (opening : State) (h : List Entry) (entry : Entry) (known : Known openi
         };
       }
 
-  delivery_steps : entry.kept ≡ true → Steps (λ (s : State). OfDeliveries D s.broadcasts.normal) due entry.uid entry.request
+  delivery_steps : entry.kept ≡ true → Steps (λ (s : State). OfDeliveries D s.broadcasts.normal) due entry.uid
+      entry.request
   delivery_steps kept = broadcast_steps (λ all. OfDeliveries D all.normal) due entry.uid entry.request (record {
     here = here;
     sent = λ sender intent permission ordered did unprotected.
-        sent_of D due.broadcasts (sending_of due sender intent ordered (receivers due.board intent sender permission)) ordered
+        sent_of D due.broadcasts (sending_of due sender intent ordered (receivers due.board intent sender permission))
+        ordered
         (sent_to kept sender intent permission ordered did unprotected) here;
     finished = λ number answer holder asked is own. finished_of D due.broadcasts number answer due.moment here;
     forgotten = λ struck. forget_of D due.broadcasts struck due.moment here;
@@ -121,50 +135,67 @@ module _ (opening : State) (h : List Entry) (entry : Entry) (known : Known openi
   own : (a : Addition) → Has (step (replay opening h) h entry).1 a → Has due a ⊎ IsAddedBy due entry a
   own (ADelivery number sender intent d) has =
       of_delivery D (step (replay opening h) h entry).1.broadcasts.normal
-      (step_leaves (λ (s : State). OfDeliveries D s.broadcasts.normal) (replay opening h) h entry here delivery_steps) number sender intent d has
+      (step_leaves (λ (s : State). OfDeliveries D s.broadcasts.normal) (replay opening h) h entry here delivery_steps)
+      number sender intent d has
   own (AnInstance i) has =
-      of_instance (λ (j : Instance). Has due (AnInstance j) ⊎ IsAddedBy due entry (AnInstance j)) (step (replay opening h) h entry).1.tasks.tasks
+      of_instance (λ (j : Instance). Has due (AnInstance j) ⊎ IsAddedBy due entry (AnInstance j))
+      (step (replay opening h) h entry).1.tasks.tasks
       (given opening h entry known) i has
   own (AService s) has =
-      All-contains (λ (t : Service). Has due (AService t) ⊎ IsAddedBy due entry (AService t)) (step (replay opening h) h entry).1.services s
+      All-contains (λ (t : Service). Has due (AService t) ⊎ IsAddedBy due entry (AService t))
+      (step (replay opening h) h entry).1.services s
       (served opening h entry known) has
 
   -- what is there at its moment was there before
   passing : (a : Addition) → Has due a → Has (replay opening h) a
   passing (ADelivery number sender intent d) has =
       of_delivery (IsDeliveryOf (replay opening h).broadcasts.normal) due.broadcasts.normal
-      (expired_of (IsDeliveryOf (replay opening h).broadcasts.normal) (replay opening h).broadcasts (moment_after (replay opening h) entry.now)
+      (expired_of (IsDeliveryOf (replay opening h).broadcasts.normal) (replay opening h).broadcasts
+      (moment_after (replay opening h) entry.now)
       (each_delivery (replay opening h).broadcasts.normal)) number sender intent d has
   passing (AnInstance i) has = has
   passing (AService s) has = has
 
   -- a start that landed was the entry's own
-  deed_lands : entry.kept ≡ true → (next : Reply × State) → Comes due (deed_of due entry.uid entry.request) next → (landed : Landed) → next.0 ≡ Placed landed
+  deed_lands : entry.kept ≡ true → (next : Reply × State) → Comes due (deed_of due entry.uid entry.request) next
+      → (landed : Landed) → next.0 ≡ Placed landed
       → (after : State) → after.tasks ≡ next.1.tasks → IsLanding due entry after landed
   deed_lands kept next (refuses rule other) landed is after left = absurd cc
-  deed_lands kept next (tells reply state other) landed is after left = absurd (false≢true (sym (ap is_other is) ∙ other))
-  deed_lands kept next (lands uid intent source component found result did is_declared admits placed) landed is after left =
+  deed_lands kept next (tells reply state other) landed is after left = absurd
+      (false≢true (sym (ap is_other is) ∙ other))
+  deed_lands kept next (lands uid intent source component found result did is_declared admits placed) landed is after
+      left =
       let same : result.0 ≡ landed = cc in
-      subst (IsLanding due entry after) same (start_lands opening h entry known uid intent source component found kept did is_declared admits result placed after left)
+      subst (IsLanding due entry after) same (start_lands opening h entry known uid intent source component found kept
+      did is_declared admits result placed after left)
 
-  request_lands : entry.kept ≡ true → (next : Reply × State) → ActComes due entry.uid entry.request next → (landed : Landed) → next.0 ≡ Placed landed
+  request_lands : entry.kept ≡ true → (next : Reply × State) → ActComes due entry.uid entry.request next
+      → (landed : Landed) → next.0 ≡ Placed landed
       → IsLanding due entry next.1 landed
   request_lands kept next (acts after stays comes) landed is = deed_lands kept after comes landed is after.1 refl
-  request_lands kept next (uses token fill used after asked was once comes) landed is = deed_lands kept after comes landed is (used_up token used.creator after).1 refl
+  request_lands kept next (uses token fill used after asked was once comes) landed is = deed_lands kept after comes
+      landed is (used_up token used.creator after).1 refl
 
-  landing : (landed : Landed) → (step (replay opening h) h entry).0 ≡ Placed landed → IsLanding due entry (step (replay opening h) h entry).1 landed
+  landing : (landed : Landed) → (step (replay opening h) h entry).0 ≡ Placed landed
+      → IsLanding due entry (step (replay opening h) h entry).1 landed
   landing landed is = by entry.kept refl is
     where
-      by : (kept : Bool) → entry.kept ≡ kept → (cond kept (act due h entry.uid entry.request) (Refused KeeperFault, due)).0 ≡ Placed landed
+      by : (kept : Bool) → entry.kept ≡ kept → (cond kept (act due h entry.uid entry.request)
+          (Refused KeeperFault, due)).0 ≡ Placed landed
           → IsLanding due entry (cond kept (act due h entry.uid entry.request) (Refused KeeperFault, due)).1 landed
-      by true kept is = request_lands kept (act due h entry.uid entry.request) (act_comes due h entry.uid entry.request) landed is
+      by true kept is = request_lands kept (act due h entry.uid entry.request) (act_comes due h entry.uid entry.request)
+          landed is
       by false kept is = absurd cc
 
   adds : Adds (replay opening h) entry (step (replay opening h) h entry)
   adds = record { due = passing; own = own; landing = landing }
 
 -- after every history
-pub entries_add_their_deeds : (origin : Origin) (history : List Entry) (entry : Entry) → Adds (state_after origin history) entry (answer_after origin history entry)
+pub entries_add_their_deeds : (origin : Origin) (history : List Entry) (entry : Entry)
+    → Adds (state_after origin history) entry (answer_after origin history entry)
 entries_add_their_deeds origin history entry =
-    subst (λ (s : State). Adds (state_after origin history) entry ((step (state_after origin history) history entry).0, s)) (sym (replay_more (opening_of origin) history entry))
+    subst (λ (s : State). Adds (state_after origin history) entry (
+      (step (state_after origin history) history entry).0,
+      s,
+    )) (sym (replay_more (opening_of origin) history entry))
     (adds (opening_of origin) history entry (all_known origin history))

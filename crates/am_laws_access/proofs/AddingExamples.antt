@@ -17,7 +17,8 @@ use Rattle.am_laws_access.specs.Intents.{HasDone}
 use Rattle.am_laws_access.specs.Adds.{Addition, ADelivery, AnInstance, AService, Has, IsAddedBy, IsReachedBy, Adds}
 
 -- an entry that does no deed has done nothing
-no_deed : (state : State) (entry : Entry) (P : State → Deed → Type 0) → deed_of state entry.uid entry.request ≡ None → HasDone state entry P → ⊥
+no_deed : (state : State) (entry : Entry) (P : State → Deed → Type 0) → deed_of state entry.uid entry.request ≡ None
+    → HasDone state entry P → ⊥
 no_deed state entry P none has = let e : None ≡ Some has.deed = sym none ∙ has.did in absurd cc
 
 module _ (before : State) (entry : Entry) (answer : Reply × State) (adds : Adds before entry answer) where
@@ -25,17 +26,22 @@ module _ (before : State) (entry : Entry) (answer : Reply × State) (adds : Adds
   due = after_due before entry.now
 
   -- a delivery of a broadcast whose number isn't the next one was there: no earlier sending explains a new one
-  pub no_delivery_of_an_earlier_number : (number sender : ℕ) (intent : Intent) (d : Delivery) → (number ≡ due.broadcasts.next_broadcast → ⊥)
+  pub no_delivery_of_an_earlier_number : (number sender : ℕ) (intent : Intent) (d : Delivery)
+      → (number ≡ due.broadcasts.next_broadcast → ⊥)
       → Has answer.1 (ADelivery number sender intent d) → Has before (ADelivery number sender intent d)
-  no_delivery_of_an_earlier_number number sender intent d earlier has = by (adds.own (ADelivery number sender intent d) has)
+  no_delivery_of_an_earlier_number number sender intent d earlier has = by
+      (adds.own (ADelivery number sender intent d) has)
     where
-      by : Has due (ADelivery number sender intent d) ⊎ IsAddedBy due entry (ADelivery number sender intent d) → Has before (ADelivery number sender intent d)
+      by : Has due (ADelivery number sender intent d) ⊎ IsAddedBy due entry (ADelivery number sender intent d)
+          → Has before (ADelivery number sender intent d)
       by (inl was) = adds.due (ADelivery number sender intent d) was
       by (inr added) = absurd (earlier added.1)
 
-  -- a service is there after an entry that didn't start it only if it was there just so: no start before a stop explains
+  -- a service is there after an entry that didn't start it only if it was there just so: no start before a stop
+  -- explains
   -- one behind it
-  pub no_start_of_an_earlier_entry : (s : Service) → (HasDone due entry (IsServed s.component s.owner s.intent) → ⊥) → Has answer.1 (AService s) → Has before (AService s)
+  pub no_start_of_an_earlier_entry : (s : Service) → (HasDone due entry (IsServed s.component s.owner s.intent) → ⊥)
+      → Has answer.1 (AService s) → Has before (AService s)
   no_start_of_an_earlier_entry s another has = by (adds.own (AService s) has)
     where
       by : Has due (AService s) ⊎ IsAddedBy due entry (AService s) → Has before (AService s)
@@ -53,10 +59,12 @@ module _ (before : State) (entry : Entry) (answer : Reply × State) (adds : Adds
         by (AnInstance i) (inr given) = absurd (no_deed due entry _ none given)
         by (AService s) (inr added) = absurd (no_deed due entry _ none added.0)
 
-    -- and isn't answered that a start landed, also if the state is as it was: no other entry's start explains a new intent
+    -- and isn't answered that a start landed, also if the state is as it was: no other entry's start explains a new
+    -- intent
     -- that is equal to the present one
     pub no_landing_without_a_deed : (landed : Landed) → answer.0 ≡ replies.Placed landed → ⊥
-    no_landing_without_a_deed landed is = let one = adds.landing landed is in by one.front landed.instance landed.how one.reached
+    no_landing_without_a_deed landed is = let one = adds.landing landed is in by one.front landed.instance landed.how
+        one.reached
       where
         by : (front : Task) (number : ℕ) (placed : Placed) → IsReachedBy due entry front number placed → ⊥
         by front number how.Fresh reached = no_deed due entry _ none reached.3

@@ -23,15 +23,18 @@ pub record OnBroadcasts (B : Broadcasts → Type 0) (state : State) (caller : �
   pub sent : (sender : ℕ) (intent : Intent) (permission : Option (List ℕ)) (ordered : Option Ordered)
       → deed_of state caller request ≡ Some (Sends sender intent permission ordered)
       → is_protected state.board.protected intent.action && not (is_privileged sender) ≡ false
-      → B (with_sent state.broadcasts (sending_of state sender intent ordered (receivers state.board intent sender permission)) ordered)
-  pub finished : (number : ℕ) (answer : Answer) (holder : Held) → request ≡ asks.Finish number answer → held state.broadcasts number ≡ Some holder → holder.uid ≡ caller
+      → B (with_sent state.broadcasts (sending_of state sender intent ordered
+      (receivers state.board intent sender permission)) ordered)
+  pub finished : (number : ℕ) (answer : Answer) (holder : Held) → request ≡ asks.Finish number answer
+      → held state.broadcasts number ≡ Some holder → holder.uid ≡ caller
       → B (finished state.broadcasts number answer state.moment)
   pub forgotten : (struck : Spot → Bool) → B (sending.forget state.broadcasts struck state.moment)
   pub uid_forgotten : (uid : ℕ) → B (sending.forget_uid state.broadcasts uid state.moment)
   pub advanced : (moment : ℕ) → B (expired state.broadcasts moment)
 
 -- so it holds after each step of the request
-pub broadcast_steps : (B : Broadcasts → Type 0) (state : State) (caller : ℕ) (request : Request) → OnBroadcasts B state caller request
+pub broadcast_steps : (B : Broadcasts → Type 0) (state : State) (caller : ℕ) (request : Request)
+    → OnBroadcasts B state caller request
     → Steps (λ (s : State). B s.broadcasts) state caller request
 broadcast_steps B state caller request on = record {
   here = on.here;

@@ -1,4 +1,5 @@
--- Each instance that an entry makes, and each intent that it gives to one, is by a start that the gate admitted; and so is
+-- Each instance that an entry makes, and each intent that it gives to one, is by a start that the gate admitted; and so
+-- is
 -- each start that it is answered to have landed.
 use Rattle.std.proofs.Common.{◌≡◌, ℕ, Bool, true, cond, List, [], ◌∷◌, ◌++◌, map, refl, sym, ap, ◌∙◌, subst, ◌⊎◌, inl, inr, arith}
 use Rattle.std.specs.Prelude.{All, Option, Some, Ok, ◌==◌}
@@ -34,26 +35,36 @@ use Rattle.am_laws_access.proofs.AccessOfComponents.{all_known}
 
 -- each instance is among those that there are
 all_among : (tasks : List Task) → OfInstances (IsAmong tasks) tasks
-all_among tasks = λ k d below i e low. record { task = _; one = Contains-get_or tasks k d below; instance = Contains-get_or _ i e low }
+all_among tasks = λ k d below i e low. record {
+  task = _;
+  one = Contains-get_or tasks k d below;
+  instance =
+      Contains-get_or _ i e low;
+}
 
 -- what holds of what a function makes of some elements holds so of each
 of_each : {X Y : Type 0} (P : Y → Type 0) (f : X → Y) (xs : List X) → All P (map f xs) → All (λ x. P (f x)) xs
 of_each P f [] all = All-nil (λ x. P (f x))
-of_each P f (x ∷ xs) all = All-cons (λ x. P (f x)) x xs (All-head P (f x) (map f xs) all) (of_each P f xs (All-tail P (f x) (map f xs) all))
+of_each P f (x ∷ xs) all = All-cons (λ x. P (f x)) x xs (All-head P (f x) (map f xs) all)
+    (of_each P f xs (All-tail P (f x) (map f xs) all))
 
 -- the instance of a number has its new intent
-renewed_in : (number : ℕ) (intent : Intent) (instances : List Instance) (i : Instance) → Contains instances i → i.number ≡ number
+renewed_in : (number : ℕ) (intent : Intent) (instances : List Instance) (i : Instance) → Contains instances i → i.number
+    ≡ number
     → Contains (with_intent number intent instances) (record i { intent = intent })
 renewed_in number intent instances i at same =
-    subst (λ (b : Bool). Contains (with_intent number intent instances) (cond b (record i { intent = intent }) i)) (eq-eqb i.number number same)
+    subst (λ (b : Bool). Contains (with_intent number intent instances) (cond b (record i { intent = intent }) i))
+    (eq-eqb i.number number same)
     (All-contains (λ (j : Instance). Contains (with_intent number intent instances) (given j)) instances i
-    (of_each (Contains (with_intent number intent instances)) given instances (All-contains_itself (with_intent number intent instances))) at)
+    (of_each (Contains (with_intent number intent instances)) given instances
+    (All-contains_itself (with_intent number intent instances))) at)
   where
     given : Instance → Instance
     given j = cond (j.number == number) (record j { intent = intent }) j
 
 -- what holds of all instances holds of the root
-of_root : (P : Instance → Type 0) (instances : List Instance) (root : Instance) → All P instances → root_of instances ≡ Some root → P root
+of_root : (P : Instance → Type 0) (instances : List Instance) (root : Instance) → All P instances → root_of instances
+    ≡ Some root → P root
 of_root P [] root all is = absurd cc
 of_root P (first ∷ others) root all is = let same : first ≡ root = cc in subst P same (All-head P first others all)
 
@@ -79,14 +90,17 @@ module _ (opening : State) (h : List Entry) (entry : Entry) (known : Known openi
   abbrev K : Instance → Type 0
   K i = KnownInstance opening h due.board.packages known.of due.tasks.next_instance i
 
-  module _ (uid : ℕ) (intent : Intent) (source : Option ℕ) (component : Component) (found : ℕ × Decl) (kept : entry.kept ≡ true)
-      (did : deed_of due entry.uid entry.request ≡ Some (Starts uid intent)) (is : declared due.board.packages kinds.Activity component ≡ Some found)
+  module _ (uid : ℕ) (intent : Intent) (source : Option ℕ) (component : Component) (found : ℕ × Decl)
+      (kept : entry.kept ≡ true)
+      (did : deed_of due entry.uid entry.request ≡ Some (Starts uid intent))
+      (is : declared due.board.packages kinds.Activity component ≡ Some found)
       (admits : verdict due.board.grants uid found.0 found.1.exported found.1.permission ≡ Admit) where
     abbrev pub call : StartCall
     call = start_call uid intent source component found
 
     -- the component was started
-    started_by : (target : Component) (owner : ℕ) → target ≡ component → owner ≡ found.0 → IsStarted target owner intent due (Starts uid intent)
+    started_by : (target : Component) (owner : ℕ) → target ≡ component → owner ≡ found.0
+        → IsStarted target owner intent due (Starts uid intent)
     started_by target owner same own =
         subst (λ (u : ℕ). IsStarted target u intent due (Starts uid intent)) (sym own)
         (subst (λ (c : Component). IsStarted c found.0 intent due (Starts uid intent)) (sym same)
@@ -95,13 +109,20 @@ module _ (opening : State) (h : List Entry) (entry : Entry) (known : Known openi
     -- so an instance of it was given its intent
     given_by : (number : ℕ) (target : Component) (owner : ℕ) → target ≡ component → owner ≡ found.0
         → IsGivenBy due entry (record { number = number; component = target; owner = owner; intent = intent })
-    given_by number target owner same own = record { kept = kept; deed = Starts uid intent; did = did; holds = started_by target owner same own }
+    given_by number target owner same own = record {
+      kept = kept;
+      deed = Starts uid intent;
+      did = did;
+      holds =
+          started_by target owner same own;
+    }
 
     -- an instance of it is of its package
     owned_by : (i : Instance) → K i → i.component ≡ component → i.owner ≡ found.0
     owned_by i one same =
         let named : uid_named due.board.packages i.component.«package» ≡ Some found.0 =
-        subst (λ (c : Component). uid_named due.board.packages c.«package» ≡ Some found.0) (sym same) (declared_named due.board.packages kinds.Activity component found is) in
+        subst (λ (c : Component). uid_named due.board.packages c.«package» ≡ Some found.0) (sym same)
+        (declared_named due.board.packages kinds.Activity component found is) in
         let e : Some i.owner ≡ Some found.0 = sym one.owned ∙ named in
         cc
 
@@ -118,14 +139,21 @@ module _ (opening : State) (h : List Entry) (entry : Entry) (known : Known openi
         Q i = K i × IsAmong due.tasks.tasks i
 
     -- where a plan lands
-    plan_lands : (after : State) (plan : Plan) → IsPlanOf K known.of (λ i one. one.named) call plan → after.tasks ≡ (carried_out due.tasks call plan).1
+    plan_lands : (after : State) (plan : Plan) → IsPlanOf K known.of (λ i one. one.named) call plan → after.tasks
+        ≡ (carried_out due.tasks call plan).1
         → IsLanding due entry after (carried_out due.tasks call plan).0
     plan_lands after (NewTask single) fits left = record {
       front = new_task due.tasks.next_task due.tasks.next_instance call single;
       behind = due.tasks.tasks;
       tasks = ap (λ (all : Tasks). all.tasks) left;
       task = refl;
-      reached = (fresh due.tasks.next_instance call, (0, omega arith, refl), refl, given_by due.tasks.next_instance component found.0 refl refl);
+      reached = (
+        fresh due.tasks.next_instance call,
+        (0, omega arith, refl),
+        refl,
+        given_by due.tasks.next_instance
+            component found.0 refl refl,
+      );
     }
     plan_lands after (FreshOn task others) fits left = record {
       front = record task { instances = others ++ fresh due.tasks.next_instance call ∷ [] };
@@ -134,7 +162,8 @@ module _ (opening : State) (h : List Entry) (entry : Entry) (known : Known openi
       task = refl;
       reached = (
         fresh due.tasks.next_instance call,
-        Contains-append_right others (fresh due.tasks.next_instance call ∷ []) (fresh due.tasks.next_instance call) (0, omega arith, refl),
+        Contains-append_right others (fresh due.tasks.next_instance call ∷ []) (fresh due.tasks.next_instance call)
+            (0, omega arith, refl),
         refl,
         given_by due.tasks.next_instance component found.0 refl refl,
       );
@@ -176,17 +205,20 @@ module _ (opening : State) (h : List Entry) (entry : Entry) (known : Known openi
         }
 
     -- where a start lands
-    pub start_lands : (landed : Landed × Tasks) → place due.tasks call ≡ Ok landed → (after : State) → after.tasks ≡ landed.1 → IsLanding due entry after landed.0
+    pub start_lands : (landed : Landed × Tasks) → place due.tasks call ≡ Ok landed → (after : State) → after.tasks
+        ≡ landed.1 → IsLanding due entry after landed.0
     start_lands landed placed after left =
         let carried = place_carries_out due.tasks call landed placed in
         subst (λ (r : Landed × Tasks). IsLanding due entry after r.0) (sym carried)
-        (plan_lands after (plan_for due.tasks call) (planned K known.of (λ i one. one.named) call due.tasks known.instances)
+        (plan_lands after (plan_for due.tasks call) (planned K known.of (λ i one. one.named) call due.tasks
+        known.instances)
         (left ∙ ap (λ (r : Landed × Tasks). r.1) carried))
 
   steps : entry.kept ≡ true → Steps Holds due entry.uid entry.request
   steps kept =
       task_steps (λ (tasks : Tasks) (moment : ℕ). OfInstances N tasks.tasks) due entry.uid entry.request here
-      (λ uid intent source component found landed did is admits placed. started_on uid intent source component found kept did is admits landed placed) kept_on
+      (λ uid intent source component found landed did is admits placed. started_on uid intent source component found
+      kept did is admits landed placed) kept_on
       (λ by fits. here)
 
   pub given : Holds (step (replay opening h) h entry).1
@@ -194,8 +226,10 @@ module _ (opening : State) (h : List Entry) (entry : Entry) (known : Known openi
 
 -- after every history
 pub intents_are_admitted : (origin : Origin) (history : List Entry) (entry : Entry)
-    → OfInstances (λ i. IsAmong (replay (opening_of origin) history).tasks.tasks i ⊎ IsGivenBy (after_due (replay (opening_of origin) history) entry.now) entry i)
+    → OfInstances (λ i. IsAmong (replay (opening_of origin) history).tasks.tasks i ⊎ IsGivenBy
+    (after_due (replay (opening_of origin) history) entry.now) entry i)
     (replay (opening_of origin) (history ++ entry ∷ [])).tasks.tasks
 intents_are_admitted origin history entry =
-    subst (λ (s : State). OfInstances (N (opening_of origin) history entry (all_known origin history)) s.tasks.tasks) (sym (replay_more (opening_of origin) history entry))
+    subst (λ (s : State). OfInstances (N (opening_of origin) history entry (all_known origin history)) s.tasks.tasks)
+    (sym (replay_more (opening_of origin) history entry))
     (given (opening_of origin) history entry (all_known origin history))

@@ -28,19 +28,23 @@ same_component a b is =
     λ k. record { «package» = name k; class = class k }
 
 -- what is found among some is one of them
-pub found_holds : {X : Type 0} (P : X → Type 0) (test : X → Bool) (xs : List X) (x : X) → All P xs → find test xs ≡ Some x → P x
+pub found_holds : {X : Type 0} (P : X → Type 0) (test : X → Bool) (xs : List X) (x : X) → All P xs → find test xs
+    ≡ Some x → P x
 found_holds P test [] x all is = absurd cc
-found_holds P test (first ∷ others) x all is = by (test first) (found_holds P test others x (All-tail P first others all)) is
+found_holds P test (first ∷ others) x all is = by (test first) (found_holds P test others x
+    (All-tail P first others all)) is
   where
     by : (b : Bool) → (find test others ≡ Some x → P x) → cond b (Some first) (find test others) ≡ Some x → P x
     by true rest is = let same : first ≡ x = cc in subst P same (All-head P first others all)
     by false rest is = rest is
 
 -- and so is the last one, behind one that may come before
-last_holds : {X : Type 0} (P : X → Type 0) (xs : List X) (first : Option X) (x : X) → ((y : X) → first ≡ Some y → P y) → All P xs → last_or first xs ≡ Some x → P x
+last_holds : {X : Type 0} (P : X → Type 0) (xs : List X) (first : Option X) (x : X) → ((y : X) → first ≡ Some y → P y)
+    → All P xs → last_or first xs ≡ Some x → P x
 last_holds P [] first x before all is = before x is
 last_holds P (next ∷ others) first x before all is =
-    last_holds P others (Some next) x (λ y same. let e : next ≡ y = cc in subst P e (All-head P next others all)) (All-tail P next others all) is
+    last_holds P others (Some next) x (λ y same. let e : next ≡ y = cc in subst P e (All-head P next others all))
+    (All-tail P next others all) is
 
 -- an instance of that number is one of these
 abbrev pub HasNumber : List Instance → ℕ → Type 0
@@ -51,23 +55,29 @@ abbrev pub HasRoot : Component → List Instance → Type 0
 HasRoot component instances = (root : Instance) × (root_of instances ≡ Some root) × (root.component ≡ component)
 
 -- those that a test keeps pass it
-pub kept_pass : {X : Type 0} (P Q : X → Type 0) (keeps : X → Bool) (xs : List X) → ((x : X) → P x → keeps x ≡ true → Q x) → All P xs → All Q (filter keeps xs)
+pub kept_pass : {X : Type 0} (P Q : X → Type 0) (keeps : X → Bool) (xs : List X)
+    → ((x : X) → P x → keeps x ≡ true → Q x) → All P xs → All Q (filter keeps xs)
 kept_pass P Q keeps xs follows all =
     All-weaker (λ x. P x × (keeps x ≡ true)) Q (λ x h. follows x h.0 h.1) (filter keeps xs)
     (λ k d lt. (All-filter keeps P xs all k d lt, filter_passes keeps xs k d lt))
 
 -- tasks with those instances alone that pass a test
-pub tasks_kept : (Q R : Instance → Type 0) (keeps : Instance → Bool) (tasks : List Task) → ((i : Instance) → Q i → keeps i ≡ true → R i) → OfInstances Q tasks
+pub tasks_kept : (Q R : Instance → Type 0) (keeps : Instance → Bool) (tasks : List Task)
+    → ((i : Instance) → Q i → keeps i ≡ true → R i) → OfInstances Q tasks
     → OfInstances R (tasks_keeping keeps tasks)
 tasks_kept Q R keeps tasks follows all =
-    All-filter (λ (task : Task). not (is_empty task.instances)) (λ (task : Task). All R task.instances) (map (keeping keeps) tasks)
+    All-filter (λ (task : Task). not (is_empty task.instances)) (λ (task : Task). All R task.instances)
+    (map (keeping keeps) tasks)
     (All-map (λ (task : Task). All R task.instances) (keeping keeps) tasks
-    (All-weaker (λ (task : Task). All Q task.instances) (λ (task : Task). All R (filter keeps task.instances)) (λ task each. kept_pass Q R keeps task.instances follows each) tasks all))
+    (All-weaker (λ (task : Task). All Q task.instances) (λ (task : Task). All R (filter keeps task.instances))
+    (λ task each. kept_pass Q R keeps task.instances follows each) tasks all))
 
 -- what follows of each instance
-pub tasks_follow : (Q R : Instance → Type 0) (tasks : List Task) → ((i : Instance) → Q i → R i) → OfInstances Q tasks → OfInstances R tasks
+pub tasks_follow : (Q R : Instance → Type 0) (tasks : List Task) → ((i : Instance) → Q i → R i) → OfInstances Q tasks
+    → OfInstances R tasks
 tasks_follow Q R tasks follows all =
-    All-weaker (λ (task : Task). All Q task.instances) (λ (task : Task). All R task.instances) (λ task each. All-weaker Q R follows task.instances each) tasks all
+    All-weaker (λ (task : Task). All Q task.instances) (λ (task : Task). All R task.instances)
+    (λ task each. All-weaker Q R follows task.instances each) tasks all
 
 -- the plan makes an instance
 abbrev pub Makes : Plan → Type 0
@@ -77,20 +87,24 @@ Makes (NewIntentTo task kept number) = ⊥
 Makes (FrontOf task) = ⊥
 
 -- no number is given back, and one that is made is given
-pub next_keeps : (all : Tasks) (start : StartCall) (plan : Plan) → all.next_instance ≤ (carried_out all start plan).1.next_instance
+pub next_keeps : (all : Tasks) (start : StartCall) (plan : Plan) → all.next_instance ≤
+    (carried_out all start plan).1.next_instance
 next_keeps all start (NewTask single) = omega arith
 next_keeps all start (FreshOn task kept) = omega arith
 next_keeps all start (NewIntentTo task kept number) = omega arith
 next_keeps all start (FrontOf task) = omega arith
 
-pub next_makes : (all : Tasks) (start : StartCall) (plan : Plan) → Makes plan → all.next_instance < (carried_out all start plan).1.next_instance
+pub next_makes : (all : Tasks) (start : StartCall) (plan : Plan) → Makes plan
+    → all.next_instance < (carried_out all start plan).1.next_instance
 next_makes all start (NewTask single) makes = omega arith
 next_makes all start (FreshOn task kept) makes = omega arith
 next_makes all start (NewIntentTo task kept number) makes = absurd makes
 next_makes all start (FrontOf task) makes = absurd makes
 
-module _ (Q : Instance → Type 0) (of : ℕ → Component) (named : (i : Instance) → Q i → i.component ≡ of i.number) (start : StartCall) where
-  -- a plan of instances of which this holds, where a new intent is for an instance of the component that is there, and a
+module _ (Q : Instance → Type 0) (of : ℕ → Component) (named : (i : Instance) → Q i → i.component ≡ of i.number)
+    (start : StartCall) where
+  -- a plan of instances of which this holds, where a new intent is for an instance of the component that is there, and
+  -- a
   -- task that comes to the front has the component as its root
   abbrev pub IsPlanOf : Plan → Type 0
   IsPlanOf (NewTask single) = Unit {0}
@@ -121,30 +135,36 @@ module _ (Q : Instance → Type 0) (of : ℕ → Component) (named : (i : Instan
   where_planned true plan planned = planned refl
   where_planned false plan planned = tt
 
-  fresh_planned : (plan : Option Plan) (task : Task) → All Q task.instances → IfPlan plan → IsPlanOf (or_fresh plan task)
+  fresh_planned : (plan : Option Plan) (task : Task) → All Q task.instances → IfPlan plan
+      → IsPlanOf (or_fresh plan task)
   fresh_planned None task each planned = each
   fresh_planned (Some plan) task each planned = planned
 
   -- a task that is found
-  found_task : (test : Task → Bool) (tasks : List Task) → OfInstances Q tasks → (found : Option Task) → find test tasks ≡ found → IfTask found
+  found_task : (test : Task → Bool) (tasks : List Task) → OfInstances Q tasks → (found : Option Task) → find test tasks
+      ≡ found → IfTask found
   found_task test tasks all None is = tt
   found_task test tasks all (Some task) is = found_holds (λ (t : Task). All Q t.instances) test tasks task all is
 
   source_found : (tasks : List Task) (source : Option ℕ) → OfInstances Q tasks → IfTask (source_task tasks source)
   source_found tasks None all = tt
-  source_found tasks (Some number) all = found_task (λ (task : Task). list_any (is_number number) task.instances) tasks all _ refl
+  source_found tasks (Some number) all = found_task (λ (task : Task). list_any (is_number number) task.instances) tasks
+      all _ refl
 
   -- the topmost instance of the component
-  topmost_is : (task : Task) (i : Instance) → All Q task.instances → topmost start.target task ≡ Some i → Q i × (of i.number ≡ start.target)
+  topmost_is : (task : Task) (i : Instance) → All Q task.instances → topmost start.target task ≡ Some i → Q i
+      × (of i.number ≡ start.target)
   topmost_is task i each is =
-      let one = found_holds Q (is_of start.target) (reverse task.instances) i (All-permutation Q task.instances (reverse task.instances) (IsPermutation-reverse task.instances) each) is in
+      let one = found_holds Q (is_of start.target) (reverse task.instances) i
+      (All-permutation Q task.instances (reverse task.instances) (IsPermutation-reverse task.instances) each) is in
       (one, is_target i one (found_passes (is_of start.target) (reverse task.instances) i is))
 
   topmost_in : (task : Task) (i : Instance) → topmost start.target task ≡ Some i → HasNumber task.instances i.number
   topmost_in task i is = (
     i,
     found_holds (Contains task.instances) (is_of start.target) (reverse task.instances) i
-        (All-permutation (Contains task.instances) task.instances (reverse task.instances) (IsPermutation-reverse task.instances) (All-contains_itself task.instances)) is,
+        (All-permutation (Contains task.instances) task.instances (reverse task.instances)
+        (IsPermutation-reverse task.instances) (All-contains_itself task.instances)) is,
     refl,
   )
 
@@ -153,15 +173,18 @@ module _ (Q : Instance → Type 0) (of : ℕ → Component) (named : (i : Instan
   last_in others i = (i, Contains-append_right others (i ∷ []) i (0, omega arith, refl), refl)
 
   -- the root
-  root_is : (instances : List Instance) → is_maybe_of start.target (root_of instances) ≡ true → HasRoot start.target instances
+  root_is : (instances : List Instance) → is_maybe_of start.target (root_of instances) ≡ true
+      → HasRoot start.target instances
   root_is [] is = absurd cc
   root_is (root ∷ others) is = (root, refl, sym (same_component start.target root.component is))
 
   -- a start in the mode singleInstance
   single_planned : (tasks : List Task) → OfInstances Q tasks → IsPlanOf (placed_single start tasks)
-  single_planned tasks all = by (task_with start.target tasks) (found_task (λ (task : Task). list_any (is_of start.target) task.instances) tasks all _ refl)
+  single_planned tasks all = by (task_with start.target tasks) (found_task
+      (λ (task : Task). list_any (is_of start.target) task.instances) tasks all _ refl)
     where
-      to : (task : Task) (found : Option Instance) → All Q task.instances → topmost start.target task ≡ found → IsPlanOf (or_new_task (renewed_in task found) true)
+      to : (task : Task) (found : Option Instance) → All Q task.instances → topmost start.target task ≡ found
+          → IsPlanOf (or_new_task (renewed_in task found) true)
       to task None each is = tt
       to task (Some i) each is = (each, (topmost_is task i each is).1, topmost_in task i is)
 
@@ -176,51 +199,76 @@ module _ (Q : Instance → Type 0) (of : ℕ → Component) (named : (i : Instan
       rooted_by : Task → Bool
       rooted_by task = is_maybe_of start.target (root_of task.instances)
 
-      to : (task : Task) (instances : List Instance) → All Q instances → is_maybe_of start.target (root_of instances) ≡ true → IsPlanOf (or_new_task (to_root task (root_of instances)) false)
+      to : (task : Task) (instances : List Instance) → All Q instances → is_maybe_of start.target (root_of instances)
+          ≡ true → IsPlanOf (or_new_task (to_root task (root_of instances)) false)
       to task [] each is = tt
       to task (root ∷ others) each is =
           let one = All-head Q root others each in
           (All-cons Q root [] one (All-nil Q), is_target root one is, last_in [] root)
 
-      from : (found : Option Task) → task_rooted start.target tasks ≡ found → IsPlanOf (or_new_task (rooted found) false)
+      from : (found : Option Task) → task_rooted start.target tasks ≡ found
+          → IsPlanOf (or_new_task (rooted found) false)
       from None is = tt
       from (Some task) is =
-          to task task.instances (found_holds (λ (t : Task). All Q t.instances) rooted_by tasks task all is) (found_passes rooted_by tasks task is)
+          to task task.instances (found_holds (λ (t : Task). All Q t.instances) rooted_by tasks task all is)
+          (found_passes rooted_by tasks task is)
 
       by : (b : Bool) → IsPlanOf (cond b (NewTask false) (or_new_task (rooted (task_rooted start.target tasks)) false))
       by true = tt
       by false = from (task_rooted start.target tasks) refl
 
   -- clearing, where an instance is found
-  cleared_planned : (task : Task) (found : Option Instance) → All Q task.instances → topmost start.target task ≡ found → IfPlan (clearing_top start task found)
+  cleared_planned : (task : Task) (found : Option Instance) → All Q task.instances → topmost start.target task ≡ found
+      → IfPlan (clearing_top start task found)
   cleared_planned task None each is = tt
   cleared_planned task (Some i) each is =
-      where_planned (is_mode SingleTask start.mode || start.flags.clear_top) (cleared_to start task i) (λ test. by (is_mode Standard start.mode && not start.flags.single_top))
+      where_planned (is_mode SingleTask start.mode || start.flags.clear_top) (cleared_to start task i)
+      (λ test. by (is_mode Standard start.mode && not start.flags.single_top))
     where
       left : All Q (below i.number task.instances)
       left = All-take Q _ task.instances each
 
-      by : (b : Bool) → IsPlanOf (cond b (FreshOn task (below i.number task.instances)) (NewIntentTo task (below i.number task.instances ++ i ∷ []) i.number))
+      by : (b : Bool) → IsPlanOf (cond b (FreshOn task (below i.number task.instances))
+          (NewIntentTo task (below i.number task.instances ++ i ∷ []) i.number))
       by true = left
-      by false = let one = topmost_is task i each is in (All-push Q (below i.number task.instances) i left one.0, one.1, last_in (below i.number task.instances) i)
+      by false = let one = topmost_is task i each is in (
+        All-push Q (below i.number task.instances) i left one.0,
+        one.1,
+        last_in (below i.number task.instances) i,
+      )
 
   -- moving an instance to the top
-  reordered_planned : (wanted : Bool) (task : Task) (found : Option Instance) → All Q task.instances → topmost start.target task ≡ found → IfPlan (reordering start wanted task found)
+  reordered_planned : (wanted : Bool) (task : Task) (found : Option Instance) → All Q task.instances
+      → topmost start.target task ≡ found → IfPlan (reordering start wanted task found)
   reordered_planned wanted task None each is = tt
   reordered_planned wanted task (Some i) each is =
       let one = topmost_is task i each is in
       where_planned ((not wanted && start.flags.reorder_to_front) && not start.flags.clear_top) _
-      (λ test. (All-push Q (besides i.number task.instances) i (All-filter (λ (j : Instance). not (j.number == i.number)) Q task.instances each) one.0, one.1, last_in (besides i.number task.instances) i))
+      (λ test. (
+        All-push Q (besides i.number task.instances) i (All-filter
+            (λ (j : Instance). not (j.number == i.number)) Q task.instances each) one.0,
+        one.1,
+        last_in
+            (besides i.number task.instances) i,
+      ))
 
   -- a new intent to the top
-  on_top_planned : (task : Task) (found : Option Instance) → All Q task.instances → top_of task ≡ found → IfPlan (on_top start task found)
+  on_top_planned : (task : Task) (found : Option Instance) → All Q task.instances → top_of task ≡ found
+      → IfPlan (on_top start task found)
   on_top_planned task None each is = tt
   on_top_planned task (Some top) each is =
-      where_planned (is_of start.target top && (is_mode SingleTop start.mode || start.flags.single_top)) (NewIntentTo task task.instances top.number)
+      where_planned (is_of start.target top && (is_mode SingleTop start.mode || start.flags.single_top))
+      (NewIntentTo task task.instances top.number)
       (λ test. (
         each,
-        is_target top (last_holds Q task.instances None top (λ j none. absurd cc) each is) (both (is_of start.target top) _ test).0,
-        (top, last_holds (Contains task.instances) task.instances None top (λ j none. absurd cc) (All-contains_itself task.instances) is, refl),
+        is_target top (last_holds Q task.instances None top (λ j none. absurd cc) each is)
+            (both (is_of start.target top) _ test).0,
+        (
+          top,
+          last_holds (Contains task.instances) task.instances None top (λ j none. absurd cc)
+              (All-contains_itself task.instances) is,
+          refl,
+        ),
       ))
 
   -- a start in a task, if there is one
@@ -229,20 +277,26 @@ module _ (Q : Instance → Type 0) (of : ℕ → Component) (named : (i : Instan
   within_planned wanted (Some task) each =
       fresh_planned _ task each
       (or_planned (clearing_task start wanted task) _ (where_planned _ (FreshOn task []) (λ test. All-nil Q))
-      (or_planned (clearing_top start task (topmost start.target task)) _ (cleared_planned task (topmost start.target task) each refl)
-      (or_planned (fronting start wanted task) _ (where_planned _ (FrontOf task) (λ test. (each, root_is task.instances (both wanted _ test).1)))
-      (or_planned (reordering start wanted task (topmost start.target task)) _ (reordered_planned wanted task (topmost start.target task) each refl)
+      (or_planned (clearing_top start task (topmost start.target task)) _
+      (cleared_planned task (topmost start.target task) each refl)
+      (or_planned (fronting start wanted task) _ (where_planned _ (FrontOf task)
+      (λ test. (each, root_is task.instances (both wanted _ test).1)))
+      (or_planned (reordering start wanted task (topmost start.target task)) _
+      (reordered_planned wanted task (topmost start.target task) each refl)
       (on_top_planned task (top_of task) each refl)))))
 
   -- a start in another mode
-  ordinary_planned : (tasks : List Task) (wanted : Bool) (source : Option Task) → OfInstances Q tasks → IfTask source → IsPlanOf (placed_ordinary start tasks wanted source)
+  ordinary_planned : (tasks : List Task) (wanted : Bool) (source : Option Task) → OfInstances Q tasks → IfTask source
+      → IsPlanOf (placed_ordinary start tasks wanted source)
   ordinary_planned tasks wanted source all here = by (is_multiple start wanted)
     where
       either : (b : Bool) → IfTask (cond b (task_of_affinity start.affinity tasks) source)
-      either true = found_task (λ (task : Task). (not task.single && not (is_empty start.affinity)) && is_same task.affinity start.affinity) tasks all _ refl
+      either true = found_task (λ (task : Task). (not task.single && not (is_empty start.affinity)) && is_same
+          task.affinity start.affinity) tasks all _ refl
       either false = here
 
-      by : (b : Bool) → IsPlanOf (cond b (NewTask false) (placed_in_maybe start wanted (cond wanted (task_of_affinity start.affinity tasks) source)))
+      by : (b : Bool) → IsPlanOf (cond b (NewTask false) (placed_in_maybe start wanted
+          (cond wanted (task_of_affinity start.affinity tasks) source)))
       by true = tt
       by false = within_planned wanted (cond wanted (task_of_affinity start.affinity tasks) source) (either wanted)
 
@@ -253,39 +307,53 @@ module _ (Q : Instance → Type 0) (of : ℕ → Component) (named : (i : Instan
       source : Option Task
       source = source_task all.tasks start.source
 
-      by : (single per_task : Bool) → IsPlanOf (cond single (placed_single start all.tasks) (cond per_task (placed_per_task start all.tasks) (placed_ordinary start all.tasks (wants_new_task start source) source)))
+      by : (single per_task : Bool) → IsPlanOf (cond single (placed_single start all.tasks)
+          (cond per_task (placed_per_task start all.tasks) (placed_ordinary start all.tasks
+          (wants_new_task start source) source)))
       by true per_task = single_planned all.tasks each
       by false true = per_task_planned all.tasks each
-      by false false = ordinary_planned all.tasks (wants_new_task start source) source each (source_found all.tasks start.source each)
+      by false false = ordinary_planned all.tasks (wants_new_task start source) source each
+          (source_found all.tasks start.source each)
 
   module _ (R : Instance → Type 0) (all : Tasks) (keeps : (i : Instance) → Q i → R i)
       (gives : (i : Instance) → Q i → i.component ≡ start.target → R (record i { intent = start.intent })) where
     -- a new intent
-    intent_of : (number : ℕ) (instances : List Instance) → of number ≡ start.target → All Q instances → All R (with_intent number start.intent instances)
+    intent_of : (number : ℕ) (instances : List Instance) → of number ≡ start.target → All Q instances
+        → All R (with_intent number start.intent instances)
     intent_of number instances is each =
         All-map R (λ (i : Instance). cond (i.number == number) (record i { intent = start.intent }) i) instances
-        (All-weaker Q (λ (i : Instance). R (cond (i.number == number) (record i { intent = start.intent }) i)) (λ i one. by i one (eqb i.number number) refl) instances each)
+        (All-weaker Q (λ (i : Instance). R (cond (i.number == number) (record i { intent = start.intent }) i))
+        (λ i one. by i one (eqb i.number number) refl) instances each)
       where
-        by : (i : Instance) → Q i → (b : Bool) → eqb i.number number ≡ b → R (cond b (record i { intent = start.intent }) i)
+        by : (i : Instance) → Q i → (b : Bool) → eqb i.number number ≡ b
+            → R (cond b (record i { intent = start.intent }) i)
         by i one true same = gives i one (named i one ∙ ap of (eqb-true i.number number same) ∙ is)
         by i one false same = keeps i one
 
     -- a task in front of the others
-    front_of : (task : Task) (instances : List Instance) → All R instances → OfInstances Q all.tasks → OfInstances R (in_front task instances all.tasks)
+    front_of : (task : Task) (instances : List Instance) → All R instances → OfInstances Q all.tasks
+        → OfInstances R (in_front task instances all.tasks)
     front_of task instances front each =
-        All-cons (λ (t : Task). All R t.instances) (record task { instances = instances }) (filter (λ (other : Task). not (other.number == task.number)) all.tasks) front
-        (All-filter (λ (other : Task). not (other.number == task.number)) (λ (t : Task). All R t.instances) all.tasks (tasks_follow Q R all.tasks keeps each))
+        All-cons (λ (t : Task). All R t.instances) (record task { instances = instances })
+        (filter (λ (other : Task). not (other.number == task.number)) all.tasks) front
+        (All-filter (λ (other : Task). not (other.number == task.number)) (λ (t : Task). All R t.instances) all.tasks
+        (tasks_follow Q R all.tasks keeps each))
 
     -- a plan that is carried out
-    carried_of : (plan : Plan) → (Makes plan → R (fresh all.next_instance start)) → IsPlanOf plan → OfInstances Q all.tasks → OfInstances R (carried_out all start plan).1.tasks
+    carried_of : (plan : Plan) → (Makes plan → R (fresh all.next_instance start)) → IsPlanOf plan
+        → OfInstances Q all.tasks → OfInstances R (carried_out all start plan).1.tasks
     carried_of (NewTask single) makes is each =
         All-cons (λ (t : Task). All R t.instances) (new_task all.next_task all.next_instance start single) all.tasks
         (All-cons R (fresh all.next_instance start) [] (makes tt) (All-nil R)) (tasks_follow Q R all.tasks keeps each)
     carried_of (FreshOn task kept) makes is each =
-        front_of task (kept ++ fresh all.next_instance start ∷ []) (All-push R kept (fresh all.next_instance start) (All-weaker Q R keeps kept is) (makes tt)) each
-    carried_of (NewIntentTo task kept number) makes is each = front_of task (with_intent number start.intent kept) (intent_of number kept is.1 is.0) each
-    carried_of (FrontOf task) makes is each = front_of task task.instances (All-weaker Q R keeps task.instances is.0) each
+        front_of task (kept ++ fresh all.next_instance start ∷ [])
+        (All-push R kept (fresh all.next_instance start) (All-weaker Q R keeps kept is) (makes tt)) each
+    carried_of (NewIntentTo task kept number) makes is each = front_of task (with_intent number start.intent kept)
+        (intent_of number kept is.1 is.0) each
+    carried_of (FrontOf task) makes is each = front_of task task.instances (All-weaker Q R keeps task.instances is.0)
+        each
 
     -- a start that is placed
-    pub placed_of : (Makes (plan_for all start) → R (fresh all.next_instance start)) → OfInstances Q all.tasks → OfInstances R (carried_out all start (plan_for all start)).1.tasks
+    pub placed_of : (Makes (plan_for all start) → R (fresh all.next_instance start)) → OfInstances Q all.tasks
+        → OfInstances R (carried_out all start (plan_for all start)).1.tasks
     placed_of makes each = carried_of (plan_for all start) makes (planned all each) each

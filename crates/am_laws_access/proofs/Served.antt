@@ -37,10 +37,12 @@ module _ (opening : State) (h : List Entry) (entry : Entry) (known : Known openi
   here = All-weaker (Contains due.services) N (λ s one. inl one) due.services (All-contains_itself due.services)
 
   module _ (uid : ℕ) (intent : Intent) (component : Component) (found : ℕ × Decl) (kept : entry.kept ≡ true)
-      (did : deed_of due entry.uid entry.request ≡ Some (Serves uid intent)) (is : declared due.board.packages kinds.Service component ≡ Some found)
+      (did : deed_of due entry.uid entry.request ≡ Some (Serves uid intent))
+      (is : declared due.board.packages kinds.Service component ≡ Some found)
       (admits : verdict due.board.grants uid found.0 found.1.exported found.1.permission ≡ Admit) where
     -- the component was started
-    served_by : (target : Component) (owner : ℕ) → component ≡ target → found.0 ≡ owner → HasDone due entry (IsServed target owner intent)
+    served_by : (target : Component) (owner : ℕ) → component ≡ target → found.0 ≡ owner
+        → HasDone due entry (IsServed target owner intent)
     served_by target owner same own =
         subst (λ (u : ℕ). HasDone due entry (IsServed target u intent)) own
         (subst (λ (c : Component). HasDone due entry (IsServed c found.0 intent)) same (record {
@@ -51,22 +53,26 @@ module _ (opening : State) (h : List Entry) (entry : Entry) (known : Known openi
         }))
 
     -- a service that runs is started once more where it is that component
-    again : (s : Service) → KnownService opening h due.board.packages s × Contains due.services s → (b : Bool) → is_service component s ≡ b
+    again : (s : Service) → KnownService opening h due.board.packages s × Contains due.services s → (b : Bool)
+        → is_service component s ≡ b
         → N (cond b (record s { intent = intent; starts = s.starts + 1 }) s)
     again s one true test =
         let same : component ≡ s.component = same_component component s.component test in
         let named : uid_named due.board.packages s.component.«package» ≡ Some found.0 =
-        subst (λ (c : Component). uid_named due.board.packages c.«package» ≡ Some found.0) same (declared_named due.board.packages kinds.Service component found is) in
+        subst (λ (c : Component). uid_named due.board.packages c.«package» ≡ Some found.0) same
+        (declared_named due.board.packages kinds.Service component found is) in
         let e : Some found.0 ≡ Some s.owner = sym named ∙ one.0.owned in
         let own : found.0 ≡ s.owner = cc in
         inr (served_by s.component s.owner same own, inl (s, one.1, refl, refl))
     again s one false test = inl one.1
 
     -- a service is started
-    served_on : (service : Option Service) → running due.services component ≡ service → All N (with_start due.services component found.0 intent service)
+    served_on : (service : Option Service) → running due.services component ≡ service
+        → All N (with_start due.services component found.0 intent service)
     served_on (Some service) runs =
         All-map N (restarted component intent) due.services
-        (All-weaker (λ (s : Service). KnownService opening h due.board.packages s × Contains due.services s) (λ (s : Service). N (restarted component intent s))
+        (All-weaker (λ (s : Service). KnownService opening h due.board.packages s × Contains due.services s)
+        (λ (s : Service). N (restarted component intent s))
         (λ s one. again s one (is_service component s) refl) due.services
         (λ k d below. (known.services k d below, All-contains_itself due.services k d below)))
     served_on None rests =
@@ -78,7 +84,8 @@ module _ (opening : State) (h : List Entry) (entry : Entry) (known : Known openi
   steps kept = record {
     here = here;
     started = λ uid intent source component found landed did is admits placed. here;
-    served = λ uid intent component found did is admits. served_on uid intent component found kept did is admits (running due.services component) refl;
+    served = λ uid intent component found did is admits. served_on uid intent component found kept did is admits
+        (running due.services component) refl;
     sent = λ sender intent permission ordered did unprotected. here;
     ended = λ keeps. here;
     unserved = λ keeps. All-filter keeps N due.services here;

@@ -36,26 +36,27 @@ pub record IsDeliveryOf (normal : List Normal) (number sender : ℕ) (intent : I
   pub carries : broadcast.intent ≡ intent
   pub delivery : Contains broadcast.deliveries d
 
--- it is there in the state
+-- it is in the state
 abbrev pub Has : State → Addition → Type 0
 Has state (ADelivery number sender intent d) = IsDeliveryOf state.broadcasts.normal number sender intent d
 Has state (AnInstance i) = IsAmong state.tasks.tasks i
 Has state (AService s) = Contains state.services s
 
--- the uid broadcasts the intent at once, its action isn't kept from it, and the receiver is one of those that are admitted
+-- the uid broadcasts the intent to all at once, the intent has no action that is protected from the uid, and the
+-- receiver is admitted
 pub record IsSentAtOnce (sender : ℕ) (intent : Intent) (spot : Spot) (state : State) (deed : Deed) : Type 0 where
   pub permission : Option (List ℕ)
   pub is : deed ≡ Sends sender intent permission None
   pub unprotected : is_protected state.board.protected intent.action && not (is_privileged sender) ≡ false
   pub admitted : Contains (admitted (receivers state.board intent sender permission)) spot
 
--- the service was started once more than it says in this state, or for the first time where it doesn't run
+-- the service was started once more than it says in this state, or for the first time if it doesn't run
 abbrev pub IsOneMore : State → Service → Type 0
 IsOneMore state s =
     ((was : Service) × Contains state.services was × (was.component ≡ s.component) × (s.starts ≡ was.starts + 1))
     ⊎ ((running state.services s.component ≡ None) × (s.starts ≡ 1))
 
--- the entry added it in this state, in which its deed was admitted: it sent the broadcast, whose number is the one that
+-- the entry added it in this state, in which its deed was admitted: it sent the broadcast, which has the number that
 -- is given next; it started the activity with that intent; or it started the service with that intent, once more
 abbrev pub IsAddedBy : State → Entry → Addition → Type 0
 IsAddedBy state entry (ADelivery number sender intent d) =
@@ -72,7 +73,7 @@ IsReachedBy state entry front number how.Fronted =
 IsReachedBy state entry front number _ =
     (i : Instance) × Contains front.instances i × (i.number ≡ number) × IsGivenBy state entry i
 
--- an entry that is answered so in this state, and leaves that one, landed there by a start that the gate admitted
+-- an entry that gets this answer in this state, and leaves that state, landed there by a start that the gate admitted
 pub record IsLanding (state : State) (entry : Entry) (after : State) (landed : Landed) : Type 0 where
   pub front : Task
   pub behind : List Task
@@ -80,8 +81,9 @@ pub record IsLanding (state : State) (entry : Entry) (after : State) (landed : L
   pub task : front.number ≡ landed.task
   pub reached : IsReachedBy state entry front landed.instance landed.how
 
--- an entry with its answer and the state after it adds to a state nothing but what its own deed adds at its moment: what
--- was due before it adds nothing, and where it says that a start landed, it was this entry's start
+-- an entry with its answer and the state after it adds to a state only what its own deed adds at its moment:
+-- what
+-- was due before it adds nothing, and if it says that a start landed, it was this entry's start
 pub record Adds (before : State) (entry : Entry) (answer : Reply × State) : Type 0 where
   pub due : (a : Addition) → Has (after_due before entry.now) a → Has before a
   pub own : (a : Addition) → Has answer.1 a

@@ -12,7 +12,7 @@ pub record IsAmong (tasks : List Task) (i : Instance) : Type 0 where
   pub one : Contains tasks task
   pub instance : Contains task.instances i
 
--- the entry did something of which this holds in that state
+-- the entry did something for which this holds in that state
 pub record HasDone (state : State) (entry : Entry) (P : State → Deed → Type 0) : Type 0 where
   pub kept : entry.kept ≡ true
   pub deed : Deed

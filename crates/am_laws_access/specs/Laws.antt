@@ -1,4 +1,4 @@
--- Who is reached was admitted.
+-- Everyone who is reached was admitted.
 use Rattle.std.specs.Prelude.{List, [], ◌∷◌, ◌++◌, ◌⊎◌, All}
 use Rattle.am_types.specs.declared.history.Entry.{Entry}
 use Rattle.am_history.specs.Desks.{Origin, opening_of}
@@ -21,8 +21,8 @@ InstancesAreAdmitted =
     (origin : Origin) (history : List Entry)
     → OfInstances (IsStartedByEntries (opening_of origin) history) (state_after origin history).tasks.tasks
 
--- each activity instance that there is after an entry, with its intent, was there before, or was given that intent by
--- the entry, by a start that the gate admitted
+-- each activity instance after an entry, with its intent, was there before, or was given that intent by the entry,
+-- through a start that the gate admitted
 abbrev pub IntentsAreAdmitted : Type 0
 IntentsAreAdmitted =
     (origin : Origin) (history : List Entry) (entry : Entry)

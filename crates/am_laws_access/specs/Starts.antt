@@ -6,8 +6,8 @@ use Rattle.am_types.specs.declared.history.Entry.{Entry}
 use Rattle.am_history.specs.State.{State, Service}
 use Rattle.am_laws.specs.Access.{Once, IsServed}
 
--- each of these intents, of which the last one given comes first, was given by an entry of its own that started the
--- service of that package by it and that the gate admitted; the others were given by entries before that one
+-- each of these intents, the last one given first, was given by an entry of its own that started the service of that
+-- package by it and that the gate admitted; the others were given by entries before that one
 abbrev pub AreStarts : State → List Entry → Component → ℕ → List Intent → Type 0
 AreStarts opening history component owner [] = Unit {0}
 AreStarts opening history component owner (intent ∷ earlier) =

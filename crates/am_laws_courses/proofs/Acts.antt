@@ -1,4 +1,5 @@
--- What a request is answered and what it does to broadcasts: it finishes a delivery, strikes receivers or lets deadlines pass, and
+-- What a request is answered and what it does to broadcasts: it finishes a delivery, strikes receivers or lets
+-- deadlines pass, and
 -- is answered that it is done; it sends a broadcast; or it leaves them as they are.
 use Rattle.std.proofs.Common.{◌≡◌, ℕ, ◌+◌, Bool, true, false, not, ◌&&◌, ◌||◌, cond, List, length, refl, sym, ap, subst}
 use Rattle.std.specs.Prelude.{Option, Some, None, Result, Ok, Err, ◌==◌, nat_le}
@@ -64,16 +65,22 @@ is_apart _ = true
 pub record Acts (P : Bool → Broadcasts → Type 0) (state : State) (caller : ℕ) (request : Request) : Type 0 where
   pub same : P false state.broadcasts
   pub apart : is_apart request ≡ true → P true state.broadcasts
-  pub sent : (sender : ℕ) (intent : Intent) (permission : Option (List ℕ)) (ordered : Option Ordered) → is_apart request ≡ true
+  pub sent : (sender : ℕ) (intent : Intent) (permission : Option (List ℕ)) (ordered : Option Ordered) → is_apart request
+      ≡ true
       → deed_of state caller request ≡ Some (Sends sender intent permission ordered)
       → is_protected state.board.protected intent.action && not (is_privileged sender) ≡ false
-      → (done : Bool) → P done (with_sent state.broadcasts (sending_of state sender intent ordered (receivers state.board intent sender permission)) ordered)
-  pub finished : (number : ℕ) (answer : Answer) (holder : Held) → request ≡ asks.Finish number answer → held state.broadcasts number ≡ Some holder → holder.uid ≡ caller
+      → (done : Bool) → P done (with_sent state.broadcasts (sending_of state sender intent ordered
+      (receivers state.board intent sender permission)) ordered)
+  pub finished : (number : ℕ) (answer : Answer) (holder : Held) → request ≡ asks.Finish number answer
+      → held state.broadcasts number ≡ Some holder → holder.uid ≡ caller
       → P true (finished state.broadcasts number answer state.moment)
-  pub taken_back : (number : ℕ) → request ≡ asks.Unregister number → P true (sending.forget_registered state.broadcasts number state.moment)
-  pub uninstalled : (name : List ℕ) (owner : Package) → request ≡ asks.Uninstall name → package_named state.board.packages name ≡ Some owner
+  pub taken_back : (number : ℕ) → request ≡ asks.Unregister number
+      → P true (sending.forget_registered state.broadcasts number state.moment)
+  pub uninstalled : (name : List ℕ) (owner : Package) → request ≡ asks.Uninstall name
+      → package_named state.board.packages name ≡ Some owner
       → P true (sending.forget_uid state.broadcasts owner.uid state.moment)
-  pub stopped : (name : List ℕ) (owner : Package) → request ≡ asks.ForceStop name → package_named state.board.packages name ≡ Some owner
+  pub stopped : (name : List ℕ) (owner : Package) → request ≡ asks.ForceStop name
+      → package_named state.board.packages name ≡ Some owner
       → P true (sending.forget_uid state.broadcasts owner.uid state.moment)
   pub advanced : (more : ℕ) → request ≡ asks.Advance more → P true (expired state.broadcasts (state.moment + more))
 
@@ -97,10 +104,12 @@ module _ (P : Bool → Broadcasts → Type 0) (state : State) (caller : ℕ) whe
   admin_does next same after = either_does (is_privileged caller) next (refused state rules.AdminOnly) after same
 
   package_does : (name : List ℕ) (next : Package → Reply × State) → P false state.broadcasts
-      → ((owner : Package) → package_named state.board.packages name ≡ Some owner → Does (next owner)) → Does (for_package state name next)
+      → ((owner : Package) → package_named state.board.packages name ≡ Some owner → Does (next owner))
+      → Does (for_package state name next)
   package_does name next same after = by (package_named state.board.packages name) refl
     where
-      by : (found : Option Package) → package_named state.board.packages name ≡ found → Does (for_found state found next)
+      by : (found : Option Package) → package_named state.board.packages name ≡ found
+          → Does (for_found state found next)
       by None is = same
       by (Some owner) is = after owner is
 
@@ -109,45 +118,57 @@ module _ (P : Bool → Broadcasts → Type 0) (state : State) (caller : ℕ) whe
   any_same request is acts true = acts.apart is
   any_same request is acts false = acts.same
 
-  finish_does : (number : ℕ) (answer : Answer) → Acts P state caller (asks.Finish number answer) → Does (finish state caller number answer)
+  finish_does : (number : ℕ) (answer : Answer) → Acts P state caller (asks.Finish number answer)
+      → Does (finish state caller number answer)
   finish_does number answer acts =
-      finish_cases Does state caller number answer (λ rule. acts.same) (λ holder is own. acts.finished number answer holder refl is own)
+      finish_cases Does state caller number answer (λ rule. acts.same)
+      (λ holder is own. acts.finished number answer holder refl is own)
 
   unregister_does : (number : ℕ) → Acts P state caller (asks.Unregister number) → Does (unregister state caller number)
   unfolding unregister
   unregister_does number acts = by (find (λ (r : Registration). r.number == number) state.board.registered) refl
     where
-      by : (found : Option Registration) → find (λ (r : Registration). r.number == number) state.board.registered ≡ found → Does (unregister_found state caller found)
+      by : (found : Option Registration) → find (λ (r : Registration). r.number == number) state.board.registered
+          ≡ found → Does (unregister_found state caller found)
       by None is = acts.same
       by (Some found) is =
           either_does (found.uid == caller) (done (taken_back state found)) (refused state rules.NotYours)
           (subst (λ (n : ℕ). P true (sending.forget_registered state.broadcasts n state.moment))
-          (sym (eqb-true found.number number (found_passes (λ (r : Registration). r.number == number) state.board.registered found is)))
+          (sym (eqb-true found.number number (found_passes (λ (r : Registration). r.number == number)
+          state.board.registered found is)))
           (acts.taken_back number refl)) acts.same
 
   -- a use of a token
-  use_any : (token : ℕ) (fill : Option Intent) → Acts P state caller (asks.PendingSend token fill) → Any (pending_send state caller token fill).1
+  use_any : (token : ℕ) (fill : Option Intent) → Acts P state caller (asks.PendingSend token fill)
+      → Any (pending_send state caller token fill).1
   use_any token fill acts =
-      use_cases Any state caller token fill here (λ after left same any. any) (λ used is. by used.creator used.intent used.kind (ap (λ result. used_deed result) is))
+      use_cases Any state caller token fill here (λ after left same any. any)
+      (λ used is. by used.creator used.intent used.kind (ap (λ result. used_deed result) is))
     where
       here : Any state
       here = any_same (asks.PendingSend token fill) refl acts
 
-      by : (creator : ℕ) (intent : Intent) (kind : Kind) → deed_of state caller (asks.PendingSend token fill) ≡ Some (lent_deed creator intent kind)
+      by : (creator : ℕ) (intent : Intent) (kind : Kind) → deed_of state caller (asks.PendingSend token fill)
+          ≡ Some (lent_deed creator intent kind)
           → Any (lend state creator intent kind).1
-      by creator intent kinds.Activity did = start_cases Any state creator (in_new_task intent) here None (λ component found landed is admits placed. here)
-      by creator intent kinds.Service did = service_cases Any state creator intent here (λ component found is admits. here)
-      by creator intent kinds.Receiver did = send_cases Any state creator intent here None None (λ unprotected. acts.sent creator intent None None refl did unprotected)
+      by creator intent kinds.Activity did = start_cases Any state creator (in_new_task intent) here None
+          (λ component found landed is admits placed. here)
+      by creator intent kinds.Service did = service_cases Any state creator intent here
+          (λ component found is admits. here)
+      by creator intent kinds.Receiver did = send_cases Any state creator intent here None None
+          (λ unprotected. acts.sent creator intent None None refl did unprotected)
 
   -- an end of an instance, going back, and the end of a service
   end_any : (left : Result Tasks TaskFault) → Any state → Any (after_end state left).1
   end_any (Err fault) here = here
   end_any (Ok left) here = here
 
-  stop_any : (found : Option (ℕ × Decl)) (component : Component) → Any state → Any (stop_maybe state caller component found).1
+  stop_any : (found : Option (ℕ × Decl)) (component : Component) → Any state
+      → Any (stop_maybe state caller component found).1
   stop_any None component here = here
   stop_any (Some found) component here =
-      unless_leaves Any state (stopped_rule (running state.services component)) _ here (unless_leaves Any state (gate_rule state caller found) _ here here)
+      unless_leaves Any state (stopped_rule (running state.services component)) _ here
+      (unless_leaves Any state (gate_rule state caller found) _ here here)
 
   -- a token that is asked for, and a change of the records
   got_any : (got : Result (Option ℕ × Pendings) PendingFault) → Any state → Any (after_get state got).1
@@ -159,73 +180,109 @@ module _ (P : Bool → Broadcasts → Type 0) (state : State) (caller : ℕ) whe
   change_any (Ok left) here = here
 
   -- a package whose manifest was read
-  read_any : (key : List ℕ) (manifest : Result Manifest ManifestFault) → Any state → Any (install_read state key manifest).1
+  read_any : (key : List ℕ) (manifest : Result Manifest ManifestFault) → Any state
+      → Any (install_read state key manifest).1
   read_any key (Err fault) here = here
   read_any key (Ok manifest) here =
-      either_leaves Any (is_name_used state.board.packages manifest.«package» || is_key_used state key) (refused state rules.Installed) _ here
+      either_leaves Any (is_name_used state.board.packages manifest.«package» || is_key_used state key)
+      (refused state rules.Installed) _ here
       (either_leaves Any (is_full state) (refused state (rules.OverLimit limits.Packages)) _ here here)
 
   -- each request
-  pub acts_do : (before : List Entry) (request : Request) → Acts P state caller request → Does (act state before caller request)
-  unfolding act finish_activity back stop_service register pending_get pending_cancel pending_give install uninstall grant link force_stop advance
+  pub acts_do : (before : List Entry) (request : Request) → Acts P state caller request
+      → Does (act state before caller request)
+  unfolding act finish_activity back stop_service register pending_get pending_cancel pending_give install uninstall
+      grant link force_stop advance
   acts_do before (asks.Query kind intent default_only) acts = acts.same
   acts_do before (asks.Explain kind intent name permission shown) acts =
-      any_does (explain state.board (record { caller = caller; kind = kind; intent = intent; required = permission }) name shown, state)
+      any_does (
+        explain state.board (record { caller = caller; kind = kind; intent = intent; required = permission })
+            name shown,
+        state,
+      )
       (any_same (asks.Explain kind intent name permission shown) refl acts)
   acts_do before (asks.Start intent source) acts =
       let here = any_same (asks.Start intent source) refl acts in
-      any_does (start state caller intent source) (start_cases Any state caller intent here source (λ component found landed is admits placed. here))
+      any_does (start state caller intent source) (start_cases Any state caller intent here source
+      (λ component found landed is admits placed. here))
   acts_do before (asks.FinishActivity instance) acts =
-      any_does (after_end state (tasks.finish state.tasks instance caller)) (end_any (tasks.finish state.tasks instance caller) (any_same (asks.FinishActivity instance) refl acts))
-  acts_do before asks.Back acts = admin_does (back state) acts.same (any_does (back state) (any_same asks.Back refl acts))
+      any_does (after_end state (tasks.finish state.tasks instance caller))
+      (end_any (tasks.finish state.tasks instance caller) (any_same (asks.FinishActivity instance) refl acts))
+  acts_do before asks.Back acts = admin_does (back state) acts.same
+      (any_does (back state) (any_same asks.Back refl acts))
   acts_do before asks.ListTasks acts = acts.same
   acts_do before (asks.StartService intent) acts =
       let here = any_same (asks.StartService intent) refl acts in
-      any_does (start_service state caller intent) (service_cases Any state caller intent here (λ component found is admits. here))
+      any_does (start_service state caller intent) (service_cases Any state caller intent here
+      (λ component found is admits. here))
   acts_do before (asks.StopService component) acts =
       any_does (stop_maybe state caller component (declared state.board.packages kinds.Service component))
-      (stop_any (declared state.board.packages kinds.Service component) component (any_same (asks.StopService component) refl acts))
+      (stop_any (declared state.board.packages kinds.Service component) component
+      (any_same (asks.StopService component) refl acts))
   acts_do before asks.Services acts = acts.same
   acts_do before (asks.Send intent permission ordered) acts =
       any_does (send state caller intent permission ordered)
       (send_cases Any state caller intent (any_same (asks.Send intent permission ordered) refl acts) permission ordered
       (λ unprotected. acts.sent caller intent permission ordered refl refl unprotected))
   acts_do before (asks.Register filter permission) acts =
-      either_does (nat_le 64 (count_of state.board.registered caller)) (refused state (rules.OverLimit limits.Registered)) _ acts.same acts.same
+      either_does (nat_le 64 (count_of state.board.registered caller))
+      (refused state (rules.OverLimit limits.Registered)) _ acts.same acts.same
   acts_do before (asks.Unregister number) acts = unregister_does number acts
   acts_do before asks.Inbox acts = acts.same
   acts_do before (asks.Finish delivery answer) acts = finish_does delivery answer acts
   acts_do before (asks.PendingGet kind code intent flags) acts =
-      any_does (after_get state (pendings.get state.pendings (record { creator = caller; kind = kind; code = code; intent = intent; flags = flags })))
-      (got_any (pendings.get state.pendings (record { creator = caller; kind = kind; code = code; intent = intent; flags = flags })) (any_same (asks.PendingGet kind code intent flags) refl acts))
-  acts_do before (asks.PendingSend token fill) acts = any_does (pending_send state caller token fill) (use_any token fill acts)
+      any_does (after_get state (pendings.get state.pendings (record
+      { creator = caller; kind = kind; code = code; intent = intent; flags = flags })))
+      (got_any (pendings.get state.pendings (record {
+        creator = caller;
+        kind = kind;
+        code = code;
+        intent = intent;
+        flags
+            = flags;
+      })) (any_same (asks.PendingGet kind code intent flags) refl acts))
+  acts_do before (asks.PendingSend token fill) acts = any_does (pending_send state caller token fill)
+      (use_any token fill acts)
   acts_do before (asks.PendingCancel token) acts =
-      any_does (after_change state (pendings.cancel state.pendings token caller)) (change_any (pendings.cancel state.pendings token caller) (any_same (asks.PendingCancel token) refl acts))
+      any_does (after_change state (pendings.cancel state.pendings token caller))
+      (change_any (pendings.cancel state.pendings token caller) (any_same (asks.PendingCancel token) refl acts))
   acts_do before (asks.PendingGive token name) acts =
-      package_does name (λ (to : Package). after_change state (pendings.give state.pendings token caller to.uid)) acts.same
+      package_does name (λ (to : Package). after_change state (pendings.give state.pendings token caller to.uid))
+      acts.same
       (λ to is. any_does (after_change state (pendings.give state.pendings token caller to.uid))
-      (change_any (pendings.give state.pendings token caller to.uid) (any_same (asks.PendingGive token name) refl acts)))
+      (change_any (pendings.give state.pendings token caller to.uid)
+      (any_same (asks.PendingGive token name) refl acts)))
   acts_do before (asks.Install text key) acts =
       admin_does (install_read state key (manifest_of text)) acts.same
-      (any_does (install_read state key (manifest_of text)) (read_any key (manifest_of text) (any_same (asks.Install text key) refl acts)))
+      (any_does (install_read state key (manifest_of text)) (read_any key (manifest_of text)
+      (any_same (asks.Install text key) refl acts)))
   acts_do before (asks.Uninstall name) acts =
       admin_does (for_package state name (λ (owner : Package). done (without state owner.uid))) acts.same
-      (package_does name (λ (owner : Package). done (without state owner.uid)) acts.same (λ owner is. acts.uninstalled name owner refl is))
+      (package_does name (λ (owner : Package). done (without state owner.uid)) acts.same
+      (λ owner is. acts.uninstalled name owner refl is))
   acts_do before (asks.Grant name permission held) acts =
       admin_does (for_package state name (λ (owner : Package). grant_to state owner.uid permission held)) acts.same
       (package_does name (λ (owner : Package). grant_to state owner.uid permission held) acts.same
-      (λ owner is. either_does (too_many_grants state.board.grants owner.uid permission held) (refused state (rules.OverLimit limits.Grants)) _ acts.same (acts.apart refl)))
+      (λ owner is. either_does (too_many_grants state.board.grants owner.uid permission held)
+      (refused state (rules.OverLimit limits.Grants)) _ acts.same (acts.apart refl)))
   acts_do before (asks.Link name host approved) acts =
       admin_does (for_package state name (λ (owner : Package). link_to state owner.uid host approved)) acts.same
       (package_does name (λ (owner : Package). link_to state owner.uid host approved) acts.same
-      (λ owner is. either_does (too_many_links state.board.links owner.uid host approved) (refused state (rules.OverLimit limits.Links)) _ acts.same (acts.apart refl)))
+      (λ owner is. either_does (too_many_links state.board.links owner.uid host approved)
+      (refused state (rules.OverLimit limits.Links)) _ acts.same (acts.apart refl)))
   acts_do before (asks.ForceStop name) acts =
       admin_does (for_package state name (λ (owner : Package). done (stopped_of state owner.uid))) acts.same
-      (package_does name (λ (owner : Package). done (stopped_of state owner.uid)) acts.same (λ owner is. acts.stopped name owner refl is))
+      (package_does name (λ (owner : Package). done (stopped_of state owner.uid)) acts.same
+      (λ owner is. acts.stopped name owner refl is))
   acts_do before asks.Tick acts = admin_does (done state) acts.same (acts.apart refl)
   acts_do before (asks.Advance more) acts =
       admin_does (advance state more) acts.same
       (either_does (nat_le (state.moment + more) 4611686018427387904) (advanced (at_moment state (state.moment + more)))
       (refused state (rules.OverLimit limits.Moment)) (acts.advanced more refl) acts.same)
-  acts_do before (asks.History from) acts = admin_does (replies.Entries from (page before from), state) acts.same acts.same
-  acts_do before asks.Status acts = admin_does (replies.Status (length before) state.moment (length state.board.packages), state) acts.same acts.same
+  acts_do before (asks.History from) acts = admin_does (replies.Entries from (page before from), state) acts.same
+      acts.same
+  acts_do before asks.Status acts = admin_does (
+    replies.Status (length before) state.moment
+        (length state.board.packages),
+    state,
+  ) acts.same acts.same

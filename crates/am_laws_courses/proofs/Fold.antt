@@ -49,7 +49,8 @@ record RunsOn (opening : State) (h : List Entry) (all : Broadcasts) : Type 0 whe
   pub unsent : (number : ℕ) → all.next_broadcast ≤ number → finishing opening number [] h ≡ []
 
 -- a request that is apart does nothing to a course
-apart_course : (state : State) (request : Request) (delivery : Option Delivery) (course : Course) → is_apart request ≡ true → requested state request delivery course ≡ course
+apart_course : (state : State) (request : Request) (delivery : Option Delivery) (course : Course) → is_apart request
+    ≡ true → requested state request delivery course ≡ course
 apart_course state (asks.Finish number answer) delivery course is = absurd cc
 apart_course state (asks.Unregister number) delivery course is = absurd cc
 apart_course state (asks.Uninstall name) delivery course is = absurd cc
@@ -58,7 +59,8 @@ apart_course state (asks.Advance more) delivery course is = absurd cc
 apart_course state _ delivery course is = refl
 
 -- a request that finishes no delivery
-no_finish : (request : Request) → ((number : ℕ) → is_finish request number ≡ false) → (delivery : Option Delivery) → is_finish_of request delivery ≡ false
+no_finish : (request : Request) → ((number : ℕ) → is_finish request number ≡ false) → (delivery : Option Delivery)
+    → is_finish_of request delivery ≡ false
 no_finish request none None = refl
 no_finish request none (Some delivery) = none delivery.number
 
@@ -93,18 +95,31 @@ module _ (opening : State) (before : List Entry) (entry : Entry) where
 
   -- after what was due
   passed : RunsOn opening before was.broadcasts → OfCourses M (OutcomeBy M) now.broadcasts
-  passed here = expired_courses (λ (b : InTurn). C b × IsFound was.broadcasts b) M (OutcomeBy M) (settling M (runs_given opening before (by_then opening before entry)))
-      was.broadcasts (moment_after was entry.now) here.order (λ b one. late_runs opening before entry b one.1 one.0) (record {
-        foreground = λ k d below. (here.courses.foreground k d below, foreground_found was.broadcasts here.order k d below);
-        background = λ k d below. (here.courses.background k d below, background_found was.broadcasts here.order k d below);
-        results = λ k d below. left _ (results_lost was.broadcasts here.order k d below) (here.courses.results k d below);
+  passed here = expired_courses (λ (b : InTurn). C b × IsFound was.broadcasts b) M (OutcomeBy M)
+      (settling M (runs_given opening before (by_then opening before entry)))
+      was.broadcasts (moment_after was entry.now) here.order (λ b one. late_runs opening before entry b one.1 one.0)
+      (record {
+        foreground = λ k d below. (
+          here.courses.foreground k d below,
+          foreground_found was.broadcasts here.order k d
+              below,
+        );
+        background = λ k d below. (
+          here.courses.background k d below,
+          background_found was.broadcasts here.order k d
+              below,
+        );
+        results = λ k d below. left _ (results_lost was.broadcasts here.order k d below)
+            (here.courses.results k d below);
       })
     where
       left : (r : Result) → IsLost was.broadcasts r → OutcomeBy C r → OutcomeBy M r
-      left r lost one = outcome_follows C M r (λ b same course. late_left opening before entry b (ap (delivery_of was.broadcasts) same ∙ lost) course) one
+      left r lost one = outcome_follows C M r (λ b same course. late_left opening before entry b
+          (ap (delivery_of was.broadcasts) same ∙ lost) course) one
 
   -- no entry finished a delivery of a broadcast that isn't sent
-  none_finished : (done : Bool) → Done done → (number : ℕ) → finishing opening number [] before ≡ [] → done && is_finish_of entry.request (delivery_of now.broadcasts number) ≡ false
+  none_finished : (done : Bool) → Done done → (number : ℕ) → finishing opening number [] before ≡ []
+      → done && is_finish_of entry.request (delivery_of now.broadcasts number) ≡ false
       → finishing opening number [] longer ≡ []
   none_finished done is number none finish =
       finishing_more opening number [] before entry
@@ -112,18 +127,22 @@ module _ (opening : State) (before : List Entry) (entry : Entry) where
       ∙ ap (λ (d : Bool). cond (d && is_finish_of entry.request (delivery_of now.broadcasts number)) (entry ∷ []) []) is
       ∙ ap (λ (t : Bool). cond t (entry ∷ []) []) finish
 
-  module _ (runs : OfCourses M (OutcomeBy M) now.broadcasts) (has : HasHolders now.broadcasts) (order : AreInOrder now.broadcasts)
+  module _ (runs : OfCourses M (OutcomeBy M) now.broadcasts) (has : HasHolders now.broadcasts)
+      (order : AreInOrder now.broadcasts)
       (unsent : (number : ℕ) → now.broadcasts.next_broadcast ≤ number → finishing opening number [] before ≡ []) where
     -- and still isn't
-    still_unsent : (done : Bool) → Done done → (number : ℕ) → now.broadcasts.next_broadcast ≤ number → finishing opening number [] longer ≡ []
+    still_unsent : (done : Bool) → Done done → (number : ℕ) → now.broadcasts.next_broadcast ≤ number
+        → finishing opening number [] longer ≡ []
     still_unsent done is number free =
-        none_finished done is number (unsent number free) (ap (λ (d : Option Delivery). done && is_finish_of entry.request d) (none_delivered now.broadcasts number order free) ∙ by done)
+        none_finished done is number (unsent number free) (ap (λ (d : Option Delivery). done && is_finish_of
+        entry.request d) (none_delivered now.broadcasts number order free) ∙ by done)
       where
         by : (b : Bool) → b && false ≡ false
         by true = refl
         by false = refl
 
-    still_more : (done : Bool) → Done done → (next : ℕ) → next ≡ now.broadcasts.next_broadcast + 1 → (number : ℕ) → next ≤ number → finishing opening number [] longer ≡ []
+    still_more : (done : Bool) → Done done → (next : ℕ) → next ≡ now.broadcasts.next_broadcast + 1 → (number : ℕ)
+        → next ≤ number → finishing opening number [] longer ≡ []
     still_more done is next more number free = still_unsent done is number (omega arith)
 
     -- each broadcast, its delivery found by its number, for whom that is
@@ -135,29 +154,47 @@ module _ (opening : State) (before : List Entry) (entry : Entry) where
 
     known : OfCourses F L now.broadcasts
     known = record {
-      foreground = λ k d below. (runs.foreground k d below, foreground_found now.broadcasts order k d below, has.held.foreground k d below);
-      background = λ k d below. (runs.background k d below, background_found now.broadcasts order k d below, has.held.background k d below);
+      foreground = λ k d below. (
+        runs.foreground k d below,
+        foreground_found now.broadcasts order k d below,
+        has.held.foreground k d below,
+      );
+      background = λ k d below. (
+        runs.background k d below,
+        background_found now.broadcasts order k d below,
+        has.held.background k d below,
+      );
       results = λ k d below. (runs.results k d below, results_lost now.broadcasts order k d below);
     }
 
     -- the results stay, if the request does nothing to a broadcast without a delivery
     results_stay : (done : Bool) → Done done
-        → ((course : Course) → cond done (requested now entry.request None course) course ≡ course) → (r : Result) → L r → OutcomeBy D r
+        → ((course : Course) → cond done (requested now entry.request None course) course ≡ course) → (r : Result) → L r
+        → OutcomeBy D r
     results_stay done is same r one = outcome_follows M D r
-        (λ b named course. untouched opening before entry done b None is (ap (delivery_of now.broadcasts) named ∙ one.1) (same (course_of b)) (no_answer done) course) one.0
+        (λ b named course. untouched opening before entry done b None is (ap (delivery_of now.broadcasts) named ∙ one.1)
+        (same (course_of b)) (no_answer done) course) one.0
       where
         no_answer : (b : Bool) → b && false ≡ false
         no_answer true = refl
         no_answer false = refl
 
     with_results : ((r : Result) → L r → OutcomeBy D r) → OfCourses F (OutcomeBy D) now.broadcasts
-    with_results follows = record { foreground = known.foreground; background = known.background; results = All-weaker L (OutcomeBy D) follows now.broadcasts.results known.results }
+    with_results follows = record {
+      foreground = known.foreground;
+      background = known.background;
+      results = All-weaker L
+          (OutcomeBy D) follows now.broadcasts.results known.results;
+    }
 
     -- a request that wasn't done, or is apart
-    quiet : (done : Bool) → Done done → ((delivery : Option Delivery) (course : Course) → cond done (requested now entry.request delivery course) course ≡ course)
-        → ((delivery : Option Delivery) → done && is_finish_of entry.request delivery ≡ false) → OfCourses D (OutcomeBy D) now.broadcasts
+    quiet : (done : Bool) → Done done → ((delivery : Option Delivery) (course : Course)
+        → cond done (requested now entry.request delivery course) course ≡ course)
+        → ((delivery : Option Delivery) → done && is_finish_of entry.request delivery ≡ false)
+        → OfCourses D (OutcomeBy D) now.broadcasts
     quiet done is same finish = courses_follow F D L (OutcomeBy D) now.broadcasts
-        (λ b one. untouched opening before entry done b (delivery_of now.broadcasts b.number) is refl (same (delivery_of now.broadcasts b.number) (course_of b))
+        (λ b one. untouched opening before entry done b (delivery_of now.broadcasts b.number) is refl
+        (same (delivery_of now.broadcasts b.number) (course_of b))
         (finish (delivery_of now.broadcasts b.number)) one.0)
         (results_stay done is (same None)) known
 
@@ -168,21 +205,28 @@ module _ (opening : State) (before : List Entry) (entry : Entry) where
 
     -- receivers that are struck
     module _ (struck : Spot → Bool) (is : Done true)
-        (strikes : (delivery : Option Delivery) (course : Course) → requested now entry.request delivery course ≡ passed_struck struck delivery course)
+        (strikes : (delivery : Option Delivery) (course : Course) → requested now entry.request delivery course
+        ≡ passed_struck struck delivery course)
         (finish : (delivery : Option Delivery) → is_finish_of entry.request delivery ≡ false) where
       strikes_turn : (b : InTurn) → F b → D (strike struck b)
       strikes_turn b one = struck_runs opening before entry struck b is strikes finish one.1 one.0
 
       strikes_left : OfCourses F (OutcomeBy D) now.broadcasts
       strikes_left = with_results (λ r one. outcome_struck M D r struck
-          (λ b named course. struck_left opening before entry struck b is strikes finish (ap (delivery_of now.broadcasts) named ∙ one.1) course) one.0)
+          (λ b named course. struck_left opening before entry struck b is strikes finish
+          (ap (delivery_of now.broadcasts) named ∙ one.1) course) one.0)
 
     -- a sender that wants no result any more
     unwants : (uid : ℕ) (b : InTurn) → F b → F (unwanted uid b)
     unwants uid b one =
-        let same = by (b.sender == uid) in (runs_unwanted opening before (by_then opening before entry) uid b one.0, same.0, same.1)
+        let same = by (b.sender == uid) in (
+          runs_unwanted opening before (by_then opening before entry) uid b one.0,
+          same.0,
+          same.1,
+        )
       where
-        by : (same : Bool) → IsFound now.broadcasts (cond same (record b { wanted = false }) b) × TurnFor has.holder now.broadcasts.next_delivery (cond same (record b { wanted = false }) b)
+        by : (same : Bool) → IsFound now.broadcasts (cond same (record b { wanted = false }) b)
+            × TurnFor has.holder now.broadcasts.next_delivery (cond same (record b { wanted = false }) b)
         by true = (one.1, one.2)
         by false = (one.1, one.2)
 
@@ -194,11 +238,13 @@ module _ (opening : State) (before : List Entry) (entry : Entry) where
     gives b current one = course_given opening longer b current one
 
     -- an ordered broadcast that the entry sends
-    begun : (done : Bool) → Done done → is_apart entry.request ≡ true → (sender : ℕ) (intent : Intent) (permission : Option (List ℕ)) (ordered : Option Ordered) → entry.kept ≡ true
+    begun : (done : Bool) → Done done → is_apart entry.request ≡ true
+        → (sender : ℕ) (intent : Intent) (permission : Option (List ℕ)) (ordered : Option Ordered) → entry.kept ≡ true
         → deed_of now entry.uid entry.request ≡ Some (Sends sender intent permission ordered)
         → is_protected now.board.protected intent.action && not (is_privileged sender) ≡ false
         → (o : Ordered) → ordered ≡ Some o
-        → D (in_turn now.broadcasts.next_broadcast (sending_of now sender intent ordered (receivers now.board intent sender permission)) o)
+        → D (in_turn now.broadcasts.next_broadcast (sending_of now sender intent ordered
+        (receivers now.board intent sender permission)) o)
     begun done was_done apart sender intent permission ordered kept did unprotected o is = record {
       begun = b;
       sent = once_now opening before (IsSentInOrder b) entry (Sends sender intent permission ordered) kept did (record {
@@ -206,17 +252,21 @@ module _ (opening : State) (before : List Entry) (entry : Entry) where
         ordered = o;
         is = ap (λ (x : Option Ordered). Sends sender intent permission x) is;
         unprotected = unprotected;
-        begins = ap (λ (x : Option Ordered). in_turn now.broadcasts.next_broadcast (sending_of now sender intent x (receivers now.board intent sender permission)) o) is;
+        begins = ap (λ (x : Option Ordered). in_turn now.broadcasts.next_broadcast
+            (sending_of now sender intent x (receivers now.board intent sender permission)) o) is;
       });
       stays = refl;
       wanted = λ wants. wants;
       course = refl;
       answers = subst (λ (l : List Entry). AllZip IsAnswerBy [] l)
-          (sym (none_finished done was_done b.number (unsent b.number (omega arith)) (by done (no_finish entry.request (λ number. apart_finish entry.request number apart) (delivery_of now.broadcasts b.number))))) tt;
+          (sym (none_finished done was_done b.number (unsent b.number (omega arith))
+          (by done (no_finish entry.request (λ number. apart_finish entry.request number apart)
+          (delivery_of now.broadcasts b.number))))) tt;
     }
       where
         b : InTurn
-        b = in_turn now.broadcasts.next_broadcast (sending_of now sender intent ordered (receivers now.board intent sender permission)) o
+        b = in_turn now.broadcasts.next_broadcast (sending_of now sender intent ordered
+            (receivers now.board intent sender permission)) o
 
         by : (d : Bool) {t : Bool} → t ≡ false → d && t ≡ false
         by true fails = fails
@@ -225,11 +275,13 @@ module _ (opening : State) (before : List Entry) (entry : Entry) where
     -- a package of which nothing goes on
     forgotten : (name : List ℕ) (owner : Package) → package_named now.board.packages name ≡ Some owner
         → ((delivery : Option Delivery) (course : Course)
-        → requested now entry.request delivery course ≡ passed_struck (is_of_package (package_named now.board.packages name)) delivery course)
+        → requested now entry.request delivery course ≡ passed_struck
+        (is_of_package (package_named now.board.packages name)) delivery course)
         → ((delivery : Option Delivery) → is_finish_of entry.request delivery ≡ false)
         → Leaves true (sending.forget_uid now.broadcasts owner.uid now.moment)
     forgotten name owner is strikes finish done = record {
-      courses = forget_uid_courses F D (OutcomeBy D) (settling D gives) now.broadcasts owner.uid now.moment (unwants owner.uid)
+      courses = forget_uid_courses F D (OutcomeBy D) (settling D gives) now.broadcasts owner.uid now.moment
+          (unwants owner.uid)
           (strikes_turn struck done same finish) (strikes_left struck done same finish);
       holders = forget_uid_held now.broadcasts owner.uid now.moment has;
       order = forget_uid_order now.broadcasts owner.uid now.moment order;
@@ -239,47 +291,71 @@ module _ (opening : State) (before : List Entry) (entry : Entry) where
         struck : Spot → Bool
         struck spot = spot.uid == owner.uid
 
-        same : (delivery : Option Delivery) (course : Course) → requested now entry.request delivery course ≡ passed_struck struck delivery course
-        same delivery course = strikes delivery course ∙ ap (λ (found : Option Package). passed_struck (is_of_package found) delivery course) is
+        same : (delivery : Option Delivery) (course : Course) → requested now entry.request delivery course
+            ≡ passed_struck struck delivery course
+        same delivery course = strikes delivery course ∙ ap (λ (found : Option Package). passed_struck
+            (is_of_package found) delivery course) is
 
     acts : entry.kept ≡ true → Acts Leaves now entry.uid entry.request
     acts kept = record {
-      same = λ is. record { courses = quiet false is (λ delivery course. refl) (λ delivery. refl); holders = has; order = order; unsent = still_unsent false is };
-      apart = λ apart is. record { courses = quiet_if true apart is; holders = has; order = order; unsent = still_unsent true is };
+      same = λ is. record {
+        courses = quiet false is (λ delivery course. refl) (λ delivery. refl);
+        holders = has;
+        order
+            = order;
+        unsent = still_unsent false is;
+      };
+      apart = λ apart is. record {
+        courses = quiet_if true apart is;
+        holders = has;
+        order = order;
+        unsent = still_unsent
+            true is;
+      };
       sent = λ sender intent permission ordered apart did unprotected done is. record {
-        courses = sent_courses D (OutcomeBy D) (settling D gives) now.broadcasts (sending_of now sender intent ordered (receivers now.board intent sender permission)) ordered
+        courses = sent_courses D (OutcomeBy D) (settling D gives) now.broadcasts
+            (sending_of now sender intent ordered (receivers now.board intent sender permission)) ordered
             (begun done is apart sender intent permission ordered kept did unprotected) (quiet_if done apart is);
-        holders = sent_held now.broadcasts (sending_of now sender intent ordered (receivers now.board intent sender permission)) ordered has;
-        order = sent_order now.broadcasts (sending_of now sender intent ordered (receivers now.board intent sender permission)) ordered order;
-        unsent = still_more done is _ (sent_next now.broadcasts (sending_of now sender intent ordered (receivers now.board intent sender permission)) ordered);
+        holders = sent_held now.broadcasts (sending_of now sender intent ordered
+            (receivers now.board intent sender permission)) ordered has;
+        order = sent_order now.broadcasts (sending_of now sender intent ordered
+            (receivers now.board intent sender permission)) ordered order;
+        unsent = still_more done is _ (sent_next now.broadcasts (sending_of now sender intent ordered
+            (receivers now.board intent sender permission)) ordered);
       };
       finished = λ number answer holder asked is same done. record {
         courses = finished_courses F D (OutcomeBy D) (settling D gives) now.broadcasts number answer now.moment order
             (λ b one. answered opening before entry number answer b done kept asked
             (λ spot rest left test. sym (held_is has.holder now.broadcasts number holder has.held is ∙ same)
             ∙ current_is has.holder now.broadcasts.next_delivery number spot rest b.current
-            (subst (λ (l : List Spot). CurrentFor has.holder now.broadcasts.next_delivery l b.current) left one.2) test) one.1 one.0)
+            (subst (λ (l : List Spot). CurrentFor has.holder now.broadcasts.next_delivery l b.current) left one.2) test)
+            one.1 one.0)
             (with_results (results_stay true done (λ course. ap (λ (r : Request). requested now r None course) asked)));
         holders = finished_held now.broadcasts number answer now.moment has;
         order = finished_order now.broadcasts number answer now.moment order;
         unsent = still_unsent true done;
       };
       taken_back = λ number asked done.
-          let strikes : (delivery : Option Delivery) (course : Course) → requested now entry.request delivery course ≡ passed_struck (λ (spot : Spot). is_registered number spot.aim) delivery course =
+          let strikes : (delivery : Option Delivery) (course : Course) → requested now entry.request delivery course
+          ≡ passed_struck (λ (spot : Spot). is_registered number spot.aim) delivery course =
           λ delivery course. ap (λ (r : Request). requested now r delivery course) asked in
           let finish : (delivery : Option Delivery) → is_finish_of entry.request delivery ≡ false =
           no_finish entry.request (λ n. ap (λ (r : Request). is_finish r n) asked) in
           record {
-            courses = forget_courses F D (OutcomeBy D) (settling D gives) now.broadcasts (λ (spot : Spot). is_registered number spot.aim) now.moment
-                (strikes_turn (λ (spot : Spot). is_registered number spot.aim) done strikes finish) (strikes_left (λ (spot : Spot). is_registered number spot.aim) done strikes finish);
+            courses = forget_courses F D (OutcomeBy D) (settling D gives) now.broadcasts
+                (λ (spot : Spot). is_registered number spot.aim) now.moment
+                (strikes_turn (λ (spot : Spot). is_registered number spot.aim) done strikes finish)
+                (strikes_left (λ (spot : Spot). is_registered number spot.aim) done strikes finish);
             holders = forget_held now.broadcasts (λ (spot : Spot). is_registered number spot.aim) now.moment has;
             order = forget_order now.broadcasts (λ (spot : Spot). is_registered number spot.aim) now.moment order;
             unsent = still_unsent true done;
           };
       uninstalled = λ name owner asked is.
-          forgotten name owner is (λ delivery course. ap (λ (r : Request). requested now r delivery course) asked) (no_finish entry.request (λ n. ap (λ (r : Request). is_finish r n) asked));
+          forgotten name owner is (λ delivery course. ap (λ (r : Request). requested now r delivery course) asked)
+          (no_finish entry.request (λ n. ap (λ (r : Request). is_finish r n) asked));
       stopped = λ name owner asked is.
-          forgotten name owner is (λ delivery course. ap (λ (r : Request). requested now r delivery course) asked) (no_finish entry.request (λ n. ap (λ (r : Request). is_finish r n) asked));
+          forgotten name owner is (λ delivery course. ap (λ (r : Request). requested now r delivery course) asked)
+          (no_finish entry.request (λ n. ap (λ (r : Request). is_finish r n) asked));
       advanced = λ more asked done. record {
         courses = expired_courses F D (OutcomeBy D) (settling D gives) now.broadcasts (now.moment + more) order
             (λ b one. late_by opening before entry more b done asked one.1 one.0)
@@ -287,7 +363,8 @@ module _ (opening : State) (before : List Entry) (entry : Entry) where
         holders = expired_held now.broadcasts (now.moment + more) has;
         order = expired_order now.broadcasts (now.moment + more) order;
         unsent = λ number free.
-            let same : (expired now.broadcasts (now.moment + more)).next_broadcast ≡ now.broadcasts.next_broadcast = expired_next now.broadcasts (now.moment + more) in
+            let same : (expired now.broadcasts (now.moment + more)).next_broadcast
+            ≡ now.broadcasts.next_broadcast = expired_next now.broadcasts (now.moment + more) in
             still_unsent true done number (omega arith);
       };
     }
@@ -307,16 +384,19 @@ module _ (opening : State) (before : List Entry) (entry : Entry) where
 
       unsent : (number : ℕ) → now.broadcasts.next_broadcast ≤ number → finishing opening number [] before ≡ []
       unsent number free =
-          let same : now.broadcasts.next_broadcast ≡ was.broadcasts.next_broadcast = expired_next was.broadcasts (moment_after was entry.now) in
+          let same : now.broadcasts.next_broadcast ≡ was.broadcasts.next_broadcast = expired_next was.broadcasts
+          (moment_after was entry.now) in
           here.unsent number (omega arith)
 
       next : Bool → Reply × State
       next kept = cond kept (act now before entry.uid entry.request) (replies.Refused rules.KeeperFault, now)
 
       by : (kept : Bool) → entry.kept ≡ kept → RunsOn opening longer (next kept).1.broadcasts
-      by true kept = acts_do (Leaves runs has order unsent) now entry.uid before entry.request (acts runs has order unsent kept) (ap (λ (k : Bool). is_done (next k).0) kept)
+      by true kept = acts_do (Leaves runs has order unsent) now entry.uid before entry.request
+          (acts runs has order unsent kept) (ap (λ (k : Bool). is_done (next k).0) kept)
       by false kept = record {
-        courses = quiet runs has order unsent false (ap (λ (k : Bool). is_done (next k).0) kept) (λ delivery course. refl) (λ delivery. refl);
+        courses = quiet runs has order unsent false (ap (λ (k : Bool). is_done (next k).0) kept)
+            (λ delivery course. refl) (λ delivery. refl);
         holders = has;
         order = order;
         unsent = still_unsent runs has order unsent false (ap (λ (k : Bool). is_done (next k).0) kept);
@@ -324,16 +404,18 @@ module _ (opening : State) (before : List Entry) (entry : Entry) where
 
 -- after every history
 pub courses_are_kept : (origin : Origin) (history : List Entry)
-    → OfCourses (IsInCourse (opening_of origin) history) (IsOutcome (opening_of origin) history) (replay (opening_of origin) history).broadcasts
-courses_are_kept origin history = courses_follow C C (OutcomeBy C) (IsOutcome opening history) (replay opening history).broadcasts (λ b one. one) (λ r one. record {
-  of = one.of;
-  course = one.course;
-  over = one.over;
-  wanted = one.wanted;
-  number = one.number;
-  sender = one.sender;
-  outcome = one.outcome;
-}) (by_history opening (λ h state. RunsOn opening h state.broadcasts) begins (run_more opening) history).courses
+    → OfCourses (IsInCourse (opening_of origin) history) (IsOutcome (opening_of origin) history)
+    (replay (opening_of origin) history).broadcasts
+courses_are_kept origin history = courses_follow C C (OutcomeBy C) (IsOutcome opening history)
+    (replay opening history).broadcasts (λ b one. one) (λ r one. record {
+      of = one.of;
+      course = one.course;
+      over = one.over;
+      wanted = one.wanted;
+      number = one.number;
+      sender = one.sender;
+      outcome = one.outcome;
+    }) (by_history opening (λ h state. RunsOn opening h state.broadcasts) begins (run_more opening) history).courses
   where
     opening : State
     opening = opening_of origin
@@ -342,9 +424,14 @@ courses_are_kept origin history = courses_follow C C (OutcomeBy C) (IsOutcome op
     C b = IsInCourse opening history b
 
     begins : RunsOn opening [] opening.broadcasts
-    begins = opening_leaves (λ (state : State). RunsOn opening [] state.broadcasts) (λ state board uid same run. run) origin (record {
-      courses = record { foreground = All-nil (IsInCourse opening []); background = All-nil (IsInCourse opening []); results = All-nil (OutcomeBy (IsInCourse opening [])) };
-      holders = none_held;
-      order = none_in_order;
-      unsent = λ number free. refl;
-    })
+    begins = opening_leaves (λ (state : State). RunsOn opening [] state.broadcasts) (λ state board uid same run. run)
+        origin (record {
+          courses = record {
+            foreground = All-nil (IsInCourse opening []);
+            background = All-nil (IsInCourse opening []);
+            results = All-nil (OutcomeBy (IsInCourse opening []));
+          };
+          holders = none_held;
+          order = none_in_order;
+          unsent = λ number free. refl;
+        })

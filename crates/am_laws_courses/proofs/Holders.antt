@@ -47,33 +47,44 @@ pub record Raises (f g : ℕ → ℕ) (next more : ℕ) : Type 0 where
 
 module _ (f g : ℕ → ℕ) (next more : ℕ) (raises : Raises f g next more) where
   pub raise_for : (number uid : ℕ) → IsFor f next number uid → IsFor g more number uid
-  raise_for number uid one = record { below = let up : next ≤ more = raises.up in let low : number < next = one.below in omega arith; is = raises.same number one.below ∙ one.is }
+  raise_for number uid one = record {
+    below = let up : next ≤ more = raises.up in let low : number < next = one.below in
+        omega arith;
+    is = raises.same number one.below ∙ one.is;
+  }
 
-  raise_current : (rest : List Spot) (current : Option Current) → CurrentFor f next rest current → CurrentFor g more rest current
+  raise_current : (rest : List Spot) (current : Option Current) → CurrentFor f next rest current
+      → CurrentFor g more rest current
   raise_current rest None one = tt
   raise_current [] (Some current) one = tt
   raise_current (spot ∷ rest) (Some current) one = raise_for current.number spot.uid one
 
   pub raise_queue : (queue : List InTurn) → All (TurnFor f next) queue → All (TurnFor g more) queue
-  raise_queue queue all = All-weaker (TurnFor f next) (TurnFor g more) (λ b one. raise_current b.rest b.current one) queue all
+  raise_queue queue all = All-weaker (TurnFor f next) (TurnFor g more) (λ b one. raise_current b.rest b.current one)
+      queue all
 
   pub raise_normal : (normal : List Normal) → All (NormalFor f next) normal → All (NormalFor g more) normal
   raise_normal normal all =
       All-weaker (NormalFor f next) (NormalFor g more)
-      (λ n each. All-weaker (λ (d : Delivery). IsFor f next d.number d.spot.uid) (λ (d : Delivery). IsFor g more d.number d.spot.uid) (λ d one. raise_for d.number d.spot.uid one) n.deliveries each)
+      (λ n each. All-weaker (λ (d : Delivery). IsFor f next d.number d.spot.uid)
+      (λ (d : Delivery). IsFor g more d.number d.spot.uid) (λ d one. raise_for d.number d.spot.uid one) n.deliveries
+      each)
       normal all
 
   pub raise_results : (results : List Result) → All (ResultFor f next) results → All (ResultFor g more) results
-  raise_results results all = All-weaker (ResultFor f next) (ResultFor g more) (λ r one. raise_for r.delivery r.sender one) results all
+  raise_results results all = All-weaker (ResultFor f next) (ResultFor g more)
+      (λ r one. raise_for r.delivery r.sender one) results all
 
 -- the same function, and one behind another
 raises_same : (f : ℕ → ℕ) (next : ℕ) → Raises f f next next
 raises_same f next = record { up = omega arith; same = λ n low. refl }
 
-pub raises_through : (f g h : ℕ → ℕ) (next more most : ℕ) → Raises f g next more → Raises g h more most → Raises f h next most
+pub raises_through : (f g h : ℕ → ℕ) (next more most : ℕ) → Raises f g next more → Raises g h more most
+    → Raises f h next most
 raises_through f g h next more most first second = record {
   up = let one : next ≤ more = first.up in let two : more ≤ most = second.up in omega arith;
-  same = λ n low. let one : next ≤ more = first.up in let lower : n < more = omega arith in second.same n lower ∙ first.same n low;
+  same = λ n low. let one : next ≤ more = first.up in let lower : n < more = omega arith in second.same n lower
+      ∙ first.same n low;
 }
 
 -- one more number
@@ -102,9 +113,11 @@ record SettlesFor (f : ℕ → ℕ) (next : ℕ) (after : Settled) : Type 0 wher
   pub queue : All (TurnFor holder after.next) after.queue
   pub results : All (ResultFor holder after.next) after.results
 
-dispatched_for : (f : ℕ → ℕ) (next deadline : ℕ) (head : InTurn) (others : List InTurn) (current : Option Current) → head.current ≡ current
+dispatched_for : (f : ℕ → ℕ) (next deadline : ℕ) (head : InTurn) (others : List InTurn) (current : Option Current)
+    → head.current ≡ current
     → All (TurnFor f next) (head ∷ others) → SettlesFor f next (dispatched next deadline head others current)
-dispatched_for f next deadline head others (Some current) is all = record { holder = f; raises = raises_same f next; queue = all; results = All-nil (ResultFor f next) }
+dispatched_for f next deadline head others (Some current) is all = record
+    { holder = f; raises = raises_same f next; queue = all; results = All-nil (ResultFor f next) }
 dispatched_for f next deadline head others None is all = by head.rest
   where
     given : Current
@@ -122,8 +135,10 @@ dispatched_for f next deadline head others None is all = by head.rest
     by rest = record {
       holder = with_holder f next (first head.rest);
       raises = raises_one f next (first head.rest);
-      queue = All-cons (TurnFor (with_holder f next (first head.rest)) (next + 1)) (record head { current = Some given }) others (one head.rest)
-          (raise_queue f (with_holder f next (first head.rest)) next (next + 1) (raises_one f next (first head.rest)) others (All-tail (TurnFor f next) head others all));
+      queue = All-cons (TurnFor (with_holder f next (first head.rest)) (next + 1))
+          (record head { current = Some given }) others (one head.rest)
+          (raise_queue f (with_holder f next (first head.rest)) next (next + 1) (raises_one f next (first head.rest))
+          others (All-tail (TurnFor f next) head others all));
       results = All-nil (ResultFor (with_holder f next (first head.rest)) (next + 1));
     }
 
@@ -142,14 +157,32 @@ result_for f next head = by head.wanted
     by : (wanted : Bool) → ResultsFor f next (cond wanted (one ∷ []) [])
     by true =
         let g = with_holder f next head.sender in
-        record { holder = g; raises = raises_one f next head.sender; results = All-cons (ResultFor g (next + 1)) one [] (new_for f next head.sender) (All-nil (ResultFor g (next + 1))) }
-    by false = record { holder = f; raises = record { up = omega arith; same = λ n low. refl }; results = All-nil (ResultFor f (next + 0)) }
+        record {
+          holder = g;
+          raises = raises_one f next head.sender;
+          results = All-cons (ResultFor g (next + 1)) one []
+              (new_for f next head.sender) (All-nil (ResultFor g (next + 1)));
+        }
+    by false = record {
+      holder = f;
+      raises = record { up = omega arith; same = λ n low. refl };
+      results = All-nil
+          (ResultFor f (next + 0));
+    }
 
-settled_for : (f : ℕ → ℕ) (next deadline : ℕ) (queue : List InTurn) → All (TurnFor f next) queue → SettlesFor f next (settled next deadline queue)
-settled_for f next deadline [] all = record { holder = f; raises = raises_same f next; queue = all; results = All-nil (ResultFor f next) }
+settled_for : (f : ℕ → ℕ) (next deadline : ℕ) (queue : List InTurn) → All (TurnFor f next) queue
+    → SettlesFor f next (settled next deadline queue)
+settled_for f next deadline [] all = record {
+  holder = f;
+  raises = raises_same f next;
+  queue = all;
+  results = All-nil
+      (ResultFor f next);
+}
 settled_for f next deadline (head ∷ others) all =
     by (is_over head)
-    (settled_for gone.holder more deadline others (raise_queue f gone.holder next more gone.raises others (All-tail (TurnFor f next) head others all)))
+    (settled_for gone.holder more deadline others (raise_queue f gone.holder next more gone.raises others
+    (All-tail (TurnFor f next) head others all)))
   where
     results : List Result
     results = result_of next head
@@ -161,7 +194,8 @@ settled_for f next deadline (head ∷ others) all =
     gone = result_for f next head
 
     by : (over : Bool) → SettlesFor gone.holder more (settled more deadline others)
-        → SettlesFor f next (cond over (with_results results (settled more deadline others)) (dispatched next deadline head others head.current))
+        → SettlesFor f next (cond over (with_results results (settled more deadline others))
+        (dispatched next deadline head others head.current))
     by true rest =
         let after = settled more deadline others in
         record {
@@ -186,32 +220,44 @@ none_held = record {
 }
 
 -- one queue settled, and the other one has turns as before
-settled_held : (all : Broadcasts) (has : HasHolders all) (after : Settled) (settles : SettlesFor has.holder all.next_delivery after) (foreground background : List InTurn)
+settled_held : (all : Broadcasts) (has : HasHolders all) (after : Settled)
+    (settles : SettlesFor has.holder all.next_delivery after) (foreground background : List InTurn)
     → All (TurnFor settles.holder after.next) foreground → All (TurnFor settles.holder after.next) background
-    → HasHolders (record all { foreground = foreground; background = background; results = all.results ++ after.results; next_delivery = after.next })
+    → HasHolders (record all {
+      foreground = foreground;
+      background = background;
+      results = all.results
+          ++ after.results;
+      next_delivery = after.next;
+    })
 settled_held all has after settles foreground background ahead behind = record {
   holder = settles.holder;
   held = record {
-    normal = raise_normal has.holder settles.holder all.next_delivery after.next settles.raises all.normal has.held.normal;
+    normal = raise_normal has.holder settles.holder all.next_delivery after.next settles.raises all.normal
+        has.held.normal;
     foreground = ahead;
     background = behind;
     results = All-append (ResultFor settles.holder after.next) all.results after.results
-        (raise_results has.holder settles.holder all.next_delivery after.next settles.raises all.results has.held.results) settles.results;
+        (raise_results has.holder settles.holder all.next_delivery after.next settles.raises all.results
+        has.held.results) settles.results;
   };
 }
 
 -- a queue of all broadcasts settles
-pub settle_held : (foreground : Bool) (now : ℕ) (all : Broadcasts) → HasHolders all → HasHolders (settle foreground now all)
+pub settle_held : (foreground : Bool) (now : ℕ) (all : Broadcasts) → HasHolders all
+    → HasHolders (settle foreground now all)
 settle_held true now all has =
     let after = settled all.next_delivery (now + span true) all.foreground in
     let settles = settled_for has.holder all.next_delivery (now + span true) all.foreground has.held.foreground in
     settled_held all has after settles after.queue all.background settles.queue
-    (raise_queue has.holder settles.holder all.next_delivery after.next settles.raises all.background has.held.background)
+    (raise_queue has.holder settles.holder all.next_delivery after.next settles.raises all.background
+    has.held.background)
 settle_held false now all has =
     let after = settled all.next_delivery (now + span false) all.background in
     let settles = settled_for has.holder all.next_delivery (now + span false) all.background has.held.background in
     settled_held all has after settles all.foreground after.queue
-    (raise_queue has.holder settles.holder all.next_delivery after.next settles.raises all.foreground has.held.foreground) settles.queue
+    (raise_queue has.holder settles.holder all.next_delivery after.next settles.raises all.foreground
+    has.held.foreground) settles.queue
 
 pub both_held : (now : ℕ) (all : Broadcasts) → HasHolders all → HasHolders (settle_both now all)
 both_held now all has = settle_held false now (settle true now all) (settle_held true now all has)

@@ -1,4 +1,5 @@
--- What holds of the broadcast of a result, when something follows from it, or when receivers are struck that it had left.
+-- What holds of the broadcast of a result, when something follows from it, or when receivers are struck that it had
+-- left.
 use Rattle.std.proofs.Common.{◌≡◌, Bool, true, false, not, ◌&&◌, ◌||◌, List, [], ◌∷◌, refl, sym}
 use Rattle.std.specs.Prelude.{Option, Some, filter}
 use Rattle.std.specs.List.{list_any}
@@ -19,14 +20,24 @@ pub record OutcomeBy (P : InTurn → Type 0) (r : Result) : Type 0 where
   pub outcome : r.outcome ≡ fold_outcome of.initial of.no_abort (doings of)
 
 -- so a queue settles
-pub settling : (P : InTurn → Type 0) → ((b : InTurn) (current : Option Current) → P b → P (record b { current = current })) → Settling P (OutcomeBy P)
+pub settling : (P : InTurn → Type 0) → ((b : InTurn) (current : Option Current) → P b
+    → P (record b { current = current })) → Settling P (OutcomeBy P)
 settling P gives = record {
   gives = λ b current none one. gives b (Some current) one;
-  ends = λ b delivery one over wanted. record { of = b; course = one; over = over; wanted = wanted; number = refl; sender = refl; outcome = refl };
+  ends = λ b delivery one over wanted. record {
+    of = b;
+    course = one;
+    over = over;
+    wanted = wanted;
+    number = refl;
+    sender = refl;
+    outcome = refl;
+  };
 }
 
 -- what follows
-pub outcome_follows : (P Q : InTurn → Type 0) (r : Result) → ((b : InTurn) → b.number ≡ r.broadcast → P b → Q b) → OutcomeBy P r → OutcomeBy Q r
+pub outcome_follows : (P Q : InTurn → Type 0) (r : Result) → ((b : InTurn) → b.number ≡ r.broadcast → P b → Q b)
+    → OutcomeBy P r → OutcomeBy Q r
 outcome_follows P Q r follows one = record {
   of = one.of;
   course = follows one.of (sym one.number) one.course;
@@ -45,12 +56,14 @@ still_over struck b over = by b.rest (not b.no_abort && list_any is_abort (doing
     or_true true = refl
     or_true false = refl
 
-    by : (rest : List Spot) (aborted : Bool) → is_empty rest || aborted ≡ true → is_empty (filter (λ (s : Spot). not (struck s)) rest) || aborted ≡ true
+    by : (rest : List Spot) (aborted : Bool) → is_empty rest || aborted ≡ true
+        → is_empty (filter (λ (s : Spot). not (struck s)) rest) || aborted ≡ true
     by [] aborted is = refl
     by (spot ∷ rest) true is = or_true (is_empty (filter (λ (s : Spot). not (struck s)) (spot ∷ rest)))
     by (spot ∷ rest) false is = absurd cc
 
-pub outcome_struck : (P Q : InTurn → Type 0) (r : Result) (struck : Spot → Bool) → ((b : InTurn) → b.number ≡ r.broadcast → P b → Q (strike_rest struck b))
+pub outcome_struck : (P Q : InTurn → Type 0) (r : Result) (struck : Spot → Bool)
+    → ((b : InTurn) → b.number ≡ r.broadcast → P b → Q (strike_rest struck b))
     → OutcomeBy P r → OutcomeBy Q r
 outcome_struck P Q r struck follows one = record {
   of = strike_rest struck one.of;

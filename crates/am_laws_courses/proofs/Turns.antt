@@ -35,7 +35,8 @@ use Rattle.am_laws_courses.proofs.Courses.{Settling, expired_courses, finished_c
 begin_same : (earlier later : List Spot) → later ≡ earlier → BeginWith earlier later
 begin_same earlier later is = ([], is ∙ sym (append-nil earlier))
 
-begin_through : (first second third : List Spot) → BeginWith first second → BeginWith second third → BeginWith first third
+begin_through : (first second third : List Spot) → BeginWith first second → BeginWith second third
+    → BeginWith first third
 begin_through first second third one two =
     (one.0 ++ two.0, two.1 ∙ ap (λ (l : List Spot). l ++ two.0) one.1 ∙ append_assoc first one.0 two.0)
 
@@ -44,27 +45,34 @@ abbrev spots_past : List Past → List Spot
 spots_past past = map (λ (p : Past). p.spot) past
 
 -- the first that has the delivery is past
-passed_reached : (past : List Past) (spot : Spot) (doing : Doing) → spots_past (past ++ record { spot = spot; doing = doing } ∷ []) ++ [] ≡ spots_past past ++ spot ∷ []
-passed_reached past spot doing = append-nil _ ∙ map-append (λ (p : Past). p.spot) past (record { spot = spot; doing = doing } ∷ [])
+passed_reached : (past : List Past) (spot : Spot) (doing : Doing) → spots_past
+    (past ++ record { spot = spot; doing = doing } ∷ []) ++ [] ≡ spots_past past ++ spot ∷ []
+passed_reached past spot doing = append-nil _ ∙ map-append (λ (p : Past). p.spot) past
+    (record { spot = spot; doing = doing } ∷ [])
 
 -- a turn reaches whom the delivery reached
-turning_reaches : (test : Option Current → Bool) (doing : Doing) → test None ≡ false → (b : InTurn) → reached (turning test doing b) ≡ reached b
+turning_reaches : (test : Option Current → Bool) (doing : Doing) → test None ≡ false → (b : InTurn)
+    → reached (turning test doing b) ≡ reached b
 turning_reaches test doing fails b =
     by b.current b.rest ∙ refl
   where
     with_current : Option Current → List Spot → List Spot
     with_current current rest = spots_past b.past ++ holder_of current rest
 
-    by : (current : Option Current) (rest : List Spot) → reached (cond (test current) (turned doing b rest) (record b { current = current; rest = rest })) ≡ with_current current rest
-    by None rest = ap (λ (passes : Bool). reached (cond passes (turned doing b rest) (record b { current = None; rest = rest }))) fails
+    by : (current : Option Current) (rest : List Spot) → reached (cond (test current) (turned doing b rest)
+        (record b { current = current; rest = rest })) ≡ with_current current rest
+    by None rest = ap (λ (passes : Bool). reached (cond passes (turned doing b rest)
+        (record b { current = None; rest = rest }))) fails
     by (Some current) [] = choose (test (Some current))
       where
-        choose : (passes : Bool) → reached (cond passes (record b { current = None }) (record b { current = Some current; rest = [] })) ≡ spots_past b.past ++ []
+        choose : (passes : Bool) → reached (cond passes (record b { current = None })
+            (record b { current = Some current; rest = [] })) ≡ spots_past b.past ++ []
         choose true = refl
         choose false = refl
     by (Some current) (spot ∷ rest) = choose (test (Some current))
       where
-        choose : (passes : Bool) → reached (cond passes (turned doing b (spot ∷ rest)) (record b { current = Some current; rest = spot ∷ rest })) ≡ spots_past b.past ++ spot ∷ []
+        choose : (passes : Bool) → reached (cond passes (turned doing b (spot ∷ rest))
+            (record b { current = Some current; rest = spot ∷ rest })) ≡ spots_past b.past ++ spot ∷ []
         choose true = passed_reached b.past spot doing
         choose false = refl
 
@@ -72,17 +80,26 @@ turning_reaches test doing fails b =
 strike_reaches : (struck : Spot → Bool) (b : InTurn) → reached (strike struck b) ≡ reached b
 strike_reaches struck b = by b.current b.rest refl refl
   where
-    by : (current : Option Current) (rest : List Spot) → b.current ≡ current → b.rest ≡ rest → reached (strike_from struck b rest current) ≡ spots_past b.past ++ holder_of current rest
-    by None rest has left = ap (λ (o : Option Current). spots_past b.past ++ holder_of o (filter (λ (s : Spot). not (struck s)) b.rest)) has
-    by (Some current) [] has left = ap (λ (o : Option Current). spots_past b.past ++ holder_of o b.rest) has ∙ ap (λ (l : List Spot). spots_past b.past ++ holder_of (Some current) l) left
+    by : (current : Option Current) (rest : List Spot) → b.current ≡ current → b.rest ≡ rest
+        → reached (strike_from struck b rest current) ≡ spots_past b.past ++ holder_of current rest
+    by None rest has left = ap (λ (o : Option Current). spots_past b.past
+        ++ holder_of o (filter (λ (s : Spot). not (struck s)) b.rest)) has
+    by (Some current) [] has left = ap (λ (o : Option Current). spots_past b.past ++ holder_of o b.rest) has
+        ∙ ap (λ (l : List Spot). spots_past b.past ++ holder_of (Some current) l) left
     by (Some current) (spot ∷ rest) has left = choose (struck spot) refl
       where
-        choose : (gone : Bool) → struck spot ≡ gone → reached (cond gone (strike_rest struck (turn Gone b)) (strike_rest struck b)) ≡ spots_past b.past ++ spot ∷ []
-        choose true test = ap (λ (l : List Spot). reached (strike_rest struck (turned Gone b l))) left ∙ passed_reached b.past spot Gone
+        choose : (gone : Bool) → struck spot ≡ gone → reached (cond gone (strike_rest struck (turn Gone b))
+            (strike_rest struck b)) ≡ spots_past b.past ++ spot ∷ []
+        choose true test = ap (λ (l : List Spot). reached (strike_rest struck (turned Gone b l))) left
+            ∙ passed_reached b.past spot Gone
         choose false test =
-            ap (λ (o : Option Current). spots_past b.past ++ holder_of o (filter (λ (s : Spot). not (struck s)) b.rest)) has
-            ∙ ap (λ (l : List Spot). spots_past b.past ++ holder_of (Some current) (filter (λ (s : Spot). not (struck s)) l)) left
-            ∙ ap (λ (t : Bool). spots_past b.past ++ holder_of (Some current) (cond (not t) (spot ∷ filter (λ (s : Spot). not (struck s)) rest) (filter (λ (s : Spot). not (struck s)) rest))) test
+            ap (λ (o : Option Current). spots_past b.past ++ holder_of o (filter (λ (s : Spot). not (struck s)) b.rest))
+            has
+            ∙ ap (λ (l : List Spot). spots_past b.past ++ holder_of (Some current)
+            (filter (λ (s : Spot). not (struck s)) l)) left
+            ∙ ap (λ (t : Bool). spots_past b.past ++ holder_of (Some current)
+            (cond (not t) (spot ∷ filter (λ (s : Spot). not (struck s)) rest)
+            (filter (λ (s : Spot). not (struck s)) rest))) test
 
 -- changes keep the number
 turned_number : (doing : Doing) (b : InTurn) (rest : List Spot) → (turned doing b rest).number ≡ b.number
@@ -109,7 +126,8 @@ strike_number struck b = by b.rest b.current
         choose false = refl
 
 -- an earlier place of a history with one more entry is one of the history, or the last
-last_place : (h earlier later : List Entry) (entry : Entry) → h ++ entry ∷ [] ≡ earlier ++ later → (h ++ entry ∷ [] ≡ earlier) ⊎ ((rest : List Entry) × (h ≡ earlier ++ rest))
+last_place : (h earlier later : List Entry) (entry : Entry) → h ++ entry ∷ [] ≡ earlier ++ later
+    → (h ++ entry ∷ [] ≡ earlier) ⊎ ((rest : List Entry) × (h ≡ earlier ++ rest))
 last_place h [] later entry is = inr (h, refl)
 last_place [] (x ∷ []) later entry is = inl (let e : entry ≡ x = cc in ap (λ (y : Entry). y ∷ []) e)
 last_place [] (x ∷ y ∷ earlier) later entry is = absurd cc
@@ -124,10 +142,15 @@ last_place (z ∷ h) (x ∷ earlier) later entry is = by (last_place h earlier l
     by : (h ++ entry ∷ [] ≡ earlier) ⊎ ((rest : List Entry) × (h ≡ earlier ++ rest))
         → (z ∷ (h ++ entry ∷ []) ≡ x ∷ earlier) ⊎ ((rest : List Entry) × (z ∷ h ≡ x ∷ (earlier ++ rest)))
     by (inl whole) = inl (ap (λ (l : List Entry). z ∷ l) whole ∙ ap (λ (y : Entry). y ∷ earlier) first)
-    by (inr part) = inr (part.0, ap (λ (l : List Entry). z ∷ l) part.1 ∙ ap (λ (y : Entry). y ∷ (earlier ++ part.0)) first)
+    by (inr part) = inr (
+      part.0,
+      ap (λ (l : List Entry). z ∷ l) part.1
+          ∙ ap (λ (y : Entry). y ∷ (earlier ++ part.0)) first,
+    )
 
 -- changes of a broadcast that reach more
-goes_on : (opening : State) (h : List Entry) (b left : InTurn) → left.number ≡ b.number → BeginWith (reached b) (reached left) → GoesInTurn opening h b → GoesInTurn opening h left
+goes_on : (opening : State) (h : List Entry) (b left : InTurn) → left.number ≡ b.number
+    → BeginWith (reached b) (reached left) → GoesInTurn opening h b → GoesInTurn opening h left
 goes_on opening h b left same more one earlier later then splits is =
     begin_through (reached then) (reached b) (reached left)
     (one earlier later then splits (ap (λ (n : ℕ). turn_of (replay opening earlier).broadcasts n) (sym same) ∙ is)) more
@@ -136,7 +159,8 @@ goes_on opening h b left same more one earlier later then splits is =
 record GoesOn (opening : State) (h : List Entry) (all : Broadcasts) : Type 0 where
   pub turns : OfCourses (GoesInTurn opening h) (λ (r : Result). Unit {0}) all
   pub order : AreInOrder all
-  pub fresh : (earlier later : List Entry) (number : ℕ) → h ≡ earlier ++ later → all.next_broadcast ≤ number → turn_of (replay opening earlier).broadcasts number ≡ None
+  pub fresh : (earlier later : List Entry) (number : ℕ) → h ≡ earlier ++ later → all.next_broadcast ≤ number
+      → turn_of (replay opening earlier).broadcasts number ≡ None
 
 module _ (opening : State) (h : List Entry) where
   abbrev G : InTurn → Type 0
@@ -147,20 +171,29 @@ module _ (opening : State) (h : List Entry) where
 
   settles : Settling G U
   settles = record {
-    gives = λ b current none one. goes_on opening h b (record b { current = Some current }) refl (given b current none) one;
+    gives = λ b current none one. goes_on opening h b (record b { current = Some current }) refl (given b current none)
+        one;
     ends = λ b delivery one over wanted. tt;
   }
     where
-      given : (b : InTurn) (current : Current) → b.current ≡ None → BeginWith (reached b) (reached (record b { current = Some current }))
-      given b current none =
-          (holder_of (Some current) b.rest, ap (λ (l : List Spot). l ++ holder_of (Some current) b.rest) (sym (ap (λ (o : Option Current). spots_past b.past ++ holder_of o b.rest) none ∙ append-nil (spots_past b.past))))
+      given : (b : InTurn) (current : Current) → b.current ≡ None → BeginWith (reached b)
+          (reached (record b { current = Some current }))
+      given b current none = (
+        holder_of (Some current) b.rest,
+        ap (λ (l : List Spot). l ++ holder_of (Some current) b.rest)
+            (sym (ap (λ (o : Option Current). spots_past b.past ++ holder_of o b.rest) none
+            ∙ append-nil (spots_past b.past))),
+      )
 
-  turns_on : (test : Option Current → Bool) (doing : Doing) → test None ≡ false → (b : InTurn) → G b → G (turning test doing b)
+  turns_on : (test : Option Current → Bool) (doing : Doing) → test None ≡ false → (b : InTurn) → G b
+      → G (turning test doing b)
   turns_on test doing fails b one =
-      goes_on opening h b (turning test doing b) (turning_number test doing b) (begin_same (reached b) (reached (turning test doing b)) (turning_reaches test doing fails b)) one
+      goes_on opening h b (turning test doing b) (turning_number test doing b)
+      (begin_same (reached b) (reached (turning test doing b)) (turning_reaches test doing fails b)) one
 
   strikes_on : (struck : Spot → Bool) (b : InTurn) → G b → G (strike struck b)
-  strikes_on struck b one = goes_on opening h b (strike struck b) (strike_number struck b) (begin_same (reached b) (reached (strike struck b)) (strike_reaches struck b)) one
+  strikes_on struck b one = goes_on opening h b (strike struck b) (strike_number struck b)
+      (begin_same (reached b) (reached (strike struck b)) (strike_reaches struck b)) one
 
   unwanted_on : (uid : ℕ) (b : InTurn) → G b → G (unwanted uid b)
   unwanted_on uid b one = by (b.sender == uid)
@@ -170,9 +203,11 @@ module _ (opening : State) (h : List Entry) where
       by false = one
 
   -- each step of broadcasts
-  on_sent : (all : Broadcasts) (sent : Sending) (ordered : Option Ordered) → GoesOn opening h all → GoesOn opening h (with_sent all sent ordered)
+  on_sent : (all : Broadcasts) (sent : Sending) (ordered : Option Ordered) → GoesOn opening h all
+      → GoesOn opening h (with_sent all sent ordered)
   on_sent all sent ordered on = record {
-    turns = sent_courses G U settles all sent ordered (λ o is earlier later then splits found. absurd (none_some (sym (on.fresh earlier later all.next_broadcast splits (omega arith)) ∙ found))) on.turns;
+    turns = sent_courses G U settles all sent ordered (λ o is earlier later then splits found. absurd
+        (none_some (sym (on.fresh earlier later all.next_broadcast splits (omega arith)) ∙ found))) on.turns;
     order = sent_order all sent ordered on.order;
     fresh = λ earlier later number splits free.
         let more : (with_sent all sent ordered).next_broadcast ≡ all.next_broadcast + 1 = sent_next all sent ordered in
@@ -182,23 +217,28 @@ module _ (opening : State) (h : List Entry) where
       none_some : {then : InTurn} → None ≡ Some then → ⊥
       none_some is = cc
 
-  on_finished : (all : Broadcasts) (number : ℕ) (answer : Answer) (now : ℕ) → GoesOn opening h all → GoesOn opening h (finished all number answer now)
+  on_finished : (all : Broadcasts) (number : ℕ) (answer : Answer) (now : ℕ) → GoesOn opening h all
+      → GoesOn opening h (finished all number answer now)
   on_finished all number answer now on = record {
-    turns = finished_courses G G U settles all number answer now on.order (turns_on (is_current number) (Answered answer) refl) on.turns;
+    turns = finished_courses G G U settles all number answer now on.order
+        (turns_on (is_current number) (Answered answer) refl) on.turns;
     order = finished_order all number answer now on.order;
     fresh = on.fresh;
   }
 
-  on_forgotten : (all : Broadcasts) (struck : Spot → Bool) (now : ℕ) → GoesOn opening h all → GoesOn opening h (sending.forget all struck now)
+  on_forgotten : (all : Broadcasts) (struck : Spot → Bool) (now : ℕ) → GoesOn opening h all
+      → GoesOn opening h (sending.forget all struck now)
   on_forgotten all struck now on = record {
     turns = forget_courses G G U settles all struck now (strikes_on struck) on.turns;
     order = forget_order all struck now on.order;
     fresh = on.fresh;
   }
 
-  on_uid_forgotten : (all : Broadcasts) (uid now : ℕ) → GoesOn opening h all → GoesOn opening h (sending.forget_uid all uid now)
+  on_uid_forgotten : (all : Broadcasts) (uid now : ℕ) → GoesOn opening h all
+      → GoesOn opening h (sending.forget_uid all uid now)
   on_uid_forgotten all uid now on = record {
-    turns = forget_uid_courses G G U settles all uid now (unwanted_on uid) (strikes_on (λ (spot : Spot). spot.uid == uid)) on.turns;
+    turns = forget_uid_courses G G U settles all uid now (unwanted_on uid)
+        (strikes_on (λ (spot : Spot). spot.uid == uid)) on.turns;
     order = forget_uid_order all uid now on.order;
     fresh = on.fresh;
   }
@@ -213,7 +253,8 @@ module _ (opening : State) (h : List Entry) where
   }
 
   -- what was due, and what the entry does
-  on_entry : (entry : Entry) → GoesOn opening h (replay opening h).broadcasts → GoesOn opening h (step (replay opening h) h entry).1.broadcasts
+  on_entry : (entry : Entry) → GoesOn opening h (replay opening h).broadcasts
+      → GoesOn opening h (step (replay opening h) h entry).1.broadcasts
   on_entry entry on = by entry.kept
     where
       due : State
@@ -227,24 +268,30 @@ module _ (opening : State) (h : List Entry) where
         same = passed;
         apart = λ apart. passed;
         sent = λ sender intent permission ordered apart did unprotected done.
-            on_sent due.broadcasts (sending_of due sender intent ordered (receivers due.board intent sender permission)) ordered passed;
+            on_sent due.broadcasts (sending_of due sender intent ordered (receivers due.board intent sender permission))
+            ordered passed;
         finished = λ number answer holder asked is own. on_finished due.broadcasts number answer due.moment passed;
-        taken_back = λ number asked. on_forgotten due.broadcasts (λ (spot : Spot). is_registered number spot.aim) due.moment passed;
+        taken_back = λ number asked. on_forgotten due.broadcasts (λ (spot : Spot). is_registered number spot.aim)
+            due.moment passed;
         uninstalled = λ name owner asked is. on_uid_forgotten due.broadcasts owner.uid due.moment passed;
         stopped = λ name owner asked is. on_uid_forgotten due.broadcasts owner.uid due.moment passed;
         advanced = λ more asked. on_expired due.broadcasts (due.moment + more) passed;
       }
 
-      by : (kept : Bool) → GoesOn opening h (cond kept (act due h entry.uid entry.request) (replies.Refused rules.KeeperFault, due)).1.broadcasts
+      by : (kept : Bool) → GoesOn opening h (cond kept (act due h entry.uid entry.request)
+          (replies.Refused rules.KeeperFault, due)).1.broadcasts
       by true = acts_do (λ done all. GoesOn opening h all) due entry.uid h entry.request acts
       by false = passed
 
   -- in the longer history
-  on_more : (entry : Entry) → GoesOn opening h (replay opening h).broadcasts → GoesOn opening (h ++ entry ∷ []) (step (replay opening h) h entry).1.broadcasts
+  on_more : (entry : Entry) → GoesOn opening h (replay opening h).broadcasts
+      → GoesOn opening (h ++ entry ∷ []) (step (replay opening h) h entry).1.broadcasts
   on_more entry on = record {
     turns = record {
-      foreground = λ k d below. longer _ (foreground_turns after after_on.order k d below) (after_on.turns.foreground k d below);
-      background = λ k d below. longer _ (background_turns after after_on.order k d below) (after_on.turns.background k d below);
+      foreground = λ k d below. longer _ (foreground_turns after after_on.order k d below)
+          (after_on.turns.foreground k d below);
+      background = λ k d below. longer _ (background_turns after after_on.order k d below)
+          (after_on.turns.background k d below);
       results = All-weaker U U (λ r one. one) after.results after_on.turns.results;
     };
     order = after_on.order;
@@ -259,35 +306,51 @@ module _ (opening : State) (h : List Entry) where
 
       -- the last place
       last : (earlier : List Entry) → h ++ entry ∷ [] ≡ earlier → (replay opening earlier).broadcasts ≡ after
-      last earlier whole = ap (λ (l : List Entry). (replay opening l).broadcasts) (sym whole) ∙ ap (λ (s : State). s.broadcasts) (replay_more opening h entry)
+      last earlier whole = ap (λ (l : List Entry). (replay opening l).broadcasts) (sym whole)
+          ∙ ap (λ (s : State). s.broadcasts) (replay_more opening h entry)
 
-      longer : (b : InTurn) → turn_of after b.number ≡ Some b → GoesInTurn opening h b → GoesInTurn opening (h ++ entry ∷ []) b
+      longer : (b : InTurn) → turn_of after b.number ≡ Some b → GoesInTurn opening h b
+          → GoesInTurn opening (h ++ entry ∷ []) b
       longer b mine one earlier later then splits found = by (last_place h earlier later entry splits)
         where
-          by : (h ++ entry ∷ [] ≡ earlier) ⊎ ((rest : List Entry) × (h ≡ earlier ++ rest)) → BeginWith (reached then) (reached b)
+          by : (h ++ entry ∷ [] ≡ earlier) ⊎ ((rest : List Entry) × (h ≡ earlier ++ rest))
+              → BeginWith (reached then) (reached b)
           by (inl whole) =
-              let same : Some b ≡ Some then = sym mine ∙ ap (λ (all : Broadcasts). turn_of all b.number) (sym (last earlier whole)) ∙ found in
+              let same : Some b ≡ Some then = sym mine ∙ ap (λ (all : Broadcasts). turn_of all b.number)
+              (sym (last earlier whole)) ∙ found in
               let is : b ≡ then = cc in
               begin_same (reached then) (reached b) (ap reached is)
           by (inr part) = one earlier part.0 then part.1 found
 
-      still : (earlier : List Entry) (number : ℕ) → after.next_broadcast ≤ number → (h ++ entry ∷ [] ≡ earlier) ⊎ ((rest : List Entry) × (h ≡ earlier ++ rest))
+      still : (earlier : List Entry) (number : ℕ) → after.next_broadcast ≤ number
+          → (h ++ entry ∷ [] ≡ earlier) ⊎ ((rest : List Entry) × (h ≡ earlier ++ rest))
           → turn_of (replay opening earlier).broadcasts number ≡ None
-      still earlier number free (inl whole) = ap (λ (all : Broadcasts). turn_of all number) (last earlier whole) ∙ none_has after number after_on.order free
+      still earlier number free (inl whole) = ap (λ (all : Broadcasts). turn_of all number) (last earlier whole)
+          ∙ none_has after number after_on.order free
       still earlier number free (inr part) = after_on.fresh earlier part.0 number part.1 free
 
 -- after every history
-pub deliveries_go_in_turn : (origin : Origin) (history : List Entry) → OfTurns (IsInTurn (opening_of origin) history) (replay (opening_of origin) history).broadcasts
+pub deliveries_go_in_turn : (origin : Origin) (history : List Entry)
+    → OfTurns (IsInTurn (opening_of origin) history) (replay (opening_of origin) history).broadcasts
 deliveries_go_in_turn origin history = record {
-  foreground = λ k d below. record { own = foreground_turns all on.order k d below; since = on.turns.foreground k d below };
-  background = λ k d below. record { own = background_turns all on.order k d below; since = on.turns.background k d below };
+  foreground = λ k d below. record {
+    own = foreground_turns all on.order k d below;
+    since = on.turns.foreground k d
+        below;
+  };
+  background = λ k d below. record {
+    own = background_turns all on.order k d below;
+    since = on.turns.background k d
+        below;
+  };
 }
   where
     opening : State
     opening = opening_of origin
 
     none : opening.broadcasts ≡ no_broadcasts
-    none = opening_leaves (λ (state : State). state.broadcasts ≡ no_broadcasts) (λ state board uid same is. is) origin refl
+    none = opening_leaves (λ (state : State). state.broadcasts ≡ no_broadcasts) (λ state board uid same is. is) origin
+        refl
 
     empty : (earlier later : List Entry) → [] ≡ earlier ++ later → earlier ≡ []
     empty [] later is = refl
@@ -295,9 +358,14 @@ deliveries_go_in_turn origin history = record {
 
     begins : GoesOn opening [] opening.broadcasts
     begins = subst (λ (all : Broadcasts). GoesOn opening [] all) (sym none) (record {
-      turns = record { foreground = All-nil (GoesInTurn opening []); background = All-nil (GoesInTurn opening []); results = All-nil (λ (r : Result). Unit {0}) };
+      turns = record {
+        foreground = All-nil (GoesInTurn opening []);
+        background = All-nil (GoesInTurn opening []);
+        results = All-nil (λ (r : Result). Unit {0});
+      };
       order = none_in_order;
-      fresh = λ earlier later number splits free. ap (λ (l : List Entry). turn_of (replay opening l).broadcasts number) (empty earlier later splits) ∙ ap (λ (all : Broadcasts). turn_of all number) none;
+      fresh = λ earlier later number splits free. ap (λ (l : List Entry). turn_of (replay opening l).broadcasts number)
+          (empty earlier later splits) ∙ ap (λ (all : Broadcasts). turn_of all number) none;
     })
 
     all : Broadcasts

@@ -26,7 +26,7 @@ pub record Course : Type 0 where
 abbrev pub course_of : InTurn → Course
 course_of b = record { past = b.past; rest = b.rest }
 
--- the first of these that are left did this
+-- the first of the receivers that are left did this
 abbrev pub passed_from : Doing → Course → List Spot → Course
 passed_from doing course [] = course
 passed_from doing course (spot ∷ others) =
@@ -76,17 +76,18 @@ passed_gone struck (Some delivery) course = if struck delivery.spot then passed 
 abbrev pub without_struck : (Spot → Bool) → Course → Course
 without_struck struck course = record course { rest = filter (λ (spot : Spot). not (struck spot)) course.rest }
 
--- receivers are struck: one that has the delivery is gone, and the others that are left are out
+-- receivers are struck: a struck one that has the delivery is gone, and the struck ones that are left are out
 abbrev pub passed_struck : (Spot → Bool) → Option Delivery → Course → Course
 passed_struck struck delivery course = without_struck struck (passed_gone struck delivery course)
 
--- the receiver is one of that package
+-- the receiver belongs to that package
 abbrev pub is_of_package : Option Package → Spot → Bool
 is_of_package None spot = false
 is_of_package (Some owner) spot = spot.uid == owner.uid
 
 -- what a request that was done did to a broadcast that had that delivery: a finish answers it; a registered receiver
--- that is taken back is struck, and so are those of a package that is uninstalled or stopped; where the moment moves ahead,
+-- that is taken back is struck, and so are those of a package that is uninstalled or stopped; if the moment moves
+-- ahead,
 -- the receiver that has the delivery may be late by then
 abbrev pub requested : State → Request → Option Delivery → Course → Course
 requested state (asks.Finish number answer) delivery course = passed_answered number answer delivery course
@@ -115,7 +116,7 @@ after_entry state before entry number course =
     then requested due entry.request (delivery_of due.broadcasts number) late
     else late
 
--- the course of the broadcast of a number after the entries `later`, where the entries `before` came first
+-- the course of the broadcast of a number after the entries `later`, if the entries `before` came first
 abbrev pub course_after : State → ℕ → List Entry → List Entry → Course → Course
 course_after opening number before [] course = course
 course_after opening number before (entry ∷ later) course =
@@ -138,7 +139,7 @@ finishes state before entry number =
     is_done (step state before entry).0
     && is_finish_of entry.request (delivery_of (after_due state entry.now).broadcasts number)
 
--- those of the entries `later` that finished a delivery of the broadcast of a number, where the entries `before` came
+-- those of the entries `later` that finished a delivery of the broadcast of a number, if the entries `before` came
 -- first
 abbrev pub finishing : State → ℕ → List Entry → List Entry → List Entry
 finishing opening number before [] = []

@@ -1,4 +1,4 @@
--- How an ordered broadcast runs: who had it, what was answered and in which order, and what comes of it.
+-- How an ordered broadcast runs: who had it, which answers came in which order, and what its result is.
 use Rattle.std.specs.Prelude.{◌≡◌, ℕ, Bool, true, false, not, ◌&&◌, List, [], ◌∷◌, ◌++◌, Some, All, Option}
 use Rattle.std.specs.List.{AllZip}
 use Rattle.am_types.specs.declared.intent.Intent.{Intent}
@@ -17,7 +17,7 @@ use Rattle.am_history.specs.BroadcastCalls.{sending_of}
 use Rattle.am_laws.specs.Access.{Deed, Sends, Once}
 use Rattle.am_laws_courses.specs.Course.{course_of, course_after, finishing}
 
--- what a receiver answered, in front of what others did
+-- what a receiver answered, followed by what others answered
 abbrev pub with_answer : Spot → Doing → List (Spot × Answer) → List (Spot × Answer)
 with_answer spot (Answered answer) others = (spot, answer) ∷ others
 with_answer spot Late others = others
@@ -35,7 +35,7 @@ pub record IsAnswerBy (given : Spot × Answer) (at : Entry) : Type 0 where
   pub delivery : ℕ
   pub request : at.request ≡ asks.Finish delivery given.1
 
--- the broadcast, as it begins, is sent to be received in order by all that are admitted
+-- the broadcast, as it begins, is sent to all that are admitted, to be received in order
 pub record IsSentInOrder (begun : InTurn) (state : State) (deed : Deed) : Type 0 where
   pub permission : Option (List ℕ)
   pub ordered : Ordered
@@ -53,7 +53,7 @@ abbrev pub lasting : InTurn → ℕ × ℕ × Intent × Bool × Outcome
 lasting b = (b.number, b.sender, b.intent, b.no_abort, b.initial)
 
 -- the broadcast was sent by an entry; its receivers that are past, with what they did, and those that are left are
--- what the later entries made of those to which it was sent; and what was answered are the entries of the history that
+-- what the later entries made of those to which it was sent; and its answers are the entries of the history that
 -- finished its deliveries, all of them and in their order, each by the receiver's uid
 pub record IsInCourse (opening : State) (history : List Entry) (b : InTurn) : Type 0 where
   pub begun : InTurn
@@ -64,7 +64,7 @@ pub record IsInCourse (opening : State) (history : List Entry) (b : InTurn) : Ty
       ≡ course_after opening begun.number (sent.before ++ sent.at ∷ []) sent.after (course_of begun)
   pub answers : AllZip IsAnswerBy (answers_of b.past) (finishing opening begun.number [] history)
 
--- the result is that of a broadcast that ended: what its answers, one after the other, made of its first outcome
+-- the result belongs to a broadcast that ended: it is what its answers, one after the other, made of its first outcome
 pub record IsOutcome (opening : State) (history : List Entry) (r : Result) : Type 0 where
   pub of : InTurn
   pub course : IsInCourse opening history of
@@ -74,7 +74,7 @@ pub record IsOutcome (opening : State) (history : List Entry) (r : Result) : Typ
   pub sender : r.sender ≡ of.sender
   pub outcome : r.outcome ≡ fold_outcome of.initial of.no_abort (doings of)
 
--- this holds of each ordered broadcast, and that of each result
+-- this holds for each ordered broadcast, and that for each result
 pub record OfCourses (C : InTurn → Type 0) (R : Result → Type 0) (all : Broadcasts) : Type 0 where
   pub foreground : All C all.foreground
   pub background : All C all.background

@@ -13,7 +13,7 @@ CoursesAreKept =
     → OfCourses (IsInCourse (opening_of origin) history) (IsOutcome (opening_of origin) history)
     (state_after origin history).broadcasts
 
--- each ordered broadcast has its number for itself, and its deliveries go to its receivers in turn
+-- no two ordered broadcasts share a number, and the deliveries of each go to its receivers in turn
 abbrev pub DeliveriesGoInTurn : Type 0
 DeliveriesGoInTurn =
     (origin : Origin) (history : List Entry)

@@ -34,7 +34,7 @@ pub record IsInTurn (opening : State) (history : List Entry) (b : InTurn) : Type
   pub own : turn_of (replay opening history).broadcasts b.number ≡ Some b
   pub since : GoesInTurn opening history b
 
--- this holds of each ordered broadcast
+-- this holds for each ordered broadcast
 pub record OfTurns (C : InTurn → Type 0) (all : Broadcasts) : Type 0 where
   pub foreground : All C all.foreground
   pub background : All C all.background

@@ -9,7 +9,8 @@ use Rattle.am_installed.proofs.Placing.{place_last}
 use Rattle.am_laws_state.specs.Sound.{AreSoundReceivers}
 
 -- some go
-pub receivers_left : (keeps : Registration → Bool) (registered : List Registration) (next : ℕ) → AreSoundReceivers registered next
+pub receivers_left : (keeps : Registration → Bool) (registered : List Registration) (next : ℕ)
+    → AreSoundReceivers registered next
     → AreSoundReceivers (filter keeps registered) next
 receivers_left keeps registered next sound = record {
   order = fewer_registered keeps registered sound.order;
@@ -26,6 +27,7 @@ pub receivers_more : (registered : List Registration) (r : Registration) → Are
 receivers_more registered r sound = record {
   order = subst AreByNumber (place_last r registered sound.below) (registered_in_order r registered sound.order);
   below = All-push (λ (s : Registration). s.number < r.number + 1) registered r
-      (All-weaker (λ (s : Registration). s.number < r.number) (λ (s : Registration). s.number < r.number + 1) (below_one_more r.number) registered sound.below)
+      (All-weaker (λ (s : Registration). s.number < r.number) (λ (s : Registration). s.number < r.number + 1)
+      (below_one_more r.number) registered sound.below)
       (omega arith);
 }

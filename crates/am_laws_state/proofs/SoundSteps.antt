@@ -29,27 +29,43 @@ module _ (state : State) (sound : IsSoundState state) where
   owners = owner_keys state.system_key state.root_key
 
   -- a package that comes
-  installed_sound : (key : List ℕ) (manifest : Manifest) → IsAppManifest manifest → is_name_used state.board.packages manifest.«package» ≡ false
+  installed_sound : (key : List ℕ) (manifest : Manifest) → IsAppManifest manifest
+      → is_name_used state.board.packages manifest.«package» ≡ false
       → is_key_used state key ≡ false → is_full state ≡ false
-      → IsSoundState (record (with_packages state (state.board.packages ++ installed state manifest key ∷ [])) { next_uid = state.next_uid + 1 })
+      → IsSoundState (record (with_packages state (state.board.packages ++ installed state manifest key ∷ []))
+      { next_uid = state.next_uid + 1 })
   installed_sound key manifest app name_unused key_unused room =
       let apps = apps_inserted owners state.board.packages (state.next_uid + 1) new
       (apps_raised owners state.board.packages state.next_uid (state.next_uid + 1) (omega arith) sound.packages)
       (record {
-        sound = record { lowest = sound.packages.next; name = app.sound.name; few = app.sound.few; classes = app.sound.classes; decls = app.sound.decls };
-        room = leb-false 256 (length state.board.packages) (neither (nat_le 256 (length state.board.packages)) (state.next_uid == no_uid) room).0;
+        sound = record {
+          lowest = sound.packages.next;
+          name = app.sound.name;
+          few = app.sound.few;
+          classes =
+              app.sound.classes;
+          decls = app.sound.decls;
+        };
+        room = leb-false 256 (length state.board.packages) (neither (nat_le 256 (length state.board.packages))
+            (state.next_uid == no_uid) room).0;
         new = last_is_new state.next_uid state.board.packages below;
         below = omega arith;
         name = (app.other, name_is_free manifest.«package» state.board.packages name_unused);
         key = key_is_free state.system_key state.root_key key state.board.packages key_unused;
       }) in
-      let placed : IsSoundBoard owners (record (state.board) { packages = inserted before_package new state.board.packages }) (state.next_uid + 1) state.next_registration = record {
+      let placed : IsSoundBoard owners (record (state.board) {
+        packages = inserted before_package new
+            state.board.packages;
+      }) (state.next_uid + 1) state.next_registration = record {
         packages = apps;
-        grants = rights_through state.board.packages (inserted before_package new state.board.packages) _ (inserted_stays new state.board.packages) sound.grants;
-        links = rights_through state.board.packages (inserted before_package new state.board.packages) _ (inserted_stays new state.board.packages) sound.links;
+        grants = rights_through state.board.packages (inserted before_package new state.board.packages) _
+            (inserted_stays new state.board.packages) sound.grants;
+        links = rights_through state.board.packages (inserted before_package new state.board.packages) _
+            (inserted_stays new state.board.packages) sound.links;
         registered = sound.registered;
       } in
-      subst (λ (ps : List Package). IsSoundBoard owners (record (state.board) { packages = ps }) (state.next_uid + 1) state.next_registration)
+      subst (λ (ps : List Package). IsSoundBoard owners (record (state.board) { packages = ps }) (state.next_uid + 1)
+      state.next_registration)
       (inserted_last new state.board.packages below) placed
     where
       new : Package
@@ -61,12 +77,15 @@ module _ (state : State) (sound : IsSoundState state) where
   -- other registered receivers
   received : (registered : List Registration) (next : ℕ) → AreSoundReceivers registered next
       → IsSoundBoard owners (record (state.board) { registered = registered }) state.next_uid next
-  received registered next receivers = board_receivers owners state.board state.next_uid state.next_registration sound registered next receivers
+  received registered next receivers = board_receivers owners state.board state.next_uid state.next_registration sound
+      registered next receivers
 
   -- some of them
-  received_left : (keeps : Registration → Bool) → IsSoundBoard owners (record (state.board) { registered = filter keeps state.board.registered }) state.next_uid state.next_registration
+  received_left : (keeps : Registration → Bool) → IsSoundBoard owners
+      (record (state.board) { registered = filter keeps state.board.registered }) state.next_uid state.next_registration
   received_left keeps =
-      received (filter keeps state.board.registered) state.next_registration (receivers_left keeps state.board.registered state.next_registration sound.registered)
+      received (filter keeps state.board.registered) state.next_registration
+      (receivers_left keeps state.board.registered state.next_registration sound.registered)
 
   -- a uid that is forgotten
   forget_sound : (uid : ℕ) → IsSoundState (forget state uid)
@@ -78,20 +97,31 @@ module _ (state : State) (sound : IsSoundState state) where
     here = sound;
     started = λ uid intent source component found landed did is admits placed.
         board_stopped owners state.board state.next_uid state.next_registration sound found.0 false;
-    served = λ uid intent component found did is admits. board_stopped owners state.board state.next_uid state.next_registration sound found.0 false;
+    served = λ uid intent component found did is admits. board_stopped owners state.board state.next_uid
+        state.next_registration sound found.0 false;
     sent = λ sender intent permission ordered did unprotected. sound;
     ended = λ keeps. sound;
     unserved = λ keeps. sound;
     registered = λ filter permission.
-        let r : Registration = record { number = state.next_registration; uid = caller; filter = filter; permission = permission } in
-        received (state.board.registered ++ r ∷ []) (state.next_registration + 1) (receivers_more state.board.registered r sound.registered);
+        let r : Registration = record {
+          number = state.next_registration;
+          uid = caller;
+          filter = filter;
+          permission =
+              permission;
+        } in
+        received (state.board.registered ++ r ∷ []) (state.next_registration + 1)
+        (receivers_more state.board.registered r sound.registered);
     taken_back = λ found. received_left (λ (r : Registration). not (r.number == found.number));
     finished = λ number answer holder asked is own. sound;
     got = λ left few. sound;
     changed = λ after left same one. one;
-    installed = λ text key manifest is name_unused key_unused room. installed_sound key manifest (manifest_sound text manifest is) name_unused key_unused room;
-    gone = λ uid. board_without owners (forget state uid).board state.next_uid state.next_registration (forget_sound uid) uid;
-    stopped = λ uid. board_stopped owners (forget state uid).board state.next_uid state.next_registration (forget_sound uid) uid true;
+    installed = λ text key manifest is name_unused key_unused room. installed_sound key manifest
+        (manifest_sound text manifest is) name_unused key_unused room;
+    gone = λ uid. board_without owners (forget state uid).board state.next_uid state.next_registration
+        (forget_sound uid) uid;
+    stopped = λ uid. board_stopped owners (forget state uid).board state.next_uid state.next_registration
+        (forget_sound uid) uid true;
     granted = λ uid permission held live room. record {
       packages = sound.packages;
       grants = grants_given state.board.packages state.board.grants uid permission held live room sound.grants;

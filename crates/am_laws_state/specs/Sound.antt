@@ -1,4 +1,4 @@
--- What holds of what is installed, of what was given to it, and of the registered receivers in every state.
+-- What holds in every state for what is installed, for what was given to it, and for the registered receivers.
 use Rattle.std.specs.Prelude.{ℕ, ◌<◌, ◌≤◌, codes, List, ◌∷◌, ◌++◌, length, All, IsTrue}
 use Rattle.std.specs.List.Sorted.{IsStrictlyIncreasing}
 use Rattle.am_types.specs.declared.device.Package.{Package}
@@ -8,7 +8,7 @@ use Rattle.am_model.specs.Sound.{AreDistinct, AreSoundRights, IsSoundDecl, class
 use Rattle.am_installed.specs.Places.{AreByNumber}
 use Rattle.am_history.specs.State.{State}
 
--- a package has a uid of an app, a name of the right form, and at most 256 components of distinct classes
+-- a package has an app's uid, a name of the right form, and at most 256 components of distinct classes
 pub record IsSoundApp (p : Package) : Type 0 where
   pub lowest : 10000 ≤ p.uid
   pub name : IsTrue (is_package_name p.name)
@@ -27,7 +27,7 @@ pub record AreSoundApps (owners : List (List ℕ)) (packages : List Package) (ne
   pub names : AreDistinct (codes "android" ∷ names_of packages)
   pub keys : AreDistinct (owners ++ keys_of packages)
 
--- registered receivers stand by rising number, and their numbers were given out
+-- registered receivers are in rising order of their numbers, which were all given out
 pub record AreSoundReceivers (registered : List Registration) (next : ℕ) : Type 0 where
   pub order : AreByNumber registered
   pub below : All (λ (r : Registration). r.number < next) registered

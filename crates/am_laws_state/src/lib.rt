@@ -4,8 +4,8 @@
 
 ghost use Rattle.am_laws_state.specs.Laws.{StatesAreSound};
 
-/// After every history of a manager of a sound device what is installed is sound, and so are grants,
-/// links and registered receivers. Takes no memory.
+/// After every history of a manager of a sound device, what is installed is sound, and so are the
+/// grants, links and registered receivers. Takes no memory.
 pub fn states_are_sound()
     ensures { StatesAreSound }
 {}

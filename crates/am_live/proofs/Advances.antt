@@ -20,8 +20,10 @@ module _ (old settled : State) (caller moment more : ℕ) (at : settled ≡ at_m
   refused_then rule = ap (λ (s : State). refused s rule) (sym at)
 
   -- for others than the system and the root
-  pub advance_refused : is_privileged caller ≡ false → for_admin then caller (advance then more) ≡ (Refused AdminOnly, settled)
-  advance_refused other = ap (λ (b : Bool). cond b (advance then more) (refused then AdminOnly)) other ∙ refused_then AdminOnly
+  pub advance_refused : is_privileged caller ≡ false → for_admin then caller (advance then more)
+      ≡ (Refused AdminOnly, settled)
+  advance_refused other = ap (λ (b : Bool). cond b (advance then more) (refused then AdminOnly)) other
+      ∙ refused_then AdminOnly
 
   admitted : is_privileged caller ≡ true → for_admin then caller (advance then more) ≡ advance then more
   admitted admin = ap (λ (b : Bool). cond b (advance then more) (refused then AdminOnly)) admin
@@ -29,7 +31,8 @@ module _ (old settled : State) (caller moment more : ℕ) (at : settled ≡ at_m
   by_fit : (fits : Bool) → nat_le (moment + more) 4611686018427387904 ≡ fits
       → advance then more ≡ cond fits (advanced (at_moment then (moment + more))) (refused then (OverLimit Moment))
   unfolding advance
-  by_fit fits is = ap (λ (b : Bool). cond b (advanced (at_moment then (moment + more))) (refused then (OverLimit Moment))) is
+  by_fit fits is = ap (λ (b : Bool). cond b (advanced (at_moment then (moment + more)))
+      (refused then (OverLimit Moment))) is
 
   -- too far
   pub advance_too_far : is_privileged caller ≡ true → 4611686018427387904 < moment + more
@@ -38,7 +41,8 @@ module _ (old settled : State) (caller moment more : ℕ) (at : settled ≡ at_m
       admitted admin ∙ by_fit false (lt-leb (moment + more) 4611686018427387904 far) ∙ refused_then (OverLimit Moment)
 
   -- to a moment that a history may have
-  pub advance_moves : (ahead : ℕ) (reply : Reply) (new : State) → is_privileged caller ≡ true → ahead ≡ moment + more → ahead ≤ 4611686018427387904
+  pub advance_moves : (ahead : ℕ) (reply : Reply) (new : State) → is_privileged caller ≡ true → ahead ≡ moment + more
+      → ahead ≤ 4611686018427387904
       → advanced (at_moment settled ahead) ≡ (reply, new) → for_admin then caller (advance then more) ≡ (reply, new)
   advance_moves ahead reply new admin is fits done =
       admitted admin

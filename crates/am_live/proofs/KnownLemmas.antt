@@ -12,4 +12,5 @@ pub planned_for : (with_known : State → State) (seen state : State) (plan : Pl
     → ((s : State) → IsSoundState (with_known s) → IsPlanOf plan (with_known s) caller request)
     → IsPlanOf plan state caller request
 planned_for with_known seen state plan caller request same stays sound planned =
-    subst (λ (s : State). IsPlanOf plan s caller request) (stays ∙ same) (planned seen (subst IsSoundState (sym (stays ∙ same)) sound))
+    subst (λ (s : State). IsPlanOf plan s caller request) (stays ∙ same)
+    (planned seen (subst IsSoundState (sym (stays ∙ same)) sound))

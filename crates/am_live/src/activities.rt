@@ -12,12 +12,11 @@ use am_types::{Intent, NoMemory, Reply, Steps};
 use std::sync::ledger::Ledger;
 
 impl Live {
-    /// Starts an activity: the component that the intent names, or the one that it finds; if it finds
-    /// several of the greatest priority, none of them, and the reply names them. `source` is the instance
-    /// that starts it. The package of an activity that was placed isn't stopped any more. The call is at a
-    /// moment, in milliseconds, which is the last one then, and the deadlines that are due are handled.
-    /// A step is a full test of a filter, or a reading of a deadline. After `NoMemory` the state is as
-    /// before.
+    /// Starts an activity: the component that the intent names, or the one that it finds. If it finds
+    /// several with the greatest priority, starts none of them, and the reply names them. `source` is the
+    /// instance that starts it. The package of an activity that was placed is no longer stopped. The call's
+    /// moment, in milliseconds, becomes the last one, and the deadlines that are due are handled. A step is
+    /// a full test of a filter, or a reading of a deadline. After `NoMemory` the state is as before.
     pub fn start<L: Ledger>(
         &mut self,
         by: Caller,
@@ -46,8 +45,8 @@ impl Live {
         Ok(reply)
     }
 
-    /// Ends an activity instance, as its own uid, the system and the root may. The call is at a moment, in
-    /// milliseconds, which is the last one then, and the deadlines that are due are handled. A step is a
+    /// Ends an activity instance, which only its own uid, the system and the root may do. The call's moment,
+    /// in milliseconds, becomes the last one, and the deadlines that are due are handled. A step is a
     /// reading of a deadline. Takes no memory.
     pub fn finish_activity<L: Ledger>(
         &mut self,
@@ -62,9 +61,9 @@ impl Live {
         reply
     }
 
-    /// Goes back, as only the system and the root may: the instance that the user sees is ended, if there
-    /// is one. The call is at a moment, in milliseconds, which is the last one then, and the deadlines that
-    /// are due are handled. A step is a reading of a deadline. Takes no memory.
+    /// Goes back, which only the system and the root may do: ends the instance that the user sees, if there
+    /// is one. The call's moment, in milliseconds, becomes the last one, and the deadlines that are due are
+    /// handled. A step is a reading of a deadline. Takes no memory.
     pub fn back<L: Ledger>(&mut self, by: Caller, steps: &mut Steps<L>) -> Reply
         ensures { for_admin (at_moment self.old by.moment) by.uid (back (at_moment self.old by.moment))
             ≡ (result, self.new) }

@@ -12,12 +12,12 @@ use am_types::{Answer, Filter, Intent, NoMemory, Ordered, Reply, Steps, Text};
 use std::sync::ledger::Ledger;
 
 impl Live {
-    /// Broadcasts an intent at a moment, once the deadlines are handled that are due then: to all receivers
-    /// at once, or to one after the other where `ordered` says how that starts. `permission` is what a
-    /// receiver must hold. The answer tells the broadcast's number and who it was offered to. Refusals in
-    /// this order: `ProtectedAction` if the action is protected and the caller neither the system nor the
-    /// root; `OverLimit` of `Broadcasts` if the caller has 64 live ones, and of `Receivers` if more than
-    /// 1,024 are admitted. After `NoMemory` the state is as before.
+    /// Broadcasts an intent at a moment, after handling the deadlines that are due then: to all receivers at
+    /// once, or to one after the other if `ordered` says how that starts. `permission` is what a receiver
+    /// must hold. The answer gives the broadcast's number and who it was offered to. Refusals in this order:
+    /// `ProtectedAction` if the action is protected and the caller is neither the system nor the root;
+    /// `OverLimit` of `Broadcasts` if the caller has 64 live ones, and of `Receivers` if more than 1,024 are
+    /// admitted. After `NoMemory` the state is as before.
     pub fn send<L: Ledger>(
         &mut self,
         by: Caller,
@@ -48,9 +48,9 @@ impl Live {
         Ok(reply)
     }
 
-    /// Registers a receiver of the caller at a moment, once the deadlines are handled that are due then, and
-    /// answers its number. `permission` is what a sender must hold. Refused: `OverLimit` of `Registered` if
-    /// the caller has 64. After `NoMemory` the state is as before.
+    /// Registers a receiver of the caller at a moment, after handling the deadlines that are due then, and
+    /// answers its number. `permission` is what a sender must hold. Refused by `OverLimit` of `Registered`
+    /// if the caller has 64. After `NoMemory` the state is as before.
     pub fn register<L: Ledger>(
         &mut self,
         by: Caller,
@@ -75,8 +75,8 @@ impl Live {
         Ok(reply)
     }
 
-    /// Takes a registered receiver of the caller back at a moment, once the deadlines are handled that are
-    /// due then; no broadcast is for it any more. Refusals: `NoReceiver` if none of that number is
+    /// Takes a registered receiver of the caller back at a moment, after handling the deadlines that are
+    /// due then. No broadcast goes to it any longer. Refusals: `NoReceiver` if none with that number is
     /// registered; `NotYours` if it is another uid's. Takes no memory.
     pub fn unregister<L: Ledger>(&mut self, by: Caller, number: u64, steps: &mut Steps<L>) -> Reply
         ensures { unregister (at_moment self.old by.moment) by.uid number ≡ (result, self.new) }
@@ -92,11 +92,11 @@ impl Live {
         reply
     }
 
-    /// Finishes a delivery to the caller, or takes its result of an ordered broadcast, at a moment, once the
-    /// deadlines are handled that are due then. Refusals: `NoDelivery` if none of that number stands;
-    /// `NotYours` if it is another uid's; `NotOrdered` if the answer sets an outcome or aborts, and it isn't
-    /// an ordered delivery. It takes memory only where the answer sets an outcome; after `NoMemory` the
-    /// state is as before.
+    /// Finishes a delivery to the caller, or takes the result of the caller's ordered broadcast, at a
+    /// moment, after handling the deadlines that are due then. Refusals: `NoDelivery` if there is none with
+    /// that number; `NotYours` if it is another uid's; `NotOrdered` if the answer sets an outcome or aborts,
+    /// and it isn't an ordered delivery. Takes memory only if the answer sets an outcome. After `NoMemory`
+    /// the state is as before.
     pub fn finish<L: Ledger>(
         &mut self,
         by: Caller,

@@ -1,4 +1,4 @@
-//! The live state of a device: its parts, and what the requests do to them.
+//! The live state of a device: its parts, and what requests do to them.
 #![tactic(auto)]
 
 mod activities;

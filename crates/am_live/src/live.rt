@@ -17,7 +17,7 @@ use std::hash::RandomState;
 use std::marker::Model;
 use std::sync::ledger::Ledger;
 
-/// The live state of a device. Contracts see it as the state of the definitions.
+/// The live state of a device. Contracts see it as the state in the definitions.
 pub struct Live {
     pub(crate) alloc: Global,
     pub(crate) system_key: Text,
@@ -51,7 +51,7 @@ impl Model for Live {
       moment = l.moment;
     } };
 
-    // Deadlines behind a moment are below 2^64, and a device has at most 256 packages.
+    // Deadlines after a moment are below 2^64, and a device has at most 256 packages.
     ghost invariant = { λ l. (l.moment ≤ 4611686018427387904) × (length l.board.packages ≤ 256) };
 }
 
@@ -61,7 +61,7 @@ impl Drop for Live {
     }
 }
 
-/// The moment so many milliseconds ahead of another, unless that is past the last one.
+/// The moment `more` milliseconds ahead of `moment`, unless it is past the greatest one.
 fn moment_ahead(moment: u64, more: u64) -> Option<u64>
     requires { moment ≤ 4611686018427387904 }
     ensures { MatchOption result (4611686018427387904 < moment + more)
@@ -75,9 +75,9 @@ fn moment_ahead(moment: u64, more: u64) -> Option<u64>
 }
 
 impl Live {
-    /// The state of a sound device before the first call, where the next package is given that uid. It
-    /// keeps the allocator for its later calls. What callers choose is hashed under the keys that were drawn,
-    /// if some were.
+    /// The state of a sound device before the first call. The next package gets `next_uid`. The state
+    /// keeps the allocator for later calls. What callers choose is hashed under the keys that were drawn,
+    /// if there are any.
     pub fn from_device(
         alloc: Global,
         drawn: Option<RandomState>,
@@ -121,7 +121,7 @@ impl Live {
         self.moment.max(now.min(LAST_MOMENT))
     }
 
-    /// Whether some deadline is at the moment of a call at `now`, or before it. A step is a reading of a
+    /// Whether some deadline is at or before the moment of a call at `now`. A step is a reading of a
     /// deadline. Takes no memory.
     pub fn is_due<L: Ledger>(&self, now: u64, steps: &mut Steps<L>) -> bool
         ensures { result ≡ due self.now now }
@@ -129,7 +129,7 @@ impl Live {
         self.queues.due(self.moment_after(now), steps)
     }
 
-    /// Handles the deadlines that are due at a moment, which is the last one then. Takes no memory.
+    /// Handles the deadlines that are due at a moment, which becomes the last one. Takes no memory.
     pub fn settle<L: Ledger>(&mut self, moment: u64, steps: &mut Steps<L>)
         requires { moment ≤ 4611686018427387904 }
         ensures { self.new ≡ at_moment self.old moment }
@@ -138,10 +138,10 @@ impl Live {
         self.moment = moment;
     }
 
-    /// Moves the moment so many milliseconds ahead of the call's own, as only the system and the root may: first the
-    /// deadlines are handled that are due at the call's own moment, then those that are due by the new one. The answer
-    /// tells the earliest deadline that is left, if there is one, and the moment. Refused: `AdminOnly`, and `OverLimit`
-    /// of `Moment` past 2^62 milliseconds. A step is a reading of a deadline. Takes no memory.
+    /// Moves the moment `more` milliseconds ahead of the call's own, which only the system and the root may do. Handles
+    /// the deadlines that are due at the call's own moment first, then those that are due by the new one. The answer
+    /// gives the earliest deadline that is left, if there is one, and the moment. Refused by `AdminOnly`, and by
+    /// `OverLimit` of `Moment` past 2^62 milliseconds. A step is a reading of a deadline. Takes no memory.
     pub fn advance<L: Ledger>(&mut self, by: Caller, more: u64, steps: &mut Steps<L>) -> Reply
         ensures { for_admin (at_moment self.old by.moment) by.uid (advance (at_moment self.old by.moment) more)
             ≡ (result, self.new) }
@@ -156,7 +156,7 @@ impl Live {
         }
     }
 
-    /// Moves the moment, and answers the earliest deadline that is left then.
+    /// Moves the moment, and answers the earliest deadline that is then left.
     fn advance_to<L: Ledger>(&mut self, moment: u64, steps: &mut Steps<L>) -> Reply
         requires { moment ≤ 4611686018427387904 }
         ensures { advanced (at_moment self.old moment) ≡ (result, self.new) }

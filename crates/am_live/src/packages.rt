@@ -15,11 +15,11 @@ use am_types::{NoMemory, Package, Reply, Request, Rule, Steps, Text};
 use std::sync::ledger::Ledger;
 
 impl Live {
-    /// Plans what a call comes to that has a row kept, and what its row is. It only reads the state. Refusals
-    /// in the order of the definitions: `AdminOnly` for other callers than the system and the root; then for
-    /// an installation `BadManifest`, `Installed` if the name or the key is in use, and `OverLimit` of
-    /// `Packages` at 256 or if no uid is left; for the others `NoPackage`, and `OverLimit` of `Grants` or
-    /// `Links` for one more than 256 of a package.
+    /// Plans what a call that keeps a row does, and what its row is. This only reads the state. Refusals, in
+    /// the order of the definitions: `AdminOnly` for callers other than the system and the root; then, for an
+    /// installation, `BadManifest`, `Installed` if the name or the key is in use, and `OverLimit` of `Packages`
+    /// if there are 256 or no uid is left; for the others, `NoPackage`, and `OverLimit` of `Grants` or `Links`
+    /// for one more than 256 of a package.
     pub fn plan(&self, caller: u32, request: &Request) -> Result<Plan, NoMemory>
         requires keeps { IsTrue (keeps_row request.now) }
         requires sound { IsSoundState self.now }
@@ -55,7 +55,7 @@ impl Live {
         }
     }
 
-    /// Puts a copy of the package behind the others. After `NoMemory` the state is as before.
+    /// Adds a copy of the package after the others. After `NoMemory` the state is as before.
     fn add_package(&mut self, package: &Package) -> Result<(), NoMemory>
         requires { IsInstallable «package».now self.old }
         ensures ok { OnOk result (self.new ≡ with_package self.old «package».now) }
@@ -65,8 +65,8 @@ impl Live {
         self.board.add_package(package)
     }
 
-    /// Makes a prepared change at a moment, in milliseconds, which is the last one then, after the deadlines
-    /// that are due are handled. A step is a reading of a deadline. Takes no memory.
+    /// Makes a prepared change at a moment, in milliseconds, which becomes the last one, after handling the
+    /// deadlines that are due. A step is a reading of a deadline. Takes no memory.
     pub fn carry_out<L: Ledger>(
         &mut self,
         change: Change,
@@ -112,8 +112,8 @@ impl Live {
         }
     }
 
-    /// Stops the package of the name, as only the system and the root may: nothing of it goes on. Refused by
-    /// `AdminOnly`, then by `NoPackage`. The call is at a moment, in milliseconds, which is the last one then,
+    /// Stops the package with the name, which only the system and the root may do: nothing of it goes on.
+    /// Refused by `AdminOnly`, then by `NoPackage`. The call's moment, in milliseconds, becomes the last one,
     /// and the deadlines that are due are handled. A step is a reading of a deadline. Takes no memory.
     pub fn force_stop<L: Ledger>(&mut self, by: Caller, name: &Text, steps: &mut Steps<L>) -> Reply
         ensures { force_stop (at_moment self.old by.moment) by.uid name.now ≡ (result, self.new) }
@@ -130,7 +130,7 @@ impl Live {
         Reply::Plain
     }
 
-    /// The package of the uid is stopped, and the uid is forgotten. Takes no memory.
+    /// Stops the package with the uid, and forgets the uid. Takes no memory.
     fn stop(&mut self, uid: u32)
         ensures { self.new ≡ with_packages (forget self.old uid)
             (with_stopped (forget self.old uid).board.packages uid true) }
@@ -139,7 +139,7 @@ impl Live {
         self.board.set_stopped(uid, true);
     }
 
-    /// The package of the uid goes with its grants and links, and the uid is forgotten. Takes no memory.
+    /// Removes the package with the uid, its grants and its links, and forgets the uid. Takes no memory.
     fn remove(&mut self, uid: u32)
         ensures { self.new ≡ without self.old uid }
     {
@@ -149,8 +149,8 @@ impl Live {
     }
 
     /// Forgets a uid at the last moment: its instances, services and registered receivers go, its pending
-    /// records are canceled and it holds no token, it wants no results, and no broadcast is for it any more.
-    /// Takes no memory.
+    /// records are canceled and it holds no token, it waits for no results, and no broadcast goes to it any
+    /// longer. Takes no memory.
     fn forget(&mut self, uid: u32)
         ensures { self.new ≡ forget self.old uid }
     {

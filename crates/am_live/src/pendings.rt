@@ -59,7 +59,7 @@ impl Live {
         reply
     }
 
-    /// Gives a token of the caller's to the installed package of that name, and settles the moment. Refused
+    /// Gives a token of the caller's to the installed package with that name, and settles the moment. Refused
     /// by `NoPackage`, then by `NoToken` if the token isn't live, by `NotCreator`, and by `OverLimit(Holders)`
     /// if it has 64 holders. After `NoMemory` the state is as before.
     pub fn pending_give<L: Ledger>(
@@ -85,10 +85,10 @@ impl Live {
         Ok(reply)
     }
 
-    /// Does as its creator what a token stands for that the caller holds, after the moment is settled: starts
-    /// an activity in a new task, starts a service, or sends a broadcast. A mutable pending intent takes what
-    /// is filled in. A one-shot token is used up by any answer. Refused by `NoToken` if the token was never
-    /// made, `Canceled` if it isn't live any more, `NotHolder`, `OverLimit(Extras)`, and by what refuses the
+    /// Acts as the creator of a token that the caller holds, after the moment is settled: starts an activity
+    /// in a new task, starts a service, or sends a broadcast. A mutable pending intent takes what is filled
+    /// in. A one-shot token is used up by any answer. Refused by `NoToken` if the token was never made,
+    /// `Canceled` if it is no longer live, `NotHolder`, `OverLimit(Extras)`, and by what refuses the
     /// creator. After `NoMemory` the state is as before. (`PendingIntent.send`.)
     pub fn pending_send<L: Ledger>(
         &mut self,
@@ -112,7 +112,7 @@ impl Live {
         }
     }
 
-    /// Does what a token stands for that may be used. A one-shot one is used up by any answer, but not by
+    /// Carries out a token that may be used. A one-shot token is used up by any answer, but not by
     /// `NoMemory`.
     fn after_use<L: Ledger>(
         &mut self,
@@ -138,7 +138,7 @@ impl Live {
         Ok(reply)
     }
 
-    /// Does as the creator what its intent asks for, after the moment is settled.
+    /// Does what the intent asks for as its creator, after the moment is settled.
     fn lend<L: Ledger>(
         &mut self,
         by: Caller,

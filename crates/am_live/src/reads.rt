@@ -1,4 +1,4 @@
-//! What is read of the state.
+//! What is read from the state.
 ghost use Rattle.std.specs.Prelude.{◌≡◌, ◌≤◌, length, option_copied, IfOk, OnOk, OnErr};
 ghost use Rattle.am_types.specs.declared.reply.Reply.TheVariants.{Components, Items, Services, Tasks};
 ghost use Rattle.am_model.specs.Candidates.{hits};
@@ -22,7 +22,7 @@ use std::sync::ledger::Ledger;
 
 impl Live {
     /// The components of the kind that the intent finds, by falling priority, then in the order of uid and
-    /// place. Each full test of a filter is a step.
+    /// place. A step is a full test of a filter.
     pub fn query<L: Ledger>(
         &self,
         kind: Kind,
@@ -40,10 +40,10 @@ impl Live {
         Ok(Reply::Components(names))
     }
 
-    /// Whom an intent reaches and why not the others. With `name` the question is that of the package of the
-    /// name, or of the system (`android`), which only the system and the root may ask; with `shown` only what
-    /// that package has is shown. Refused by `AdminOnly`, then by `NoPackage`. Each full test of a filter is a
-    /// step.
+    /// Who is reached by an intent and why the others aren't. With `name`, the question is asked as the
+    /// package with the name, or as the system (`android`), which only the system and the root may do; with
+    /// `shown`, only what that package has is shown. Refused by `AdminOnly`, then by `NoPackage`. A step is
+    /// a full test of a filter.
     #[tactic(auto, unfolding(am_history::specs::Explaining::explain))]
     pub fn explain<L: Ledger>(
         &self,
@@ -67,7 +67,7 @@ impl Live {
         self.told(&question.of_caller(uid), shown, steps)
     }
 
-    /// All accounts, or those of what the package of a name has. Refused by `NoPackage`.
+    /// All accounts, or only those of what the package with the name has. Refused by `NoPackage`.
     fn told<L: Ledger>(
         &self,
         question: &Question,
@@ -96,7 +96,7 @@ impl Live {
         Ok(Reply::Tasks(shown))
     }
 
-    /// The services that run and that the caller sees, in the order of their first start.
+    /// The running services that the caller sees, in the order of their first start.
     pub fn services(&self, caller: u32) -> Result<Reply, NoMemory>
         ensures { IfOk result (λ reply. reply ≡ Services (services_of self.now.services caller)) }
     {
@@ -112,8 +112,8 @@ impl Live {
         Ok(Reply::Items(items))
     }
 
-    /// What waits for the caller once the deadlines are handled that are due at a moment, which is the last
-    /// one then. After `NoMemory` the state is as before.
+    /// What waits for the caller after the deadlines that are due at a moment are handled. The moment
+    /// becomes the last one. After `NoMemory` the state is as before.
     pub fn inbox_at<L: Ledger>(
         &mut self,
         by: Caller,

@@ -10,11 +10,11 @@ use am_types::{Component, Intent, NoMemory, Reply, Steps};
 use std::sync::ledger::Ledger;
 
 impl Live {
-    /// Starts a service: the component that the intent names, or the first that it finds in the package
-    /// that it names; an intent that names neither is refused. The package of a started service isn't
-    /// stopped any more. The call is at a moment, in milliseconds, which is the last one then, and the
-    /// deadlines that are due are handled. A step is a full test of a filter, or a reading of a deadline.
-    /// After `NoMemory` the state is as before.
+    /// Starts a service: the component that the intent names, or the first one that it finds in the package
+    /// that it names. An intent that names neither is refused. The package of a started service is no
+    /// longer stopped. The call's moment, in milliseconds, becomes the last one, and the deadlines that are
+    /// due are handled. A step is a full test of a filter, or a reading of a deadline. After `NoMemory` the
+    /// state is as before.
     pub fn start_service<L: Ledger>(
         &mut self,
         by: Caller,
@@ -38,9 +38,8 @@ impl Live {
         Ok(reply)
     }
 
-    /// Stops a service that runs. The call is at a moment, in milliseconds, which is the last one then, and
-    /// the deadlines that are due are handled. A step is a reading of a deadline. After `NoMemory` the
-    /// state is as before.
+    /// Stops a running service. The call's moment, in milliseconds, becomes the last one, and the deadlines
+    /// that are due are handled. A step is a reading of a deadline. After `NoMemory` the state is as before.
     pub fn stop_service<L: Ledger>(
         &mut self,
         by: Caller,

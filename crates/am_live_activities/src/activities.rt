@@ -19,7 +19,7 @@ use am_types::{
 use std::alloc::Global;
 use std::sync::ledger::Ledger;
 
-/// A start as a caller asks for it, from an instance if that is given.
+/// A start as a caller asks for it, from an instance if one is given.
 #[derive(Drop)]
 pub struct Asked<'a> {
     pub caller: u32,
@@ -27,9 +27,9 @@ pub struct Asked<'a> {
     pub source: Option<u64>,
 }
 
-/// Starts the activity that the intent names, or the one that it finds; if it finds several of the greatest
-/// priority, none of them, and the reply names them. The package of an activity that was placed isn't stopped
-/// any more. A step is a full test of a filter. After `NoMemory` all is as before.
+/// Starts the activity that the intent names, or the one that it finds. If it finds several with the greatest
+/// priority, starts none of them, and the reply names them. The package of an activity that was placed is no
+/// longer stopped. A step is a full test of a filter. After `NoMemory` all is as before.
 #[tactic(auto, unfolding(am_history::specs::Activities::start))]
 pub fn start<L: Ledger>(
     alloc: Global,
@@ -54,7 +54,7 @@ pub fn start<L: Ledger>(
     }
 }
 
-/// Starts the one target of an intent; of several none, if the caller may start one of them.
+/// Starts the one target of an intent. If there are several and the caller may start one of them, names them.
 fn start_target(
     alloc: Global,
     board: &mut Board,
@@ -133,7 +133,7 @@ fn refusal(
     }
 }
 
-/// The rule by which a start is refused whose source isn't there.
+/// The rule by which a start is refused if its source isn't there.
 fn source_rule(tasks: &Tasks, source: Option<u64>) -> Option<Rule>
     ensures { result ≡ source_rule tasks.now source }
 {
@@ -154,7 +154,7 @@ fn caller_rule(tasks: &Tasks, asked: &Asked<'_>) -> Option<Rule>
     }
 }
 
-/// The rule by which a start is refused whose source has that owner, or isn't there.
+/// The rule by which a start is refused if its source has that owner, or isn't there.
 fn owned_rule(caller: u32, owner: Option<u32>) -> Option<Rule>
     ensures { result ≡ owned_rule caller owner }
 {
@@ -190,7 +190,7 @@ fn start_call(
     })
 }
 
-/// Places the start. The package of an activity that was placed isn't stopped any more.
+/// Places the start. The package of an activity that was placed is no longer stopped.
 fn place(board: &mut Board, tasks: &mut Tasks, call: StartCall) -> Result<Reply, NoMemory>
     requires { HasNumbers tasks.old }
     ensures done { IfOk result (λ reply. (s : State) →
@@ -223,7 +223,7 @@ fn place_rule(fault: PlaceFault) -> Rule
     }
 }
 
-/// Ends an activity instance, as its own uid, the system and the root may. Takes no memory.
+/// Ends an activity instance, which only its own uid, the system and the root may do. Takes no memory.
 #[tactic(auto, unfolding(am_history::specs::Activities::finish_activity))]
 pub fn finish_activity(tasks: &mut Tasks, caller: u32, instance: u64) -> Reply
     ensures { (s : State) → finish_activity (record s { tasks = tasks.old }) caller instance
@@ -245,7 +245,7 @@ fn end_rule(fault: TaskFault) -> Rule
     }
 }
 
-/// Goes back, as only the system and the root may: the instance that the user sees is ended, if there is one.
+/// Goes back, which only the system and the root may do: ends the instance that the user sees, if there is one.
 /// Takes no memory.
 #[tactic(auto, unfolding(am_history::specs::Activities::back))]
 pub fn back(tasks: &mut Tasks, caller: u32) -> Reply

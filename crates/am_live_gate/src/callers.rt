@@ -1,4 +1,4 @@
-//! Callers, and which one a key stands for.
+//! Callers, and which one has a key.
 ghost use Rattle.std.specs.Prelude.{◌≡◌, ◌≤◌, ◌||◌, Some, if◌then◌else◌};
 ghost use Rattle.std.specs.List.{list_any};
 ghost use Rattle.am_types.specs.declared.device.Package.{Package};
@@ -16,8 +16,8 @@ pub struct Caller {
     pub ghost early: { moment ≤ 4611686018427387904 },
 }
 
-/// The uid that has the key, if there is one, where these are the keys of the system and of the
-/// root, and the packages that are installed. Takes no memory.
+/// The uid that has the key, if there is one, given the keys of the system and of the root, and the
+/// packages that are installed. Takes no memory.
 pub fn uid_of(
     system_key: &Text,
     root_key: &Option<Text>,
@@ -34,7 +34,7 @@ pub fn uid_of(
     }
 }
 
-/// The root's uid where this is its key, else what is known of the others.
+/// The root's uid if this is its key, else the others' uid.
 fn root_or(root_key: &Option<Text>, key: &Text, others: Option<u32>) -> Option<u32>
     ensures { result ≡ root_or root_key.now key.now others }
 {
@@ -56,7 +56,7 @@ fn uid_of_package(packages: &List<Package>, key: &Text) -> Option<u32>
     None
 }
 
-/// The system, the root or a package has the key. Takes no memory.
+/// Whether the system, the root or a package has the key. Takes no memory.
 pub fn is_key_used(
     system_key: &Text,
     root_key: &Option<Text>,
@@ -69,7 +69,7 @@ pub fn is_key_used(
     *system_key == *key || is_root_key(root_key, key) || is_package_key(packages, key)
 }
 
-/// A package has the key.
+/// Whether a package has the key.
 fn is_package_key(packages: &List<Package>, key: &Text) -> bool
     ensures { result ≡ list_any (λ (p : Package). is_same p.key key.now) packages.now }
 {
@@ -79,7 +79,7 @@ fn is_package_key(packages: &List<Package>, key: &Text) -> bool
         .any(|installed| installed.key == *key)
 }
 
-/// The root has the key.
+/// Whether the root has the key.
 fn is_root_key(root_key: &Option<Text>, key: &Text) -> bool
     ensures { result ≡ is_root_key root_key.now key.now }
 {

@@ -7,8 +7,8 @@ use am_gates::{Ruling, verdict};
 use am_resolve::Board;
 use am_types::{Decl, NoMemory, Rule};
 
-/// The rule by which the gate refuses the caller of a component that the package of the uid declares;
-/// none if it admits the caller.
+/// The rule by which the gate keeps the caller from a component that the package with the uid
+/// declares; none if it admits the caller.
 pub fn gate(board: &Board, caller: u32, uid: u32, decl: &Decl) -> Result<Option<Rule>, NoMemory>
     ensures { IfOk result (λ rule. rule
         ≡ rule_of (verdict board.now.grants caller uid decl.now.exported decl.now.permission)) }

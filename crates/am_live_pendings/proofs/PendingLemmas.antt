@@ -50,7 +50,8 @@ pub given_to : (state : State) (caller token : ℕ) (name : List ℕ) (to : Opti
     ≡ for_found state to (λ (to : Package). after_change state (give state.pendings token caller to.uid))
 unfolding pending_give
 given_to state caller token name to is =
-    ap (λ (found : Option Package). for_found state found (λ (to : Package). after_change state (give state.pendings token caller to.uid))) is
+    ap (λ (found : Option Package). for_found state found (λ (to : Package). after_change state
+    (give state.pendings token caller to.uid))) is
 
 -- a token is used, where that is known to be granted or refused
 pub sent_as : (state : State) (caller token : ℕ) (fill : Option Intent) (used : Result Used PendingFault)

@@ -36,7 +36,7 @@ fn rule_of(fault: PendingFault) -> Rule
     }
 }
 
-/// The answer to a call that is refused; `NoMemory` if memory ran out.
+/// The answer to a call that is refused, or `NoMemory` if memory ran out.
 pub fn refused(fault: PendingFault) -> Result<Reply, NoMemory>
     ensures rule { IfOk result (λ reply. reply ≡ Refused (pending_rule fault)) }
     ensures known { OnOk result (fault ≡ PendingFault.NoMemory → ⊥) }
@@ -90,7 +90,7 @@ pub fn cancel<L: Ledger>(
     }
 }
 
-/// Gives a token of the caller's to the installed package of that name. Refused by `NoPackage`, then by `NoToken`
+/// Gives a token of the caller's to the installed package with that name. Refused by `NoPackage`, then by `NoToken`
 /// if the token isn't live, by `NotCreator`, and by `OverLimit(Holders)` if it has 64 holders. After `NoMemory`
 /// all is as before.
 pub fn give<L: Ledger>(
@@ -115,7 +115,7 @@ pub fn give<L: Ledger>(
     }
 }
 
-/// Uses a token up after whatever was answered: its creator cancels it. Takes no memory.
+/// Uses a token up, whatever the answer was: its creator cancels it. Takes no memory.
 pub fn use_up<L: Ledger>(pending: &mut Pending, token: u64, creator: u32, steps: &mut Steps<L>)
     ensures { (state : State) (reply : Reply) → used_up token creator (reply, record state { pendings = pending.old })
         ≡ (reply, record state { pendings = pending.new }) }

@@ -11,9 +11,9 @@ use am_types::{Component, Intent, Kind, Limit, NoMemory, Reply, Rule, Steps};
 use std::alloc::Global;
 use std::sync::ledger::Ledger;
 
-/// Starts the service that the intent names, or the first that it finds in the package that it names; an intent
-/// that names neither is refused. The package of a started service isn't stopped any more. A step is a full test
-/// of a filter. After `NoMemory` all is as before.
+/// Starts the service that the intent names, or the first one that it finds in the package that it names. An
+/// intent that names neither is refused. The package of a started service is no longer stopped. A step is a full
+/// test of a filter. After `NoMemory` all is as before.
 #[tactic(auto, unfolding(am_history::specs::Services::start_service))]
 pub fn start_service<L: Ledger>(
     alloc: Global,
@@ -57,7 +57,7 @@ pub fn start_service<L: Ledger>(
     }
 }
 
-/// Starts the service, whose package isn't stopped any more, or refuses by the rule `missing` if it isn't declared.
+/// Starts the service, whose package is then no longer stopped, or refuses by the rule `missing` if it isn't declared.
 fn start_component(
     board: &mut Board,
     services: &mut Services,

@@ -25,14 +25,14 @@ use Rattle.am_manifest_filters.specs.Filters.{filters_at}
 abbrev pub has_dot : List ℕ → Bool
 has_dot text = list_any (λ b. b == 46) text
 
--- the full class: one that starts with a dot stands in the package, and so does one without a dot
+-- the full class: a class that starts with a dot is in the package, and so is one without a dot
 abbrev pub full_class : List ℕ → List ℕ → List ℕ
 full_class «package» class =
     if starts_with_dot class then «package» ++ class
     else if has_dot class then class
     else «package» ++ codes "." ++ class
 
--- what a component's table says before its filters: its name, who may reach it, and whether it is on
+-- what a component's table has before its filters: its name, who may reach it, and whether it is enabled
 unfoldable pub heading_of : List ℕ → List ℕ → Data → Result Heading ManifestFault
 heading_of «package» at value = do
   class ← required_text Class at (codes "name") value
@@ -46,7 +46,7 @@ is_activity Activity = true
 is_activity Service = false
 is_activity Receiver = false
 
--- the launch mode of this name
+-- the launch mode with this name
 abbrev pub mode_named : List ℕ → Option Mode
 mode_named word =
     if bytes_eq word (codes "standard") then Some Standard
@@ -56,12 +56,12 @@ mode_named word =
     else if bytes_eq word (codes "singleInstancePerTask") then Some SingleInstancePerTask
     else None
 
--- a launch mode; none stands for a value that is no text, and for a word that is no mode
+-- a launch mode; `None` is a value that isn't a text, or a word that isn't a mode
 unfoldable pub mode_or : List ℕ → Option Mode → Result Mode ManifestFault
 mode_or place None = Err (WrongKind place)
 mode_or place (Some mode) = Ok mode
 
--- a launch mode that need not be there
+-- an optional launch mode
 unfoldable pub mode_in : List ℕ → Option Data → Result Mode ManifestFault
 mode_in place None = Ok Standard
 mode_in place (Some value) = mode_or place (option_and_then mode_named (as_str value))
@@ -70,7 +70,7 @@ mode_in place (Some value) = mode_or place (option_and_then mode_named (as_str v
 unfoldable pub mode_at : List ℕ → Data → Result Mode ManifestFault
 mode_at at value = mode_in (key_place at (codes "launchMode")) (get (codes "launchMode") value)
 
--- how an activity is launched: its affinity is its package where none is stated
+-- how an activity is launched: its affinity is its package if none is given
 unfoldable pub activity_launch : Option (List ℕ) → List ℕ → List ℕ → Data → Result Launch ManifestFault
 activity_launch permission «package» at value = do
   mode ← mode_at at value
@@ -89,17 +89,27 @@ launch_of kind «package» at value = do
   permission ← optional_text Filled at (codes "permission") value
   launch_with kind permission «package» at value
 
--- whether others may reach a component: stated, or else no where no filter is written
+-- whether others may reach a component: as given; if it isn't given, no if the component's table lists no filter
 unfoldable pub exported_of : List ℕ → Bool → Option Bool → Result Bool ManifestFault
 exported_of class written (Some exported) = Ok exported
 exported_of class true None = Err (ExportedUnstated class)
 exported_of class false None = Ok false
 
--- a component of these parts
+-- a component assembled from these parts
 unfoldable pub declared : Kind → Heading → Launch → Filters → Result Decl ManifestFault
 declared kind heading launch filters = do
   exported ← exported_of heading.class filters.written heading.exported
-  Ok (record { kind = kind; class = heading.class; exported = exported; enabled = heading.enabled; permission = launch.permission; mode = launch.mode; affinity = launch.affinity; filters = filters.kept })
+  Ok (record {
+    kind = kind;
+    class = heading.class;
+    exported = exported;
+    enabled = heading.enabled;
+    permission =
+        launch.permission;
+    mode = launch.mode;
+    affinity = launch.affinity;
+    filters = filters.kept;
+  })
 
 -- a component
 unfoldable pub component_of : Kind → List ℕ → List ℕ → Data → Result Decl ManifestFault
@@ -115,7 +125,7 @@ component_entry kind «package» at key i value = do
   within ← entry_table at key i value
   component_of kind «package» within value
 
--- the components at a key; how many there may be is tested later, over all kinds
+-- the components at a key; their number is checked later, over all kinds
 unfoldable pub components_at : Kind → List ℕ → List ℕ → List ℕ → Data → Result (List Decl) ManifestFault
 components_at kind «package» at key value = do
   values ← optional_values at key value

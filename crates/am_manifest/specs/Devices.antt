@@ -37,7 +37,7 @@ package_of uid at value = do
   manifest ← manifest_at at value
   Ok (record { uid = uid; name = manifest.«package»; key = key; stopped = false; decls = manifest.decls })
 
--- an entry of the packages: the first gets uid 10,000, each other one more than the one before it
+-- an entry of the packages: the first gets uid 10,000, each other one more than the previous one
 unfoldable pub package_entry : ℕ → Data → Result Package ManifestFault
 package_entry i value = do
   within ← entry_table [] (codes "package") i value
@@ -54,14 +54,14 @@ packages_in value = do
 abbrev pub is_taken : List (List ℕ) → List (List ℕ) → Package → Bool
 is_taken names keys p = if is_among p.name names then true else is_among p.key keys
 
--- the name of the first package whose name or key stood before
+-- the name of the first package whose name or key was taken by an earlier one
 abbrev pub first_taken : List (List ℕ) → List (List ℕ) → List Package → Option (List ℕ)
 first_taken names keys [] = None
 first_taken names keys (p ∷ packages) =
     if is_taken names keys p then Some p.name
     else first_taken (with_text names p.name) (with_text keys p.key) packages
 
--- the packages, unless this is the name of one that is taken
+-- the packages, unless this is the name of one whose name or key is taken
 unfoldable pub unless_taken : List Package → Option (List ℕ) → Result (List Package) ManifestFault
 unless_taken packages None = Ok packages
 unless_taken packages (Some name) = Err (Duplicate name)
@@ -79,7 +79,7 @@ roots_apart owners = if shares_key owners owners.root_key then Err (Duplicate (c
 abbrev pub known_keys : Owners → List (List ℕ)
 known_keys owners = with_optional (with_text [] owners.system_key) owners.root_key
 
--- the packages, whose names and keys are apart, and apart from those of the system and of the root
+-- the packages, whose names and keys are distinct, also from those of the system and of the root
 unfoldable pub apart : Owners → List Package → Result (List Package) ManifestFault
 apart owners packages = do
   root ← roots_apart owners
@@ -100,12 +100,22 @@ actions_in value = do
   exempt ← texts_at Filled [] (codes "exempt") 1024 value
   Ok (record { «protected» = «protected»; exempt = exempt })
 
--- a device of these parts
+-- a device assembled from these parts
 abbrev pub device_made : Owners → Actions → List Package → Rights → Device
 device_made owners actions packages rights =
-    record { system_key = owners.system_key; root_key = owners.root_key; browser = owners.browser; «protected» = actions.«protected»; exempt = actions.exempt; packages = packages; grants = rights.grants; links = rights.links }
+    record {
+      system_key = owners.system_key;
+      root_key = owners.root_key;
+      browser = owners.browser;
+      «protected» =
+          actions.«protected»;
+      exempt = actions.exempt;
+      packages = packages;
+      grants = rights.grants;
+      links = rights.links;
+    }
 
--- the packages of a device, apart
+-- the packages of a device, with distinct names and keys
 unfoldable pub packages_apart : Owners → Data → Result (List Package) ManifestFault
 packages_apart owners value = do
   packages ← packages_in value

@@ -16,7 +16,7 @@ use Rattle.am_uri.specs.Texts.{is_among}
 use Rattle.am_manifest_filters.specs.Tables.{required_text, at_most}
 use Rattle.am_manifest.specs.Components.{components_at}
 
--- the first text that stands again after itself
+-- the first text that occurs again later
 abbrev pub first_repeated : List (List ℕ) → Option (List ℕ)
 first_repeated [] = None
 first_repeated (text ∷ texts) = if is_among text texts then Some text else first_repeated texts
@@ -25,7 +25,7 @@ first_repeated (text ∷ texts) = if is_among text texts then Some text else fir
 abbrev pub classes : List Decl → List (List ℕ)
 classes decls = map (λ d. d.class) decls
 
--- a manifest, unless this is a class that stands twice
+-- a manifest, unless this is a class that occurs twice
 unfoldable pub unless_repeated : Manifest → Option (List ℕ) → Result Manifest ManifestFault
 unless_repeated manifest None = Ok manifest
 unless_repeated manifest (Some class) = Err (Duplicate class)
@@ -63,12 +63,12 @@ manifest_alone value = do
   manifest ← manifest_in [] value
   if bytes_eq manifest.«package» (codes "android") then Err (Duplicate (codes "android")) else Ok manifest
 
--- the table that a document is; none stands for a text that is no TOML document
+-- the table that a document is; `None` is a text that isn't a TOML document
 unfoldable pub root_of : Option Members → Result Data ManifestFault
 root_of None = Err NotToml
 root_of (Some members) = Ok (table members)
 
--- the manifest that a text writes, or the first fault
+-- the manifest that a text contains, or the first fault
 unfoldable pub manifest_of : List ℕ → Result Manifest ManifestFault
 manifest_of text = do
   short ← at_most 65536 (codes "text") (length text)
@@ -82,7 +82,7 @@ pub record IsSoundManifest (m : Manifest) : Type 0 where
   pub classes : AreDistinct (classes_of m.decls)
   pub decls : All IsSoundDecl m.decls
 
--- a manifest may be an app's: it is sound, and not that of the system's package
+-- a manifest may be an app's: it is sound, and isn't the manifest of the system's package
 pub record IsAppManifest (m : Manifest) : Type 0 where
   pub sound : IsSoundManifest m
   pub other : is_same (codes "android") m.«package» ≡ false

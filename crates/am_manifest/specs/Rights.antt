@@ -1,4 +1,4 @@
--- What is granted to the packages of a device, and the hosts for which they are approved.
+-- The permissions granted to the packages of a device, and the hosts for which the packages are approved.
 use Rattle.std.specs.Prelude.{ℕ, ◌+◌, nat_lt, codes, List, [], ◌∷◌, ◌++◌, length, map, replicate, slice_index_or, slice_set, if◌then◌else◌, Option, Some, None, option_and_then, Result, Ok, Err}
 use Rattle.std.specs.Char.{to_ascii_lowercase}
 use Rattle.std.specs.Str.{bytes_eq}
@@ -21,7 +21,7 @@ abbrev pub array_key : RightKind → List ℕ
 array_key Permission = codes "grant"
 array_key Host = codes "link"
 
--- the key of what an entry gives a right to
+-- the key of the text that an entry gives a right to
 abbrev pub text_key : RightKind → List ℕ
 text_key Permission = codes "permission"
 text_key Host = codes "host"
@@ -31,12 +31,12 @@ abbrev pub limit_name : RightKind → List ℕ
 limit_name Permission = codes "grants"
 limit_name Host = codes "links"
 
--- a host stands in lower ASCII case
+-- a host is kept in lower case (ASCII)
 abbrev pub spelled : RightKind → List ℕ → List ℕ
 spelled Permission text = text
 spelled Host text = map to_ascii_lowercase text
 
--- the place of the first package of this name, where the first package has this place
+-- the place of the first package with this name, if the first package has this place
 abbrev pub place_among : List Package → ℕ → List ℕ → Option ℕ
 place_among [] i name = None
 place_among (p ∷ packages) i name =
@@ -59,11 +59,11 @@ right_put kind held right = do
   more ← more_texts kind (texts_of held right.holder) right.text
   Ok (slice_set held right.holder more)
 
--- one more right; one of no package changes nothing
+-- one more right; a right without a package changes nothing
 unfoldable pub with_right : RightKind → List (List (List ℕ)) → Right → Result (List (List (List ℕ))) ManifestFault
 with_right kind held right = if nat_lt right.holder (length held) then right_put kind held right else Ok held
 
--- the place of a package; none stands for one that is not in the file
+-- the place of a package; `None` is one that isn't in the file
 unfoldable pub holder_or : List ℕ → Option ℕ → Result ℕ ManifestFault
 holder_or place None = Err (WrongKind place)
 holder_or place (Some holder) = Ok holder
@@ -92,7 +92,8 @@ module _ (place_of_name : List ℕ → Option ℕ) where
     right_of kind within value
 
   -- the rights held, with those of the entries from this one on
-  unfoldable pub rights_from : RightKind → List (List (List ℕ)) → ℕ → List Data → Result (List (List (List ℕ))) ManifestFault
+  unfoldable pub rights_from : RightKind → List (List (List ℕ)) → ℕ → List Data
+      → Result (List (List (List ℕ))) ManifestFault
   rights_from kind held i [] = Ok held
   rights_from kind held i (value ∷ values) = do
     right ← right_entry kind i value
@@ -117,9 +118,13 @@ rights_given kind packages value = do
   held ← rights_of kind packages value
   Ok (with_uids packages held)
 
--- what is granted to the packages, and the hosts for which they are approved
+-- the permissions granted to the packages, and the hosts for which the packages are approved
 unfoldable pub rights_in : List Package → Data → Result Rights ManifestFault
 rights_in packages value = do
   granted ← rights_of Permission packages value
   approved ← rights_of Host packages value
-  Ok (record { grants = map (λ r. record { uid = r.0; permission = r.1 }) (with_uids packages granted); links = map (λ r. record { uid = r.0; host = r.1 }) (with_uids packages approved) })
+  Ok (record {
+    grants = map (λ r. record { uid = r.0; permission = r.1 }) (with_uids packages granted);
+    links = map
+        (λ r. record { uid = r.0; host = r.1 }) (with_uids packages approved);
+  })

@@ -15,17 +15,17 @@ use am_uri::{Form, starts_with_dot};
 use std::alloc::{AllocError, Global};
 use toml::Value;
 
-/// What a component's table says first.
+/// The first part of a component's table.
 #[derive(Drop)]
 pub struct Heading {
     /// The full class.
     pub class: Text,
-    /// Whether others may reach it, where that is stated.
+    /// Whether others may reach it, if that is given.
     pub exported: Option<bool>,
     pub enabled: bool,
 }
 
-/// How a component is launched, and by whom.
+/// How a component is launched, and who may launch it.
 #[derive(Drop)]
 pub struct Launch {
     pub permission: Option<Text>,
@@ -53,7 +53,7 @@ fn full_class(alloc: Global, package: &str, class: Text) -> Result<Text, AllocEr
     Ok(class)
 }
 
-/// What a component's table says before its filters.
+/// What a component's table has before its filters.
 #[tactic(auto, unfolding(crate::specs::Components::heading_of))]
 fn heading_of(alloc: Global, package: &Text, at: &str, table: &Value) -> Result<Heading, ReadFault>
     ensures { Gives result (heading_of «package».now at.now (view table.now)) }
@@ -76,7 +76,7 @@ fn is_activity(kind: Kind) -> bool
     kind == Kind::Activity
 }
 
-/// The launch mode of this name.
+/// The launch mode with this name.
 fn mode_named(word: &str) -> Option<Mode>
     ensures { result ≡ mode_named word.now }
 {
@@ -115,7 +115,7 @@ fn mode_at(alloc: Global, at: &str, table: &Value) -> Result<Mode, ReadFault>
     }
 }
 
-/// A text, or else the other one.
+/// The text if there is one, otherwise the other one.
 fn text_or(text: Option<Text>, other: &Text) -> Result<Text, AllocError>
     ensures { IfOk result (λ chosen. chosen ≡ unwrap_or text other.now) }
 {
@@ -146,7 +146,7 @@ fn activity_launch(
     })
 }
 
-/// How a component is launched, and by whom.
+/// How a component is launched, and who may launch it.
 #[tactic(auto, unfolding(crate::specs::Components::launch_of, crate::specs::Components::launch_with))]
 fn launch_of(
     alloc: Global,
@@ -168,7 +168,7 @@ fn launch_of(
     })
 }
 
-/// Whether others may reach a component: stated, or else no where no filter is written.
+/// Whether others may reach a component: as given; if it isn't given, no if the component's table lists no filter.
 #[tactic(auto, unfolding(crate::specs::Components::exported_of))]
 fn exported_of(class: &Text, written: bool, stated: Option<bool>) -> Result<bool, ReadFault>
     ensures { Gives result (exported_of class.now written stated) }
@@ -183,7 +183,7 @@ fn exported_of(class: &Text, written: bool, stated: Option<bool>) -> Result<bool
     }
 }
 
-/// The component of these parts.
+/// The component assembled from these parts.
 #[tactic(auto, unfolding(crate::specs::Components::declared))]
 fn declared(
     kind: Kind,

@@ -27,7 +27,7 @@ pub struct Owners {
     pub browser: Option<Text>,
 }
 
-/// The actions that a device treats in a way of their own.
+/// The actions that a device treats specially.
 #[derive(Drop)]
 pub struct Actions {
     pub protected: List<Text>,
@@ -104,7 +104,7 @@ fn is_taken(package: &Package, names: &BTreeSet<Text>, keys: &BTreeSet<Text>) ->
     keys.contains(&package.key)
 }
 
-/// The name of the first package whose name or key is known, or stood before.
+/// The name of the first package whose name or key is known or was taken by an earlier one.
 fn first_taken(
     alloc: Global,
     names: BTreeSet<Text>,
@@ -125,7 +125,7 @@ fn first_taken(
     Ok(None)
 }
 
-/// The names that no package may bear.
+/// The names that no package may have.
 fn known_names(alloc: Global) -> Result<BTreeSet<Text>, AllocError>
     ensures { IfOk result (λ names. names.keys ≡ codes "android" ∷ []) }
 {
@@ -167,7 +167,7 @@ fn roots_apart(alloc: Global, owners: &Owners) -> Result<(), ReadFault>
     Ok(())
 }
 
-/// Refuses packages whose names and keys aren't apart, or not apart from those of the system and the root.
+/// Refuses packages whose names and keys aren't distinct, also from those of the system and the root.
 #[tactic(auto, unfolding(crate::specs::Devices::apart, crate::specs::Devices::unless_taken))]
 fn are_apart(alloc: Global, owners: &Owners, packages: &[Package]) -> Result<(), ReadFault>
     ensures { GivesBy (λ _. packages.now) result (apart owners.now packages.now) }
@@ -181,7 +181,7 @@ fn are_apart(alloc: Global, owners: &Owners, packages: &[Package]) -> Result<(),
     Ok(())
 }
 
-/// The packages, if their names and keys are apart, and apart from those of the system and the root.
+/// The packages, if their names and keys are distinct, also from those of the system and the root.
 fn apart(alloc: Global, owners: &Owners, packages: Vec<Package>) -> Result<Vec<Package>, ReadFault>
     ensures { GivesBy (λ packages. packages.items) result (apart owners.now packages.items) }
 {
@@ -194,7 +194,7 @@ fn apart(alloc: Global, owners: &Owners, packages: Vec<Package>) -> Result<Vec<P
     }
 }
 
-/// The packages of a device, apart.
+/// The packages of a device, with distinct names and keys.
 #[tactic(auto, unfolding(crate::specs::Devices::packages_apart))]
 fn packages_apart(alloc: Global, owners: &Owners, table: &Value) -> Result<Vec<Package>, ReadFault>
     ensures { GivesBy (λ packages. packages.items) result (packages_apart owners.now (view table.now)) }
@@ -231,7 +231,7 @@ fn actions_in(alloc: Global, table: &Value) -> Result<Actions, ReadFault>
     })
 }
 
-/// The device of these parts.
+/// The device assembled from these parts.
 fn device_made(owners: Owners, actions: Actions, packages: Vec<Package>, rights: Rights) -> Device
     ensures { result ≡ device_made owners actions packages.items rights }
 {
@@ -270,7 +270,7 @@ fn device_in(alloc: Global, table: &Value) -> Result<Device, ReadFault>
 ///
 /// # Errors
 ///
-/// Where they are no UTF-8.
+/// If they aren't UTF-8.
 #[tactic(auto, unfolding(crate::specs::Devices::text_of))]
 pub fn text_of(bytes: &[u8]) -> Result<&str, ReadFault>
     ensures reads { GivesBy (λ text. text.now) result (text_of bytes.now) }
@@ -284,13 +284,13 @@ pub fn text_of(bytes: &[u8]) -> Result<&str, ReadFault>
 
 /// Reads a device file: at most 16,777,216 bytes of TOML in UTF-8.
 ///
-/// The packages get the uids from 10,000 on, in the order of the file; an absent list is empty. A device that is
-/// read is sound: the names and keys of its packages are distinct, and so are the classes of each; grants and links
-/// are of its packages, in order, each once; all stays within the limits.
+/// The packages get the uids from 10,000 on, in the order of the file; an absent list is empty. A device that is read
+/// is sound: the names and keys of its packages are distinct, and so are the classes of each; grants and links belong
+/// to its packages, in order, each once; everything is within the limits.
 ///
 /// # Errors
 ///
-/// `Unmade::Fault` has the first fault that is met, with its place; `Unmade::NoMemory` may come at any
+/// `Unmade::Fault` has the first fault found, with its place; `Unmade::NoMemory` may come at any
 /// place.
 #[tactic(auto, unfolding(crate::specs::Devices::device_of))]
 pub fn read_device(alloc: Global, bytes: &[u8]) -> Result<Device, ReadFault>

@@ -1,4 +1,4 @@
-//! Reads device files and manifests, which are TOML, and answers their first fault.
+//! Reads device files and manifests, which are TOML, and reports the first fault in them.
 #![tactic(auto)]
 
 mod components;

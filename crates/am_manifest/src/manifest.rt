@@ -16,7 +16,7 @@ use std::alloc::{AllocError, Global};
 use std::collections::BTreeSet;
 use toml::Value;
 
-/// The class, if it stands again, or else the other one.
+/// The class, if it occurs again, otherwise the other one.
 fn class_or(class: &Text, again: bool, other: Option<Text>) -> Result<Option<Text>, AllocError>
     ensures { IfOk result (λ first. first ≡ (if again then Some class.now else other)) }
 {
@@ -26,7 +26,7 @@ fn class_or(class: &Text, again: bool, other: Option<Text>) -> Result<Option<Tex
     Ok(other)
 }
 
-/// The first class that stands again after itself.
+/// The first class that occurs again later.
 fn first_repeated(alloc: Global, decls: &[Decl]) -> Result<Option<Text>, AllocError>
     ensures { IfOk result (λ class. class ≡ first_repeated (classes decls.now)) }
 {
@@ -42,7 +42,7 @@ fn first_repeated(alloc: Global, decls: &[Decl]) -> Result<Option<Text>, AllocEr
     Ok(repeated)
 }
 
-/// That this stands twice, or that memory ran out.
+/// The fault that this occurs twice, or that memory ran out.
 pub(crate) fn duplicate(alloc: Global, name: &str) -> ReadFault
     ensures { IsFault result (Duplicate name.now) }
 {
@@ -52,7 +52,7 @@ pub(crate) fn duplicate(alloc: Global, name: &str) -> ReadFault
     }
 }
 
-/// Refuses more than 256 components of a package, and a class that stands twice.
+/// Refuses more than 256 components of a package, and a class that occurs twice.
 #[tactic(auto, unfolding(crate::specs::Manifests::manifest_made, crate::specs::Manifests::unless_repeated))]
 fn are_distinct(alloc: Global, decls: &[Decl]) -> Result<(), ReadFault>
     ensures { («package» : Items ℕ) →
@@ -65,7 +65,7 @@ fn are_distinct(alloc: Global, decls: &[Decl]) -> Result<(), ReadFault>
     Ok(())
 }
 
-/// The manifest of these components, of which there may be 256, of distinct classes.
+/// The manifest with these components: at most 256, of distinct classes.
 fn manifest_made(alloc: Global, package: Text, decls: Vec<Decl>) -> Result<Manifest, ReadFault>
     ensures { Gives result (manifest_made «package» decls.items) }
 {
@@ -123,7 +123,7 @@ fn decls_in(alloc: Global, package: &Text, at: &str, table: &Value) -> Result<Ve
     more_decls(alloc, decls, Kind::Receiver, package, at, "receiver", table)
 }
 
-/// The manifest in a table, the places of whose keys begin with `at`.
+/// The manifest in a table whose keys' places begin with `at`.
 #[tactic(auto, unfolding(crate::specs::Manifests::manifest_in))]
 pub fn manifest_in(alloc: Global, at: &str, table: &Value) -> Result<Manifest, ReadFault>
     ensures { Gives result (manifest_in at.now (view table.now)) }
@@ -133,7 +133,7 @@ pub fn manifest_in(alloc: Global, at: &str, table: &Value) -> Result<Manifest, R
     manifest_made(alloc, name, decls)
 }
 
-/// A manifest that is read by itself, which may not be that of the system's package.
+/// A manifest read by itself, which may not be that of the system's package.
 #[tactic(auto, unfolding(crate::specs::Manifests::manifest_alone))]
 fn manifest_alone(alloc: Global, table: &Value) -> Result<Manifest, ReadFault>
     ensures { Gives result (manifest_alone (view table.now)) }
@@ -146,7 +146,7 @@ fn manifest_alone(alloc: Global, table: &Value) -> Result<Manifest, ReadFault>
     Ok(manifest)
 }
 
-/// The fault of a text at which `toml` met this error: it is no TOML, unless memory ran out.
+/// The fault of a text for which `toml` gave this error: it isn't TOML, unless memory ran out.
 fn fault_of(error: &toml::de::Error) -> ReadFault
     ensures memory { IsMemory error.now → result ≡ Unmade.NoMemory }
     ensures refused { ¬ IsMemory error.now → result ≡ Unmade.Fault ManifestFault.NotToml }
@@ -162,7 +162,7 @@ fn fault_of(error: &toml::de::Error) -> ReadFault
 ///
 /// # Errors
 ///
-/// Where the text is none, and where memory runs out.
+/// If the text isn't one, and if memory runs out.
 #[tactic(auto, unfolding(crate::specs::Manifests::root_of))]
 pub fn root_of(alloc: Global, text: &str) -> Result<Value, ReadFault>
     ensures { GivesBy (λ root. view root) result (root_of (parse_document text.now)) }
@@ -176,11 +176,11 @@ pub fn root_of(alloc: Global, text: &str) -> Result<Value, ReadFault>
 /// Reads a manifest by itself: at most 65,536 bytes of TOML. Its package may not be `android`.
 ///
 /// A manifest that is read is sound: the classes of its components, at most 256, are distinct, and what their filters
-/// list stays within the limits.
+/// list is within the limits.
 ///
 /// # Errors
 ///
-/// `Unmade::Fault` has the first fault that is met, with its place; `Unmade::NoMemory` may come at any
+/// `Unmade::Fault` has the first fault found, with its place; `Unmade::NoMemory` may come at any
 /// place.
 #[tactic(auto, unfolding(crate::specs::Manifests::manifest_of))]
 pub fn read_package(alloc: Global, text: &Text) -> Result<Manifest, ReadFault>

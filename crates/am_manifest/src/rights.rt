@@ -1,4 +1,4 @@
-//! What is granted to the packages of a device, and the hosts for which they are approved.
+//! The permissions granted to the packages of a device, and the hosts for which the packages are approved.
 ghost use Rattle.std.specs.Prelude.{◌≡◌, ◌++◌, ◌<◌, ℕ, List as Items, IfOk, map, option_and_then, replicate, [], vec_len};
 ghost use Rattle.toml.specs.Data.{as_str};
 ghost use Rattle.toml.specs.View.{view};
@@ -58,7 +58,7 @@ fn limit_name(kind: RightKind) -> &'static str
     }
 }
 
-/// The text as it counts: a host in lower ASCII case.
+/// The text in the form that is compared: a host in lower case (ASCII).
 fn spelled(alloc: Global, kind: RightKind, text: Text) -> Result<Text, AllocError>
     ensures { IfOk result (λ spelling. spelling ≡ spelled kind text) }
 {
@@ -130,7 +130,7 @@ fn right_entry(
     right_of(alloc, places, kind, within.as_str(), value)
 }
 
-/// The texts of a package, which may have 256, with one more.
+/// Adds a text to those of a package, which may have 256.
 #[tactic(auto, unfolding(crate::specs::Rights::more_texts))]
 fn more_texts(
     alloc: Global,
@@ -151,7 +151,7 @@ fn more_texts(
     Ok(texts)
 }
 
-/// The rights, with one more of a package of the device.
+/// Adds a right of a package of the device.
 fn right_put(
     alloc: Global,
     kind: RightKind,
@@ -168,7 +168,7 @@ fn right_put(
     Ok(held)
 }
 
-/// The rights, with one more. One of no package changes nothing.
+/// Adds a right. A right without a package changes nothing.
 #[tactic(auto, unfolding(crate::specs::Rights::with_right))]
 fn with_right(
     alloc: Global,
@@ -184,7 +184,7 @@ fn with_right(
     Ok(held)
 }
 
-/// The rights, with those of the entries.
+/// Adds the rights of the entries.
 fn rights_from(
     alloc: Global,
     places: &BTreeMap<String, usize>,
@@ -216,7 +216,7 @@ fn places_of(alloc: Global, packages: &[Package]) -> Result<BTreeMap<String, usi
     Ok(places)
 }
 
-/// No rights of so many packages.
+/// No rights for this many packages.
 fn no_rights(alloc: Global, count: usize) -> Result<Vec<BTreeSet<Text>>, AllocError>
     ensures { IfOk result (λ held. texts_in held ≡ replicate count []) }
 {
@@ -256,7 +256,7 @@ fn rights_given(
     Ok(with_uids(alloc, packages, &held)?)
 }
 
-/// What is granted to the packages, and the hosts for which they are approved.
+/// The permissions granted to the packages, and the hosts for which the packages are approved.
 #[tactic(auto, unfolding(crate::specs::Rights::rights_in))]
 pub fn rights_in(alloc: Global, packages: &[Package], table: &Value) -> Result<Rights, ReadFault>
     ensures { Gives result (rights_in packages.now (view table.now)) }
@@ -302,11 +302,11 @@ fn with_uids(
     Ok(rights)
 }
 
-/// The grants that rights to permissions are.
+/// The grants that the rights to permissions are.
 ///
 /// # Errors
 ///
-/// Only want of memory.
+/// Only if memory runs out.
 pub fn as_grants(alloc: Global, rights: Vec<(u32, Text)>) -> Result<Vec<Grant>, AllocError>
     ensures { IfOk result (λ grants. grants.items ≡ map (λ r. record { uid = r.0; permission = r.1 }) rights.items) }
 {
@@ -316,11 +316,11 @@ pub fn as_grants(alloc: Global, rights: Vec<(u32, Text)>) -> Result<Vec<Grant>, 
         .collect(alloc)
 }
 
-/// The links that rights to hosts are.
+/// The links that the rights to hosts are.
 ///
 /// # Errors
 ///
-/// Only want of memory.
+/// Only if memory runs out.
 pub fn as_links(alloc: Global, rights: Vec<(u32, Text)>) -> Result<Vec<Link>, AllocError>
     ensures { IfOk result (λ links. links.items ≡ map (λ r. record { uid = r.0; host = r.1 }) rights.items) }
 {

@@ -23,7 +23,7 @@ use Rattle.am_manifest_filters.specs.Filters.{filter_entry, filter_of, filters_a
 use Rattle.am_uri.proofs.Order.{length_put, length_sorted}
 use Rattle.am_manifest_filters.proofs.StepsRead.{steps, same, within, each_all, each_length}
 
--- rows that were merged from so many
+-- rows that were merged from this many
 record AreMerged (rows : DataRows) (count : ℕ) : Type 0 where
   pub schemes : length rows.schemes ≤ count
   pub authorities : length rows.authorities ≤ count
@@ -46,10 +46,24 @@ length_paths rules paths =
     let one = rules ++ listed (option_map Literal paths.literal) in
     let two = one ++ listed (option_map Prefix paths.prefix) in
     let three = two ++ listed (option_map Suffix paths.suffix) in
-    omega (arith, length_more rules (option_map Literal paths.literal), length_more one (option_map Prefix paths.prefix), length_more two (option_map Suffix paths.suffix), length_more three (option_map Pattern paths.pattern))
+    omega (
+      arith,
+      length_more rules (option_map Literal paths.literal),
+      length_more one
+          (option_map Prefix paths.prefix),
+      length_more two (option_map Suffix paths.suffix),
+      length_more three
+          (option_map Pattern paths.pattern),
+    )
 
-merged_from : (rows : DataRows) (count : ℕ) (more : List DataRow) → AreMerged rows count → AreMerged (fold with_row rows more) (count + length more)
-merged_from rows count [] m = record { schemes = omega (arith, m.schemes); authorities = omega (arith, m.authorities); paths = omega (arith, m.paths); types = omega (arith, m.types) }
+merged_from : (rows : DataRows) (count : ℕ) (more : List DataRow) → AreMerged rows count
+    → AreMerged (fold with_row rows more) (count + length more)
+merged_from rows count [] m = record {
+  schemes = omega (arith, m.schemes);
+  authorities = omega (arith, m.authorities);
+  paths = omega (arith, m.paths);
+  types = omega (arith, m.types);
+}
 merged_from rows count (row ∷ more) m =
     let next : AreMerged (with_row rows row) (count + 1) = record {
       schemes = omega (arith, m.schemes, length_optional rows.schemes row.scheme);
@@ -58,7 +72,13 @@ merged_from rows count (row ∷ more) m =
       types = omega (arith, m.types, length_more rows.types row.mime);
     } in
     let all = merged_from (with_row rows row) (count + 1) more next in
-    record { schemes = omega (arith, all.schemes); authorities = omega (arith, all.authorities); paths = omega (arith, all.paths); types = omega (arith, all.types) }
+    record {
+      schemes = omega (arith, all.schemes);
+      authorities = omega (arith, all.authorities);
+      paths = omega
+          (arith, all.paths);
+      types = omega (arith, all.types);
+    }
 
 rows_within : (at : List ℕ) (value : Data) (rows : DataRows) → rows_at at value ≡ Ok rows → AreMerged rows 64
 unfolding rows_at
@@ -68,7 +88,12 @@ rows_within at value rows h =
     let read = steps (each (row_entry at) 0 values.value) _ rows few.then in
     let many = within 64 (codes "list") (length values.value) few.value few.is in
     let long = each_length (row_entry at) 0 values.value read.value read.is in
-    let none : AreMerged no_rows 0 = record { schemes = omega arith; authorities = omega arith; paths = omega arith; types = omega arith } in
+    let none : AreMerged no_rows 0 = record {
+      schemes = omega arith;
+      authorities = omega arith;
+      paths = omega arith;
+      types = omega arith;
+    } in
     let all = merged_from no_rows 0 read.value none in
     subst (λ (r : DataRows). AreMerged r 64) (same (fold with_row no_rows read.value) rows read.then) (record {
       schemes = omega (arith, all.schemes, many, long);
@@ -77,7 +102,8 @@ rows_within at value rows h =
       types = omega (arith, all.types, many, long);
     })
 
-texts_within : (at key : List ℕ) (value : Data) (texts : List (List ℕ)) → sorted_at at key value ≡ Ok texts → length texts ≤ 64
+texts_within : (at key : List ℕ) (value : Data) (texts : List (List ℕ)) → sorted_at at key value ≡ Ok texts
+    → length texts ≤ 64
 unfolding sorted_at texts_at
 texts_within at key value texts h =
     let read = steps (texts_at Filled at key 64 value) _ texts h in
@@ -86,7 +112,8 @@ texts_within at key value texts h =
     let many = within 64 (codes "list") (length values.value) few.value few.is in
     let long = each_length (entry_text Filled at key) 0 values.value read.value few.then in
     let put = length_sorted [] read.value in
-    subst (λ (ts : List (List ℕ)). length ts ≤ 64) (same (sorted_texts read.value) texts read.then) (omega (arith, many, long, put))
+    subst (λ (ts : List (List ℕ)). length ts ≤ 64) (same (sorted_texts read.value) texts read.then)
+    (omega (arith, many, long, put))
 
 filter_within : (at : List ℕ) (value : Data) (f : Filter) → filter_of at value ≡ Ok f → IsSoundFilter f
 unfolding filter_of
@@ -116,7 +143,8 @@ pub record AreFewFilters (filters : List Filter) : Type 0 where
   pub few : length filters ≤ 32
   pub each : All IsSoundFilter filters
 
-pub filters_within : (at : List ℕ) (value : Data) (filters : Filters) → filters_at at value ≡ Ok filters → AreFewFilters filters.kept
+pub filters_within : (at : List ℕ) (value : Data) (filters : Filters) → filters_at at value ≡ Ok filters
+    → AreFewFilters filters.kept
 unfolding filters_at
 filters_within at value filters h =
     let values = steps (optional_values at (codes "intent-filter") value) _ filters h in
@@ -127,5 +155,6 @@ filters_within at value filters h =
     let kept = ap (λ (fs : Filters). fs.kept) (same _ filters read.then) in
     subst AreFewFilters kept (record {
       few = omega (arith, many, long, length-filter has_action read.value, count_by-le-length has_action read.value);
-      each = All-filter has_action IsSoundFilter read.value (each_all (filter_entry at) IsSoundFilter (entry_within at) 0 values.value read.value read.is);
+      each = All-filter has_action IsSoundFilter read.value (each_all (filter_entry at) IsSoundFilter (entry_within at)
+          0 values.value read.value read.is);
     })

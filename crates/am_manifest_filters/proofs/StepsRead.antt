@@ -1,4 +1,4 @@
--- What the steps of a reading read, where it read something.
+-- What the steps of a reading read, if it read something.
 use Rattle.std.proofs.Common.{◌≡◌, ℕ, ◌+◌, ◌≤◌, Bool, true, false, cond, List, [], ◌∷◌, length, Option, Some, None, Result, Ok, Err, refl, sym, ap, subst, arith}
 use Rattle.std.specs.Prelude.{All, IfSome, codes, nat_lt}
 use Rattle.std.proofs.lemmas.Bool.{ltb-false}
@@ -13,12 +13,14 @@ use Rattle.am_manifest_filters.specs.Texts.{key_place, text_in}
 use Rattle.am_manifest_filters.specs.Tables.{at_most, each, required_in, required_text, optional_text_in, optional_text}
 
 -- what the first step read, of which the second one made this
-pub record Steps {A B : Type 0} (first : Result A ManifestFault) (next : A → Result B ManifestFault) (made : B) : Type 0 where
-  pub value : A
-  pub is : first ≡ Ok value
-  pub then : next value ≡ Ok made
+pub record Steps {A B : Type 0} (first : Result A ManifestFault) (next : A → Result B ManifestFault) (made : B) : Type 0
+  where
+    pub value : A
+    pub is : first ≡ Ok value
+    pub then : next value ≡ Ok made
 
-pub steps : {A B : Type 0} (first : Result A ManifestFault) (next : A → Result B ManifestFault) (made : B) → (first >>= next) ≡ Ok made → Steps first next made
+pub steps : {A B : Type 0} (first : Result A ManifestFault) (next : A → Result B ManifestFault) (made : B)
+    → (first >>= next) ≡ Ok made → Steps first next made
 steps (Ok value) next made h = record { value = value; is = refl; then = h }
 steps (Err fault) next made h = absurd cc
 
@@ -36,17 +38,20 @@ within limit name count u h = by (nat_lt limit count) refl h
     by false e h = ltb-false limit count e
 
 -- a text that was read has the form that was asked for
-pub fitting : (form : Form) (place : List ℕ) (o : Option (List ℕ)) (text : List ℕ) → text_in form place o ≡ Ok text → fits form text ≡ true
+pub fitting : (form : Form) (place : List ℕ) (o : Option (List ℕ)) (text : List ℕ) → text_in form place o ≡ Ok text
+    → fits form text ≡ true
 unfolding text_in
 fitting form place None text h = absurd cc
 fitting form place (Some t) text h = by (fits form t) refl (nat_lt 1024 (length t)) h
   where
-    by : (a : Bool) → fits form t ≡ a → (b : Bool) → cond a (cond b (Err (OverLimit (codes "text"))) (Ok t)) (Err (WrongKind place)) ≡ Ok text → fits form text ≡ true
+    by : (a : Bool) → fits form t ≡ a → (b : Bool) → cond a (cond b (Err (OverLimit (codes "text"))) (Ok t))
+        (Err (WrongKind place)) ≡ Ok text → fits form text ≡ true
     by true e true h = absurd cc
     by true e false h = let is : t ≡ text = cc in subst (λ (s : List ℕ). fits form s ≡ true) is e
     by false e b h = absurd cc
 
-pub required_fits : (form : Form) (at key : List ℕ) (value : Data) (text : List ℕ) → required_text form at key value ≡ Ok text → fits form text ≡ true
+pub required_fits : (form : Form) (at key : List ℕ) (value : Data) (text : List ℕ) → required_text form at key value
+    ≡ Ok text → fits form text ≡ true
 unfolding required_text required_in
 required_fits form at key value text h = by (get key value) h
   where
@@ -54,24 +59,30 @@ required_fits form at key value text h = by (get key value) h
     by None h = absurd cc
     by (Some v) h = fitting form (key_place at key) (as_str v) text h
 
-pub optional_fits : (form : Form) (at key : List ℕ) (value : Data) (found : Option (List ℕ)) → optional_text form at key value ≡ Ok found → IfSome found (λ text. fits form text ≡ true)
+pub optional_fits : (form : Form) (at key : List ℕ) (value : Data) (found : Option (List ℕ))
+    → optional_text form at key value ≡ Ok found → IfSome found (λ text. fits form text ≡ true)
 unfolding optional_text optional_text_in
 optional_fits form at key value found h = by (get key value) h
   where
-    by : (o : Option Data) → optional_text_in form (key_place at key) o ≡ Ok found → IfSome found (λ text. fits form text ≡ true)
+    by : (o : Option Data) → optional_text_in form (key_place at key) o ≡ Ok found
+        → IfSome found (λ text. fits form text ≡ true)
     by None h = subst (λ (o : Option (List ℕ)). IfSome o (λ text. fits form text ≡ true)) (same None found h) tt
     by (Some v) h =
         let text = steps (text_in form (key_place at key) (as_str v)) _ found h in
-        subst (λ (o : Option (List ℕ)). IfSome o (λ t. fits form t ≡ true)) (same (Some text.value) found text.then) (fitting form (key_place at key) (as_str v) text.value text.is)
+        subst (λ (o : Option (List ℕ)). IfSome o (λ t. fits form t ≡ true)) (same (Some text.value) found text.then)
+        (fitting form (key_place at key) (as_str v) text.value text.is)
 
 module _ {A : Type 0} (read : ℕ → Data → Result A ManifestFault) where
-  pub each_all : (P : A → Type 0) → ((i : ℕ) (v : Data) (x : A) → read i v ≡ Ok x → P x) → (i : ℕ) (values : List Data) (xs : List A) → each read i values ≡ Ok xs → All P xs
+  pub each_all : (P : A → Type 0) → ((i : ℕ) (v : Data) (x : A) → read i v ≡ Ok x → P x)
+      → (i : ℕ) (values : List Data) (xs : List A) → each read i values ≡ Ok xs → All P xs
   unfolding each
   each_all P f i [] xs h = subst (All P) (same [] xs h) (All-nil P)
   each_all P f i (v ∷ values) xs h =
       let one = steps (read i v) _ xs h in
       let others = steps (each read (i + 1) values) _ xs one.then in
-      subst (All P) (same (one.value ∷ others.value) xs others.then) (All-cons P one.value others.value (f i v one.value one.is) (each_all P f (i + 1) values others.value others.is))
+      subst (All P) (same (one.value ∷ others.value) xs others.then)
+      (All-cons P one.value others.value (f i v one.value one.is)
+      (each_all P f (i + 1) values others.value others.is))
 
   pub each_length : (i : ℕ) (values : List Data) (xs : List A) → each read i values ≡ Ok xs → length xs ≡ length values
   unfolding each

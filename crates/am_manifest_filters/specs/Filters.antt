@@ -20,12 +20,12 @@ priority_in place (Some number) =
     else if int_lt (pos 2147483647) number then Err BadPriority
     else Ok number
 
--- a priority that need not be there
+-- an optional priority
 unfoldable pub optional_priority_in : List ℕ → Option Data → Result ℤ ManifestFault
 optional_priority_in place None = Ok (pos 0)
 optional_priority_in place (Some value) = priority_in place (as_integer value)
 
--- the priority of a filter, 0 where none is written
+-- the priority of a filter, 0 if none is given
 unfoldable pub priority_at : List ℕ → Data → Result ℤ ManifestFault
 priority_at at value = optional_priority_in (key_place at (codes "priority")) (get (codes "priority") value)
 
@@ -42,7 +42,16 @@ filter_of at value = do
   categories ← sorted_at at (codes "category") value
   priority ← priority_at at value
   rows ← rows_at at value
-  Ok (record { actions = actions; categories = categories; schemes = rows.schemes; authorities = rows.authorities; paths = rows.paths; types = rows.types; priority = priority })
+  Ok (record {
+    actions = actions;
+    categories = categories;
+    schemes = rows.schemes;
+    authorities = rows.authorities;
+    paths
+        = rows.paths;
+    types = rows.types;
+    priority = priority;
+  })
 
 -- an entry of the filters of a component
 unfoldable pub filter_entry : List ℕ → ℕ → Data → Result Filter ManifestFault
@@ -54,7 +63,7 @@ filter_entry at i value = do
 abbrev pub has_action : Filter → Bool
 has_action f = not (length f.actions == 0)
 
--- the filters of a component: whether any is written, and those that list an action
+-- the filters of a component: whether there is any in its table, and those that list an action
 unfoldable pub filters_at : List ℕ → Data → Result Filters ManifestFault
 filters_at at value = do
   values ← optional_values at (codes "intent-filter") value

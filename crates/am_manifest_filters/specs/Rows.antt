@@ -19,7 +19,7 @@ use Rattle.am_manifest_filters.specs.Texts.{key_place}
 use Rattle.am_filter.specs.Rows.{with_row, no_rows}
 use Rattle.am_manifest_filters.specs.Tables.{optional_text, optional_values, at_most, each, entry_table, only_keys}
 
--- a scheme, unless it is none
+-- a scheme, unless it isn't valid
 unfoldable pub scheme_in : List ℕ → Option (List ℕ) → Result (Option (List ℕ)) ManifestFault
 scheme_in place None = Ok None
 scheme_in place (Some text) = if is_scheme text then Ok (Some text) else Err (BadUri place)
@@ -30,12 +30,12 @@ scheme_at at value = do
   text ← optional_text Filled at (codes "scheme") value
   scheme_in (key_place at (codes "scheme")) text
 
--- a type, unless a text is none
+-- a type, unless a text isn't a valid one
 unfoldable pub mime_or : List ℕ → Result Mime MimeFault → Result (Option Mime) ManifestFault
 mime_or place (Ok mime) = Ok (Some mime)
 mime_or place (Err fault) = Err (BadMime place)
 
--- a type that need not be there
+-- an optional type
 unfoldable pub mime_in : List ℕ → Option (List ℕ) → Result (Option Mime) ManifestFault
 mime_in place None = Ok None
 mime_in place (Some text) = mime_or place (mime_of text)
@@ -52,7 +52,7 @@ port_in place None = Err (WrongKind place)
 port_in place (Some (pos number)) = if nat_lt 99999 number then Err (WrongKind place) else Ok (Some number)
 port_in place (Some (negsuc number)) = Err (WrongKind place)
 
--- a port that need not be there
+-- an optional port
 unfoldable pub optional_port_in : List ℕ → Option Data → Result (Option ℕ) ManifestFault
 optional_port_in place None = Ok None
 optional_port_in place (Some value) = port_in place (as_integer value)
@@ -61,7 +61,7 @@ optional_port_in place (Some value) = port_in place (as_integer value)
 unfoldable pub port_at : List ℕ → Data → Result (Option ℕ) ManifestFault
 port_at at value = optional_port_in (key_place at (codes "port")) (get (codes "port") value)
 
--- the authority of a row: its host with its port; a port without a host counts for nothing
+-- the authority of a row: its host with its port; a port without a host is ignored
 unfoldable pub authority_at : List ℕ → Data → Result (Option Authority) ManifestFault
 authority_at at value = do
   host ← optional_text Filled at (codes "host") value
@@ -100,7 +100,8 @@ row_of at value = do
 -- a key that a row may have
 abbrev pub is_row_key : List ℕ → Bool
 is_row_key key =
-    list_any (bytes_eq key) (codes "scheme" ∷ codes "host" ∷ codes "port" ∷ codes "path" ∷ codes "pathPrefix" ∷ codes "pathSuffix" ∷ codes "pathPattern" ∷ codes "mimeType" ∷ [])
+    list_any (bytes_eq key) (codes "scheme" ∷ codes "host" ∷ codes "port" ∷ codes "path" ∷ codes "pathPrefix"
+    ∷ codes "pathSuffix" ∷ codes "pathPattern" ∷ codes "mimeType" ∷ [])
 
 -- an entry of the data rows of a filter
 unfoldable pub row_entry : List ℕ → ℕ → Data → Result DataRow ManifestFault

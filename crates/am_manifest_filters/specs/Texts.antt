@@ -1,4 +1,4 @@
--- The texts of a manifest or a device file, and the places where they stand.
+-- The texts of a manifest or a device file, and their places.
 use Rattle.std.specs.Prelude.{ℕ, nat_lt, codes, List, ◌++◌, length, if◌then◌else◌, Option, Some, None, Result, Ok, Err}
 use Rattle.std.specs.Fmt.{decimal}
 use Rattle.am_types.specs.declared.manifest.ManifestFault.{ManifestFault}
@@ -7,7 +7,7 @@ use Rattle.am_uri.specs.declared.text.Form.{Form}
 use Rattle.am_uri.specs.Texts.{fits}
 use Rattle.am_manifest_filters.specs.declared.place.Position.{Position}
 
--- a text of the form, of at most 1,024 bytes; none stands for a value that is no text
+-- a text of the form, of at most 1,024 bytes; `None` is a value that isn't a text
 unfoldable pub text_in : Form → List ℕ → Option (List ℕ) → Result (List ℕ) ManifestFault
 text_in form place None = Err (WrongKind place)
 text_in form place (Some text) =
@@ -22,11 +22,11 @@ key_place at key = at ++ key
 abbrev pub entry_place : List ℕ → List ℕ → ℕ → List ℕ
 entry_place at key i = at ++ key ++ codes "[" ++ decimal i ++ codes "]"
 
--- what the places begin with in a table that is an entry of the array at a key
+-- what the places in a table that is an entry of the array at a key begin with
 abbrev pub within_entry : List ℕ → List ℕ → ℕ → List ℕ
 within_entry at key i = at ++ key ++ codes "[" ++ decimal i ++ codes "]."
 
--- what the places begin with in the table at a key
+-- what the places in the table at a key begin with
 abbrev pub within_key : List ℕ → List ℕ → List ℕ
 within_key at key = at ++ key ++ codes "."
 

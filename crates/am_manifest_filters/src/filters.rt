@@ -17,13 +17,13 @@ use toml::Value;
 /// The filters of a component, as its table lists them.
 #[derive(Drop)]
 pub struct Filters {
-    /// Whether its table lists any, also one that isn't kept.
+    /// Whether its table lists any, including ones that aren't kept.
     pub written: bool,
-    /// Those that list an action, in the order read.
+    /// The filters that list an action, in the order read.
     pub kept: List<Filter>,
 }
 
-/// The priority of a filter: 0 where none is written.
+/// The priority of a filter: 0 if none is given.
 #[tactic(auto, unfolding(crate::specs::Filters::priority_at, crate::specs::Filters::optional_priority_in, crate::specs::Filters::priority_in))]
 fn priority_at(alloc: Global, at: &str, table: &Value) -> Result<i32, ReadFault>
     ensures { Gives result (priority_at at.now (view table.now)) }
@@ -98,7 +98,7 @@ fn with_actions(alloc: Global, filters: Vec<Filter>) -> Result<Vec<Filter>, Allo
 ///
 /// # Errors
 ///
-/// The first fault that is met, with its place.
+/// The first fault found, with its place.
 #[tactic(auto, unfolding(crate::specs::Filters::filters_at))]
 pub fn filters_at(alloc: Global, at: &str, table: &Value) -> Result<Filters, ReadFault>
     ensures { Gives result (filters_at at.now (view table.now)) }

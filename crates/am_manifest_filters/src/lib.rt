@@ -1,5 +1,5 @@
-//! Reads what stands at the keys of TOML tables, and the intent filters that a component's table lists. The
-//! answer is the value, or the first fault with its place.
+//! Reads the values at the keys of TOML tables, and the intent filters that a component's table lists. The
+//! result is the value, or the first fault with its place.
 #![tactic(auto)]
 
 mod fault;

@@ -1,4 +1,4 @@
-//! Where something stands in a document, and the faults that say so.
+//! Places in a document, and the faults that name them.
 ghost use Rattle.std.specs.Prelude.{◌≡◌, IfOk, None, Some, codes};
 ghost use Rattle.am_types.specs.declared.manifest.ManifestFault.TheVariants.{WrongKind, OverLimit};
 ghost use Rattle.am_types.specs.Reading.{IsFault};
@@ -15,7 +15,7 @@ pub struct Position<'a> {
     pub at: &'a str,
     /// The key, as it is written.
     pub key: &'a str,
-    /// The entry of its array, counted from 0; none for the key itself.
+    /// The index of the entry in its array, from 0; none for the key itself.
     pub index: Option<usize>,
 }
 
@@ -42,11 +42,11 @@ impl<'a> Position<'a> {
         }
     }
 
-    /// The place as it is printed, as `activity[0].name`.
+    /// The place as it is printed, such as `activity[0].name`.
     ///
     /// # Errors
     ///
-    /// Only want of memory.
+    /// Only if memory runs out.
     pub fn place(&self, alloc: Global) -> Result<Text, AllocError>
         ensures { IfOk result (λ place. place ≡ place_of self.now) }
     {
@@ -56,8 +56,8 @@ impl<'a> Position<'a> {
         }
     }
 
-    /// That the value there is of another kind or out of its range, or that memory ran out while its place was
-    /// written.
+    /// The fault that the value there is of another kind or out of its range, or that memory ran out while its place
+    /// was written.
     pub fn wrong_kind(&self, alloc: Global) -> ReadFault
         ensures { IsFault result (WrongKind (place_of self.now)) }
     {
@@ -80,25 +80,25 @@ fn entry_place(alloc: Global, at: &str, key: &str, i: usize) -> Result<Text, All
     Ok(Text::new(format!(in alloc; "{at}{key}[{i}]")?))
 }
 
-/// What the places begin with in a table that is this entry of an array, as `activity[0].`.
+/// What the places in a table that is this entry of an array begin with, such as `activity[0].`.
 pub fn within(alloc: Global, at: &str, key: &str, i: usize) -> Result<Text, AllocError>
     ensures { IfOk result (λ text. text ≡ within_entry at.now key.now i) }
 {
     Ok(Text::new(format!(in alloc; "{at}{key}[{i}].")?))
 }
 
-/// What the places begin with in the table at this key, as `manifest.`.
+/// What the places in the table at this key begin with, such as `manifest.`.
 ///
 /// # Errors
 ///
-/// Only want of memory.
+/// Only if memory runs out.
 pub fn within_key(alloc: Global, at: &str, key: &str) -> Result<Text, AllocError>
     ensures { IfOk result (λ text. text ≡ within_key at.now key.now) }
 {
     Ok(Text::new(format!(in alloc; "{at}{key}.")?))
 }
 
-/// That there is more of something than its limit, which has this name, or that memory ran out.
+/// The fault that there is more of something than the limit with this name, or that memory ran out.
 pub fn over_limit(alloc: Global, name: &str) -> ReadFault
     ensures { IsFault result (OverLimit name.now) }
 {

@@ -15,7 +15,7 @@ use am_uri::{Form, is_scheme, parse_mime};
 use std::alloc::Global;
 use toml::Value;
 
-/// The scheme, unless it is none.
+/// The scheme, unless it isn't valid.
 #[tactic(auto, unfolding(crate::specs::Rows::scheme_in))]
 fn scheme_in(alloc: Global, at: &str, text: Option<Text>) -> Result<Option<Text>, ReadFault>
     ensures { Gives result (scheme_in (key_place at.now (codes "scheme")) text) }
@@ -34,7 +34,7 @@ fn scheme_in(alloc: Global, at: &str, text: Option<Text>) -> Result<Option<Text>
 ///
 /// # Errors
 ///
-/// Where the value is no text or an empty one, where it is too long, and then where it is no scheme.
+/// If the value isn't a text or is an empty one, if it is too long, and then if it isn't a scheme.
 #[tactic(auto, unfolding(crate::specs::Rows::scheme_at))]
 pub fn scheme_at(alloc: Global, at: &str, table: &Value) -> Result<Option<Text>, ReadFault>
     ensures { Gives result (scheme_at at.now (view table.now)) }
@@ -43,7 +43,7 @@ pub fn scheme_at(alloc: Global, at: &str, table: &Value) -> Result<Option<Text>,
     scheme_in(alloc, at, text)
 }
 
-/// The type that a text is, unless it is none.
+/// The type that a text is, unless it isn't a valid one.
 #[tactic(auto, unfolding(crate::specs::Rows::mime_in, crate::specs::Rows::mime_or))]
 fn mime_in(alloc: Global, at: &str, text: Option<Text>) -> Result<Option<Mime>, ReadFault>
     ensures { Gives result (mime_in (key_place at.now (codes "mimeType")) text) }
@@ -65,7 +65,7 @@ fn mime_in(alloc: Global, at: &str, text: Option<Text>) -> Result<Option<Mime>, 
 ///
 /// # Errors
 ///
-/// Where the value is no text or an empty one, where it is too long, and then where it is no type.
+/// If the value isn't a text or is an empty one, if it is too long, and then if it isn't a type.
 #[tactic(auto, unfolding(crate::specs::Rows::mime_at))]
 pub fn mime_at(alloc: Global, at: &str, table: &Value) -> Result<Option<Mime>, ReadFault>
     ensures { Gives result (mime_at at.now (view table.now)) }
@@ -95,7 +95,7 @@ fn port_at(alloc: Global, at: &str, table: &Value) -> Result<Option<u32>, ReadFa
     Ok(Some(number as u32))
 }
 
-/// The authority of a row: its host with its port. A port without a host counts for nothing.
+/// The authority of a row: its host with its port. A port without a host is ignored.
 #[tactic(auto, unfolding(crate::specs::Rows::authority_at))]
 fn authority_at(alloc: Global, at: &str, table: &Value) -> Result<Option<Authority>, ReadFault>
     ensures { Gives result (authority_at at.now (view table.now)) }

@@ -1,4 +1,4 @@
-//! What stands at the keys of a table. The places of its keys begin with `at`.
+//! The values at the keys of a table. The places of its keys begin with `at`.
 ghost use Rattle.std.specs.Prelude.{◌≡◌, ◌<◌, ℕ, Bool, IfOk, List, Result, Some, length, map};
 ghost use Rattle.am_types.specs.declared.manifest.ManifestFault.{ManifestFault};
 ghost use Rattle.toml.specs.Data.{Data, as_str};
@@ -14,11 +14,11 @@ use am_uri::Form;
 use std::alloc::{AllocError, Global};
 use toml::{Table, Value};
 
-/// The text of this form at a key that must be there, of at most 1,024 bytes.
+/// The text of this form at a required key, of at most 1,024 bytes.
 ///
 /// # Errors
 ///
-/// Where the key isn't there, where its value is no text of the form, and then where it is too long.
+/// If the key is absent, if its value isn't a text of the form, and then if it is too long.
 #[tactic(auto, unfolding(crate::specs::Tables::required_text, crate::specs::Tables::required_in))]
 pub fn required_text(
     alloc: Global,
@@ -36,11 +36,11 @@ pub fn required_text(
     }
 }
 
-/// The text of this form at a key that need not be there, of at most 1,024 bytes.
+/// The text of this form at an optional key, of at most 1,024 bytes.
 ///
 /// # Errors
 ///
-/// Where the value is no text of the form, and then where it is too long.
+/// If the value isn't a text of the form, and then if it is too long.
 #[tactic(auto, unfolding(crate::specs::Tables::optional_text, crate::specs::Tables::optional_text_in))]
 pub fn optional_text(
     alloc: Global,
@@ -70,7 +70,7 @@ fn text_in(alloc: Global, form: Form, position: &Position, value: &Value) -> Res
     }
 }
 
-/// The text, if it may stand there.
+/// The text, if it has the form and isn't too long.
 #[tactic(auto, unfolding(crate::specs::Texts::text_in))]
 fn fitting(alloc: Global, form: Form, position: &Position, text: &str) -> Result<Text, ReadFault>
     ensures { Gives result (text_in form (place_of position.now) (Some text.now)) }
@@ -84,11 +84,11 @@ fn fitting(alloc: Global, form: Form, position: &Position, text: &str) -> Result
     Ok(Text::of(alloc, text)?)
 }
 
-/// The truth at a key that need not be there.
+/// The boolean at an optional key.
 ///
 /// # Errors
 ///
-/// Where the value is none.
+/// If the value isn't a boolean.
 #[tactic(auto, unfolding(crate::specs::Tables::optional_truth, crate::specs::Tables::optional_truth_in, crate::specs::Tables::truth_in))]
 pub fn optional_truth(
     alloc: Global,
@@ -108,11 +108,11 @@ pub fn optional_truth(
     }
 }
 
-/// The values of the array at a key: none where it is not there.
+/// The values of the array at a key: none if the key is absent.
 ///
 /// # Errors
 ///
-/// Where the value is no array.
+/// If the value isn't an array.
 #[tactic(auto, using(crate::proofs::Each::values_of_view), unfolding(crate::specs::Tables::optional_values, crate::specs::Tables::optional_values_in, crate::specs::Tables::values_in))]
 pub fn optional_values<'a>(
     alloc: Global,
@@ -136,7 +136,7 @@ pub fn optional_values<'a>(
 ///
 /// # Errors
 ///
-/// The fault that names the limit, where `count` is greater.
+/// The fault that names the limit, if `count` is greater.
 #[tactic(auto, unfolding(crate::specs::Tables::at_most))]
 pub fn at_most(alloc: Global, limit: usize, name: &str, count: usize) -> Result<(), ReadFault>
     ensures { Gives result (at_most limit name.now count) }
@@ -147,7 +147,7 @@ pub fn at_most(alloc: Global, limit: usize, name: &str, count: usize) -> Result<
     Ok(())
 }
 
-/// The least key that `is_known` doesn't know.
+/// The least key that `is_known` rejects.
 fn unlisted<F: Fn(&str) -> bool>(
     alloc: Global,
     table: &Table,
@@ -167,7 +167,7 @@ fn unlisted<F: Fn(&str) -> bool>(
     Ok(None)
 }
 
-/// Refuses a table with a key that `is_known` doesn't know.
+/// Refuses a table with a key that `is_known` rejects.
 ///
 /// # Errors
 ///
@@ -194,7 +194,7 @@ pub fn only_keys<F: Fn(&str) -> bool>(
     Err(Unmade::Fault(ManifestFault::LeftOut(position.place(alloc)?)))
 }
 
-/// What `read` makes of each value, which it is given with the number of values before it.
+/// The result of `read` for each value; `read` also gets the number of values before it.
 ///
 /// # Errors
 ///
@@ -217,11 +217,11 @@ pub fn read_each<T: Drop, F: Fn(usize, &Value) -> Result<T, ReadFault>>(
     Ok(items)
 }
 
-/// What the places begin with in an entry of an array, which must be a table. Entries count from 0.
+/// What the places in an entry of an array, which must be a table, begin with. Entries count from 0.
 ///
 /// # Errors
 ///
-/// Where the value is no table.
+/// If the value isn't a table.
 #[tactic(auto, unfolding(crate::specs::Tables::entry_table))]
 pub fn entry_table(
     alloc: Global,
@@ -274,7 +274,7 @@ fn each_text(
 ///
 /// # Errors
 ///
-/// Where the value is no array, then where it is too long, and then the first fault of its entries in order.
+/// If the value isn't an array, then if it is too long, and then the first fault of its entries in order.
 #[tactic(auto, unfolding(crate::specs::Tables::texts_at))]
 pub fn texts_at(
     alloc: Global,

@@ -39,7 +39,8 @@ packages_long owners root packages h values is =
     ∙ ap (λ (vs : List Data). length vs) one
 
 device_long : (root : Data) (device : Device) → device_in root ≡ Ok device
-    → (values : List Data) → optional_values [] (codes "package") root ≡ Ok values → length device.packages ≡ length values
+    → (values : List Data) → optional_values [] (codes "package") root ≡ Ok values → length device.packages
+    ≡ length values
 unfolding device_in
 device_long root device h values is =
     let owners = steps (owners_in root) _ device h in
@@ -54,7 +55,8 @@ queries_long : (root : Data) (queries : List Queries) → all_queries root ≡ O
 unfolding all_queries
 queries_long root queries h device made =
     let values = steps (optional_values [] (codes "package") root) _ queries h in
-    each_length package_queries 0 values.value queries values.then ∙ sym (device_long root device made values.value values.is)
+    each_length package_queries 0 values.value queries values.then
+    ∙ sym (device_long root device made values.value values.is)
 
 -- reading a device and its queries reads as many queries as packages
 pub parts_long : (bytes : List ℕ) (device : Device) (queries : List Queries) → device_of bytes ≡ Ok device

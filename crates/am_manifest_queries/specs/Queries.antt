@@ -15,13 +15,13 @@ use Rattle.am_manifest.specs.Devices.{device_of, text_of}
 use Rattle.am_manifest_queries.specs.Signatures.{signature_of}
 use Rattle.am_manifest_queries.specs.declared.device.Described.{Described}
 
--- an entry of the intents that are asked for
+-- an entry of the queried intents
 unfoldable pub signature_entry : List ℕ → ℕ → Data → Result Signature ManifestFault
 signature_entry at i value = do
   within ← entry_table at (codes "intent") i value
   signature_of within value
 
--- the intents that are asked for, of which there are at most 64
+-- the queried intents, of which there are at most 64
 unfoldable pub signatures_at : List ℕ → Data → Result (List Signature) ManifestFault
 signatures_at at value = do
   values ← optional_values at (codes "intent") value

@@ -25,7 +25,7 @@ names_of at value = do
   categories ← texts_at Filled at (codes "category") 64 value
   Ok (record { action = action; categories = categories })
 
--- the scheme, the host and the type, each if it is there
+-- the scheme, the host and the type, each if it is present
 unfoldable pub data_of : List ℕ → TomlData → Result Data ManifestFault
 data_of at value = do
   scheme ← scheme_at at value
@@ -33,7 +33,7 @@ data_of at value = do
   mime ← mime_at at value
   Ok (record { scheme = scheme; host = host; mime = mime })
 
--- the intent that a table asks for
+-- the intent that a table queries
 unfoldable pub signature_of : List ℕ → TomlData → Result Signature ManifestFault
 signature_of at value = do
   known ← only_keys is_signature_key at value

@@ -22,7 +22,7 @@ pub struct Described {
     pub queries: List<Queries>,
 }
 
-/// What stands at the key `queries` of a package's manifest.
+/// The value at the key `queries` of a package's manifest.
 fn queries_value(package: &Value) -> Option<&Value>
     ensures { option_map (λ value. view value.now) result
         ≡ option_and_then (get (codes "queries")) (get (codes "manifest") (view «package».now)) }
@@ -76,15 +76,15 @@ fn text_queries(alloc: Global, bytes: &[u8]) -> Result<Vec<Queries>, ReadFault>
 /// Reads a device file as `read_device` does, and the table `queries` of each manifest in it.
 ///
 /// That table may have `package`, at most 64 names of packages, which need not be installed, and `intent`, at most 64
-/// tables with `action`, a text that isn't empty, and perhaps `category`, at most 64 texts, `scheme`, `host` and
+/// tables with `action`, a text that isn't empty, and optionally `category`, at most 64 texts, `scheme`, `host` and
 /// `mimeType`. A manifest without the table asks for nothing. (The `<queries>` element of the reference; without
 /// providers, and without `*` in an intent's scheme or host.)
 ///
 /// # Errors
 ///
-/// `Unmade::Fault` has the first fault that is met, with its place: first those of the device, then those of the
-/// tables `queries`, package by package. In a table of `intent` a key of another name is `LeftOut`, before its other
-/// faults. `Unmade::NoMemory` may come at any place.
+/// `Unmade::Fault` has the first fault found, with its place: first those of the device, then those of the tables
+/// `queries`, package by package. In a table of `intent` an unknown key is `LeftOut`, before the table's other faults.
+/// `Unmade::NoMemory` may come at any place.
 #[tactic(auto, unfolding(crate::specs::Queries::described))]
 pub fn read_described(alloc: Global, bytes: &[u8]) -> Result<Described, ReadFault>
     ensures reads { Gives result (described bytes.now) }
@@ -108,7 +108,7 @@ pub fn read_described(alloc: Global, bytes: &[u8]) -> Result<Described, ReadFaul
 ///
 /// # Errors
 ///
-/// As [`read_described`].
+/// As for [`read_described`].
 #[tactic(auto, unfolding(crate::specs::Queries::queries_of))]
 pub fn read_queries(alloc: Global, bytes: &[u8]) -> Result<List<Queries>, ReadFault>
     ensures { Gives result (queries_of bytes.now) }

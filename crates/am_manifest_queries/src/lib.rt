@@ -1,4 +1,4 @@
-//! Reads what the packages of a device file ask to see: the table `queries` of each manifest. The answer is the value,
+//! Reads what the packages of a device file ask to see: the table `queries` of each manifest. The result is the value,
 //! or the first fault with its place.
 #![tactic(auto)]
 

@@ -15,7 +15,7 @@ use am_uri::Form;
 use std::alloc::Global;
 use toml::Value;
 
-/// An intent that is asked for, as an entry.
+/// A queried intent, as an entry.
 #[tactic(auto, unfolding(crate::specs::Queries::signature_entry))]
 fn signature_entry(alloc: Global, at: &str, i: usize, value: &Value) -> Result<Signature, ReadFault>
     ensures { Gives result (signature_entry at.now i (view value.now)) }
@@ -24,7 +24,7 @@ fn signature_entry(alloc: Global, at: &str, i: usize, value: &Value) -> Result<S
     signature_of(alloc, within.as_str(), value)
 }
 
-/// Each value as an intent that is asked for.
+/// Each value as a queried intent.
 fn each_signature(alloc: Global, at: &str, values: &[Value]) -> Result<Vec<Signature>, ReadFault>
     ensures { GivesBy (λ signatures. signatures.items) result (each (signature_entry at.now) 0 (map view values.now)) }
 {
@@ -35,7 +35,7 @@ fn each_signature(alloc: Global, at: &str, values: &[Value]) -> Result<Vec<Signa
     )
 }
 
-/// The intents that are asked for, at most 64.
+/// The queried intents, at most 64.
 #[tactic(auto, unfolding(crate::specs::Queries::signatures_at))]
 fn signatures_at(alloc: Global, at: &str, table: &Value) -> Result<Vec<Signature>, ReadFault>
     ensures { GivesBy (λ signatures. signatures.items) result (signatures_at at.now (view table.now)) }

@@ -1,4 +1,4 @@
-//! An intent that queries ask for.
+//! An intent that a manifest's queries ask for.
 ghost use Rattle.std.specs.Prelude.{◌≡◌};
 ghost use Rattle.toml.specs.View.{view};
 ghost use Rattle.am_types.specs.Reading.{Gives};
@@ -13,14 +13,14 @@ use am_uri::Form;
 use std::alloc::Global;
 use toml::Value;
 
-/// The action and the categories that are asked for.
+/// The queried action and categories.
 #[derive(Drop)]
 pub struct Names {
     pub action: Text,
     pub categories: List<Text>,
 }
 
-/// The data that is asked for.
+/// The queried data.
 #[derive(Drop)]
 pub struct Data {
     pub scheme: Option<Text>,
@@ -28,7 +28,7 @@ pub struct Data {
     pub mime: Option<Mime>,
 }
 
-/// The action and the categories that are asked for.
+/// The queried action and categories.
 #[tactic(auto, unfolding(crate::specs::Signatures::names_of))]
 fn names_of(alloc: Global, at: &str, table: &Value) -> Result<Names, ReadFault>
     ensures { Gives result (names_of at.now (view table.now)) }
@@ -41,7 +41,7 @@ fn names_of(alloc: Global, at: &str, table: &Value) -> Result<Names, ReadFault>
     })
 }
 
-/// The data that is asked for.
+/// The queried data.
 #[tactic(auto, unfolding(crate::specs::Signatures::data_of))]
 fn data_of(alloc: Global, at: &str, table: &Value) -> Result<Data, ReadFault>
     ensures { Gives result (data_of at.now (view table.now)) }
@@ -52,22 +52,22 @@ fn data_of(alloc: Global, at: &str, table: &Value) -> Result<Data, ReadFault>
     Ok(Data { scheme, host, mime })
 }
 
-/// Whether an intent that is asked for may have the key.
+/// Whether a queried intent may have the key.
 fn is_signature_key(key: &str) -> bool
     ensures { result ≡ is_signature_key key.now }
 {
     matches!(key, "action" | "category" | "scheme" | "host" | "mimeType")
 }
 
-/// Refuses a key that an intent that is asked for may not have.
+/// Refuses a key that a queried intent may not have.
 fn only_signature_keys(alloc: Global, at: &str, value: &Value) -> Result<(), ReadFault>
     ensures { Gives result (only_keys is_signature_key at.now (view value.now)) }
 {
     only_keys(alloc, at, value, |key| is_signature_key(key))
 }
 
-/// The intent that a table asks for: it has no other keys, an action, at most 64 categories, and perhaps a scheme, a
-/// host and a type.
+/// The intent that a table queries: the table has no other keys, an action, at most 64 categories, and optionally a
+/// scheme, a host and a type.
 #[tactic(auto, unfolding(crate::specs::Signatures::signature_of))]
 pub fn signature_of(alloc: Global, at: &str, table: &Value) -> Result<Signature, ReadFault>
     ensures { Gives result (signature_of at.now (view table.now)) }

@@ -40,7 +40,8 @@ activity class filters = open_decl Activity class filters
 
 -- two activities of x.A share the greatest priority, a third has a lower one, and a fourth isn't enabled
 pub tied_and_outranked : said
-    (both (activity (codes "A") (starts (pos 0)) ∷ activity (codes "B") (starts (negsuc 0)) ∷ record (activity (codes "C") (starts (pos 0))) { enabled = false } ∷ [])
+    (both (activity (codes "A") (starts (pos 0)) ∷ activity (codes "B") (starts (negsuc 0))
+    ∷ record (activity (codes "C") (starts (pos 0))) { enabled = false } ∷ [])
     (activity (codes "D") (starts (pos 7)) ∷ []))
     (asks 10000 Activity (asking (codes "x.A")))
     ≡ Tied ∷ Outranked ∷ Disabled ∷ Tied ∷ []
@@ -48,19 +49,22 @@ tied_and_outranked = refl
 
 -- each filter has its reason, in order: the action, and the default category, which an implicit start needs
 pub reasons_of_filters : said
-    (both (activity (codes "A") (filter_for (codes "x.B") [] (pos 0) ∷ filter_for (codes "x.A") [] (pos 0) ∷ []) ∷ []) (activity (codes "D") [] ∷ []))
+    (both (activity (codes "A") (filter_for (codes "x.B") [] (pos 0) ∷ filter_for (codes "x.A") [] (pos 0) ∷ []) ∷ [])
+    (activity (codes "D") [] ∷ []))
     (asks 10000 Activity (asking (codes "x.A")))
     ≡ Filters (whys.Action ∷ whys.Category ∷ []) ∷ Filters [] ∷ []
 reasons_of_filters = refl
 
 -- a named component is started whatever its filters say, by whom the gate admits
-pub named_component : said (both (activity (codes "A") [] ∷ []) (record (activity (codes "D") []) { exported = false } ∷ []))
+pub named_component : said (both (activity (codes "A") [] ∷ []) (record (activity (codes "D") []) { exported = false }
+    ∷ []))
     (asks 10000 Activity (to_component (component_of two (codes "D"))))
     ≡ OtherComponent ∷ Refused rules.NotExported ∷ []
 named_component = refl
 
 -- a package that is named may have one
-pub named_package : said (both (activity (codes "A") (starts (pos 0)) ∷ []) (record (activity (codes "D") (starts (pos 0))) { permission = Some (codes "p") } ∷ []))
+pub named_package : said (both (activity (codes "A") (starts (pos 0)) ∷ [])
+    (record (activity (codes "D") (starts (pos 0))) { permission = Some (codes "p") } ∷ []))
     (asks 10000 Activity (record (asking (codes "x.A")) { «package» = Some two }))
     ≡ OtherPackage ∷ Refused (rules.NeedsPermission (codes "p")) ∷ []
 named_package = refl
@@ -68,12 +72,14 @@ named_package = refl
 -- com.one shows the pages of a.com, com.two those of every host
 abbrev web : Board
 web = both
-    (activity (codes "A") (record web_pages { authorities = record { host = codes "a.com"; port = None } ∷ [] } ∷ []) ∷ [])
+    (activity (codes "A") (record web_pages { authorities = record { host = codes "a.com"; port = None } ∷ [] } ∷ [])
+    ∷ [])
     (activity (codes "D") (web_pages ∷ []) ∷ [])
 
 -- a start that views a page of a.com
 abbrev page : Question
-page = asks 10002 Activity (record (asking (codes "android.intent.action.VIEW")) { uri = Some (uri_at (codes "https://a.com/") (codes "https") (Some (codes "a.com"))) })
+page = asks 10002 Activity (record (asking (codes "android.intent.action.VIEW"))
+    { uri = Some (uri_at (codes "https://a.com/") (codes "https") (Some (codes "a.com"))) })
 
 -- without an approved package and without a browser it is narrowed to what takes every host
 pub to_every_host : said web page ≡ Narrowed General ∷ Reached ∷ []
@@ -84,7 +90,8 @@ pub to_browser : said (record web { browser = Some one }) page ≡ Reached ∷ N
 to_browser = refl
 
 -- and before that to the approved packages
-pub to_approved : said (record web { browser = Some two; links = with_link [] 10000 (codes "A.com") true }) page ≡ Reached ∷ Narrowed Approved ∷ []
+pub to_approved : said (record web { browser = Some two; links = with_link [] 10000 (codes "A.com") true }) page
+    ≡ Reached ∷ Narrowed Approved ∷ []
 to_approved = refl
 
 -- a service of x.A with a priority
@@ -96,7 +103,8 @@ abbrev services : Board
 services = both (service (codes "A") (pos 1) ∷ service (codes "B") (pos 2) ∷ []) (service (codes "D") (pos 3) ∷ [])
 
 -- in the package that is named the first is started
-pub first_service : said services (asks 10000 Service (record (asking (codes "x.A")) { «package» = Some one })) ≡ Outranked ∷ Reached ∷ OtherPackage ∷ []
+pub first_service : said services (asks 10000 Service (record (asking (codes "x.A")) { «package» = Some one }))
+    ≡ Outranked ∷ Reached ∷ OtherPackage ∷ []
 first_service = refl
 
 -- without a name none is
@@ -115,7 +123,8 @@ receivers = record (both (receiver (codes "A") ∷ []) (receiver (codes "D") ∷
 }
 
 -- an implicit broadcast goes to the sender's own receivers and to registered ones
-pub implicit_broadcast : said receivers (asks 10000 Receiver (asking (codes "x.A"))) ≡ Reached ∷ Refused rules.ManifestImplicit ∷ Reached ∷ []
+pub implicit_broadcast : said receivers (asks 10000 Receiver (asking (codes "x.A"))) ≡ Reached
+    ∷ Refused rules.ManifestImplicit ∷ Reached ∷ []
 implicit_broadcast = refl
 
 -- a receiver must hold what the sender requires
@@ -130,7 +139,8 @@ pub protected : said (record receivers { protected = codes "x.A" ∷ [] }) (asks
 protected = refl
 
 -- a stopped package is skipped
-pub stopped : said (record receivers { packages = with_stopped receivers.packages 10001 true }) (asks 10000 Receiver (asking (codes "x.A")))
+pub stopped : said (record receivers { packages = with_stopped receivers.packages 10001 true })
+    (asks 10000 Receiver (asking (codes "x.A")))
     ≡ Reached ∷ Refused rules.ManifestImplicit ∷ Refused rules.StoppedPackage ∷ []
 stopped = refl
 

@@ -47,7 +47,8 @@ pub one_goes : without_package both 10000 ≡ two ∷ []
 one_goes = refl
 
 -- grants stand by uid, then by the bytes of the permission
-pub grants_in_order : with_grant (with_grant (with_grant [] 10001 (codes "p.A") true) 10000 (codes "p.B") true) 10000 (codes "p.A") true
+pub grants_in_order : with_grant (with_grant (with_grant [] 10001 (codes "p.A") true) 10000 (codes "p.B") true) 10000
+    (codes "p.A") true
     ≡ grant 10000 (codes "p.A") ∷ grant 10000 (codes "p.B") ∷ grant 10001 (codes "p.A") ∷ []
 grants_in_order = refl
 
@@ -56,7 +57,8 @@ pub grant_once : with_grant (grant 10000 (codes "p.A") ∷ []) 10000 (codes "p.A
 grant_once = refl
 
 -- and one that is taken back leaves the others
-pub grant_taken_back : with_grant (grant 10000 (codes "p.A") ∷ grant 10001 (codes "p.A") ∷ []) 10000 (codes "p.A") false ≡ grant 10001 (codes "p.A") ∷ []
+pub grant_taken_back : with_grant (grant 10000 (codes "p.A") ∷ grant 10001 (codes "p.A") ∷ []) 10000 (codes "p.A") false
+    ≡ grant 10001 (codes "p.A") ∷ []
 grant_taken_back = refl
 
 -- links stand in the same way, by uid and host
@@ -65,9 +67,11 @@ pub links_in_order : with_link (link 10000 (codes "b.org") ∷ link 10001 (codes
 links_in_order = refl
 
 -- a package takes its grants along
-pub grants_go : grants_without (grant 10000 (codes "p.A") ∷ grant 10001 (codes "p.A") ∷ []) 10001 ≡ grant 10000 (codes "p.A") ∷ []
+pub grants_go : grants_without (grant 10000 (codes "p.A") ∷ grant 10001 (codes "p.A") ∷ []) 10001
+    ≡ grant 10000 (codes "p.A") ∷ []
 grants_go = refl
 
 -- and its links
-pub links_go : links_without (link 10000 (codes "a.com") ∷ link 10001 (codes "a.com") ∷ []) 10000 ≡ link 10001 (codes "a.com") ∷ []
+pub links_go : links_without (link 10000 (codes "a.com") ∷ link 10001 (codes "a.com") ∷ []) 10000
+    ≡ link 10001 (codes "a.com") ∷ []
 links_go = refl

@@ -49,7 +49,16 @@ code number = record { code = number; text = None; extras = [] }
 
 -- what com.s sends at a moment to receivers of some uids, at once
 abbrev at_once : ℕ → List ℕ → Sending
-at_once now uids = record { sender = com_s; now = now; foreground = false; no_abort = false; intent = intent; to = map spot uids; ordered = None }
+at_once now uids = record {
+  sender = com_s;
+  now = now;
+  foreground = false;
+  no_abort = false;
+  intent = intent;
+  to = map
+      spot uids;
+  ordered = None;
+}
 
 -- the same in order, with code 1 to begin with, where com.s wants the result
 abbrev in_order : ℕ → List ℕ → Sending
@@ -77,7 +86,12 @@ aborting number = record { set = Some (code number); abort = true }
 
 -- a delivery in order, with the outcome so far
 abbrev item_in_order : ℕ → ℕ → Outcome → Item
-item_in_order delivery broadcast outcome = record { delivery = delivery; broadcast = broadcast; what = InOrder aim intent outcome }
+item_in_order delivery broadcast outcome = record {
+  delivery = delivery;
+  broadcast = broadcast;
+  what = InOrder aim
+      intent outcome;
+}
 
 -- a delivery at once
 abbrev item_at_once : ℕ → ℕ → Item
@@ -126,7 +140,8 @@ result_after_abort = refl
 
 -- the same where aborts count for nothing
 abbrev not_aborted : Broadcasts
-not_aborted = finished 2 com_q (aborting (pos 7)) 20 (finished 1 com_p plain 10 (sent (record (in_order 0 (com_p ∷ com_q ∷ com_r ∷ [])) { no_abort = true }) no_broadcasts))
+not_aborted = finished 2 com_q (aborting (pos 7)) 20 (finished 1 com_p plain 10
+    (sent (record (in_order 0 (com_p ∷ com_q ∷ com_r ∷ [])) { no_abort = true }) no_broadcasts))
 
 -- then com.r has the next delivery
 pub abort_for_nothing : inbox not_aborted com_r ≡ item_in_order 3 1 (code (pos 7)) ∷ []
@@ -149,7 +164,8 @@ unfolding send finish
 result_takes_no_outcome = refl
 
 -- and a normal delivery takes no abort
-pub normal_takes_no_abort : finish (sent (at_once 0 (com_p ∷ [])) no_broadcasts) 1 com_p (record { set = None; abort = true }) 10 ≡ Err NotOrdered
+pub normal_takes_no_abort : finish (sent (at_once 0 (com_p ∷ [])) no_broadcasts) 1 com_p
+    (record { set = None; abort = true }) 10 ≡ Err NotOrdered
 unfolding send finish
 normal_takes_no_abort = refl
 
@@ -165,7 +181,9 @@ finished_once = refl
 
 -- two ordered broadcasts to com.p in one queue, of which the second wants no result
 abbrev two_queued : Broadcasts
-two_queued = sent (record (in_order 0 (com_p ∷ [])) { ordered = Some (record { initial = code (pos 1); wanted = false }) }) (sent (in_order 0 (com_p ∷ [])) no_broadcasts)
+two_queued = sent (record (in_order 0 (com_p ∷ [])) {
+  ordered = Some (record { initial = code (pos 1); wanted = false });
+}) (sent (in_order 0 (com_p ∷ [])) no_broadcasts)
 
 -- the second waits for the first
 pub second_broadcast_waits : inbox two_queued com_p ≡ item_in_order 1 1 (code (pos 1)) ∷ []
@@ -183,7 +201,8 @@ unfolding send finish
 next_broadcast = refl
 
 -- a broadcast in the foreground doesn't wait for those in the background
-pub foreground_at_once : inbox (sent (record (in_order 10 (com_p ∷ [])) { foreground = true }) (finished 1 com_p plain 10 two_queued)) com_p
+pub foreground_at_once : inbox (sent (record (in_order 10 (com_p ∷ [])) { foreground = true })
+    (finished 1 com_p plain 10 two_queued)) com_p
     ≡ item_in_order 3 2 (code (pos 1)) ∷ item_in_order 4 3 (code (pos 1)) ∷ []
 unfolding send finish
 foreground_at_once = refl
@@ -199,7 +218,8 @@ unfolding send
 nobody_to_tell = refl
 
 -- a normal broadcast is delivered to all at once, with rising numbers
-pub all_at_once : inbox (sent (at_once 0 (com_p ∷ com_q ∷ [])) (sent (at_once 0 (com_q ∷ [])) no_broadcasts)) com_q ≡ item_at_once 1 1 ∷ item_at_once 3 2 ∷ []
+pub all_at_once : inbox (sent (at_once 0 (com_p ∷ com_q ∷ [])) (sent (at_once 0 (com_q ∷ [])) no_broadcasts)) com_q
+    ≡ item_at_once 1 1 ∷ item_at_once 3 2 ∷ []
 unfolding send
 all_at_once = refl
 
@@ -218,7 +238,8 @@ unfolding send
 is_due = refl
 
 -- until then it can be finished
-pub finished_in_time : inbox (finished 1 com_p plain 9999 (expired urgent 9999)) com_s ≡ item_final 2 1 (code (pos 1)) ∷ []
+pub finished_in_time : inbox (finished 1 com_p plain 9999 (expired urgent 9999)) com_s ≡ item_final 2 1 (code (pos 1))
+    ∷ []
 unfolding send finish
 finished_in_time = refl
 
@@ -287,35 +308,42 @@ unfolding send
 forgotten_in_turn = refl
 
 -- com.q is forgotten before its turn: com.r has the delivery after that of com.p
-pub forgotten_before : inbox (finished 1 com_p plain 20 (forget_uid begun com_q 10)) com_r ≡ item_in_order 2 1 (code (pos 1)) ∷ []
+pub forgotten_before : inbox (finished 1 com_p plain 20 (forget_uid begun com_q 10)) com_r
+    ≡ item_in_order 2 1 (code (pos 1)) ∷ []
 unfolding send finish
 forgotten_before = refl
 
 -- com.s, which sent, is forgotten: the receivers still get their deliveries
-pub forgotten_sender : inbox (finished 1 com_p plain 20 (forget_uid begun com_s 10)) com_q ≡ item_in_order 2 1 (code (pos 1)) ∷ []
+pub forgotten_sender : inbox (finished 1 com_p plain 20 (forget_uid begun com_s 10)) com_q
+    ≡ item_in_order 2 1 (code (pos 1)) ∷ []
 unfolding send finish
 forgotten_sender = refl
 
 -- but com.s gets no result
-pub forgotten_result : inbox (finished 3 com_r plain 40 (finished 2 com_q plain 30 (finished 1 com_p plain 20 (forget_uid begun com_s 10)))) com_s ≡ []
+pub forgotten_result : inbox (finished 3 com_r plain 40 (finished 2 com_q plain 30
+    (finished 1 com_p plain 20 (forget_uid begun com_s 10)))) com_s ≡ []
 unfolding send finish
 forgotten_result = refl
 
 -- a registered receiver that is taken away leaves its normal deliveries
-pub unregistered : inbox (forget_registered (sent (record (at_once 0 []) { to = record { uid = com_p; aim = Registered 1 } ∷ [] }) no_broadcasts) 1 10) com_p ≡ []
+pub unregistered : inbox (forget_registered (sent (record (at_once 0 [])
+    { to = record { uid = com_p; aim = Registered 1 } ∷ [] }) no_broadcasts) 1 10) com_p ≡ []
 unfolding send
 unregistered = refl
 
 -- the outcome is the last that was set; the late and those that went away leave it
-pub last_outcome : fold_outcome (code (pos 1)) false (Answered (setting (pos 2)) ∷ Late ∷ Answered plain ∷ Answered (setting (pos 3)) ∷ Gone ∷ []) ≡ code (pos 3)
+pub last_outcome : fold_outcome (code (pos 1)) false (Answered (setting (pos 2)) ∷ Late ∷ Answered plain
+    ∷ Answered (setting (pos 3)) ∷ Gone ∷ []) ≡ code (pos 3)
 last_outcome = refl
 
 -- after an abort nothing counts
-pub outcome_at_abort : fold_outcome (code (pos 1)) false (Answered (aborting (pos 2)) ∷ Answered (setting (pos 3)) ∷ []) ≡ code (pos 2)
+pub outcome_at_abort : fold_outcome (code (pos 1)) false (Answered (aborting (pos 2)) ∷ Answered (setting (pos 3)) ∷ [])
+    ≡ code (pos 2)
 outcome_at_abort = refl
 
 -- unless aborts count for nothing
-pub outcome_past_abort : fold_outcome (code (pos 1)) true (Answered (aborting (pos 2)) ∷ Answered (setting (pos 3)) ∷ []) ≡ code (pos 3)
+pub outcome_past_abort : fold_outcome (code (pos 1)) true (Answered (aborting (pos 2)) ∷ Answered (setting (pos 3))
+    ∷ []) ≡ code (pos 3)
 outcome_past_abort = refl
 
 -- of two refusals that apply the first is answered: the sender's broadcasts before the receivers
@@ -324,7 +352,8 @@ unfolding send
 full_before_many = refl
 
 -- and whose the delivery is before what it takes
-pub yours_before_ordered : finish (sent (at_once 0 (com_p ∷ [])) no_broadcasts) 1 com_q (aborting (pos 1)) 10 ≡ Err NotYours
+pub yours_before_ordered : finish (sent (at_once 0 (com_p ∷ [])) no_broadcasts) 1 com_q (aborting (pos 1)) 10
+    ≡ Err NotYours
 unfolding send finish
 yours_before_ordered = refl
 
@@ -339,7 +368,8 @@ unfolding send finish
 result_is_live = refl
 
 -- where both queues have a late receiver each passes one over, the foreground queue before the other
-pub both_late : inbox (expired (sent (in_order 0 (com_p ∷ com_r ∷ [])) (sent (record (in_order 0 (com_q ∷ com_r ∷ [])) { foreground = true }) no_broadcasts)) 60000) com_r
+pub both_late : inbox (expired (sent (in_order 0 (com_p ∷ com_r ∷ []))
+    (sent (record (in_order 0 (com_q ∷ com_r ∷ [])) { foreground = true }) no_broadcasts)) 60000) com_r
     ≡ item_in_order 3 1 (code (pos 1)) ∷ item_in_order 4 2 (code (pos 1)) ∷ []
 unfolding send
 both_late = refl

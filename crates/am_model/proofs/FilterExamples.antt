@@ -9,19 +9,23 @@ use Rattle.am_types.specs.Intents.{no_intent}
 use Rattle.am_model.specs.Filters.{default_category, passes_authority, why}
 
 -- a host stands for itself whatever its case
-pub host_of_any_case : passes_authority (record { host = codes "a.com"; port = None }) (Some (codes "A.Com")) None ≡ true
+pub host_of_any_case : passes_authority (record { host = codes "a.com"; port = None }) (Some (codes "A.Com")) None
+    ≡ true
 host_of_any_case = refl
 
 -- a star stands for what comes before the end
-pub star_host : passes_authority (record { host = codes "*.google.com"; port = None }) (Some (codes "WWW.google.com")) (Some 80) ≡ true
+pub star_host : passes_authority (record { host = codes "*.google.com"; port = None }) (Some (codes "WWW.google.com"))
+    (Some 80) ≡ true
 star_host = refl
 
 -- the dot behind the star is asked for
-pub star_host_refuses : passes_authority (record { host = codes "*.google.com"; port = None }) (Some (codes "google.com")) None ≡ false
+pub star_host_refuses : passes_authority (record { host = codes "*.google.com"; port = None })
+    (Some (codes "google.com")) None ≡ false
 star_host_refuses = refl
 
 -- a port is asked for where the filter states one
-pub port_refuses : passes_authority (record { host = codes "a.com"; port = Some 8080 }) (Some (codes "a.com")) None ≡ false
+pub port_refuses : passes_authority (record { host = codes "a.com"; port = Some 8080 }) (Some (codes "a.com")) None
+    ≡ false
 port_refuses = refl
 
 -- a filter of one action
@@ -52,16 +56,41 @@ abbrev pub view_intent : Intent
 view_intent = record no_intent { action = Some (codes "VIEW") }
 
 abbrev pub uri_of_a : Uri
-uri_of_a = record { text = codes "https://a.com/x"; scheme = codes "https"; host = Some (codes "a.com"); port = None; path = codes "/x" }
+uri_of_a = record {
+  text = codes "https://a.com/x";
+  scheme = codes "https";
+  host = Some (codes "a.com");
+  port = None;
+  path = codes "/x";
+}
 
 abbrev pub uri_of_b : Uri
-uri_of_b = record { text = codes "https://b.org/y"; scheme = codes "https"; host = Some (codes "b.org"); port = None; path = codes "/y" }
+uri_of_b = record {
+  text = codes "https://b.org/y";
+  scheme = codes "https";
+  host = Some (codes "b.org");
+  port = None;
+  path = codes "/y";
+}
 
 abbrev pub content_uri : Uri
-content_uri = record { text = codes "content://p/1"; scheme = codes "content"; host = Some (codes "p"); port = None; path = codes "/1" }
+content_uri = record {
+  text = codes "content://p/1";
+  scheme = codes "content";
+  host = Some (codes "p");
+  port = None;
+  path = codes "/1";
+}
 
 abbrev pub web_uri : Uri
-web_uri = record { text = codes "http://h/1"; scheme = codes "http"; host = Some (codes "h"); port = None; path = codes "/1" }
+web_uri = record {
+  text = codes "http://h/1";
+  scheme = codes "http";
+  host = Some (codes "h");
+  port = None;
+  path = codes
+      "/1";
+}
 
 -- a scheme of one row goes with the host and the path of another
 pub rows_merge : why merged_filter (record view_intent { uri = Some uri_of_a }) true ≡ None
@@ -72,15 +101,26 @@ pub merged_path_refuses : why merged_filter (record view_intent { uri = Some uri
 merged_path_refuses = refl
 
 -- a filter of types takes local content
-pub local_content : why image_filter (record view_intent { uri = Some content_uri; mime = Some (record { main = codes "image"; sub = codes "png" }) }) true ≡ None
+pub local_content : why image_filter (record view_intent {
+  uri = Some content_uri;
+  mime = Some
+      (record { main = codes "image"; sub = codes "png" });
+}) true ≡ None
 local_content = refl
 
 -- and nothing from elsewhere
-pub web_refused : why image_filter (record view_intent { uri = Some web_uri; mime = Some (record { main = codes "image"; sub = codes "png" }) }) true ≡ Some Scheme
+pub web_refused : why image_filter (record view_intent {
+  uri = Some web_uri;
+  mime = Some
+      (record { main = codes "image"; sub = codes "png" });
+}) true ≡ Some Scheme
 web_refused = refl
 
 -- the case of a type counts
-pub type_case_refused : why image_filter (record view_intent { mime = Some (record { main = codes "IMAGE"; sub = codes "png" }) }) false ≡ Some Type_
+pub type_case_refused : why image_filter (record view_intent {
+  mime = Some
+      (record { main = codes "IMAGE"; sub = codes "png" });
+}) false ≡ Some Type_
 type_case_refused = refl
 
 -- the default category is asked for
@@ -88,7 +128,8 @@ pub default_refused : why (record view_filter { categories = codes "BROWSABLE" �
 default_refused = refl
 
 -- another action is the first reason, whatever else fails
-pub action_refused : why merged_filter (record view_intent { action = Some (codes "SEND"); uri = Some content_uri }) true ≡ Some Action
+pub action_refused : why merged_filter (record view_intent { action = Some (codes "SEND"); uri = Some content_uri })
+    true ≡ Some Action
 action_refused = refl
 
 -- an intent without an action passes any
@@ -96,5 +137,7 @@ pub no_action_passes : why view_filter (record view_intent { action = None }) fa
 no_action_passes = refl
 
 -- a host that isn't listed, before its path is asked for
-pub host_refused : why merged_filter (record view_intent { uri = Some (record uri_of_b { host = Some (codes "c.net") }) }) true ≡ Some Host
+pub host_refused : why merged_filter (record view_intent {
+  uri = Some (record uri_of_b { host = Some (codes "c.net") });
+}) true ≡ Some Host
 host_refused = refl

@@ -23,7 +23,8 @@ one_answer : (b : Bool) → b ≡ true → b ≡ false → ⊥
 one_answer b first second = cc
 
 -- a test on one of a list's items holds of a longer list too
-any_of_more : {X : Type 0} (test : X → Bool) (before after : List X) (one : X) → list_any test (before ++ after) ≡ true → list_any test (before ++ one ∷ after) ≡ true
+any_of_more : {X : Type 0} (test : X → Bool) (before after : List X) (one : X) → list_any test (before ++ after) ≡ true
+    → list_any test (before ++ one ∷ after) ≡ true
 any_of_more test [] after one held = or_true (test one) _ held
 any_of_more test (first ∷ before) after one held = either_to (test first) _ _ (any_of_more test before after one) held
 
@@ -47,7 +48,8 @@ rest_passes : (reason other : Option Why) → is_none (or_else reason other) ≡
 rest_passes None other held = held
 rest_passes (Some reason) other held = absurd (one_answer false held refl)
 
-both_pass : (reason other : Option Why) → is_none reason ≡ true → is_none other ≡ true → is_none (or_else reason other) ≡ true
+both_pass : (reason other : Option Why) → is_none reason ≡ true → is_none other ≡ true → is_none (or_else reason other)
+    ≡ true
 both_pass None other first second = second
 both_pass (Some reason) other first second = first
 
@@ -61,64 +63,87 @@ test_passes true reason held = refl
 test_passes false reason held = held
 
 -- one more listed action
-action_of_more : (before after : List (List ℕ)) (one : List ℕ) (action : Option (List ℕ)) → passes_action (before ++ after) action ≡ true → passes_action (before ++ one ∷ after) action ≡ true
+action_of_more : (before after : List (List ℕ)) (one : List ℕ) (action : Option (List ℕ))
+    → passes_action (before ++ after) action ≡ true → passes_action (before ++ one ∷ after) action ≡ true
 action_of_more [] after one None held = refl
 action_of_more (first ∷ before) after one None held = refl
 action_of_more [] [] one (Some action) held = absurd (one_answer false held refl)
-action_of_more [] (first ∷ after) one (Some action) held = any_of_more (λ listed. is_same listed action) [] (first ∷ after) one held
-action_of_more (first ∷ before) after one (Some action) held = any_of_more (λ listed. is_same listed action) (first ∷ before) after one held
+action_of_more [] (first ∷ after) one (Some action) held = any_of_more (λ listed. is_same listed action) []
+    (first ∷ after) one held
+action_of_more (first ∷ before) after one (Some action) held = any_of_more (λ listed. is_same listed action)
+    (first ∷ before) after one held
 
 -- one more listed category
-all_of_more : (before after : List (List ℕ)) (one : List ℕ) (categories : List (List ℕ)) → list_all (λ category. lists (before ++ after) category) categories ≡ true → list_all (λ category. lists (before ++ one ∷ after) category) categories ≡ true
+all_of_more : (before after : List (List ℕ)) (one : List ℕ) (categories : List (List ℕ))
+    → list_all (λ category. lists (before ++ after) category) categories ≡ true
+    → list_all (λ category. lists (before ++ one ∷ after) category) categories ≡ true
 all_of_more before after one [] held = refl
 all_of_more before after one (category ∷ others) held =
     both_of _ _
     (any_of_more (λ listed. is_same listed category) before after one (both_first _ _ held))
     (all_of_more before after one others (both_second _ _ held))
 
-categories_of_more : (before after : List (List ℕ)) (one : List ℕ) (categories : List (List ℕ)) (need_default : Bool) → passes_categories (before ++ after) categories need_default ≡ true → passes_categories (before ++ one ∷ after) categories need_default ≡ true
+categories_of_more : (before after : List (List ℕ)) (one : List ℕ) (categories : List (List ℕ)) (need_default : Bool)
+    → passes_categories (before ++ after) categories need_default ≡ true
+    → passes_categories (before ++ one ∷ after) categories need_default ≡ true
 categories_of_more before after one categories need_default held =
     both_of _ _
     (all_of_more before after one categories (both_first _ _ held))
-    (either_to (not need_default) _ _ (any_of_more (λ listed. is_same listed default_category) before after one) (both_second (list_all (λ category. lists (before ++ after) category) categories) _ held))
+    (either_to (not need_default) _ _ (any_of_more (λ listed. is_same listed default_category) before after one)
+    (both_second (list_all (λ category. lists (before ++ after) category) categories) _ held))
 
 -- the test on data sees neither actions nor categories
-data_why-actions : (filter : Filter) (actions : List (List ℕ)) (uri : Option Uri) (mime : Option Mime) → data_why (record filter { actions = actions }) uri mime ≡ data_why filter uri mime
+data_why-actions : (filter : Filter) (actions : List (List ℕ)) (uri : Option Uri) (mime : Option Mime)
+    → data_why (record filter { actions = actions }) uri mime ≡ data_why filter uri mime
 data_why-actions filter actions None None = refl
 data_why-actions filter actions None (Some mime) = refl
 data_why-actions filter actions (Some uri) None = refl
 data_why-actions filter actions (Some uri) (Some mime) = refl
 
-data_why-categories : (filter : Filter) (categories : List (List ℕ)) (uri : Option Uri) (mime : Option Mime) → data_why (record filter { categories = categories }) uri mime ≡ data_why filter uri mime
+data_why-categories : (filter : Filter) (categories : List (List ℕ)) (uri : Option Uri) (mime : Option Mime)
+    → data_why (record filter { categories = categories }) uri mime ≡ data_why filter uri mime
 data_why-categories filter categories None None = refl
 data_why-categories filter categories None (Some mime) = refl
 data_why-categories filter categories (Some uri) None = refl
 data_why-categories filter categories (Some uri) (Some mime) = refl
 
 -- a filter that lists some type doesn't list none
-untyped : (types before after : List Mime) → types ≡ before ++ after → is_empty (before ++ after) ≡ false → is_empty types ≡ true → ⊥
-untyped types before after listed some none = one_answer (is_empty (before ++ after)) (ap is_empty (sym listed) ∙ none) some
+untyped : (types before after : List Mime) → types ≡ before ++ after → is_empty (before ++ after) ≡ false
+    → is_empty types ≡ true → ⊥
+untyped types before after listed some none = one_answer (is_empty (before ++ after)) (ap is_empty (sym listed) ∙ none)
+    some
 
-typed : (types before after : List Mime) (mime : Mime) → types ≡ before ++ after → passes_type types mime ≡ true → passes_type (before ++ after) mime ≡ true
+typed : (types before after : List Mime) (mime : Mime) → types ≡ before ++ after → passes_type types mime ≡ true
+    → passes_type (before ++ after) mime ≡ true
 typed types before after mime listed held = ap (λ (those : List Mime). passes_type those mime) (sym listed) ∙ held
 
 -- one more listed type, where some is listed
-data_of_more : (filter : Filter) (before after : List Mime) (one : Mime) (uri : Option Uri) (mime : Option Mime) → filter.types ≡ before ++ after → is_empty (before ++ after) ≡ false → is_none (data_why filter uri mime) ≡ true → is_none (data_why (record filter { types = before ++ one ∷ after }) uri mime) ≡ true
+data_of_more : (filter : Filter) (before after : List Mime) (one : Mime) (uri : Option Uri) (mime : Option Mime)
+    → filter.types ≡ before ++ after → is_empty (before ++ after) ≡ false → is_none (data_why filter uri mime) ≡ true
+    → is_none (data_why (record filter { types = before ++ one ∷ after }) uri mime) ≡ true
 data_of_more filter before after one None None listed some held =
-    absurd (untyped filter.types before after listed some (test_holds _ _ (rest_passes (unless (is_empty filter.schemes) Scheme) (unless (is_empty filter.types) Type_) held)))
+    absurd (untyped filter.types before after listed some (test_holds _ _
+    (rest_passes (unless (is_empty filter.schemes) Scheme) (unless (is_empty filter.types) Type_) held)))
 data_of_more filter before after one (Some uri) None listed some held =
-    absurd (untyped filter.types before after listed some (test_holds _ _ (rest_passes (uri_why filter uri) (unless (is_empty filter.types) Type_) held)))
+    absurd (untyped filter.types before after listed some (test_holds _ _
+    (rest_passes (uri_why filter uri) (unless (is_empty filter.types) Type_) held)))
 data_of_more filter before after one None (Some mime) listed some held =
     both_pass _ _
     (first_passes _ _ held)
-    (test_passes _ _ (any_of_more (λ listed. goes_with listed mime) before after one (typed filter.types before after mime listed (test_holds _ _ (rest_passes (unless (is_empty filter.schemes) Scheme) (unless (passes_type filter.types mime) Type_) held)))))
+    (test_passes _ _ (any_of_more (λ listed. goes_with listed mime) before after one
+    (typed filter.types before after mime listed (test_holds _ _
+    (rest_passes (unless (is_empty filter.schemes) Scheme) (unless (passes_type filter.types mime) Type_) held)))))
 data_of_more filter before after one (Some uri) (Some mime) listed some held =
     both_pass _ _
     (first_passes _ _ held)
-    (test_passes _ _ (any_of_more (λ listed. goes_with listed mime) before after one (typed filter.types before after mime listed (test_holds _ _ (rest_passes (typed_uri_why filter uri) (unless (passes_type filter.types mime) Type_) held)))))
+    (test_passes _ _ (any_of_more (λ listed. goes_with listed mime) before after one
+    (typed filter.types before after mime listed (test_holds _ _
+    (rest_passes (typed_uri_why filter uri) (unless (passes_type filter.types mime) Type_) held)))))
 
 -- a filter that passes still passes with one more action
-pub one_more_action : (filter : Filter) (before after : List (List ℕ)) (one : List ℕ) (intent : Intent) (need_default : Bool) → filter.actions ≡ before ++ after → passes filter intent need_default ≡ true → passes (record filter { actions = before ++ one ∷ after }) intent need_default ≡ true
+pub one_more_action : (filter : Filter) (before after : List (List ℕ)) (one : List ℕ) (intent : Intent)
+    (need_default : Bool) → filter.actions ≡ before ++ after → passes filter intent need_default ≡ true
+    → passes (record filter { actions = before ++ one ∷ after }) intent need_default ≡ true
 one_more_action filter before after one intent need_default listed held =
     let action = test_holds _ _ (first_passes (unless (passes_action filter.actions intent.action) Action) _ held) in
     let rest = rest_passes (unless (passes_action filter.actions intent.action) Action) _ held in
@@ -127,18 +152,24 @@ one_more_action filter before after one intent need_default listed held =
     (rw (data_why-actions filter (before ++ one ∷ after) intent.uri intent.mime) rest)
 
 -- a filter that passes still passes with one more category
-pub one_more_category : (filter : Filter) (before after : List (List ℕ)) (one : List ℕ) (intent : Intent) (need_default : Bool) → filter.categories ≡ before ++ after → passes filter intent need_default ≡ true → passes (record filter { categories = before ++ one ∷ after }) intent need_default ≡ true
+pub one_more_category : (filter : Filter) (before after : List (List ℕ)) (one : List ℕ) (intent : Intent)
+    (need_default : Bool) → filter.categories ≡ before ++ after → passes filter intent need_default ≡ true
+    → passes (record filter { categories = before ++ one ∷ after }) intent need_default ≡ true
 one_more_category filter before after one intent need_default listed held =
     let rest = rest_passes (unless (passes_action filter.actions intent.action) Action) _ held in
-    let categories = test_holds _ _ (rest_passes (data_why filter intent.uri intent.mime) (unless (passes_categories filter.categories intent.categories need_default) Category) rest) in
+    let categories = test_holds _ _ (rest_passes (data_why filter intent.uri intent.mime)
+    (unless (passes_categories filter.categories intent.categories need_default) Category) rest) in
     both_pass (unless (passes_action filter.actions intent.action) Action) _
     (first_passes (unless (passes_action filter.actions intent.action) Action) _ held)
     (both_pass _ _
-    (rw (data_why-categories filter (before ++ one ∷ after) intent.uri intent.mime) (first_passes (data_why filter intent.uri intent.mime) _ rest))
+    (rw (data_why-categories filter (before ++ one ∷ after) intent.uri intent.mime)
+    (first_passes (data_why filter intent.uri intent.mime) _ rest))
     (test_passes _ _ (categories_of_more before after one intent.categories need_default (rw listed at categories))))
 
 -- a filter that lists some type and passes still passes with one more type
-pub one_more_type : (filter : Filter) (before after : List Mime) (one : Mime) (intent : Intent) (need_default : Bool) → filter.types ≡ before ++ after → is_empty (before ++ after) ≡ false → passes filter intent need_default ≡ true → passes (record filter { types = before ++ one ∷ after }) intent need_default ≡ true
+pub one_more_type : (filter : Filter) (before after : List Mime) (one : Mime) (intent : Intent) (need_default : Bool)
+    → filter.types ≡ before ++ after → is_empty (before ++ after) ≡ false → passes filter intent need_default ≡ true
+    → passes (record filter { types = before ++ one ∷ after }) intent need_default ≡ true
 one_more_type filter before after one intent need_default listed some held =
     let rest = rest_passes (unless (passes_action filter.actions intent.action) Action) _ held in
     both_pass _ _

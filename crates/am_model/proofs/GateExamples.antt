@@ -41,7 +41,8 @@ pub grant_is_for_one : verdict granted 10002 10000 true (Some (codes "p.S")) ≡
 grant_is_for_one = refl
 
 -- and it ends when it is taken back
-pub grant_was_taken_back : verdict (with_grant granted 10001 (codes "p.S") false) 10001 10000 true (Some (codes "p.S")) ≡ NeedsPermission (codes "p.S")
+pub grant_was_taken_back : verdict (with_grant granted 10001 (codes "p.S") false) 10001 10000 true (Some (codes "p.S"))
+    ≡ NeedsPermission (codes "p.S")
 grant_was_taken_back = refl
 
 -- the root holds what was granted to nobody

@@ -12,17 +12,22 @@ use Rattle.am_types.specs.Intents.{no_flags, no_intent}
 use Rattle.am_model.specs.Intents.{filter_equals, or_other, filled_uri, filled_mime, filled_categories, united_flags, united_extras, filled, fill_in}
 
 -- sameness for a filter sees neither flags nor extras, on either side
-pub filter_equals-flags_and_extras : (a b : Intent) (flags flags' : Flags) (extras extras' : List Named) → filter_equals (record a { flags = flags; extras = extras }) (record b { flags = flags'; extras = extras' }) ≡ filter_equals a b
+pub filter_equals-flags_and_extras : (a b : Intent) (flags flags' : Flags) (extras extras' : List Named)
+    → filter_equals (record a { flags = flags; extras = extras }) (record b { flags = flags'; extras = extras' })
+    ≡ filter_equals a b
 filter_equals-flags_and_extras a b flags flags' extras extras' = refl
 
-component_of : (full : Bool) (kept other intent : Intent) → (if full then Err ExtrasFull else Ok (filled kept other)) ≡ Ok intent → intent.component ≡ kept.component
+component_of : (full : Bool) (kept other intent : Intent) → (if full then Err ExtrasFull else Ok (filled kept other))
+    ≡ Ok intent → intent.component ≡ kept.component
 component_of true kept other intent held = cc
 component_of false kept other intent held = cc
 
 -- what is filled in keeps the component
-pub fill_in-component : (kept other intent : Intent) → fill_in kept other ≡ Ok intent → intent.component ≡ kept.component
+pub fill_in-component : (kept other intent : Intent) → fill_in kept other ≡ Ok intent → intent.component
+    ≡ kept.component
 unfolding fill_in
-fill_in-component kept other intent held = component_of (nat_lt 64 (length (united_extras kept.extras other.extras))) kept other intent held
+fill_in-component kept other intent held = component_of (nat_lt 64 (length (united_extras kept.extras other.extras)))
+    kept other intent held
 
 or_other-None : {X : Type 0} (option : Option X) → or_other option None ≡ option
 or_other-None None = refl
@@ -43,11 +48,32 @@ filled_categories-nil [] = refl
 filled_categories-nil (first ∷ others) = refl
 
 united_flags-none : (flags : Flags) → united_flags flags no_flags ≡ flags
-united_flags-none flags = rw (or-false flags.new_task, or-false flags.multiple_task, or-false flags.clear_task, or-false flags.clear_top, or-false flags.single_top, or-false flags.reorder_to_front, or-false flags.registered_only, or-false flags.foreground, or-false flags.no_abort, or-false flags.include_stopped) refl
+united_flags-none flags = rw (
+  or-false flags.new_task,
+  or-false flags.multiple_task,
+  or-false flags.clear_task,
+  or-false
+      flags.clear_top,
+  or-false flags.single_top,
+  or-false flags.reorder_to_front,
+  or-false flags.registered_only,
+  or-false flags.foreground,
+  or-false flags.no_abort,
+  or-false flags.include_stopped,
+) refl
 
 -- what the intent that says nothing fills in is the intent itself
 pub filled-empty : (kept : Intent) → filled kept no_intent ≡ kept
-filled-empty kept = rw (or_other-None kept.action, filled_uri-None kept.uri kept.mime, filled_mime-None kept.uri kept.mime, or_other-None kept.identifier, filled_categories-nil kept.categories, or_other-None kept.«package», united_flags-none kept.flags) refl
+filled-empty kept = rw (
+  or_other-None kept.action,
+  filled_uri-None kept.uri kept.mime,
+  filled_mime-None kept.uri
+      kept.mime,
+  or_other-None kept.identifier,
+  filled_categories-nil kept.categories,
+  or_other-None kept.«package»,
+  united_flags-none kept.flags,
+) refl
 
 room : (count : ℕ) → count ≤ 64 → nat_lt 64 count ≡ false
 room count few = grind arith

@@ -12,21 +12,25 @@ or_swap false b c = refl
 
 module _ {X : Type 0} (before : X → X → Bool) where
   -- what holds of one and of all others holds of all
-  pub all_inserted : (P : X → Type 0) (x : X) (xs : List X) → P x → AllByRecursion P xs → AllByRecursion P (inserted before x xs)
+  pub all_inserted : (P : X → Type 0) (x : X) (xs : List X) → P x → AllByRecursion P xs
+      → AllByRecursion P (inserted before x xs)
   all_inserted P x [] one all = (one, tt)
   all_inserted P x (first ∷ others) one all = by (before x first) (all_inserted P x others one all.1)
     where
-      by : (b : Bool) → AllByRecursion P (inserted before x others) → AllByRecursion P (cond b (x ∷ first ∷ others) (first ∷ inserted before x others))
+      by : (b : Bool) → AllByRecursion P (inserted before x others)
+          → AllByRecursion P (cond b (x ∷ first ∷ others) (first ∷ inserted before x others))
       by true rest = (one, all)
       by false rest = (all.0, rest)
 
   -- and so of what is read of them
-  pub all_map_inserted : {Y : Type 0} (f : X → Y) (P : Y → Type 0) (x : X) (xs : List X) → P (f x) → AllByRecursion P (map f xs)
+  pub all_map_inserted : {Y : Type 0} (f : X → Y) (P : Y → Type 0) (x : X) (xs : List X) → P (f x)
+      → AllByRecursion P (map f xs)
       → AllByRecursion P (map f (inserted before x xs))
   all_map_inserted f P x [] one all = (one, tt)
   all_map_inserted f P x (first ∷ others) one all = by (before x first) (all_map_inserted f P x others one all.1)
     where
-      by : (b : Bool) → AllByRecursion P (map f (inserted before x others)) → AllByRecursion P (map f (cond b (x ∷ first ∷ others) (first ∷ inserted before x others)))
+      by : (b : Bool) → AllByRecursion P (map f (inserted before x others))
+          → AllByRecursion P (map f (cond b (x ∷ first ∷ others) (first ∷ inserted before x others)))
       by true rest = (one, all)
       by false rest = (all.0, rest)
 
@@ -41,7 +45,8 @@ module _ {X : Type 0} (before : X → X → Bool) where
       by false rest = ap suc rest
 
   -- as many of it pass a test as of the others and that one
-  pub filter_inserted : (test : X → Bool) (x : X) (xs : List X) → length (filter test (inserted before x xs)) ≡ length (filter test (x ∷ xs))
+  pub filter_inserted : (test : X → Bool) (x : X) (xs : List X) → length (filter test (inserted before x xs))
+      ≡ length (filter test (x ∷ xs))
   filter_inserted test x [] = refl
   filter_inserted test x (first ∷ others) = by (before x first) (filter_inserted test x others)
     where
@@ -49,24 +54,29 @@ module _ {X : Type 0} (before : X → X → Bool) where
       left = filter test (inserted before x others)
 
       among : (one other : Bool) → length left ≡ length (cond one (x ∷ filter test others) (filter test others))
-          → length (cond other (first ∷ left) left) ≡ length (cond one (x ∷ cond other (first ∷ filter test others) (filter test others)) (cond other (first ∷ filter test others) (filter test others)))
+          → length (cond other (first ∷ left) left) ≡ length (cond one
+          (x ∷ cond other (first ∷ filter test others) (filter test others))
+          (cond other (first ∷ filter test others) (filter test others)))
       among true true rest = ap suc rest
       among true false rest = rest
       among false true rest = ap suc rest
       among false false rest = rest
 
       by : (b : Bool) → length left ≡ length (filter test (x ∷ others))
-          → length (filter test (cond b (x ∷ first ∷ others) (first ∷ inserted before x others))) ≡ length (filter test (x ∷ first ∷ others))
+          → length (filter test (cond b (x ∷ first ∷ others) (first ∷ inserted before x others)))
+          ≡ length (filter test (x ∷ first ∷ others))
       by true rest = refl
       by false rest = among (test x) (test first) rest
 
   -- one passes a test if that one or one of the others does
-  pub any_inserted : (test : X → Bool) (x : X) (xs : List X) → list_any test (inserted before x xs) ≡ test x || list_any test xs
+  pub any_inserted : (test : X → Bool) (x : X) (xs : List X) → list_any test (inserted before x xs)
+      ≡ test x || list_any test xs
   any_inserted test x [] = refl
   any_inserted test x (first ∷ others) = by (before x first) (any_inserted test x others)
     where
       by : (b : Bool) → list_any test (inserted before x others) ≡ test x || list_any test others
-          → list_any test (cond b (x ∷ first ∷ others) (first ∷ inserted before x others)) ≡ test x || list_any test (first ∷ others)
+          → list_any test (cond b (x ∷ first ∷ others) (first ∷ inserted before x others))
+          ≡ test x || list_any test (first ∷ others)
       by true rest = refl
       by false rest = ap (λ b. test first || b) rest ∙ or_swap (test first) (test x) (list_any test others)
 
@@ -76,7 +86,8 @@ module _ {X : Type 0} (before : X → X → Bool) where
   inserted_at x (first ∷ others) = by (before x first) (place_of before x others) (inserted_at x others)
     where
       by : (b : Bool) (n : ℕ) → inserted before x others ≡ insert others n x
-          → cond b (x ∷ first ∷ others) (first ∷ inserted before x others) ≡ insert (first ∷ others) (cond b 0 (n + 1)) x
+          → cond b (x ∷ first ∷ others) (first ∷ inserted before x others)
+          ≡ insert (first ∷ others) (cond b 0 (n + 1)) x
       by true n rest = refl
       by false n rest = rw (add-one n) (ap (λ l. first ∷ l) rest)
 
@@ -90,20 +101,24 @@ module _ {X : Type 0} (before : X → X → Bool) where
       by false n rest = omega (arith, rest)
 
 -- what holds of all holds of those that are left
-pub all_left : {X : Type 0} (P : X → Type 0) (keeps : X → Bool) (xs : List X) → AllByRecursion P xs → AllByRecursion P (filter keeps xs)
+pub all_left : {X : Type 0} (P : X → Type 0) (keeps : X → Bool) (xs : List X) → AllByRecursion P xs
+    → AllByRecursion P (filter keeps xs)
 all_left P keeps [] all = tt
 all_left P keeps (first ∷ others) all = by (keeps first) (all_left P keeps others all.1)
   where
-    by : (b : Bool) → AllByRecursion P (filter keeps others) → AllByRecursion P (cond b (first ∷ filter keeps others) (filter keeps others))
+    by : (b : Bool) → AllByRecursion P (filter keeps others) → AllByRecursion P
+        (cond b (first ∷ filter keeps others) (filter keeps others))
     by true rest = (all.0, rest)
     by false rest = rest
 
 -- and so of what is read of them
-pub all_map_filter : {X Y : Type 0} (keeps : X → Bool) (f : X → Y) (P : Y → Type 0) (xs : List X) → AllByRecursion P (map f xs) → AllByRecursion P (map f (filter keeps xs))
+pub all_map_filter : {X Y : Type 0} (keeps : X → Bool) (f : X → Y) (P : Y → Type 0) (xs : List X)
+    → AllByRecursion P (map f xs) → AllByRecursion P (map f (filter keeps xs))
 all_map_filter keeps f P [] all = tt
 all_map_filter keeps f P (first ∷ others) all = by (keeps first) (all_map_filter keeps f P others all.1)
   where
-    by : (b : Bool) → AllByRecursion P (map f (filter keeps others)) → AllByRecursion P (map f (cond b (first ∷ filter keeps others) (filter keeps others)))
+    by : (b : Bool) → AllByRecursion P (map f (filter keeps others))
+        → AllByRecursion P (map f (cond b (first ∷ filter keeps others) (filter keeps others)))
     by true rest = (all.0, rest)
     by false rest = rest
 
@@ -112,17 +127,20 @@ pub length_left : {X : Type 0} (keeps : X → Bool) (xs : List X) → length (fi
 length_left keeps [] = omega arith
 length_left keeps (first ∷ others) = by (keeps first) (length_left keeps others)
   where
-    by : (b : Bool) → length (filter keeps others) ≤ length others → length (cond b (first ∷ filter keeps others) (filter keeps others)) ≤ suc (length others)
+    by : (b : Bool) → length (filter keeps others) ≤ length others
+        → length (cond b (first ∷ filter keeps others) (filter keeps others)) ≤ suc (length others)
     by true rest = omega arith
     by false rest = omega arith
 
 -- and no more of them pass a test
-pub filter_left : {X : Type 0} (keeps test : X → Bool) (xs : List X) → length (filter test (filter keeps xs)) ≤ length (filter test xs)
+pub filter_left : {X : Type 0} (keeps test : X → Bool) (xs : List X)
+    → length (filter test (filter keeps xs)) ≤ length (filter test xs)
 filter_left keeps test [] = omega arith
 filter_left keeps test (first ∷ others) = by (keeps first) (test first) refl (filter_left keeps test others)
   where
     by : (b c : Bool) → test first ≡ c → length (filter test (filter keeps others)) ≤ length (filter test others)
-        → length (filter test (cond b (first ∷ filter keeps others) (filter keeps others))) ≤ length (cond c (first ∷ filter test others) (filter test others))
+        → length (filter test (cond b (first ∷ filter keeps others) (filter keeps others))) ≤ length
+        (cond c (first ∷ filter test others) (filter test others))
     by true true is rest = rw is (omega arith)
     by true false is rest = rw is rest
     by false true is rest = omega arith
@@ -135,14 +153,17 @@ left_twice keeps (x ∷ xs) = by (keeps x) refl (left_twice keeps xs)
   where
     by : (b : Bool) → keeps x ≡ b → filter keeps (filter keeps xs) ≡ filter keeps xs
         → filter keeps (cond b (x ∷ filter keeps xs) (filter keeps xs)) ≡ cond b (x ∷ filter keeps xs) (filter keeps xs)
-    by true is rest = ap (λ b. cond b (x ∷ filter keeps (filter keeps xs)) (filter keeps (filter keeps xs))) is ∙ ap (λ l. x ∷ l) rest
+    by true is rest = ap (λ b. cond b (x ∷ filter keeps (filter keeps xs)) (filter keeps (filter keeps xs))) is
+        ∙ ap (λ l. x ∷ l) rest
     by false is rest = rest
 
 -- fewer items ascend as all do
-pub ascends_by_left : {X : Type 0} (before : X → X → Type 0) (keeps : X → Bool) (xs : List X) → AscendsBy before xs → AscendsBy before (filter keeps xs)
+pub ascends_by_left : {X : Type 0} (before : X → X → Type 0) (keeps : X → Bool) (xs : List X) → AscendsBy before xs
+    → AscendsBy before (filter keeps xs)
 ascends_by_left before keeps [] up = tt
 ascends_by_left before keeps (x ∷ xs) up = by (keeps x) (ascends_by_left before keeps xs up.1)
   where
-    by : (b : Bool) → AscendsBy before (filter keeps xs) → AscendsBy before (cond b (x ∷ filter keeps xs) (filter keeps xs))
+    by : (b : Bool) → AscendsBy before (filter keeps xs) → AscendsBy before
+        (cond b (x ∷ filter keeps xs) (filter keeps xs))
     by true rest = (all_left (before x) keeps xs up.0, rest)
     by false rest = rest

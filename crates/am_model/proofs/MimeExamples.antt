@@ -27,7 +27,8 @@ readings =
     ∷ (codes "/ ", Err BadCharacter)
     ∷ []
 
-pub texts_are_read : map (λ (reading : List ℕ × Result Mime MimeFault). mime_of reading.0) readings ≡ map (λ (reading : List ℕ × Result Mime MimeFault). reading.1) readings
+pub texts_are_read : map (λ (reading : List ℕ × Result Mime MimeFault). mime_of reading.0) readings
+    ≡ map (λ (reading : List ℕ × Result Mime MimeFault). reading.1) readings
 unfolding mime_of
 texts_are_read = refl
 
@@ -50,5 +51,6 @@ meetings =
     ∷ (mime_at (codes "*") (codes "png"), mime_at (codes "image") (codes "png"), false)
     ∷ []
 
-pub types_go_together : map (λ (meeting : Mime × Mime × Bool). goes_with meeting.0 meeting.1) meetings ≡ map (λ (meeting : Mime × Mime × Bool). meeting.2) meetings
+pub types_go_together : map (λ (meeting : Mime × Mime × Bool). goes_with meeting.0 meeting.1) meetings
+    ≡ map (λ (meeting : Mime × Mime × Bool). meeting.2) meetings
 types_go_together = refl

@@ -56,15 +56,18 @@ neither true b fails = cc
 neither false b fails = (refl, fails)
 
 -- where nothing passes, nothing of a part does
-pub none_of_part : {X : Type 0} (test : X → Bool) (xs ys : List X) → IsPart xs ys → list_any test ys ≡ false → list_any test xs ≡ false
+pub none_of_part : {X : Type 0} (test : X → Bool) (xs ys : List X) → IsPart xs ys → list_any test ys ≡ false
+    → list_any test xs ≡ false
 none_of_part test xs ys end nothing = refl
 none_of_part test (x ∷ xs) (x' ∷ ys) (keep part) nothing =
     let parts = neither (test x) (list_any test ys) nothing in
     rw parts.0 (none_of_part test xs ys part parts.1)
-none_of_part test xs (y ∷ ys) (leave part) nothing = none_of_part test xs ys part (neither (test y) (list_any test ys) nothing).1
+none_of_part test xs (y ∷ ys) (leave part) nothing = none_of_part test xs ys part
+    (neither (test y) (list_any test ys) nothing).1
 
 -- nor does one more that doesn't
-pub none_of_more : {X : Type 0} (test : X → Bool) (xs : List X) (x : X) → list_any test xs ≡ false → test x ≡ false → list_any test (xs ++ x ∷ []) ≡ false
+pub none_of_more : {X : Type 0} (test : X → Bool) (xs : List X) (x : X) → list_any test xs ≡ false → test x ≡ false
+    → list_any test (xs ++ x ∷ []) ≡ false
 none_of_more test [] x nothing fails = rw fails refl
 none_of_more test (first ∷ others) x nothing fails =
     let parts = neither (test first) (list_any test others) nothing in
@@ -75,6 +78,7 @@ pub found_passes : {X : Type 0} (test : X → Bool) (xs : List X) (x : X) → fi
 found_passes test [] x is = cc
 found_passes test (first ∷ others) x is = by (test first) refl (found_passes test others x) is
   where
-    by : (b : Bool) → test first ≡ b → (find test others ≡ Some x → test x ≡ true) → cond b (Some first) (find test others) ≡ Some x → test x ≡ true
+    by : (b : Bool) → test first ≡ b → (find test others ≡ Some x → test x ≡ true)
+        → cond b (Some first) (find test others) ≡ Some x → test x ≡ true
     by true passes rest is = let same : first ≡ x = cc in subst (λ y. test y ≡ true) same passes
     by false passes rest is = rest is

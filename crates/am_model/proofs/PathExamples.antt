@@ -34,7 +34,8 @@ matches =
     ∷ (codes ".*a.*a.*a.*b", replicate 8 97, false)
     ∷ []
 
-pub patterns_match : map (λ (m : List ℕ × List ℕ × Bool). passes_pattern m.0 m.1) matches ≡ map (λ (m : List ℕ × List ℕ × Bool). m.2) matches
+pub patterns_match : map (λ (m : List ℕ × List ℕ × Bool). passes_pattern m.0 m.1) matches
+    ≡ map (λ (m : List ℕ × List ℕ × Bool). m.2) matches
 unfolding chars
 patterns_match = refl
 
@@ -55,5 +56,6 @@ passings =
     ∷ (Suffix (codes ".pdf"), codes "/a.pdf/b", false)
     ∷ []
 
-pub paths_pass : map (λ (p : PathRule × List ℕ × Bool). passes_path p.0 p.1) passings ≡ map (λ (p : PathRule × List ℕ × Bool). p.2) passings
+pub paths_pass : map (λ (p : PathRule × List ℕ × Bool). passes_path p.0 p.1) passings
+    ≡ map (λ (p : PathRule × List ℕ × Bool). p.2) passings
 paths_pass = refl

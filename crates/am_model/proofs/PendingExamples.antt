@@ -22,7 +22,15 @@ with_extras extras = record (asking (codes "x.P")) { extras = extras }
 
 -- the flags of a mutable record
 abbrev mutable : PendingFlags
-mutable = record { one_shot = false; no_create = false; cancel_current = false; update_current = false; immutable = false; mutable = true }
+mutable = record {
+  one_shot = false;
+  no_create = false;
+  cancel_current = false;
+  update_current = false;
+  immutable =
+      false;
+  mutable = true;
+}
 
 -- the flags of an immutable one
 abbrev immutable : PendingFlags
@@ -30,7 +38,14 @@ immutable = record mutable { immutable = true; mutable = false }
 
 -- what com.one asks for: a broadcast with an extra a
 abbrev asks : ℤ → PendingFlags → Asked
-asks value flags = record { creator = 10000; kind = Receiver; code = pos 0; intent = with_extras (extra (codes "a") value ∷ []); flags = flags }
+asks value flags = record {
+  creator = 10000;
+  kind = Receiver;
+  code = pos 0;
+  intent = with_extras
+      (extra (codes "a") value ∷ []);
+  flags = flags;
+}
 
 -- the token that is answered
 abbrev token_of : Result (Option ℕ × Pendings) PendingFault → Option ℕ
@@ -53,7 +68,12 @@ after (Err fault) = no_pendings
 
 -- what is sent for it
 abbrev sends : List Named → Bool → Result Used PendingFault
-sends extras one_shot = Ok (record { creator = 10000; kind = Receiver; intent = with_extras extras; one_shot = one_shot })
+sends extras one_shot = Ok (record {
+  creator = 10000;
+  kind = Receiver;
+  intent = with_extras extras;
+  one_shot = one_shot;
+})
 
 -- com.one has asked once
 abbrev one : Pendings
@@ -70,7 +90,8 @@ unfolding get
 same_record = refl
 
 -- which keeps its own extras
-pub keeps_its_extras : use_token (got (asks (pos 2) mutable) one) 1 10000 None ≡ sends (extra (codes "a") (pos 1) ∷ []) false
+pub keeps_its_extras : use_token (got (asks (pos 2) mutable) one) 1 10000 None
+    ≡ sends (extra (codes "a") (pos 1) ∷ []) false
 unfolding get use_token fill_in
 keeps_its_extras = refl
 
@@ -93,17 +114,21 @@ abbrev fill : Intent
 fill = with_extras (extra (codes "a") (pos 9) ∷ extra (codes "b") (pos 2) ∷ [])
 
 -- extras are added where their keys are absent, and none is replaced
-pub filled_in : use_token updated 1 10000 (Some fill) ≡ sends (extra (codes "a") (pos 3) ∷ extra (codes "b") (pos 2) ∷ []) false
+pub filled_in : use_token updated 1 10000 (Some fill) ≡ sends (extra (codes "a") (pos 3) ∷ extra (codes "b") (pos 2)
+    ∷ []) false
 unfolding get use_token fill_in
 filled_in = refl
 
 -- an immutable record takes nothing
-pub not_filled_in : use_token (got (asks (pos 3) immutable) no_pendings) 1 10000 (Some fill) ≡ sends (extra (codes "a") (pos 3) ∷ []) false
+pub not_filled_in : use_token (got (asks (pos 3) immutable) no_pendings) 1 10000 (Some fill)
+    ≡ sends (extra (codes "a") (pos 3) ∷ []) false
 unfolding get use_token fill_in
 not_filled_in = refl
 
 -- nor one that would have more than 64 extras
-pub too_many_extras : use_token (got (record (asks (pos 1) mutable) { intent = with_extras (replicate 64 (extra (codes "a") (pos 1))) }) no_pendings) 1 10000 (Some fill) ≡ Err ExtrasFull
+pub too_many_extras : use_token (got (record (asks (pos 1) mutable)
+    { intent = with_extras (replicate 64 (extra (codes "a") (pos 1))) }) no_pendings) 1 10000 (Some fill)
+    ≡ Err ExtrasFull
 unfolding get use_token fill_in
 too_many_extras = refl
 
@@ -156,7 +181,8 @@ unfolding get
 one_shot_beside = refl
 
 -- and using it tells that this use ends it
-pub one_shot_use : use_token (got (asks (pos 1) (record mutable { one_shot = true })) one) 2 10000 None ≡ sends (extra (codes "a") (pos 1) ∷ []) true
+pub one_shot_use : use_token (got (asks (pos 1) (record mutable { one_shot = true })) one) 2 10000 None
+    ≡ sends (extra (codes "a") (pos 1) ∷ []) true
 unfolding get use_token fill_in
 one_shot_use = refl
 
@@ -181,7 +207,8 @@ unfolding get
 cancel_current = refl
 
 -- and the old one is canceled
-pub old_is_canceled : use_token (got (asks (pos 1) (record mutable { cancel_current = true })) one) 1 10000 None ≡ Err Canceled
+pub old_is_canceled : use_token (got (asks (pos 1) (record mutable { cancel_current = true })) one) 1 10000 None
+    ≡ Err Canceled
 unfolding get use_token
 old_is_canceled = refl
 
@@ -196,7 +223,8 @@ unfolding get
 no_create_makes_none = refl
 
 -- with both the record is canceled and none is made
-pub cancel_and_no_create : get one (asks (pos 1) (record mutable { cancel_current = true; no_create = true })) ≡ Ok (None, record { records = []; next = 2 })
+pub cancel_and_no_create : get one (asks (pos 1) (record mutable { cancel_current = true; no_create = true }))
+    ≡ Ok (None, record { records = []; next = 2 })
 unfolding get
 cancel_and_no_create = refl
 
@@ -236,7 +264,11 @@ forgotten_creator = refl
 
 -- a record that is canceled makes room for another
 abbrev almost_full : Pendings
-almost_full = record { records = fresh 1 (asks (pos 1) mutable) ∷ replicate 1023 (fresh 2 (record (asks (pos 1) mutable) { code = pos 1 })); next = 3 }
+almost_full = record {
+  records = fresh 1 (asks (pos 1) mutable) ∷ replicate 1023
+      (fresh 2 (record (asks (pos 1) mutable) { code = pos 1 }));
+  next = 3;
+}
 
 -- which has the next token
 pub room_by_cancel : token_of (get almost_full (asks (pos 1) (record mutable { cancel_current = true }))) ≡ Some 3
@@ -259,7 +291,9 @@ unfolding get cancel use_token
 canceled_before_holder = refl
 
 -- who holds it before the extras
-pub holder_before_extras : use_token (got (record (asks (pos 1) mutable) { intent = with_extras (replicate 64 (extra (codes "a") (pos 1))) }) no_pendings) 1 10001 (Some fill) ≡ Err NotHolder
+pub holder_before_extras : use_token (got (record (asks (pos 1) mutable)
+    { intent = with_extras (replicate 64 (extra (codes "a") (pos 1))) }) no_pendings) 1 10001 (Some fill)
+    ≡ Err NotHolder
 unfolding get use_token fill_in
 holder_before_extras = refl
 
@@ -279,7 +313,8 @@ unfolding get
 another_code = refl
 
 -- and another category of the intent
-pub another_category : token_of (get one (record (asks (pos 1) mutable) { intent = record (asking (codes "x.P")) { categories = codes "x.C" ∷ [] } })) ≡ Some 2
+pub another_category : token_of (get one (record (asks (pos 1) mutable)
+    { intent = record (asking (codes "x.P")) { categories = codes "x.C" ∷ [] } })) ≡ Some 2
 unfolding get
 another_category = refl
 

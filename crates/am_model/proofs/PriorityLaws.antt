@@ -45,7 +45,8 @@ lt_other a b c first differs second = by (int_lt b a) refl differs
     under : int_lt b a ≡ true → int_eq c a ≡ false
     under less = rw (lt_under a b c second less) refl
 
-    by : (test : Bool) → int_lt b a ≡ test → is_eq (cond test Less (cond (int_lt a b) Greater Equal)) ≡ false → int_eq c a ≡ false
+    by : (test : Bool) → int_lt b a ≡ test → is_eq (cond test Less (cond (int_lt a b) Greater Equal)) ≡ false
+        → int_eq c a ≡ false
     by true less differs = under less
     by false less differs = absurd (apart (int_lt a b) first differs)
       where
@@ -65,16 +66,23 @@ module _ {X : Type 0} (priority : X → ℤ) where
   IsFalling (x ∷ xs) = AreNotAbove (priority x) xs × IsFalling xs
 
   -- none is above a greater number
-  not_above_greater : (limit lower : ℤ) (xs : List X) → int_lt limit lower ≡ false → AreNotAbove lower xs → AreNotAbove limit xs
+  not_above_greater : (limit lower : ℤ) (xs : List X) → int_lt limit lower ≡ false → AreNotAbove lower xs
+      → AreNotAbove limit xs
   not_above_greater limit lower [] greater below = tt
-  not_above_greater limit lower (x ∷ xs) greater below = (lt_chain limit lower (priority x) greater below.0, not_above_greater limit lower xs greater below.1)
+  not_above_greater limit lower (x ∷ xs) greater below = (
+    lt_chain limit lower (priority x) greater below.0,
+    not_above_greater limit lower xs greater below.1,
+  )
 
   -- nor is one of them with one more that isn't
-  not_above_place : (limit : ℤ) (x : X) (ys : List X) → int_lt limit (priority x) ≡ false → AreNotAbove limit ys → AreNotAbove limit (place_by priority x ys)
+  not_above_place : (limit : ℤ) (x : X) (ys : List X) → int_lt limit (priority x) ≡ false → AreNotAbove limit ys
+      → AreNotAbove limit (place_by priority x ys)
   not_above_place limit x [] is below = (is, tt)
-  not_above_place limit x (y ∷ ys) is below = by (int_lt (priority x) (priority y)) (not_above_place limit x ys is below.1)
+  not_above_place limit x (y ∷ ys) is below = by (int_lt (priority x) (priority y))
+      (not_above_place limit x ys is below.1)
     where
-      by : (b : Bool) → AreNotAbove limit (place_by priority x ys) → AreNotAbove limit (cond b (y ∷ place_by priority x ys) (x ∷ y ∷ ys))
+      by : (b : Bool) → AreNotAbove limit (place_by priority x ys)
+          → AreNotAbove limit (cond b (y ∷ place_by priority x ys) (x ∷ y ∷ ys))
       by true rest = (below.0, rest)
       by false rest = (is, below)
 
@@ -83,7 +91,8 @@ module _ {X : Type 0} (priority : X → ℤ) where
   falling_place x [] falls = (tt, tt)
   falling_place x (y ∷ ys) falls = by (int_lt (priority x) (priority y)) refl (falling_place x ys falls.1)
     where
-      by : (b : Bool) → int_lt (priority x) (priority y) ≡ b → IsFalling (place_by priority x ys) → IsFalling (cond b (y ∷ place_by priority x ys) (x ∷ y ∷ ys))
+      by : (b : Bool) → int_lt (priority x) (priority y) ≡ b → IsFalling (place_by priority x ys)
+          → IsFalling (cond b (y ∷ place_by priority x ys) (x ∷ y ∷ ys))
       by true less rest = (not_above_place (priority y) x ys (lt_one_way (priority x) (priority y) less) falls.0, rest)
       by false less rest = ((less, not_above_greater (priority x) (priority y) ys less falls.0), falls)
 
@@ -101,7 +110,11 @@ module _ {X : Type 0} (priority : X → ℤ) where
   -- what is left of a falling list is falling
   pub falling_part : (xs ys : List X) → IsPart xs ys → IsFalling ys → IsFalling xs
   falling_part xs ys end falls = tt
-  falling_part (x ∷ xs) (x' ∷ ys) (keep part) falls = (not_above_part (priority x) xs ys part falls.0, falling_part xs ys part falls.1)
+  falling_part (x ∷ xs) (x' ∷ ys) (keep part) falls = (
+    not_above_part (priority x) xs ys part falls.0,
+    falling_part xs
+        ys part falls.1,
+  )
   falling_part xs (y ∷ ys) (leave part) falls = falling_part xs ys part falls.1
 
   -- the element has that priority
@@ -109,18 +122,23 @@ module _ {X : Type 0} (priority : X → ℤ) where
   has_priority limit x = int_eq (priority x) limit
 
   -- none has a priority that one in front of all differs from and isn't above
-  none_has : (limit lower : ℤ) (xs : List X) → int_lt limit lower ≡ false → int_eq lower limit ≡ false → AreNotAbove lower xs → filter (has_priority limit) xs ≡ []
+  none_has : (limit lower : ℤ) (xs : List X) → int_lt limit lower ≡ false → int_eq lower limit ≡ false
+      → AreNotAbove lower xs → filter (has_priority limit) xs ≡ []
   none_has limit lower [] greater differs below = refl
-  none_has limit lower (x ∷ xs) greater differs below = rw (lt_other limit lower (priority x) greater differs below.0) (none_has limit lower xs greater differs below.1)
+  none_has limit lower (x ∷ xs) greater differs below = rw (lt_other limit lower (priority x) greater differs below.0)
+      (none_has limit lower xs greater differs below.1)
 
   -- of a falling list those of the greatest priority stand in front
-  pub greatest_in_front : (limit : ℤ) (xs : List X) → AreNotAbove limit xs → IsFalling xs → take_while (has_priority limit) xs ≡ filter (has_priority limit) xs
+  pub greatest_in_front : (limit : ℤ) (xs : List X) → AreNotAbove limit xs → IsFalling xs
+      → take_while (has_priority limit) xs ≡ filter (has_priority limit) xs
   greatest_in_front limit [] below falls = refl
   greatest_in_front limit (x ∷ xs) below falls =
-      take_while-cons (has_priority limit) x xs ∙ by (has_priority limit x) refl (greatest_in_front limit xs below.1 falls.1)
+      take_while-cons (has_priority limit) x xs ∙ by (has_priority limit x) refl
+      (greatest_in_front limit xs below.1 falls.1)
     where
       by : (b : Bool) → has_priority limit x ≡ b → take_while (has_priority limit) xs ≡ filter (has_priority limit) xs
-          → cond b (x ∷ take_while (has_priority limit) xs) [] ≡ cond b (x ∷ filter (has_priority limit) xs) (filter (has_priority limit) xs)
+          → cond b (x ∷ take_while (has_priority limit) xs) [] ≡ cond b (x ∷ filter (has_priority limit) xs)
+          (filter (has_priority limit) xs)
       by true is rest = ap (λ l. x ∷ l) rest
       by false is rest = sym (none_has limit (priority x) xs below.0 is falls.0)
 
@@ -133,28 +151,34 @@ abbrev pub of_offer : Offer → ℤ
 of_offer offer = offer.priority
 
 -- the hits of an intent stand by falling priority
-pub hits_fall : (packages : List Package) (kind : Kind) (intent : Intent) (need_default : Bool) → IsFalling of_hit (hits packages kind intent need_default)
+pub hits_fall : (packages : List Package) (kind : Kind) (intent : Intent) (need_default : Bool)
+    → IsFalling of_hit (hits packages kind intent need_default)
 hits_fall packages kind intent need_default = placed_fall of_hit (candidates packages kind intent need_default)
 
 -- and so do the offers of a broadcast
 pub offers_fall : (board : Board) (intent : Intent) → IsFalling of_offer (offers board intent)
 offers_fall board intent =
-    placed_fall of_offer (map registered_offer (filter (finds_registered board.packages intent) board.registered) ++ declared_offers board.packages (hits board.packages Receiver intent false))
+    placed_fall of_offer (map registered_offer (filter (finds_registered board.packages intent) board.registered)
+    ++ declared_offers board.packages (hits board.packages Receiver intent false))
 
 -- of hits that fall, all of the greatest priority are those that a start is for
-pub top_is_all_greatest : (first : Hit) (others : List Hit) → IsFalling of_hit (first ∷ others) → top (first ∷ others) ≡ filter (has_priority of_hit first.priority) (first ∷ others)
-top_is_all_greatest first others falls = greatest_in_front of_hit first.priority (first ∷ others) (lt_itself first.priority, falls.0) falls
+pub top_is_all_greatest : (first : Hit) (others : List Hit) → IsFalling of_hit (first ∷ others) → top (first ∷ others)
+    ≡ filter (has_priority of_hit first.priority) (first ∷ others)
+top_is_all_greatest first others falls = greatest_in_front of_hit first.priority (first ∷ others)
+    (lt_itself first.priority, falls.0) falls
 
 -- where a start reaches one activity, no hit that the narrowing left is above it
 pub one_is_greatest : (board : Board) (intent : Intent) (hit : Hit) → target board intent ≡ One hit
-    → AreNotAbove of_hit hit.priority (narrowed board intent (hits board.packages Activity intent true) (host_to_view intent))
+    → AreNotAbove of_hit hit.priority (narrowed board intent (hits board.packages Activity intent true)
+    (host_to_view intent))
 one_is_greatest board intent hit reached = by (narrowed board intent found (host_to_view intent)) falls reached
   where
     found : List Hit
     found = hits board.packages Activity intent true
 
     falls : IsFalling of_hit (narrowed board intent found (host_to_view intent))
-    falls = falling_part of_hit _ found (narrowing_leaves_a_part board intent found (host_to_view intent)) (hits_fall board.packages Activity intent true)
+    falls = falling_part of_hit _ found (narrowing_leaves_a_part board intent found (host_to_view intent))
+        (hits_fall board.packages Activity intent true)
 
     is_first : (first : Hit) (rest : List Hit) → choice (first ∷ rest) ≡ One hit → first ≡ hit
     is_first first [] e = cc
@@ -163,9 +187,12 @@ one_is_greatest board intent hit reached = by (narrowed board intent found (host
     by : (left : List Hit) → IsFalling of_hit left → choice (top left) ≡ One hit → AreNotAbove of_hit hit.priority left
     by [] falls e = tt
     by (first ∷ others) falls e =
-        let front : top (first ∷ others) ≡ cond (int_eq first.priority first.priority) (first ∷ take_while (λ (h : Hit). int_eq h.priority first.priority) others) [] =
+        let front : top (first ∷ others) ≡ cond (int_eq first.priority first.priority)
+        (first ∷ take_while (λ (h : Hit). int_eq h.priority first.priority) others) [] =
         take_while-cons (λ (h : Hit). int_eq h.priority first.priority) first others in
         let own : int_eq first.priority first.priority ≡ true = (Decides-int_eq first.priority first.priority).1 refl in
-        let whole : top (first ∷ others) ≡ first ∷ take_while (λ (h : Hit). int_eq h.priority first.priority) others = front ∙ ap (λ b. cond b (first ∷ take_while (λ (h : Hit). int_eq h.priority first.priority) others) []) own in
+        let whole : top (first ∷ others) ≡ first ∷ take_while (λ (h : Hit). int_eq h.priority first.priority) others =
+        front ∙ ap (λ b. cond b (first ∷ take_while (λ (h : Hit). int_eq h.priority first.priority) others) []) own
+        in
         let same : first ≡ hit = is_first first _ (ap choice (sym whole) ∙ e) in
         subst (λ (h : Hit). AreNotAbove of_hit h.priority (first ∷ others)) same (lt_itself first.priority, falls.0)

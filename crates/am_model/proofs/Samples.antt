@@ -72,4 +72,5 @@ browsable = codes "android.intent.category.BROWSABLE"
 
 -- a filter of web pages
 abbrev pub web_pages : Filter
-web_pages = record (filter_for (codes "android.intent.action.VIEW") (browsable ∷ default_category ∷ []) (pos 0)) { schemes = codes "https" ∷ [] }
+web_pages = record (filter_for (codes "android.intent.action.VIEW") (browsable ∷ default_category ∷ []) (pos 0))
+    { schemes = codes "https" ∷ [] }

@@ -15,11 +15,14 @@ use Rattle.am_model.specs.Targets.{is_approved, is_general, browser_hits, narrow
 use Rattle.am_model.proofs.Parts.{IsPart, end, IsPart-whole, IsPart-filter, IsPart-take, IsPart-part, Contains-part}
 
 -- the narrowing adds no hit, and the hits that are left stand in their order
-pub narrowing_leaves_a_part : (board : Board) (intent : Intent) (found : List Hit) (host : Option (List ℕ)) → IsPart (narrowed board intent found host) found
+pub narrowing_leaves_a_part : (board : Board) (intent : Intent) (found : List Hit) (host : Option (List ℕ))
+    → IsPart (narrowed board intent found host) found
 narrowing_leaves_a_part board intent found None = IsPart-whole found
-narrowing_leaves_a_part board intent found (Some host) = by (list_any (is_approved board.links host) found) board.browser
+narrowing_leaves_a_part board intent found (Some host) = by (list_any (is_approved board.links host) found)
+    board.browser
   where
-    by : (approved : Bool) (browser : Option (List ℕ)) → IsPart (cond approved (filter (is_approved board.links host) found) (browser_hits board intent found browser)) found
+    by : (approved : Bool) (browser : Option (List ℕ)) → IsPart (cond approved
+        (filter (is_approved board.links host) found) (browser_hits board intent found browser)) found
     by true browser = IsPart-filter (is_approved board.links host) found
     by false None = IsPart-filter (is_general board.packages intent) found
     by false (Some browser) = IsPart-filter (λ (hit : Hit). is_same hit.component.«package» browser) found
@@ -27,7 +30,8 @@ narrowing_leaves_a_part board intent found (Some host) = by (list_any (is_approv
 -- and so do those of the greatest priority
 pub top_is_a_part : (found : List Hit) → IsPart (top found) found
 top_is_a_part [] = end
-top_is_a_part (first ∷ others) = IsPart-take (prefix_len (λ (hit : Hit). int_eq hit.priority first.priority) (first ∷ others)) (first ∷ others)
+top_is_a_part (first ∷ others) = IsPart-take (prefix_len (λ (hit : Hit). int_eq hit.priority first.priority)
+    (first ∷ others)) (first ∷ others)
 
 -- the hits of a target: none, the one that is reached, or those among which the user must choose
 abbrev pub hits_of : Target → List Hit
@@ -42,21 +46,27 @@ hits_of_choice (hit ∷ []) = refl
 hits_of_choice (hit ∷ other ∷ others) = refl
 
 -- the hits of a start's target are hits of the intent, in their order
-pub target_is_a_part : (board : Board) (intent : Intent) → IsPart (hits_of (target board intent)) (hits board.packages Activity intent true)
+pub target_is_a_part : (board : Board) (intent : Intent) → IsPart (hits_of (target board intent))
+    (hits board.packages Activity intent true)
 target_is_a_part board intent =
     let found = hits board.packages Activity intent true in
     let left = narrowed board intent found (host_to_view intent) in
     rw (hits_of_choice (top left))
-    (IsPart-part (top left) left found (top_is_a_part left) (narrowing_leaves_a_part board intent found (host_to_view intent)))
+    (IsPart-part (top left) left found (top_is_a_part left) (narrowing_leaves_a_part board intent found
+    (host_to_view intent)))
 
 -- a start that reaches one reaches one of the intent's hits
-pub one_is_a_hit : (board : Board) (intent : Intent) (hit : Hit) → target board intent ≡ One hit → Contains (hits board.packages Activity intent true) hit
+pub one_is_a_hit : (board : Board) (intent : Intent) (hit : Hit) → target board intent ≡ One hit
+    → Contains (hits board.packages Activity intent true) hit
 one_is_a_hit board intent hit reached =
-    Contains-part hit (hits board.packages Activity intent true) (subst (λ t. IsPart (hits_of t) (hits board.packages Activity intent true)) reached (target_is_a_part board intent))
+    Contains-part hit (hits board.packages Activity intent true) (subst
+    (λ t. IsPart (hits_of t) (hits board.packages Activity intent true)) reached (target_is_a_part board intent))
 
 -- a choice is among two at least
-pub choice_is_among_two : (board : Board) (intent : Intent) (several : List Hit) → target board intent ≡ Choose several → 2 ≤ length several
-choice_is_among_two board intent several asked = by (top (narrowed board intent (hits board.packages Activity intent true) (host_to_view intent))) asked
+pub choice_is_among_two : (board : Board) (intent : Intent) (several : List Hit) → target board intent ≡ Choose several
+    → 2 ≤ length several
+choice_is_among_two board intent several asked = by (top (narrowed board intent
+    (hits board.packages Activity intent true) (host_to_view intent))) asked
   where
     by : (found : List Hit) → choice found ≡ Choose several → 2 ≤ length several
     by [] e = cc

@@ -90,7 +90,8 @@ first_start = refl
 
 -- A, from it B, and from that C
 abbrev three : Tasks
-three = with (start third Standard no_flags (Some 2)) (with (start second Standard no_flags (Some 1)) (with (start main SingleTask new_task None) no_tasks))
+three = with (start third Standard no_flags (Some 2)) (with (start second Standard no_flags (Some 1))
+    (with (start main SingleTask new_task None) no_tasks))
 
 -- a start from an instance stands on top of its task
 pub on_top_of_source : outline three ≡ (1, 1 ∷ 2 ∷ 3 ∷ []) ∷ []
@@ -98,27 +99,32 @@ unfolding place
 on_top_of_source = refl
 
 -- singleTask: what is above the instance goes, and it gets the new intent
-pub single_task : outcome (place three (start main SingleTask no_flags (Some 3))) ≡ Ok (new_intent 1 1, (1, 1 ∷ []) ∷ [])
+pub single_task : outcome (place three (start main SingleTask no_flags (Some 3)))
+    ≡ Ok (new_intent 1 1, (1, 1 ∷ []) ∷ [])
 unfolding place
 single_task = refl
 
 -- CLEAR_TOP: a standard activity goes too, and is made anew
-pub clear_top_standard : outcome (place three (start second Standard clear_top (Some 3))) ≡ Ok (fresh 1 4, (1, 1 ∷ 4 ∷ []) ∷ [])
+pub clear_top_standard : outcome (place three (start second Standard clear_top (Some 3)))
+    ≡ Ok (fresh 1 4, (1, 1 ∷ 4 ∷ []) ∷ [])
 unfolding place
 clear_top_standard = refl
 
 -- with SINGLE_TOP it gets the new intent
-pub clear_top_single_top : outcome (place three (start second Standard (record clear_top { single_top = true }) (Some 3))) ≡ Ok (new_intent 1 2, (1, 1 ∷ 2 ∷ []) ∷ [])
+pub clear_top_single_top : outcome (place three (start second Standard (record clear_top { single_top = true })
+    (Some 3))) ≡ Ok (new_intent 1 2, (1, 1 ∷ 2 ∷ []) ∷ [])
 unfolding place
 clear_top_single_top = refl
 
 -- and so does an activity of another mode
-pub clear_top_of_single_top : outcome (place three (start second SingleTop clear_top (Some 3))) ≡ Ok (new_intent 1 2, (1, 1 ∷ 2 ∷ []) ∷ [])
+pub clear_top_of_single_top : outcome (place three (start second SingleTop clear_top (Some 3)))
+    ≡ Ok (new_intent 1 2, (1, 1 ∷ 2 ∷ []) ∷ [])
 unfolding place
 clear_top_of_single_top = refl
 
 -- of several instances the topmost is meant
-pub clear_to_topmost : outcome (place (with (start second Standard no_flags (Some 3)) three) (start second SingleTop clear_top (Some 4))) ≡ Ok (new_intent 1 4, (1, 1 ∷ 2 ∷ 3 ∷ 4 ∷ []) ∷ [])
+pub clear_to_topmost : outcome (place (with (start second Standard no_flags (Some 3)) three)
+    (start second SingleTop clear_top (Some 4))) ≡ Ok (new_intent 1 4, (1, 1 ∷ 2 ∷ 3 ∷ 4 ∷ []) ∷ [])
 unfolding place
 clear_to_topmost = refl
 
@@ -133,17 +139,20 @@ unfolding place
 no_source = refl
 
 -- a source of another app
-pub source_not_yours : outcome (place three (record (start second Standard no_flags (Some 3)) { caller = 10001 })) ≡ Err place_faults.NotYours
+pub source_not_yours : outcome (place three (record (start second Standard no_flags (Some 3)) { caller = 10001 }))
+    ≡ Err place_faults.NotYours
 unfolding place
 source_not_yours = refl
 
 -- which the system may use
-pub system_starts : outcome (place three (record (start second Standard no_flags (Some 3)) { caller = 1000 })) ≡ Ok (fresh 1 4, (1, 1 ∷ 2 ∷ 3 ∷ 4 ∷ []) ∷ [])
+pub system_starts : outcome (place three (record (start second Standard no_flags (Some 3)) { caller = 1000 }))
+    ≡ Ok (fresh 1 4, (1, 1 ∷ 2 ∷ 3 ∷ 4 ∷ []) ∷ [])
 unfolding place
 system_starts = refl
 
 -- NEW_TASK at the root of the task: it is fronted, with all that stands on it
-pub root_is_fronted : outcome (place three (start main Standard new_task None)) ≡ Ok (fronted 1 3, (1, 1 ∷ 2 ∷ 3 ∷ []) ∷ [])
+pub root_is_fronted : outcome (place three (start main Standard new_task None))
+    ≡ Ok (fronted 1 3, (1, 1 ∷ 2 ∷ 3 ∷ []) ∷ [])
 unfolding place
 root_is_fronted = refl
 
@@ -153,17 +162,20 @@ unfolding place
 fronted_keeps_intents = refl
 
 -- NEW_TASK at another activity: on top of the task of its affinity
-pub on_found_task : outcome (place three (start third Standard new_task None)) ≡ Ok (fresh 1 4, (1, 1 ∷ 2 ∷ 3 ∷ 4 ∷ []) ∷ [])
+pub on_found_task : outcome (place three (start third Standard new_task None))
+    ≡ Ok (fresh 1 4, (1, 1 ∷ 2 ∷ 3 ∷ 4 ∷ []) ∷ [])
 unfolding place
 on_found_task = refl
 
 -- MULTIPLE_TASK beside NEW_TASK: another task, though one is there
-pub another_task : outcome (place three (start main Standard multiple None)) ≡ Ok (fresh 2 4, (2, 4 ∷ []) ∷ (1, 1 ∷ 2 ∷ 3 ∷ []) ∷ [])
+pub another_task : outcome (place three (start main Standard multiple None))
+    ≡ Ok (fresh 2 4, (2, 4 ∷ []) ∷ (1, 1 ∷ 2 ∷ 3 ∷ []) ∷ [])
 unfolding place
 another_task = refl
 
 -- also for singleTop
-pub another_task_single_top : outcome (place three (start main SingleTop multiple None)) ≡ Ok (fresh 2 4, (2, 4 ∷ []) ∷ (1, 1 ∷ 2 ∷ 3 ∷ []) ∷ [])
+pub another_task_single_top : outcome (place three (start main SingleTop multiple None))
+    ≡ Ok (fresh 2 4, (2, 4 ∷ []) ∷ (1, 1 ∷ 2 ∷ 3 ∷ []) ∷ [])
 unfolding place
 another_task_single_top = refl
 
@@ -173,12 +185,14 @@ unfolding place
 no_other_task = refl
 
 -- MULTIPLE_TASK alone counts for nothing
-pub multiple_alone : outcome (place three (start second Standard (record no_flags { multiple_task = true }) (Some 3))) ≡ Ok (fresh 1 4, (1, 1 ∷ 2 ∷ 3 ∷ 4 ∷ []) ∷ [])
+pub multiple_alone : outcome (place three (start second Standard (record no_flags { multiple_task = true }) (Some 3)))
+    ≡ Ok (fresh 1 4, (1, 1 ∷ 2 ∷ 3 ∷ 4 ∷ []) ∷ [])
 unfolding place
 multiple_alone = refl
 
 -- no task has the affinity: a new one
-pub other_affinity : outcome (place three (record (start second Standard new_task None) { affinity = codes "x" })) ≡ Ok (fresh 2 4, (2, 4 ∷ []) ∷ (1, 1 ∷ 2 ∷ 3 ∷ []) ∷ [])
+pub other_affinity : outcome (place three (record (start second Standard new_task None) { affinity = codes "x" }))
+    ≡ Ok (fresh 2 4, (2, 4 ∷ []) ∷ (1, 1 ∷ 2 ∷ 3 ∷ []) ∷ [])
 unfolding place
 other_affinity = refl
 
@@ -187,12 +201,14 @@ abbrev without_affinity : StartCall
 without_affinity = record (start second Standard new_task None) { affinity = [] }
 
 -- it stands in no task that is there, though that one has none either
-pub empty_affinity : outcome (place (with without_affinity no_tasks) without_affinity) ≡ Ok (fresh 2 2, (2, 2 ∷ []) ∷ (1, 1 ∷ []) ∷ [])
+pub empty_affinity : outcome (place (with without_affinity no_tasks) without_affinity)
+    ≡ Ok (fresh 2 2, (2, 2 ∷ []) ∷ (1, 1 ∷ []) ∷ [])
 unfolding place
 empty_affinity = refl
 
 -- CLEAR_TASK beside NEW_TASK: the task is emptied and keeps its number
-pub clear_task : outcome (place three (start second Standard (record new_task { clear_task = true }) None)) ≡ Ok (fresh 1 4, (1, 4 ∷ []) ∷ [])
+pub clear_task : outcome (place three (start second Standard (record new_task { clear_task = true }) None))
+    ≡ Ok (fresh 1 4, (1, 4 ∷ []) ∷ [])
 unfolding place
 clear_task = refl
 
@@ -201,37 +217,44 @@ abbrev reorder : Flags
 reorder = record no_flags { reorder_to_front = true }
 
 -- the instance is moved to the top and gets the new intent
-pub reordered : outcome (place three (start second Standard reorder (Some 3))) ≡ Ok (new_intent 1 2, (1, 1 ∷ 3 ∷ 2 ∷ []) ∷ [])
+pub reordered : outcome (place three (start second Standard reorder (Some 3)))
+    ≡ Ok (new_intent 1 2, (1, 1 ∷ 3 ∷ 2 ∷ []) ∷ [])
 unfolding place
 reordered = refl
 
 -- CLEAR_TOP goes before it
-pub clear_top_before_reorder : outcome (place three (start second Standard (record reorder { clear_top = true }) (Some 3))) ≡ Ok (fresh 1 4, (1, 1 ∷ 4 ∷ []) ∷ [])
+pub clear_top_before_reorder : outcome (place three (start second Standard (record reorder { clear_top = true })
+    (Some 3))) ≡ Ok (fresh 1 4, (1, 1 ∷ 4 ∷ []) ∷ [])
 unfolding place
 clear_top_before_reorder = refl
 
 -- and where a new task is wanted it counts for nothing
-pub no_reorder_for_new_task : outcome (place three (start second Standard (record reorder { new_task = true }) (Some 3))) ≡ Ok (fresh 1 4, (1, 1 ∷ 2 ∷ 3 ∷ 4 ∷ []) ∷ [])
+pub no_reorder_for_new_task : outcome (place three (start second Standard (record reorder { new_task = true })
+    (Some 3))) ≡ Ok (fresh 1 4, (1, 1 ∷ 2 ∷ 3 ∷ 4 ∷ []) ∷ [])
 unfolding place
 no_reorder_for_new_task = refl
 
 -- singleTop: the top gets the new intent
-pub single_top : outcome (place three (start third SingleTop no_flags (Some 3))) ≡ Ok (new_intent 1 3, (1, 1 ∷ 2 ∷ 3 ∷ []) ∷ [])
+pub single_top : outcome (place three (start third SingleTop no_flags (Some 3)))
+    ≡ Ok (new_intent 1 3, (1, 1 ∷ 2 ∷ 3 ∷ []) ∷ [])
 unfolding place
 single_top = refl
 
 -- and with SINGLE_TOP
-pub single_top_flag : outcome (place three (start third Standard (record no_flags { single_top = true }) (Some 3))) ≡ Ok (new_intent 1 3, (1, 1 ∷ 2 ∷ 3 ∷ []) ∷ [])
+pub single_top_flag : outcome (place three (start third Standard (record no_flags { single_top = true }) (Some 3)))
+    ≡ Ok (new_intent 1 3, (1, 1 ∷ 2 ∷ 3 ∷ []) ∷ [])
 unfolding place
 single_top_flag = refl
 
 -- unless another stands on it
-pub not_on_top : outcome (place three (start second SingleTop no_flags (Some 3))) ≡ Ok (fresh 1 4, (1, 1 ∷ 2 ∷ 3 ∷ 4 ∷ []) ∷ [])
+pub not_on_top : outcome (place three (start second SingleTop no_flags (Some 3)))
+    ≡ Ok (fresh 1 4, (1, 1 ∷ 2 ∷ 3 ∷ 4 ∷ []) ∷ [])
 unfolding place
 not_on_top = refl
 
 -- a standard activity is made anew, also on itself
-pub standard_on_itself : outcome (place three (start third Standard no_flags (Some 3))) ≡ Ok (fresh 1 4, (1, 1 ∷ 2 ∷ 3 ∷ 4 ∷ []) ∷ [])
+pub standard_on_itself : outcome (place three (start third Standard no_flags (Some 3)))
+    ≡ Ok (fresh 1 4, (1, 1 ∷ 2 ∷ 3 ∷ 4 ∷ []) ∷ [])
 unfolding place
 standard_on_itself = refl
 
@@ -249,12 +272,14 @@ unfolding place
 single_instance = refl
 
 -- what it starts stands elsewhere: in the task of its affinity that isn't for one instance
-pub started_from_single : outcome (place with_alone (start second Standard no_flags (Some 4))) ≡ Ok (fresh 1 5, (1, 1 ∷ 2 ∷ 3 ∷ 5 ∷ []) ∷ (2, 4 ∷ []) ∷ [])
+pub started_from_single : outcome (place with_alone (start second Standard no_flags (Some 4)))
+    ≡ Ok (fresh 1 5, (1, 1 ∷ 2 ∷ 3 ∷ 5 ∷ []) ∷ (2, 4 ∷ []) ∷ [])
 unfolding place
 started_from_single = refl
 
 -- and it gets the new intent where it stands, though the other task was in front
-pub single_instance_again : outcome (place (with (start second Standard no_flags (Some 4)) with_alone) alone) ≡ Ok (new_intent 2 4, (2, 4 ∷ []) ∷ (1, 1 ∷ 2 ∷ 3 ∷ 5 ∷ []) ∷ [])
+pub single_instance_again : outcome (place (with (start second Standard no_flags (Some 4)) with_alone) alone)
+    ≡ Ok (new_intent 2 4, (2, 4 ∷ []) ∷ (1, 1 ∷ 2 ∷ 3 ∷ 5 ∷ []) ∷ [])
 unfolding place
 single_instance_again = refl
 
@@ -286,12 +311,14 @@ unfolding place
 another_root = refl
 
 -- and the frontmost root is meant from then on
-pub frontmost_root : outcome (place two_roots (per_task no_flags (Some 3))) ≡ Ok (new_intent 2 3, (2, 3 ∷ []) ∷ (1, 1 ∷ []) ∷ [])
+pub frontmost_root : outcome (place two_roots (per_task no_flags (Some 3)))
+    ≡ Ok (new_intent 2 3, (2, 3 ∷ []) ∷ (1, 1 ∷ []) ∷ [])
 unfolding place
 frontmost_root = refl
 
 -- it isn't alone: others are placed in its task
-pub beside_root : outcome (place two_roots (start second Standard new_task None)) ≡ Ok (fresh 2 4, (2, 3 ∷ 4 ∷ []) ∷ (1, 1 ∷ []) ∷ [])
+pub beside_root : outcome (place two_roots (start second Standard new_task None))
+    ≡ Ok (fresh 2 4, (2, 3 ∷ 4 ∷ []) ∷ (1, 1 ∷ []) ∷ [])
 unfolding place
 beside_root = refl
 
@@ -301,8 +328,17 @@ unfolding place
 root_needs_new_task = refl
 
 -- a new intent replaces the one that the instance had
-pub new_intent_is_shown : views (with (start third SingleTop (record no_flags { single_top = true }) (Some 1)) (with (start third SingleTop new_task None) no_tasks)) 10000
-    ≡ record { task = 1; instances = record { instance = 1; component = third; intent = record (to_component third) { flags = record no_flags { single_top = true } } } ∷ [] } ∷ []
+pub new_intent_is_shown : views (with (start third SingleTop (record no_flags { single_top = true }) (Some 1))
+    (with (start third SingleTop new_task None) no_tasks)) 10000
+    ≡ record {
+      task = 1;
+      instances = record {
+        instance = 1;
+        component = third;
+        intent = record (to_component third)
+            { flags = record no_flags { single_top = true } };
+      } ∷ [];
+    } ∷ []
 unfolding place
 new_intent_is_shown = refl
 
@@ -337,7 +373,8 @@ unfolding place
 no_65th_instance = refl
 
 -- unless the start makes room
-pub cleared_full_task : outcome (place (many_instances 63) (start second Standard (record new_task { clear_task = true }) None)) ≡ Ok (fresh 1 65, (1, 65 ∷ []) ∷ [])
+pub cleared_full_task : outcome (place (many_instances 63) (start second Standard
+    (record new_task { clear_task = true }) None)) ≡ Ok (fresh 1 65, (1, 65 ∷ []) ∷ [])
 unfolding place
 cleared_full_task = refl
 
@@ -359,7 +396,8 @@ ended_once = refl
 -- A was started again, then B, C and B with CLEAR_TOP: A is left, and another B
 abbrev two_left : Tasks
 two_left = with (start second Standard clear_top (Some 5))
-    (with (start third Standard no_flags (Some 4)) (with (start second Standard no_flags (Some 1)) (with (start main SingleTask no_flags (Some 3)) three)))
+    (with (start third Standard no_flags (Some 4)) (with (start second Standard no_flags (Some 1))
+    (with (start main SingleTask no_flags (Some 3)) three)))
 
 -- both stand in the one task
 pub both_left : outline two_left ≡ (1, 1 ∷ 6 ∷ []) ∷ []
@@ -393,12 +431,16 @@ seen_by_another = refl
 
 -- an activity of com.two on one of com.one
 abbrev mixed : Tasks
-mixed = with (record (start second Standard no_flags (Some 1)) { target = component_of (codes "com.two") (codes "B"); owner = 10001 })
+mixed = with (record (start second Standard no_flags (Some 1)) {
+  target = component_of (codes "com.two") (codes "B");
+  owner = 10001;
+})
     (with (start main Standard new_task None) no_tasks)
 
 -- the numbers of the tasks and instances that a uid sees
 abbrev numbers_seen : Tasks → ℕ → List (ℕ × List ℕ)
-numbers_seen all uid = map (λ (view : TaskView). (view.task, map (λ (i : InstanceView). i.instance) view.instances)) (views all uid)
+numbers_seen all uid = map (λ (view : TaskView). (view.task, map (λ (i : InstanceView). i.instance) view.instances))
+    (views all uid)
 
 -- com.two sees its own
 pub seen_by_owner : numbers_seen mixed 10001 ≡ (1, 2 ∷ []) ∷ []
@@ -416,46 +458,56 @@ unfolding place
 forgotten_app = refl
 
 -- the cases are tried in their order: several tasks before a cleared one
-pub multiple_before_clear_task : outcome (place three (start main Standard (record multiple { clear_task = true }) None)) ≡ Ok (fresh 2 4, (2, 4 ∷ []) ∷ (1, 1 ∷ 2 ∷ 3 ∷ []) ∷ [])
+pub multiple_before_clear_task : outcome (place three (start main Standard (record multiple { clear_task = true })
+    None)) ≡ Ok (fresh 2 4, (2, 4 ∷ []) ∷ (1, 1 ∷ 2 ∷ 3 ∷ []) ∷ [])
 unfolding place
 multiple_before_clear_task = refl
 
 -- a cleared task before a cleared top
-pub clear_task_before_clear_top : outcome (place three (start main SingleTask (record new_task { clear_task = true }) None)) ≡ Ok (fresh 1 4, (1, 4 ∷ []) ∷ [])
+pub clear_task_before_clear_top : outcome (place three (start main SingleTask (record new_task { clear_task = true })
+    None)) ≡ Ok (fresh 1 4, (1, 4 ∷ []) ∷ [])
 unfolding place
 clear_task_before_clear_top = refl
 
 -- a cleared top before a task that is fronted
-pub clear_top_before_fronting : outcome (place three (start main Standard (record new_task { clear_top = true }) None)) ≡ Ok (fresh 1 4, (1, 4 ∷ []) ∷ [])
+pub clear_top_before_fronting : outcome (place three (start main Standard (record new_task { clear_top = true }) None))
+    ≡ Ok (fresh 1 4, (1, 4 ∷ []) ∷ [])
 unfolding place
 clear_top_before_fronting = refl
 
 -- and that before a new intent to the top
-pub fronting_before_top : outcome (place (with (start main SingleTop new_task None) no_tasks) (start main SingleTop new_task None)) ≡ Ok (fronted 1 1, (1, 1 ∷ []) ∷ [])
+pub fronting_before_top : outcome (place (with (start main SingleTop new_task None) no_tasks)
+    (start main SingleTop new_task None)) ≡ Ok (fronted 1 1, (1, 1 ∷ []) ∷ [])
 unfolding place
 fronting_before_top = refl
 
 -- singleInstance before several tasks
-pub single_before_multiple : outcome (place with_alone (start (activity (codes "S")) SingleInstance multiple None)) ≡ Ok (new_intent 2 4, (2, 4 ∷ []) ∷ (1, 1 ∷ 2 ∷ 3 ∷ []) ∷ [])
+pub single_before_multiple : outcome (place with_alone (start (activity (codes "S")) SingleInstance multiple None))
+    ≡ Ok (new_intent 2 4, (2, 4 ∷ []) ∷ (1, 1 ∷ 2 ∷ 3 ∷ []) ∷ [])
 unfolding place
 single_before_multiple = refl
 
 -- CLEAR_TASK without NEW_TASK clears nothing, also where a new task is wanted
-pub clear_task_alone : outcome (place with_alone (start second Standard (record no_flags { clear_task = true }) (Some 4))) ≡ Ok (fresh 1 5, (1, 1 ∷ 2 ∷ 3 ∷ 5 ∷ []) ∷ (2, 4 ∷ []) ∷ [])
+pub clear_task_alone : outcome (place with_alone (start second Standard (record no_flags { clear_task = true })
+    (Some 4))) ≡ Ok (fresh 1 5, (1, 1 ∷ 2 ∷ 3 ∷ 5 ∷ []) ∷ (2, 4 ∷ []) ∷ [])
 unfolding place
 clear_task_alone = refl
 
 -- a task for a single instance isn't one of its affinity, though it is in front
-pub not_in_single : outcome (place with_alone (start second Standard new_task None)) ≡ Ok (fresh 1 5, (1, 1 ∷ 2 ∷ 3 ∷ 5 ∷ []) ∷ (2, 4 ∷ []) ∷ [])
+pub not_in_single : outcome (place with_alone (start second Standard new_task None))
+    ≡ Ok (fresh 1 5, (1, 1 ∷ 2 ∷ 3 ∷ 5 ∷ []) ∷ (2, 4 ∷ []) ∷ [])
 unfolding place
 not_in_single = refl
 
 -- a source that isn't there is told before NEW_TASK is missed
-pub source_before_new_task : outcome (place no_tasks (start second Standard no_flags (Some 1))) ≡ Err place_faults.NoSource
+pub source_before_new_task : outcome (place no_tasks (start second Standard no_flags (Some 1)))
+    ≡ Err place_faults.NoSource
 unfolding place
 source_before_new_task = refl
 
 -- the affinity of a task stays that of the activity for which it was made
-pub affinity_stays : outcome (place (with (record (start second Standard no_flags (Some 3)) { affinity = codes "x" }) three) (record (start third Standard new_task None) { affinity = codes "x" })) ≡ Ok (fresh 2 5, (2, 5 ∷ []) ∷ (1, 1 ∷ 2 ∷ 3 ∷ 4 ∷ []) ∷ [])
+pub affinity_stays : outcome (place (with (record (start second Standard no_flags (Some 3)) { affinity = codes "x" })
+    three) (record (start third Standard new_task None) { affinity = codes "x" }))
+    ≡ Ok (fresh 2 5, (2, 5 ∷ []) ∷ (1, 1 ∷ 2 ∷ 3 ∷ 4 ∷ []) ∷ [])
 unfolding place
 affinity_stays = refl

@@ -47,7 +47,8 @@ back_without_tasks all none = rw none refl
 pub back_ends_one : (all : Tasks) → AreInhabited all.tasks → (back all).0 ≡ None → all.tasks ≡ []
 back_ends_one all inhabited none = by all.tasks inhabited none
   where
-    top : (instances : List Instance) → is_empty instances ≡ false → (back_from all (last_or None instances)).0 ≡ None → ⊥
+    top : (instances : List Instance) → is_empty instances ≡ false → (back_from all (last_or None instances)).0 ≡ None
+        → ⊥
     top [] there none = cc
     top (first ∷ others) there none = one (last_or (Some first) others) refl none
       where
@@ -65,7 +66,8 @@ one_on_top [] top = refl
 one_on_top (first ∷ others) top = refl
 
 -- after a new intent there is one where there was
-intent_leaves_one : (number : ℕ) (intent : Intent) (instances : List Instance) → is_empty instances ≡ false → is_empty (with_intent number intent instances) ≡ false
+intent_leaves_one : (number : ℕ) (intent : Intent) (instances : List Instance) → is_empty instances ≡ false
+    → is_empty (with_intent number intent instances) ≡ false
 intent_leaves_one number intent [] there = there
 intent_leaves_one number intent (first ∷ others) there = refl
 
@@ -74,7 +76,8 @@ filter_inhabited : (test : Task → Bool) (tasks : List Task) → AreInhabited t
 filter_inhabited test [] inhabited = tt
 filter_inhabited test (first ∷ others) inhabited = by (test first) (filter_inhabited test others inhabited.1)
   where
-    by : (b : Bool) → AreInhabited (filter test others) → AreInhabited (cond b (first ∷ filter test others) (filter test others))
+    by : (b : Bool) → AreInhabited (filter test others) → AreInhabited
+        (cond b (first ∷ filter test others) (filter test others))
     by true rest = (inhabited.0, rest)
     by false rest = rest
 
@@ -95,7 +98,8 @@ found_inhabited test (first ∷ others) inhabited = by (test first) (found_inhab
 -- and so has the source's
 source_inhabited : (tasks : List Task) (source : Option ℕ) → AreInhabited tasks → IsInhabited (source_task tasks source)
 source_inhabited tasks None inhabited = tt
-source_inhabited tasks (Some number) inhabited = found_inhabited (λ (task : Task). list_any (is_number number) task.instances) tasks inhabited
+source_inhabited tasks (Some number) inhabited = found_inhabited (λ (task : Task). list_any (is_number number)
+    task.instances) tasks inhabited
 
 -- a plan that leaves no task without an instance
 abbrev IsInhabitedPlan : Plan → Type 0
@@ -105,9 +109,14 @@ IsInhabitedPlan (NewIntentTo task kept number) = is_empty kept ≡ false
 IsInhabitedPlan (FrontOf task) = is_empty task.instances ≡ false
 
 -- such a plan that is carried out
-carried_inhabited : (all : Tasks) (start : StartCall) (plan : Plan) → AreInhabited all.tasks → IsInhabitedPlan plan → AreInhabited (carried_out all start plan).1.tasks
+carried_inhabited : (all : Tasks) (start : StartCall) (plan : Plan) → AreInhabited all.tasks → IsInhabitedPlan plan
+    → AreInhabited (carried_out all start plan).1.tasks
 carried_inhabited all start (NewTask single) inhabited plan = (refl, inhabited)
-carried_inhabited all start (FreshOn task kept) inhabited plan = (one_on_top kept _, filter_inhabited _ all.tasks inhabited)
+carried_inhabited all start (FreshOn task kept) inhabited plan = (
+  one_on_top kept _,
+  filter_inhabited _ all.tasks
+      inhabited,
+)
 carried_inhabited all start (NewIntentTo task kept number) inhabited plan =
     (intent_leaves_one number start.intent kept plan, filter_inhabited _ all.tasks inhabited)
 carried_inhabited all start (FrontOf task) inhabited plan = (plan, filter_inhabited _ all.tasks inhabited)
@@ -118,7 +127,8 @@ IsInhabitedIfAny None = Unit {0}
 IsInhabitedIfAny (Some plan) = IsInhabitedPlan plan
 
 -- the first of two such plans
-or_inhabited : (plan other : Option Plan) → IsInhabitedIfAny plan → IsInhabitedIfAny other → IsInhabitedIfAny (or_other plan other)
+or_inhabited : (plan other : Option Plan) → IsInhabitedIfAny plan → IsInhabitedIfAny other
+    → IsInhabitedIfAny (or_other plan other)
 or_inhabited None other first second = second
 or_inhabited (Some plan) other first second = first
 
@@ -135,9 +145,11 @@ fresh_inhabited (Some plan) task inhabited = inhabited
 module _ (start : StartCall) where
   -- a start in the mode singleInstance
   single_inhabited : (tasks : List Task) → AreInhabited tasks → IsInhabitedPlan (placed_single start tasks)
-  single_inhabited tasks inhabited = by (task_with start.target tasks) (found_inhabited (λ (task : Task). list_any (is_of start.target) task.instances) tasks inhabited)
+  single_inhabited tasks inhabited = by (task_with start.target tasks)
+      (found_inhabited (λ (task : Task). list_any (is_of start.target) task.instances) tasks inhabited)
     where
-      to : (task : Task) (found : Option Instance) → is_empty task.instances ≡ false → IsInhabitedPlan (or_new_task (renewed_in task found) true)
+      to : (task : Task) (found : Option Instance) → is_empty task.instances ≡ false
+          → IsInhabitedPlan (or_new_task (renewed_in task found) true)
       to task None there = tt
       to task (Some instance) there = there
 
@@ -157,68 +169,87 @@ module _ (start : StartCall) where
       from None = tt
       from (Some task) = to task (root_of task.instances)
 
-      by : (b : Bool) → IsInhabitedPlan (cond b (NewTask false) (or_new_task (rooted (task_rooted start.target tasks)) false))
+      by : (b : Bool) → IsInhabitedPlan (cond b (NewTask false) (or_new_task (rooted (task_rooted start.target tasks))
+          false))
       by true = tt
       by false = from (task_rooted start.target tasks)
 
   -- clearing, where an instance is found
   cleared_inhabited : (task : Task) (found : Option Instance) → IsInhabitedIfAny (clearing_top start task found)
   cleared_inhabited task None = tt
-  cleared_inhabited task (Some instance) = where_inhabited (is_mode SingleTask start.mode || start.flags.clear_top) (cleared_to start task instance) (by (is_mode Standard start.mode && not start.flags.single_top))
+  cleared_inhabited task (Some instance) = where_inhabited (is_mode SingleTask start.mode || start.flags.clear_top)
+      (cleared_to start task instance) (by (is_mode Standard start.mode && not start.flags.single_top))
     where
       left : List Instance
       left = below instance.number task.instances
 
-      by : (b : Bool) → IsInhabitedPlan (cond b (FreshOn task left) (NewIntentTo task (left ++ instance ∷ []) instance.number))
+      by : (b : Bool) → IsInhabitedPlan (cond b (FreshOn task left)
+          (NewIntentTo task (left ++ instance ∷ []) instance.number))
       by true = tt
       by false = one_on_top left instance
 
   -- moving an instance to the top
-  reordered_inhabited : (wanted : Bool) (task : Task) (found : Option Instance) → IsInhabitedIfAny (reordering start wanted task found)
+  reordered_inhabited : (wanted : Bool) (task : Task) (found : Option Instance)
+      → IsInhabitedIfAny (reordering start wanted task found)
   reordered_inhabited wanted task None = tt
   reordered_inhabited wanted task (Some instance) =
-      where_inhabited ((not wanted && start.flags.reorder_to_front) && not start.flags.clear_top) _ (one_on_top (besides instance.number task.instances) instance)
+      where_inhabited ((not wanted && start.flags.reorder_to_front) && not start.flags.clear_top) _
+      (one_on_top (besides instance.number task.instances) instance)
 
   -- a new intent to the top
-  on_top_inhabited : (task : Task) (found : Option Instance) → is_empty task.instances ≡ false → IsInhabitedIfAny (on_top start task found)
+  on_top_inhabited : (task : Task) (found : Option Instance) → is_empty task.instances ≡ false
+      → IsInhabitedIfAny (on_top start task found)
   on_top_inhabited task None there = tt
-  on_top_inhabited task (Some top) there = where_inhabited (is_of start.target top && (is_mode SingleTop start.mode || start.flags.single_top)) _ there
+  on_top_inhabited task (Some top) there = where_inhabited (is_of start.target top &&
+      (is_mode SingleTop start.mode || start.flags.single_top)) _ there
 
   -- a start in a task, if there is one
-  within_inhabited : (wanted : Bool) (found : Option Task) → IsInhabited found → IsInhabitedPlan (placed_in_maybe start wanted found)
+  within_inhabited : (wanted : Bool) (found : Option Task) → IsInhabited found
+      → IsInhabitedPlan (placed_in_maybe start wanted found)
   within_inhabited wanted None there = tt
   within_inhabited wanted (Some task) there =
       fresh_inhabited _ task
       (or_inhabited (clearing_task start wanted task) _ (where_inhabited _ (FreshOn task []) tt)
-      (or_inhabited (clearing_top start task (topmost start.target task)) _ (cleared_inhabited task (topmost start.target task))
+      (or_inhabited (clearing_top start task (topmost start.target task)) _
+      (cleared_inhabited task (topmost start.target task))
       (or_inhabited (fronting start wanted task) _ (where_inhabited _ (FrontOf task) there)
-      (or_inhabited (reordering start wanted task (topmost start.target task)) _ (reordered_inhabited wanted task (topmost start.target task))
+      (or_inhabited (reordering start wanted task (topmost start.target task)) _
+      (reordered_inhabited wanted task (topmost start.target task))
       (on_top_inhabited task (top_of task) there)))))
 
   -- a start in another mode
-  ordinary_inhabited : (tasks : List Task) (wanted : Bool) (source : Option Task) → AreInhabited tasks → IsInhabited source → IsInhabitedPlan (placed_ordinary start tasks wanted source)
+  ordinary_inhabited : (tasks : List Task) (wanted : Bool) (source : Option Task) → AreInhabited tasks
+      → IsInhabited source → IsInhabitedPlan (placed_ordinary start tasks wanted source)
   ordinary_inhabited tasks wanted source inhabited here = by (is_multiple start wanted)
     where
       either : (b : Bool) → IsInhabited (cond b (task_of_affinity start.affinity tasks) source)
-      either true = found_inhabited (λ (task : Task). (not task.single && not (is_empty start.affinity)) && is_same task.affinity start.affinity) tasks inhabited
+      either true = found_inhabited (λ (task : Task). (not task.single && not (is_empty start.affinity)) && is_same
+          task.affinity start.affinity) tasks inhabited
       either false = here
 
-      by : (b : Bool) → IsInhabitedPlan (cond b (NewTask false) (placed_in_maybe start wanted (cond wanted (task_of_affinity start.affinity tasks) source)))
+      by : (b : Bool) → IsInhabitedPlan (cond b (NewTask false) (placed_in_maybe start wanted
+          (cond wanted (task_of_affinity start.affinity tasks) source)))
       by true = tt
       by false = within_inhabited wanted (cond wanted (task_of_affinity start.affinity tasks) source) (either wanted)
 
   -- the plan of a start
-  plan_inhabited : (tasks : List Task) (source : Option Task) → AreInhabited tasks → IsInhabited source → IsInhabitedPlan (plan_of start tasks source)
-  plan_inhabited tasks source inhabited here = by (is_mode SingleInstance start.mode) (is_mode SingleInstancePerTask start.mode)
+  plan_inhabited : (tasks : List Task) (source : Option Task) → AreInhabited tasks → IsInhabited source
+      → IsInhabitedPlan (plan_of start tasks source)
+  plan_inhabited tasks source inhabited here = by (is_mode SingleInstance start.mode)
+      (is_mode SingleInstancePerTask start.mode)
     where
-      by : (single per_task : Bool) → IsInhabitedPlan (cond single (placed_single start tasks) (cond per_task (placed_per_task start tasks) (placed_ordinary start tasks (wants_new_task start source) source)))
+      by : (single per_task : Bool) → IsInhabitedPlan (cond single (placed_single start tasks)
+          (cond per_task (placed_per_task start tasks) (placed_ordinary start tasks (wants_new_task start source)
+          source)))
       by true per_task = single_inhabited tasks inhabited
       by false true = per_task_inhabited tasks
       by false false = ordinary_inhabited tasks (wants_new_task start source) source inhabited here
 
 -- a start leaves no task without an instance
-pub place_inhabited : (all : Tasks) (start : StartCall) (result : Landed × Tasks) → AreInhabited all.tasks → place all start ≡ Ok result → AreInhabited result.1.tasks
+pub place_inhabited : (all : Tasks) (start : StartCall) (result : Landed × Tasks) → AreInhabited all.tasks
+    → place all start ≡ Ok result → AreInhabited result.1.tasks
 place_inhabited all start result inhabited done =
     subst (λ (r : Landed × Tasks). AreInhabited r.1.tasks) (sym (place_carries_out all start result done))
     (carried_inhabited all start (plan_for all start) inhabited
-    (plan_inhabited start all.tasks (source_task all.tasks start.source) inhabited (source_inhabited all.tasks start.source inhabited)))
+    (plan_inhabited start all.tasks (source_task all.tasks start.source) inhabited
+    (source_inhabited all.tasks start.source inhabited)))

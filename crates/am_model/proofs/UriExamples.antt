@@ -15,11 +15,19 @@ uri text scheme host port path = record { text = text; scheme = scheme; host = h
 abbrev readings : List (List ℕ × Result Uri UriFault)
 readings =
     -- an escaped dot is decoded
-    (codes "http://h/a%2Epdf", Ok (uri (codes "http://h/a%2Epdf") (codes "http") (Some (codes "h")) None (codes "/a.pdf")))
+    (
+      codes "http://h/a%2Epdf",
+      Ok (uri (codes "http://h/a%2Epdf") (codes "http") (Some (codes "h")) None
+          (codes "/a.pdf")),
+    )
     -- a host alone has an empty path
     ∷ (codes "http://h", Ok (uri (codes "http://h") (codes "http") (Some (codes "h")) None []))
     -- a host in brackets keeps its colons
-    ∷ (codes "http://u@[::1]:80/", Ok (uri (codes "http://u@[::1]:80/") (codes "http") (Some (codes "[::1]")) (Some 80) (codes "/")))
+    ∷ (
+      codes "http://u@[::1]:80/",
+      Ok (uri (codes "http://u@[::1]:80/") (codes "http") (Some (codes "[::1]")) (Some 80)
+          (codes "/")),
+    )
     -- a mail address is opaque
     ∷ (codes "mailto:a@b.org", Ok (uri (codes "mailto:a@b.org") (codes "mailto") None None []))
     -- a path needs no authority
@@ -35,14 +43,19 @@ readings =
     -- a port without digits is none
     ∷ (codes "http://h:/", Ok (uri (codes "http://h:/") (codes "http") (Some (codes "h")) None (codes "/")))
     -- a port of five digits
-    ∷ (codes "http://h:99999/", Ok (uri (codes "http://h:99999/") (codes "http") (Some (codes "h")) (Some 99999) (codes "/")))
+    ∷ (
+      codes "http://h:99999/",
+      Ok (uri (codes "http://h:99999/") (codes "http") (Some (codes "h")) (Some 99999)
+          (codes "/")),
+    )
     -- a port of six digits is refused
     ∷ (codes "http://h:000080/", Err BadPort)
     -- the last of two at signs ends the user
     ∷ (codes "http://u@v@h/", Ok (uri (codes "http://u@v@h/") (codes "http") (Some (codes "h")) None (codes "/")))
     ∷ []
 
-pub texts_are_read : map (λ (reading : List ℕ × Result Uri UriFault). uri_of reading.0) readings ≡ map (λ (reading : List ℕ × Result Uri UriFault). reading.1) readings
+pub texts_are_read : map (λ (reading : List ℕ × Result Uri UriFault). uri_of reading.0) readings
+    ≡ map (λ (reading : List ℕ × Result Uri UriFault). reading.1) readings
 unfolding uri_of percent_decode is_utf8 chars lib.Utf8.encode
 texts_are_read = refl
 
@@ -54,7 +67,8 @@ a_text_over_its_length_is_refused = refl
 abbrev long : ℕ → List ℕ
 long n = codes "a:/" ++ replicate n 98
 
-pub a_text_of_the_greatest_length : uri_of (long 1021) ≡ Ok (uri (long 1021) (codes "a") None None (codes "/" ++ replicate 1021 98))
+pub a_text_of_the_greatest_length : uri_of (long 1021) ≡ Ok (uri (long 1021) (codes "a") None None
+    (codes "/" ++ replicate 1021 98))
 unfolding uri_of percent_decode is_utf8 chars lib.Utf8.encode
 a_text_of_the_greatest_length = refl
 

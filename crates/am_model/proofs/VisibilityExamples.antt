@@ -23,7 +23,8 @@ at_any_port host = record { host = host; port = None }
 
 -- a filter of x.A that takes schemes, hosts and types
 abbrev takes : List (List ℕ) → List (List ℕ) → List Mime → Filter
-takes schemes hosts types = record (filter_for (codes "x.A") [] (pos 0)) { schemes = schemes; authorities = map at_any_port hosts; types = types }
+takes schemes hosts types = record (filter_for (codes "x.A") [] (pos 0))
+    { schemes = schemes; authorities = map at_any_port hosts; types = types }
 
 -- an action alone is met by a filter of that action without data
 pub meets_action : meets (takes [] [] []) (asks (codes "x.A") None None None) ≡ true
@@ -38,11 +39,13 @@ pub meets_no_scheme : meets (takes (codes "https" ∷ []) [] []) (asks (codes "x
 meets_no_scheme = refl
 
 -- nor by one that lists a type
-pub meets_no_type : meets (takes [] [] (mime_at (codes "text") (codes "plain") ∷ [])) (asks (codes "x.A") None None None) ≡ false
+pub meets_no_type : meets (takes [] [] (mime_at (codes "text") (codes "plain") ∷ []))
+    (asks (codes "x.A") None None None) ≡ false
 meets_no_type = refl
 
 -- each category that is asked for must be listed
-pub meets_categories : meets (takes [] [] []) (record (asks (codes "x.A") None None None) { categories = codes "x.C" ∷ [] }) ≡ false
+pub meets_categories : meets (takes [] [] []) (record (asks (codes "x.A") None None None)
+    { categories = codes "x.C" ∷ [] }) ≡ false
 meets_categories = refl
 
 -- a scheme is met by a filter that lists it
@@ -50,39 +53,50 @@ pub meets_scheme : meets (takes (codes "https" ∷ []) [] []) (asks (codes "x.A"
 meets_scheme = refl
 
 -- if that lists no type
-pub meets_scheme_without_type : meets (takes (codes "https" ∷ []) [] (mime_at (codes "text") (codes "plain") ∷ [])) (asks (codes "x.A") (Some (codes "https")) None None) ≡ false
+pub meets_scheme_without_type : meets (takes (codes "https" ∷ []) [] (mime_at (codes "text") (codes "plain") ∷ []))
+    (asks (codes "x.A") (Some (codes "https")) None None) ≡ false
 meets_scheme_without_type = refl
 
 -- a type without a scheme stands for content on the device, which a filter without a scheme takes
-pub meets_local_type : meets (takes [] [] (mime_at (codes "image") (codes "*") ∷ [])) (asks (codes "x.A") None None (Some (mime_at (codes "image") (codes "png")))) ≡ true
+pub meets_local_type : meets (takes [] [] (mime_at (codes "image") (codes "*") ∷ []))
+    (asks (codes "x.A") None None (Some (mime_at (codes "image") (codes "png")))) ≡ true
 meets_local_type = refl
 
 -- and one that lists another scheme doesn't
-pub meets_no_web_type : meets (takes (codes "https" ∷ []) [] (mime_at (codes "image") (codes "*") ∷ [])) (asks (codes "x.A") None None (Some (mime_at (codes "image") (codes "png")))) ≡ false
+pub meets_no_web_type : meets (takes (codes "https" ∷ []) [] (mime_at (codes "image") (codes "*") ∷ []))
+    (asks (codes "x.A") None None (Some (mime_at (codes "image") (codes "png")))) ≡ false
 meets_no_web_type = refl
 
 -- a web scheme with a type isn't content on the device
-pub meets_no_typed_web : meets (takes [] [] (mime_at (codes "image") (codes "*") ∷ [])) (asks (codes "x.A") (Some (codes "https")) None (Some (mime_at (codes "image") (codes "png")))) ≡ false
+pub meets_no_typed_web : meets (takes [] [] (mime_at (codes "image") (codes "*") ∷ []))
+    (asks (codes "x.A") (Some (codes "https")) None (Some (mime_at (codes "image") (codes "png")))) ≡ false
 meets_no_typed_web = refl
 
 -- hosts match as in a filter: with ASCII case ignored, and a star for what stands before the end
-pub meets_host : meets (takes (codes "https" ∷ []) (codes "*.a.com" ∷ []) []) (asks (codes "x.A") (Some (codes "https")) (Some (codes "WWW.a.com")) None) ≡ true
+pub meets_host : meets (takes (codes "https" ∷ []) (codes "*.a.com" ∷ []) [])
+    (asks (codes "x.A") (Some (codes "https")) (Some (codes "WWW.a.com")) None) ≡ true
 meets_host = refl
 
 -- another host doesn't
-pub meets_no_other_host : meets (takes (codes "https" ∷ []) (codes "a.com" ∷ []) []) (asks (codes "x.A") (Some (codes "https")) (Some (codes "b.com")) None) ≡ false
+pub meets_no_other_host : meets (takes (codes "https" ∷ []) (codes "a.com" ∷ []) [])
+    (asks (codes "x.A") (Some (codes "https")) (Some (codes "b.com")) None) ≡ false
 meets_no_other_host = refl
 
 -- a filter's host is met by a signature without one
-pub meets_any_host : meets (takes (codes "https" ∷ []) (codes "a.com" ∷ []) []) (asks (codes "x.A") (Some (codes "https")) None None) ≡ true
+pub meets_any_host : meets (takes (codes "https" ∷ []) (codes "a.com" ∷ []) [])
+    (asks (codes "x.A") (Some (codes "https")) None None) ≡ true
 meets_any_host = refl
 
 -- a port of the filter isn't asked for
-pub meets_any_port : meets (record (takes (codes "https" ∷ []) [] []) { authorities = record { host = codes "a.com"; port = Some 8080 } ∷ [] }) (asks (codes "x.A") (Some (codes "https")) (Some (codes "a.com")) None) ≡ true
+pub meets_any_port : meets (record (takes (codes "https" ∷ []) [] [])
+    { authorities = record { host = codes "a.com"; port = Some 8080 } ∷ [] })
+    (asks (codes "x.A") (Some (codes "https")) (Some (codes "a.com")) None) ≡ true
 meets_any_port = refl
 
 -- nor is a path
-pub meets_any_path : meets (record (takes (codes "https" ∷ []) (codes "a.com" ∷ []) []) { paths = Literal (codes "/x") ∷ [] }) (asks (codes "x.A") (Some (codes "https")) (Some (codes "a.com")) None) ≡ true
+pub meets_any_path : meets (record (takes (codes "https" ∷ []) (codes "a.com" ∷ []) [])
+    { paths = Literal (codes "/x") ∷ [] }) (asks (codes "x.A") (Some (codes "https")) (Some (codes "a.com")) None)
+    ≡ true
 meets_any_path = refl
 
 -- a host counts for nothing where no scheme is asked for
@@ -142,12 +156,21 @@ pub system_sees : sees (board_of_main main) queries 1000 10002 ≡ true
 system_sees = refl
 
 -- and so does who was granted to query all packages
-pub granted_sees : sees (record (board_of_main main) { grants = with_grant [] 10002 (codes "android.permission.QUERY_ALL_PACKAGES") true }) queries 10002 10000 ≡ true
+pub granted_sees : sees (record (board_of_main main) {
+  grants = with_grant [] 10002
+      (codes "android.permission.QUERY_ALL_PACKAGES") true;
+}) queries 10002 10000 ≡ true
 granted_sees = refl
 
 -- a query lists what the caller sees
 pub visible_to_two : visible (board_of_main main) queries 10001 Activity (asking (codes "x.A")) false
-    ≡ record { component = component_of (codes "com.one") (codes "com.one.Main"); uid = 10000; place = 0; priority = pos 0 } ∷ []
+    ≡ record {
+      component = component_of (codes "com.one") (codes "com.one.Main");
+      uid = 10000;
+      place = 0;
+      priority = pos
+          0;
+    } ∷ []
 visible_to_two = refl
 
 -- and nothing else

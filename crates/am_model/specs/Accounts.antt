@@ -1,4 +1,4 @@
--- Whom an intent reaches, component by component, and why it doesn't reach the others.
+-- Who an intent reaches, component by component, and why it doesn't reach the others.
 use Rattle.std.specs.Prelude.{ℕ, ℤ, pos, Bool, true, false, not, ◌&&◌, ◌==◌, List, [], ◌∷◌, ◌++◌, if◌then◌else◌, Option, Some, None, is_none, is_some, int_lt}
 use Rattle.std.specs.List.{list_any}
 use Rattle.am_types.specs.declared.intent.Intent.{Intent}
@@ -30,7 +30,7 @@ use Rattle.am_types.specs.declared.account.Standing.{Standing}
 use Rattle.am_types.specs.declared.account.Standing.TheVariants.{OtherComponent, OtherPackage, Disabled, Filters, Narrowed, Outranked, Tied, Refused, Reached}
 use Rattle.am_types.specs.declared.account.Account.{Account}
 
--- what is asked: whom an intent of a caller reaches, as a start of an activity or of a service or as a broadcast, whose
+-- what is asked: who an intent of a caller reaches, as a start of an activity or of a service, or as a broadcast whose
 -- receivers must hold a permission
 pub record Question : Type 0 where
   pub caller : ℕ
@@ -44,7 +44,7 @@ needs_default kinds.Activity = true
 needs_default kinds.Service = false
 needs_default kinds.Receiver = false
 
--- of what is said of an activity, of a service and of a receiver what is said of that kind
+-- the first, the second or the third account, for an activity, a service or a receiver
 abbrev pub by_kind : {X : Type 0} → Kind → X → X → X → X
 by_kind kinds.Activity activity service receiver = activity
 by_kind kinds.Service activity service receiver = service
@@ -68,7 +68,7 @@ abbrev pub listed : Option Why → List Why
 listed None = []
 listed (Some reason) = reason ∷ []
 
--- for each filter that the intent doesn't pass the reason
+-- the reason for each filter that the intent doesn't pass
 abbrev pub reasons : Intent → Bool → List Filter → List Why
 reasons intent need_default [] = []
 reasons intent need_default (first ∷ others) =
@@ -84,10 +84,12 @@ abbrev pub started : Board → ℕ → Package → Decl → Standing
 started board caller owner decl =
     unless_refused (rule_of (verdict board.grants caller owner.uid decl.exported decl.permission))
 
--- the rule by which the caller may not send the action: it is protected, and the caller is neither the system nor the root
+-- the rule by which the caller may not send the action: it is protected, and the caller is neither the system nor the
+-- root
 abbrev pub sending_rule : Board → Question → Option Rule
 sending_rule board asked =
-    rule_where (is_protected board.protected asked.intent.action && not (is_privileged asked.caller)) rules.ProtectedAction
+    rule_where (is_protected board.protected asked.intent.action && not (is_privileged asked.caller))
+    rules.ProtectedAction
 
 -- a receiver that the broadcast is offered to: it may be skipped, and the caller may not be allowed to send the action
 abbrev pub offered : Board → Question → Offer → Standing
@@ -113,12 +115,12 @@ abbrev pub unless_kept : Bool → Narrowing → Option Narrowing
 unless_kept true narrowing = None
 unless_kept false narrowing = Some narrowing
 
--- left out for the browser that the device names; without one for those that take any host
+-- left out for the browser that the device names; if it names none, for those that take any host
 abbrev pub left_out_for_browser : Option (List ℕ) → List ℕ → Bool → Option Narrowing
 left_out_for_browser (Some browser) name any_host = unless_kept (is_same name browser) Browser
 left_out_for_browser None name any_host = unless_kept any_host General
 
--- left out for those that are approved for the host, if some are; else for a browser
+-- left out for those that are approved for the host, if any are; else for a browser
 abbrev pub left_out_for_host : Board → List ℕ → Package → Bool → Bool → Option Narrowing
 left_out_for_host board host owner some_approved any_host =
     if some_approved
@@ -156,7 +158,8 @@ abbrev pub found_activity : Board → Question → Package → Decl → ℤ → 
 found_activity board asked owner decl priority =
     unless_left_out
     (left_out board (host_to_view asked.intent) owner
-    (is_some_approved board asked.intent (host_to_view asked.intent)) (list_any (takes_any_host asked.intent) decl.filters))
+    (is_some_approved board asked.intent (host_to_view asked.intent))
+    (list_any (takes_any_host asked.intent) decl.filters))
     (if is_outranked priority (start_hits board asked.intent) then Outranked
     else if is_choice (target board asked.intent) then Tied
     else started board asked.caller owner decl)
@@ -175,7 +178,8 @@ is_that (Some component) other = is_same_component component other
 abbrev pub found_service : Board → Question → Package → Decl → Standing
 found_service board asked owner decl =
     if is_none asked.intent.«package» then Refused rules.ImplicitService
-    else if not (is_that (first_of (hits board.packages kinds.Service asked.intent false)) (component_of owner decl)) then Outranked
+    else if not (is_that (first_of (hits board.packages kinds.Service asked.intent false)) (component_of owner decl))
+    then Outranked
     else started board asked.caller owner decl
 
 -- a component of which the intent passes filters, the greatest of them with that priority, or none
@@ -201,7 +205,7 @@ enabled board asked owner decl (Some component) = named board asked owner decl
 enabled board asked owner decl None =
     found board asked owner decl (priority_of asked.kind asked.intent (needs_default asked.kind) decl.filters)
 
--- what is said of a component of the kind
+-- the account of a component of the kind
 abbrev pub standing : Board → Question → Package → Decl → Standing
 standing board asked owner decl =
     if is_other_component asked.intent.component owner decl then OtherComponent
@@ -214,7 +218,7 @@ abbrev pub unless_failed : Option Why → Standing → Standing
 unless_failed None next = next
 unless_failed (Some reason) next = Filters (reason ∷ [])
 
--- what is said of a registered receiver
+-- the account of a registered receiver
 abbrev pub registered_standing : Board → Question → Registration → Standing
 registered_standing board asked r =
     if is_some asked.intent.component then OtherComponent
@@ -251,8 +255,8 @@ registered_accounts board asked shown (first ∷ others) =
     ∷ registered_accounts board asked shown others
     else registered_accounts board asked shown others
 
--- whom the intent reaches and why not the others: the components of the kind by uid, then place, and if receivers are
--- asked for then the registered ones by number; of one uid alone, where that is asked
+-- who the intent reaches, and why not the others: the components of the kind by uid, then place, and if receivers are
+-- asked for, then the registered ones by number; only those of one uid, if that is asked
 abbrev pub accounts : Board → Question → Option ℕ → List Account
 accounts board asked shown =
     declared_accounts board asked shown board.packages

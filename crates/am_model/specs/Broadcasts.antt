@@ -66,7 +66,15 @@ pub record Broadcasts : Type 0 where
 
 -- no broadcast yet
 abbrev pub no_broadcasts : Broadcasts
-no_broadcasts = record { normal = []; foreground = []; background = []; results = []; next_broadcast = 1; next_delivery = 1 }
+no_broadcasts = record {
+  normal = [];
+  foreground = [];
+  background = [];
+  results = [];
+  next_broadcast = 1;
+  next_delivery
+      = 1;
+}
 
 -- how long a delivery may take, in milliseconds
 abbrev pub span : Bool → ℕ
@@ -101,15 +109,21 @@ is_abort (Answered answer) = answer.abort
 is_abort Late = false
 is_abort Gone = false
 
--- an ordered broadcast ends where no receiver is left, or one aborted and that counts
+-- an ordered broadcast ends when no receiver is left, or when one aborted and that counts
 abbrev pub is_over : InTurn → Bool
 is_over broadcast = is_empty broadcast.rest || (not broadcast.no_abort && list_any is_abort (doings broadcast))
 
--- the result for the sender, where it wants it
+-- the result for the sender, if it asked for it
 abbrev pub result_of : ℕ → InTurn → List Result
 result_of delivery broadcast =
     if broadcast.wanted
-    then record { delivery = delivery; broadcast = broadcast.number; sender = broadcast.sender; outcome = outcome_of broadcast } ∷ []
+    then record {
+      delivery = delivery;
+      broadcast = broadcast.number;
+      sender = broadcast.sender;
+      outcome = outcome_of
+          broadcast;
+    } ∷ []
     else []
 
 -- a queue with the results that left it, and the next delivery number
@@ -122,7 +136,12 @@ pub record Settled : Type 0 where
 abbrev pub dispatched : ℕ → ℕ → InTurn → List InTurn → Option Current → Settled
 dispatched next deadline head others (Some current) = record { queue = head ∷ others; results = []; next = next }
 dispatched next deadline head others None =
-    record { queue = record head { current = Some (record { number = next; deadline = deadline }) } ∷ others; results = []; next = next + 1 }
+    record {
+      queue = record head { current = Some (record { number = next; deadline = deadline }) }
+          ∷ others;
+      results = [];
+      next = next + 1;
+    }
 
 -- what settled, with results that left before
 abbrev pub with_results : List Result → Settled → Settled
@@ -150,7 +169,11 @@ with_queue false queue all = record all { background = queue }
 -- what settled, put back among the broadcasts
 abbrev pub settled_in : Bool → Settled → Broadcasts → Broadcasts
 settled_in foreground after all =
-    record (with_queue foreground after.queue all) { results = all.results ++ after.results; next_delivery = after.next }
+    record (with_queue foreground after.queue all) {
+      results = all.results
+          ++ after.results;
+      next_delivery = after.next;
+    }
 
 -- the broadcasts with one of the two queues settled at a moment
 abbrev pub settle : Bool → ℕ → Broadcasts → Broadcasts
@@ -165,7 +188,12 @@ settle_both now all = settle false now (settle true now all)
 abbrev pub turned : Doing → InTurn → List Spot → InTurn
 turned doing broadcast [] = record broadcast { current = None }
 turned doing broadcast (spot ∷ rest) =
-    record broadcast { past = broadcast.past ++ record { spot = spot; doing = doing } ∷ []; rest = rest; current = None }
+    record broadcast {
+      past = broadcast.past ++ record { spot = spot; doing = doing }
+          ∷ [];
+      rest = rest;
+      current = None;
+    }
 
 -- the first receiver that is left, if there is one, did this
 abbrev pub turn : Doing → InTurn → InTurn

@@ -47,7 +47,13 @@ is_named component name class = is_same component.package name && is_same compon
 abbrev pub hit_at : Package → ℕ → Decl → Option ℤ → List Hit
 hit_at owner place decl None = []
 hit_at owner place decl (Some priority) =
-    record { component = record { «package» = owner.name; class = decl.class }; uid = owner.uid; place = place; priority = priority } ∷ []
+    record {
+      component = record { «package» = owner.name; class = decl.class };
+      uid = owner.uid;
+      place = place;
+      priority
+          = priority;
+    } ∷ []
 
 -- what is looked for: components of a kind that the intent finds, and whether a filter must list the default category
 pub record Search : Type 0 where
@@ -66,7 +72,7 @@ is_in None owner = true
 is_in (Some name) owner = is_same name owner.name
 
 -- the component of a package that is found: the named one whatever its filters say, else one of the package that the
--- intent names, if it names one, where a filter passes
+-- intent names, if it names one, if a filter passes
 abbrev pub hit_of : Search → Package → ℕ → Decl → Option Component → List Hit
 hit_of search owner place decl (Some component) =
     if is_named component owner.name decl.class then hit_at owner place decl (Some (pos 0)) else []
@@ -96,11 +102,11 @@ abbrev pub candidates : List Package → Kind → Intent → Bool → List Hit
 candidates packages kind intent need_default =
     hits_in (record { kind = kind; intent = intent; need_default = need_default }) packages
 
--- a hit in front of those of no greater priority, behind the others
+-- a hit in front of those of no greater priority, after the others
 abbrev pub place_hit : Hit → List Hit → List Hit
 place_hit hit others = place_by (λ (h : Hit). h.priority) hit others
 
--- by falling priority; where it ties the order stays
+-- by falling priority; ties keep their order
 abbrev pub by_priority : List Hit → List Hit
 by_priority found = falling_by (λ (h : Hit). h.priority) found
 

@@ -54,12 +54,12 @@ passes_authority authority None port = false
 passes_authority authority (Some host) port =
     has_host (lowered authority.host) (lowered host) && has_port authority.port port
 
--- some authority passes, where one is listed
+-- some authority passes, if one is listed
 abbrev pub passes_authorities : List Authority → Uri → Bool
 passes_authorities authorities uri =
     is_empty authorities || list_any (λ (a : Authority). passes_authority a uri.host uri.port) authorities
 
--- some path rule passes, where one counts: paths count only beside an authority
+-- some path rule passes, if one counts: paths count only beside an authority
 abbrev pub passes_paths : Filter → Uri → Bool
 passes_paths filter uri =
     (is_empty filter.authorities || is_empty filter.paths) || list_any (λ rule. passes_path rule uri.path) filter.paths
@@ -88,7 +88,7 @@ data_why filter None (Some mime) =
 data_why filter (Some uri) (Some mime) =
     or_else (typed_uri_why filter uri) (unless (passes_type filter.types mime) Type_)
 
--- the filter lists each category of the intent, and the default one where that is needed
+-- the filter lists each category of the intent, and the default one if that is needed
 abbrev pub passes_categories : List (List ℕ) → List (List ℕ) → Bool → Bool
 passes_categories listed categories need_default =
     list_all (λ category. lists listed category) categories && (not need_default || lists listed default_category)

@@ -1,4 +1,4 @@
--- When two intents are the same for a filter, and what one fills in of another.
+-- When two intents are the same for a filter, and what one intent fills in for another.
 use Rattle.std.specs.Prelude.{ℕ, Bool, true, false, ◌&&◌, ◌||◌, nat_lt, List, [], ◌∷◌, length, if◌then◌else◌, Option, Some, None, Result, Ok, Err}
 use Rattle.std.specs.List.{list_any, list_all, fold}
 use Rattle.std.specs.Option.{option_eq, option_or}
@@ -25,11 +25,11 @@ abbrev pub is_same_component : Component → Component → Bool
 is_same_component component other =
     is_same component.«package» other.«package» && is_same component.class other.class
 
--- each text of either list stands in the other
+-- each text of either list is in the other
 abbrev pub are_same_set : List (List ℕ) → List (List ℕ) → Bool
 are_same_set texts others = list_all (λ text. lists others text) texts && list_all (λ text. lists texts text) others
 
--- two intents are the same for a filter: all but flags and extras
+-- two intents are the same for a filter: all except flags and extras
 abbrev pub filter_equals : Intent → Intent → Bool
 filter_equals intent other =
     (((((option_eq is_same intent.action other.action
@@ -40,23 +40,23 @@ filter_equals intent other =
     && option_eq is_same_component intent.component other.component)
     && are_same_set intent.categories other.categories
 
--- the first where it is there, else the second
+-- the first if it is there, else the second
 abbrev pub or_other : {X : Type 0} → Option X → Option X → Option X
 or_other option other = option_or option other
 
--- the URI where the intent has neither URI nor type
+-- the URI if the intent has neither URI nor type
 abbrev pub filled_uri : Option Uri → Option Mime → Option Uri → Option Uri
 filled_uri None None other = other
 filled_uri None (Some mime) other = None
 filled_uri (Some uri) mime other = Some uri
 
--- the type where the intent has neither URI nor type
+-- the type if the intent has neither URI nor type
 abbrev pub filled_mime : Option Uri → Option Mime → Option Mime → Option Mime
 filled_mime None None other = other
 filled_mime None (Some mime) other = Some mime
 filled_mime (Some uri) mime other = mime
 
--- the categories where the intent has none
+-- the categories if the intent has none
 abbrev pub filled_categories : List (List ℕ) → List (List ℕ) → List (List ℕ)
 filled_categories [] others = others
 filled_categories (first ∷ others) unused = first ∷ others
@@ -76,7 +76,7 @@ united_flags a b = record {
   include_stopped = a.include_stopped || b.include_stopped;
 }
 
--- an extra in front of the first whose key stands behind its own
+-- an extra in front of the first whose key comes after its own
 abbrev pub place_extra : Named → List Named → List Named
 place_extra extra [] = extra ∷ []
 place_extra extra (first ∷ others) =
@@ -90,7 +90,7 @@ has_key extras key = list_any (λ (extra : Named). is_same extra.key key) extras
 abbrev pub with_extra : List Named → Named → List Named
 with_extra extras extra = if has_key extras extra.key then extras else place_extra extra extras
 
--- the extras, with those of the other whose keys are absent, sorted by key where the first are
+-- the extras, with those of the other whose keys are absent, sorted by key if the first are
 abbrev pub united_extras : List Named → List Named → List Named
 united_extras extras others = fold with_extra extras others
 

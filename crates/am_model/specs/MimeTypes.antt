@@ -10,23 +10,23 @@ use Rattle.am_model.specs.Texts.{is_same}
 abbrev pub is_slash : ℕ → Bool
 is_slash b = b == 47
 
--- a blank or a control character
+-- a space or a control character
 abbrev pub is_unprintable : ℕ → Bool
 is_unprintable b = nat_le b 32 || (b == 127)
 
--- what stands before the first slash
+-- the part before the first slash
 abbrev pub main_in : List ℕ → List ℕ
 main_in text = before_first is_slash text
 
--- what stands behind the first slash
+-- the part after the first slash
 abbrev pub sub_in : List ℕ → List ℕ
 sub_in text = after_first is_slash text
 
--- the text has a blank, a control character or a second slash
+-- the text has a space, a control character or a second slash
 abbrev pub has_bad_character : List ℕ → Bool
 has_bad_character text = list_any is_unprintable text || list_any is_slash (sub_in text)
 
--- the MIME type that a text is, two nonempty parts round one slash, or the first fault that it has
+-- the MIME type that a text is, two nonempty parts with one slash between them, or the first fault that it has
 unfoldable pub mime_of : List ℕ → Result Mime MimeFault
 mime_of text =
     if not (list_any is_slash text) then Err NoSlash

@@ -4,7 +4,7 @@ use Rattle.am_types.specs.declared.filter.PathRule.{PathRule}
 use Rattle.am_types.specs.declared.filter.PathRule.TheVariants.{Literal, Prefix, Suffix, Pattern}
 use Rattle.am_model.specs.Texts.{is_same, begins_with, ends_with}
 
--- a character of a pattern, and whether it is plain or stands behind a backslash
+-- a character of a pattern, and whether it is plain or follows a backslash
 pub record Mark : Type 0 where
   pub character : ℕ
   pub plain : Bool
@@ -23,11 +23,11 @@ marks_of (c ∷ next ∷ others) =
     then record { character = next; plain = false } ∷ marks_of others
     else record { character = c; plain = true } ∷ marks_of (next ∷ others)
 
--- a star, which repeats what stands before it
+-- a star, which repeats the character before it
 abbrev pub is_star : Mark → Bool
 is_star mark = mark.plain && (mark.character == 42)
 
--- the elements of a pattern: a star belongs to the character before it, and stands for itself where there is none
+-- the elements of a pattern: a star belongs to the character before it, and stands for itself if there is none
 abbrev pub elements_of : List Mark → List Element
 elements_of [] = []
 elements_of (mark ∷ []) = record { mark = mark; many = false } ∷ []
@@ -36,7 +36,7 @@ elements_of (mark ∷ next ∷ others) =
     then record { mark = mark; many = true } ∷ elements_of others
     else record { mark = mark; many = false } ∷ elements_of (next ∷ others)
 
--- the character may stand at the mark: a plain dot allows every one
+-- the character is allowed at the mark: a plain dot allows every one
 abbrev pub allows : Mark → ℕ → Bool
 allows mark c = (mark.plain && (mark.character == 46)) || (mark.character == c)
 

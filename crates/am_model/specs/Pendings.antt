@@ -13,7 +13,7 @@ use Rattle.am_types.specs.declared.pending.Used.{Used}
 use Rattle.am_model.specs.Intents.{filter_equals, fill_in}
 use Rattle.am_model.specs.Candidates.{is_kind}
 
--- a live record: its token, its key (the creator, the kind, the code, three flags and the intent but for its flags and
+-- a live record: its token, its key (the creator, the kind, the code, three flags and the intent except its flags and
 -- extras), and those besides the creator who hold the token
 pub record Pending : Type 0 where
   pub token : ℕ
@@ -85,7 +85,8 @@ fresh token asked = record {
 abbrev pub without_token : List Pending → ℕ → List Pending
 without_token records token = filter (λ (kept : Pending). not (kept.token == token)) records
 
--- one more record beside those that stay, unless the creator has 1,024 of them; no record at all where none is to be made
+-- one more record beside those that stay, unless the creator has 1,024 of them; no record at all if none is to be
+-- made
 abbrev pub made : Pendings → List Pending → Asked → Result (Option ℕ × Pendings) PendingFault
 made all stay asked =
     if asked.flags.no_create then Ok (None, record all { records = stay })
@@ -158,7 +159,13 @@ lent kept (Some fill) = if kept.mutable then fill_in kept.intent fill else Ok ke
 -- what the token stands for
 abbrev pub used_as : Pending → Result Intent FillFault → Result Used PendingFault
 used_as kept (Err full) = Err ExtrasFull
-used_as kept (Ok intent) = Ok (record { creator = kept.creator; kind = kept.kind; intent = intent; one_shot = kept.one_shot })
+used_as kept (Ok intent) = Ok (record {
+  creator = kept.creator;
+  kind = kept.kind;
+  intent = intent;
+  one_shot =
+      kept.one_shot;
+})
 
 -- what a token stands for, where its record, if there is one, is held by the uid
 abbrev pub used : Pendings → ℕ → ℕ → Option Intent → Option Pending → Result Used PendingFault
@@ -176,4 +183,6 @@ without_holder uid kept = record kept { holders = filter (λ holder. not (holder
 -- a uid is forgotten: its records are canceled, and it holds no token any more
 abbrev pub forget_uid : Pendings → ℕ → Pendings
 forget_uid all uid =
-    record all { records = map (without_holder uid) (filter (λ (kept : Pending). not (kept.creator == uid)) all.records) }
+    record all {
+      records = map (without_holder uid) (filter (λ (kept : Pending). not (kept.creator == uid)) all.records);
+    }

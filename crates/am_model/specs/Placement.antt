@@ -17,7 +17,8 @@ use Rattle.am_model.specs.Intents.{is_same_component, or_other}
 use Rattle.am_model.specs.Tasks.{Instance, Task, Tasks, task_of, owner, may_end, top_of}
 
 -- what a start does: a fresh instance in a new task, which may be one for a single instance; a fresh instance on top of
--- what is kept of a task; a new intent to an instance of what is kept of a task; or a task that is only brought to the front
+-- what is kept of a task; a new intent to an instance of what is kept of a task; or a task that is only brought to the
+-- front
 pub data Plan : Type 0 where
   NewTask : Bool → Plan
   FreshOn : Task → List Instance → Plan
@@ -237,7 +238,11 @@ carried_out all start (NewTask single) = (
 )
 carried_out all start (FreshOn task kept) = (
   record { how = how.Fresh; task = task.number; instance = all.next_instance },
-  record all { tasks = in_front task (kept ++ fresh all.next_instance start ∷ []) all.tasks; next_instance = all.next_instance + 1 },
+  record all {
+    tasks = in_front task (kept ++ fresh all.next_instance start ∷ []) all.tasks;
+    next_instance =
+        all.next_instance + 1;
+  },
 )
 carried_out all start (NewIntentTo task kept number) = (
   record { how = how.NewIntent; task = task.number; instance = number },
@@ -268,7 +273,8 @@ place_as all start plan = placed all start plan (too_full all plan)
 abbrev pub placed_from : Tasks → StartCall → Option ℕ → Result (Landed × Tasks) PlaceFault
 placed_from all start None = Err NoSource
 placed_from all start (Some owned) =
-    if may_end start.caller owned then place_as all start (plan_of start all.tasks (source_task all.tasks start.source)) else Err NotYours
+    if may_end start.caller owned then place_as all start (plan_of start all.tasks (source_task all.tasks start.source))
+    else Err NotYours
 
 -- a start with a source, or one without, which needs NEW_TASK
 abbrev pub placed_by : Tasks → StartCall → Option ℕ → Result (Landed × Tasks) PlaceFault

@@ -1,4 +1,4 @@
--- Who a broadcast is offered to, and who of them is admitted.
+-- Who a broadcast is offered to, and which of them are admitted.
 use Rattle.std.specs.Prelude.{ℕ, ℤ, Bool, true, false, not, ◌&&◌, ◌==◌, codes, List, [], ◌∷◌, ◌++◌, map, filter, if◌then◌else◌, Option, Some, None, is_none}
 use Rattle.std.specs.Bool.{then_some}
 use Rattle.std.specs.List.{list_any}
@@ -36,7 +36,8 @@ pub record Offer : Type 0 where
 abbrev pub decl_in : Kind → List ℕ → List Decl → Option Decl
 decl_in kind class [] = None
 decl_in kind class (first ∷ others) =
-    if (first.enabled && is_kind kind first.kind) && is_same first.class class then Some first else decl_in kind class others
+    if (first.enabled && is_kind kind first.kind) && is_same first.class class then Some first else decl_in kind class
+    others
 
 -- the component with the uid of its package
 abbrev pub with_uid : ℕ → Option Decl → Option (ℕ × Decl)
@@ -55,7 +56,13 @@ declared (first ∷ others) kind component =
 abbrev pub declared_offer : Hit → Option (ℕ × Decl) → List Offer
 declared_offer hit None = []
 declared_offer hit (Some found) =
-    record { uid = hit.uid; aim = Declared hit.component; priority = hit.priority; exported = found.1.exported; permission = found.1.permission } ∷ []
+    record {
+      uid = hit.uid;
+      aim = Declared hit.component;
+      priority = hit.priority;
+      exported = found.1.exported;
+      permission = found.1.permission;
+    } ∷ []
 
 -- the offers to the manifests' receivers that the intent finds
 abbrev pub declared_offers : List Package → List Hit → List Offer
@@ -90,13 +97,20 @@ finds_registered packages intent r =
 -- the offer to a registered receiver, which counts as exported
 abbrev pub registered_offer : Registration → Offer
 registered_offer r =
-    record { uid = r.uid; aim = Registered r.number; priority = r.filter.priority; exported = true; permission = r.permission }
+    record {
+      uid = r.uid;
+      aim = Registered r.number;
+      priority = r.filter.priority;
+      exported = true;
+      permission =
+          r.permission;
+    }
 
--- an offer in front of those of no greater priority, behind the others
+-- an offer in front of those of no greater priority, after the others
 abbrev pub place_offer : Offer → List Offer → List Offer
 place_offer offer others = place_by (λ (o : Offer). o.priority) offer others
 
--- by falling priority; where it ties the order stays
+-- by falling priority; ties keep their order
 abbrev pub in_order : List Offer → List Offer
 in_order found = falling_by (λ (o : Offer). o.priority) found
 
@@ -111,7 +125,7 @@ offers board intent =
 abbrev pub or_rule : Option Rule → Option Rule → Option Rule
 or_rule rule other = option_or rule other
 
--- the rule where the condition holds
+-- the rule if the condition holds
 abbrev pub rule_where : Bool → Rule → Option Rule
 rule_where test rule = then_some test rule
 
@@ -125,14 +139,15 @@ abbrev pub is_exempt : List (List ℕ) → Option (List ℕ) → Bool
 is_exempt exempt None = false
 is_exempt exempt (Some action) = lists exempt action
 
--- the action is there and is protected
+-- the intent has an action, and it is protected
 abbrev pub is_protected : List (List ℕ) → Option (List ℕ) → Bool
 is_protected protected None = false
 is_protected protected (Some action) = lists protected action
 
 -- the intent names neither a component nor a package, and its action isn't exempt
 abbrev pub is_unaimed : List (List ℕ) → Intent → Bool
-is_unaimed exempt intent = (is_none intent.component && is_none intent.«package») && not (is_exempt exempt intent.action)
+is_unaimed exempt intent = (is_none intent.component && is_none intent.«package») && not
+    (is_exempt exempt intent.action)
 
 -- the package of the uid is stopped; the system and the root have none
 abbrev pub is_stopped : List Package → ℕ → Bool
@@ -150,11 +165,12 @@ lacks board uid None = None
 lacks board uid (Some permission) =
     if holds board.grants uid permission then None else Some (rules.ReceiverLacks permission)
 
--- why the offer is skipped, by the first rule that applies; none where the receiver is admitted
+-- why the offer is skipped, by the first rule that applies; none if the receiver is admitted
 abbrev pub skip_of : Board → Intent → ℕ → Option (List ℕ) → Offer → Option Rule
 skip_of board intent sender required offer =
     or_rule (rule_where (intent.flags.registered_only && is_declared offer.aim) rules.RegisteredOnly)
-    (or_rule (rule_where ((is_declared offer.aim && is_unaimed board.exempt intent) && not (offer.uid == sender)) rules.ManifestImplicit)
+    (or_rule (rule_where ((is_declared offer.aim && is_unaimed board.exempt intent) && not (offer.uid == sender))
+    rules.ManifestImplicit)
     (or_rule (rule_where (is_stopped board.packages offer.uid && not intent.flags.include_stopped) rules.StoppedPackage)
     (or_rule (rule_of (verdict board.grants sender offer.uid offer.exported offer.permission))
     (lacks board offer.uid required))))
@@ -162,7 +178,11 @@ skip_of board intent sender required offer =
 -- who the broadcast is offered to, each with the rule by which it is skipped or with none
 abbrev pub receivers : Board → Intent → ℕ → Option (List ℕ) → List Receiving
 receivers board intent sender required =
-    map (λ (offer : Offer). record { uid = offer.uid; aim = offer.aim; skip = skip_of board intent sender required offer })
+    map (λ (offer : Offer). record {
+      uid = offer.uid;
+      aim = offer.aim;
+      skip = skip_of board intent sender required offer;
+    })
     (offers board intent)
 
 -- the receivers that are admitted, in their order

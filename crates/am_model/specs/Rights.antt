@@ -1,4 +1,4 @@
--- Rights, each of which is of a uid and a text, whatever it is kept as.
+-- Rights: each has a uid and a text, however it is kept.
 use Rattle.std.specs.Prelude.{ℕ, Bool, true, false, not, ◌&&◌, ◌||◌, ◌==◌, nat_lt, List, filter, if◌then◌else◌}
 use Rattle.std.specs.List.{list_any}
 use Rattle.am_types.specs.declared.device.Grant.{Grant}
@@ -10,7 +10,7 @@ use Rattle.am_model.specs.Texts.{is_same, is_before}
 abbrev pub Right : Type 0
 Right = ℕ × List ℕ
 
--- one uid and text stand before another: by uid, then by bytes
+-- one uid and text come before another: by uid, then by bytes
 abbrev pub stands_before : ℕ → List ℕ → ℕ → List ℕ → Bool
 stands_before uid text other_uid other = nat_lt uid other_uid || ((uid == other_uid) && is_before text other)
 
@@ -37,13 +37,14 @@ module _ {R : Type 0} (right_of : R → Right) where
   abbrev pub has_right : List R → ℕ → List ℕ → Bool
   has_right rights uid text = list_any (is_right uid text) rights
 
-  -- a right stands before another
+  -- a right comes before another
   abbrev pub before_right : R → R → Bool
   before_right right other = stands_before (right_of right).0 (right_of right).1 (right_of other).0 (right_of other).1
 
-  -- the rights with that one, which is made of a uid and a text, held or not held
+  -- the rights with that one, given by its uid and its text, held or not held
   abbrev pub with_right : (ℕ → List ℕ → R) → List R → ℕ → List ℕ → Bool → List R
-  with_right made rights uid text true = if has_right rights uid text then rights else inserted before_right (made uid text) rights
+  with_right made rights uid text true = if has_right rights uid text then rights else inserted before_right
+      (made uid text) rights
   with_right made rights uid text false = filter (λ (right : R). not (is_right uid text right)) rights
 
   -- what is left of the rights without those of a uid

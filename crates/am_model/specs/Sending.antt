@@ -44,7 +44,8 @@ at_once number delivery sending = record {
 abbrev pub with_normal : Broadcasts → Sending → Broadcasts
 with_normal all sending =
     record all {
-      normal = if is_empty sending.to then all.normal else all.normal ++ at_once all.next_broadcast all.next_delivery sending ∷ [];
+      normal = if is_empty sending.to then all.normal else all.normal
+          ++ at_once all.next_broadcast all.next_delivery sending ∷ [];
       next_broadcast = all.next_broadcast + 1;
       next_delivery = all.next_delivery + length sending.to;
     }
@@ -101,12 +102,14 @@ or_held None other = other
 abbrev pub held_in_deliveries : ℕ → List Delivery → Option Held
 held_in_deliveries number [] = None
 held_in_deliveries number (first ∷ others) =
-    if first.number == number then Some (record { uid = first.spot.uid; ordered = false }) else held_in_deliveries number others
+    if first.number == number then Some (record { uid = first.spot.uid; ordered = false }) else held_in_deliveries
+    number others
 
 -- the delivery among the normal broadcasts'
 abbrev pub held_in_normals : ℕ → List Normal → Option Held
 held_in_normals number [] = None
-held_in_normals number (first ∷ others) = or_held (held_in_deliveries number first.deliveries) (held_in_normals number others)
+held_in_normals number (first ∷ others) = or_held (held_in_deliveries number first.deliveries)
+    (held_in_normals number others)
 
 -- the delivery is the current one
 abbrev pub is_current : ℕ → Option Current → Bool
@@ -127,7 +130,8 @@ held_at_head number (head ∷ others) = if is_current number head.current then h
 abbrev pub held_in_results : ℕ → List broadcasts.Result → Option Held
 held_in_results number [] = None
 held_in_results number (first ∷ others) =
-    if first.delivery == number then Some (record { uid = first.sender; ordered = false }) else held_in_results number others
+    if first.delivery == number then Some (record { uid = first.sender; ordered = false }) else held_in_results number
+    others
 
 -- the delivery, or the result, of that number
 abbrev pub held : Broadcasts → ℕ → Option Held
@@ -137,7 +141,7 @@ held all number =
     (or_held (held_at_head number all.background)
     (held_in_results number all.results)))
 
--- the queue whose head did this, where the delivery is its current one
+-- the queue whose head did this, if the delivery is its current one
 abbrev pub answered_head : ℕ → Doing → List InTurn → List InTurn
 answered_head number doing [] = []
 answered_head number doing (head ∷ others) =
@@ -208,11 +212,11 @@ is_registered number (Registered other) = other == number
 abbrev pub forget_registered : Broadcasts → ℕ → ℕ → Broadcasts
 forget_registered all number now = forget all (λ (spot : Spot). is_registered number spot.aim) now
 
--- the sender wants no result any more
+-- the sender no longer gets a result
 abbrev pub unwanted : ℕ → InTurn → InTurn
 unwanted uid broadcast = if broadcast.sender == uid then record broadcast { wanted = false } else broadcast
 
--- the broadcasts of which a uid wants no result any more
+-- the broadcasts with a uid no longer getting results
 abbrev pub with_unwanted : Broadcasts → ℕ → Broadcasts
 with_unwanted all uid = record all {
   foreground = map (unwanted uid) all.foreground;
@@ -220,14 +224,19 @@ with_unwanted all uid = record all {
   results = filter (λ (r : broadcasts.Result). not (r.sender == uid)) all.results;
 }
 
--- the broadcasts without the receivers of a uid, which wants no result any more
+-- the broadcasts without the receivers of a uid, which no longer gets results
 abbrev pub forget_uid : Broadcasts → ℕ → ℕ → Broadcasts
 forget_uid all uid now = forget (with_unwanted all uid) (λ (spot : Spot). spot.uid == uid) now
 
 -- the deliveries of a normal broadcast to a uid, as items
 abbrev pub normal_items : ℕ → Normal → List Item
 normal_items uid broadcast =
-    map (λ (d : Delivery). record { delivery = d.number; broadcast = broadcast.number; what = kinds.Normal d.spot.aim broadcast.intent })
+    map (λ (d : Delivery). record {
+      delivery = d.number;
+      broadcast = broadcast.number;
+      what = kinds.Normal d.spot.aim
+          broadcast.intent;
+    })
     (filter (λ (d : Delivery). d.spot.uid == uid) broadcast.deliveries)
 
 -- the delivery of an ordered broadcast, if it is to the uid, with the outcome so far
@@ -236,7 +245,12 @@ turn_item uid broadcast [] current = []
 turn_item uid broadcast (spot ∷ others) None = []
 turn_item uid broadcast (spot ∷ others) (Some current) =
     if spot.uid == uid
-    then record { delivery = current.number; broadcast = broadcast.number; what = kinds.InOrder spot.aim broadcast.intent (outcome_of broadcast) } ∷ []
+    then record {
+      delivery = current.number;
+      broadcast = broadcast.number;
+      what = kinds.InOrder spot.aim
+          broadcast.intent (outcome_of broadcast);
+    } ∷ []
     else []
 
 -- the current delivery of an ordered broadcast, if it is to the uid, as an item
@@ -246,7 +260,12 @@ turn_items uid broadcast = turn_item uid broadcast broadcast.rest broadcast.curr
 -- the results for a uid, as items
 abbrev pub result_items : ℕ → List broadcasts.Result → List Item
 result_items uid results =
-    map (λ (r : broadcasts.Result). record { delivery = r.delivery; broadcast = r.broadcast; what = kinds.Final r.outcome })
+    map (λ (r : broadcasts.Result). record {
+      delivery = r.delivery;
+      broadcast = r.broadcast;
+      what = kinds.Final
+          r.outcome;
+    })
     (filter (λ (r : broadcasts.Result). r.sender == uid) results)
 
 -- an item in its place by number

@@ -1,4 +1,4 @@
--- When a device is sound: what reading one gives, and what opening one asks for.
+-- When a device is sound: what reading a device file gives, and what opening one requires.
 use Rattle.std.specs.Prelude.{ℕ, ◌≤◌, Bool, false, not, ◌&&◌, ◌==◌, nat_le, nat_lt, codes, List, [], ◌∷◌, ◌++◌, length, map, All, count_by, if◌then◌else◌, Option, Some, None, IsTrue}
 use Rattle.std.specs.List.{list_any, list_all, IsDistinct}
 use Rattle.std.specs.List.Sorted.{IsStrictlyIncreasing, IsStrictlySortedBy}
@@ -39,7 +39,7 @@ is_visible text = list_all (λ b. nat_le 33 b && nat_le b 126) text
 abbrev pub is_access_key : List ℕ → Bool
 is_access_key text = if length text == 0 then false else if nat_lt 255 (length text) then false else is_visible text
 
--- no text stands twice
+-- no text is listed twice
 abbrev pub AreDistinct : List (List ℕ) → Type 0
 AreDistinct texts = IsDistinct is_same texts
 
@@ -93,7 +93,7 @@ pub record AreSoundPackages (packages : List Package) : Type 0 where
 abbrev pub right_cmp : ℕ × List ℕ → ℕ × List ℕ → Ordering
 right_cmp first second = ordering_then (nat_cmp first.0 second.0) (slice_cmp nat_cmp first.1 second.1)
 
--- rights of packages stand in their order, each once, and no package has more than 256
+-- the rights of packages are in their order, each once, and no package has more than 256
 pub record AreSoundRights (packages : List Package) (rights : List (ℕ × List ℕ)) : Type 0 where
   pub order : IsStrictlySortedBy right_cmp rights
   pub holders : All (λ right. IsTrue (is_package_uid packages right.0)) rights

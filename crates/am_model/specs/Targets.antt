@@ -38,18 +38,21 @@ is_view (Some action) = is_same action (codes "android.intent.action.VIEW")
 
 -- a category that a web intent may have
 abbrev pub is_web_category : List ℕ → Bool
-is_web_category category = is_same category (codes "android.intent.category.BROWSABLE") || is_same category default_category
+is_web_category category = is_same category (codes "android.intent.category.BROWSABLE") || is_same category
+    default_category
 
 -- the host of a web intent: one that asks to view a web page, by no other categories and for no named app
 abbrev pub host_to_view : Intent → Option (List ℕ)
 host_to_view intent =
-    if ((is_view intent.action && list_all is_web_category intent.categories) && is_none intent.component) && is_none intent.«package»
+    if ((is_view intent.action && list_all is_web_category intent.categories) && is_none intent.component) && is_none
+    intent.«package»
     then web_host intent.uri
     else None
 
 -- the package of the uid is approved for the host, with ASCII case ignored
 abbrev pub approves : List Link → List ℕ → ℕ → Bool
-approves links host uid = list_any (λ (link : Link). (link.uid == uid) && is_same (lowered link.host) (lowered host)) links
+approves links host uid = list_any (λ (link : Link). (link.uid == uid) && is_same (lowered link.host) (lowered host))
+    links
 
 -- the hit's package is approved for the host
 abbrev pub is_approved : List Link → List ℕ → Hit → Bool
@@ -69,24 +72,24 @@ is_general packages intent hit =
     list_any (λ (owner : Package). list_any (λ (decl : Decl).
     is_hit_of owner decl hit && list_any (takes_any_host intent) decl.filters) owner.decls) packages
 
--- the hits of the browser that the device names; without one those that take any host
+-- the hits of the browser that the device names; if it names none, those that take any host
 abbrev pub browser_hits : Board → Intent → List Hit → Option (List ℕ) → List Hit
 browser_hits board intent found (Some browser) = filter (λ (hit : Hit). is_same hit.component.«package» browser) found
 browser_hits board intent found None = filter (is_general board.packages intent) found
 
--- the hits of packages that are approved for the host; where there is none, those of a browser
+-- the hits of packages that are approved for the host; if there are none, those of a browser
 abbrev pub web_hits : Board → Intent → List Hit → List ℕ → List Hit
 web_hits board intent found host =
     if list_any (is_approved board.links host) found
     then filter (is_approved board.links host) found
     else browser_hits board intent found board.browser
 
--- the hits that are left of those found: a web intent is narrowed
+-- the hits that are left after narrowing, which only a web intent undergoes
 abbrev pub narrowed : Board → Intent → List Hit → Option (List ℕ) → List Hit
 narrowed board intent found None = found
 narrowed board intent found (Some host) = web_hits board intent found host
 
--- the hits, which stand by falling priority, that share the greatest one
+-- of the hits, which come by falling priority, those that share the greatest one
 abbrev pub top : List Hit → List Hit
 top [] = []
 top (first ∷ others) = take_while (λ (hit : Hit). int_eq hit.priority first.priority) (first ∷ others)

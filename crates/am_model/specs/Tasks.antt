@@ -1,4 +1,4 @@
--- Tasks and the back stack: what stands where.
+-- Tasks and the back stack.
 use Rattle.std.specs.Prelude.{ℕ, Bool, not, ◌||◌, ◌==◌, List, [], ◌∷◌, map, filter, if◌then◌else◌, Option, Some, None, option_and_then}
 use Rattle.std.specs.List.{list_any, find, last_or}
 use Rattle.am_types.specs.declared.intent.Intent.{Intent}
@@ -44,7 +44,7 @@ is_number number instance = instance.number == number
 abbrev pub instance_in : ℕ → Task → Option Instance
 instance_in number task = find (is_number number) task.instances
 
--- the task in which the instance stands, if it stands in one
+-- the task that has the instance, if one has it
 abbrev pub task_of : List Task → ℕ → Option Task
 task_of tasks number = find (λ (task : Task). list_any (is_number number) task.instances) tasks
 
@@ -61,17 +61,19 @@ owner_in (Some instance) = Some instance.owner
 abbrev pub owner : Tasks → ℕ → Option ℕ
 owner all number = owner_in (instance_of all.tasks number)
 
--- the task with those instances alone that pass the test
+-- the task with only those instances that pass the test
 abbrev pub keeping : (Instance → Bool) → Task → Task
 keeping keeps task = record task { instances = filter keeps task.instances }
 
--- the tasks with those instances alone that pass the test; a task without one is gone
+-- the tasks with only those instances that pass the test; a task without one is gone
 abbrev pub tasks_keeping : (Instance → Bool) → List Task → List Task
 tasks_keeping keeps tasks = filter (λ (task : Task). not (is_empty task.instances)) (map (keeping keeps) tasks)
 
 -- the tasks without an instance
 abbrev pub without_instance : Tasks → ℕ → Tasks
-without_instance all number = record all { tasks = tasks_keeping (λ (i : Instance). not (i.number == number)) all.tasks }
+without_instance all number = record all {
+  tasks = tasks_keeping (λ (i : Instance). not (i.number == number)) all.tasks;
+}
 
 -- the uid may end what another uid owns only if it is the system or the root
 abbrev pub may_end : ℕ → ℕ → Bool
@@ -108,7 +110,7 @@ back all = back_from all (seen all.tasks)
 abbrev pub view_of : Instance → InstanceView
 view_of i = record { instance = i.number; component = i.component; intent = i.intent }
 
--- the uid sees the instance: its own, or each where it is the system or the root
+-- the uid sees the instance: its own, or each if it is the system or the root
 abbrev pub may_see : ℕ → Instance → Bool
 may_see uid instance = is_privileged uid || (instance.owner == uid)
 

@@ -21,7 +21,7 @@ begins_with text start = starts_with nat_eq text start
 abbrev pub ends_with : List ℕ → List ℕ → Bool
 ends_with text end = list_ends_with nat_eq text end
 
--- the first text stands before the second by bytes
+-- the first text comes before the second by bytes
 abbrev pub is_before : List ℕ → List ℕ → Bool
 is_before text other = is_lt (slice_cmp nat_cmp text other)
 

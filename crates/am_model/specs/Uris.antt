@@ -1,4 +1,4 @@
--- URIs: a scheme, a colon and a rest, in which a host, a port and a path may stand.
+-- URIs: a scheme, a colon and a rest, which may have a host, a port and a path.
 use Rattle.std.specs.Prelude.{ℕ, ◌-◌, Bool, true, false, not, ◌&&◌, ◌||◌, ◌==◌, nat_lt, nat_le, codes, List, [], ◌∷◌, length, map, drop, if◌then◌else◌, Option, Some, None, Result, Ok, Err}
 use Rattle.std.specs.List.{list_any, list_all, take_while, before_first, after_first, before_last, after_last}
 use Rattle.std.specs.Char.{is_ascii_alphabetic, is_ascii_alphanumeric, is_ascii_digit, is_ascii_hexdigit}
@@ -14,7 +14,7 @@ use Rattle.am_model.specs.Texts.{begins_with}
 abbrev pub is_colon : ℕ → Bool
 is_colon b = b == 58
 
--- a byte that a scheme may have behind its first letter: a letter, a digit, `+`, `-` or `.`
+-- a byte that a scheme may have after its first letter: a letter, a digit, `+`, `-` or `.`
 abbrev pub is_scheme_byte : ℕ → Bool
 is_scheme_byte b = ((is_ascii_alphanumeric b || (b == 43)) || (b == 45)) || (b == 46)
 
@@ -27,11 +27,11 @@ is_scheme (b ∷ bytes) = if is_ascii_alphabetic b then list_all is_scheme_byte 
 abbrev pub has_scheme : List ℕ → Bool
 has_scheme text = list_any is_colon text && is_scheme (before_first is_colon text)
 
--- what stands before the first colon
+-- the part before the first colon
 abbrev pub scheme_in : List ℕ → List ℕ
 scheme_in text = before_first is_colon text
 
--- what stands behind the first colon
+-- the part after the first colon
 abbrev pub rest_in : List ℕ → List ℕ
 rest_in text = after_first is_colon text
 
@@ -59,15 +59,15 @@ behind_authority rest = drop (length (authority_in rest)) (drop 2 rest)
 abbrev pub server_in : List ℕ → List ℕ
 server_in authority = after_last (λ b. b == 64) authority
 
--- the server has a colon behind its last `]`, and so a port
+-- the server has a colon after its last `]`, and so a port
 abbrev pub has_port : List ℕ → Bool
 has_port server = list_any is_colon (after_last (λ b. b == 93) server)
 
--- what stands before the server's last colon, where it has a port; else all of it
+-- the part before the server's last colon, if it has a port; else all of it
 abbrev pub host_in : List ℕ → List ℕ
 host_in server = if has_port server then before_last is_colon server else server
 
--- the digits of the port, none where the server has no port
+-- the digits of the port, none if the server has no port
 abbrev pub port_text : List ℕ → List ℕ
 port_text server = if has_port server then after_last is_colon server else []
 
@@ -75,7 +75,7 @@ port_text server = if has_port server then after_last is_colon server else []
 abbrev pub is_port : List ℕ → Bool
 is_port text = nat_le (length text) 5 && list_all is_ascii_digit text
 
--- the number that the digits write; no digits are no port
+-- the number that the digits write; without digits there is no port
 abbrev pub port_of : List ℕ → Option ℕ
 port_of [] = None
 port_of (digit ∷ digits) = Some (number_from_digits 10 (map (λ b. b - 48) (digit ∷ digits)))
@@ -94,12 +94,12 @@ begins_with_digits [] = false
 begins_with_digits (high ∷ []) = false
 begins_with_digits (high ∷ low ∷ others) = is_ascii_hexdigit high && is_ascii_hexdigit low
 
--- behind each percent sign stand two hexadecimal digits
+-- two hexadecimal digits follow each percent sign
 abbrev pub is_escaped : List ℕ → Bool
 is_escaped [] = true
 is_escaped (b ∷ others) = (not (b == percent_sign) || begins_with_digits others) && is_escaped others
 
--- the rest has no authority, or a port that is one
+-- the rest has no authority, or its port is valid
 abbrev pub is_port_good : List ℕ → Bool
 is_port_good rest = not (has_authority rest) || is_port (port_text (server_in (authority_in rest)))
 

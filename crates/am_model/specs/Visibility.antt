@@ -28,18 +28,19 @@ asked_scheme None None = None
 abbrev pub is_local_scheme : List ℕ → Bool
 is_local_scheme scheme = is_same scheme (codes "content") || is_same scheme (codes "file")
 
--- where no scheme is asked for, the filter lists neither a scheme nor a type
+-- if no scheme is asked for, the filter lists neither a scheme nor a type
 abbrev pub takes_no_scheme : Filter → Option (List ℕ) → Bool
 takes_no_scheme filter None = is_empty filter.schemes && is_empty filter.types
 takes_no_scheme filter (Some scheme) = true
 
--- the filter takes the scheme that is asked for: it lists it, or it lists none and a type of content on the device is asked for
+-- the filter takes the scheme that is asked for: it lists it, or it lists none and a type of content on the device is
+-- asked for
 abbrev pub takes_scheme : Filter → Option (List ℕ) → Option Mime → Bool
 takes_scheme filter None mime = true
 takes_scheme filter (Some scheme) mime =
     lists filter.schemes scheme || ((is_some mime && is_empty filter.schemes) && is_local_scheme scheme)
 
--- where a scheme is asked for and no type, the filter lists no type
+-- if a scheme is asked for and no type, the filter lists no type
 abbrev pub takes_no_type : Filter → Option (List ℕ) → Option Mime → Bool
 takes_no_type filter None mime = true
 takes_no_type filter (Some scheme) None = is_empty filter.types
@@ -85,11 +86,12 @@ shows signatures decl =
 abbrev pub is_asked_for : Queries → Package → Bool
 is_asked_for queries owner = lists queries.names owner.name || list_any (shows queries.signatures) owner.decls
 
--- the queries of the package with that uid, which stand in the order of the packages
+-- the queries of the package with that uid; they are in the order of the packages
 abbrev pub queries_of : List Package → List Queries → ℕ → Option Queries
 queries_of [] queries uid = None
 queries_of (first ∷ others) [] uid = None
-queries_of (first ∷ others) (query ∷ queries) uid = if first.uid == uid then Some query else queries_of others queries uid
+queries_of (first ∷ others) (query ∷ queries) uid = if first.uid == uid then Some query else queries_of others queries
+    uid
 
 -- the queries, if there are any, ask for the package, if there is one
 abbrev pub ask_for : Option Queries → Option Package → Bool

@@ -1,3 +1,3 @@
 //! The definitions that the contracts of several crates cite: what `am` promises, in the terms of
-//! its field. They stand in `specs/`, one module a subject; no definition speaks of the code.
+//! its field. They are in `specs/`, one module for each subject; no definition speaks of the code.
 #![tactic(auto)]

@@ -6,7 +6,7 @@ use Rattle.std.specs.declared.hash.RandomState.{RandomState}
 use Rattle.std.specs.RandomState.{initial_hasher}
 use Rattle.am_pending.specs.declared.hashing.Hashing.{Hashing}
 
--- under the keys that were drawn, or under those that everyone knows
+-- under the keys that were drawn, or under publicly known ones
 abbrev pub hasher_under : Option RandomState → DefaultHasher
 hasher_under None = initial
 hasher_under (Some keys) = initial_hasher keys

@@ -54,9 +54,11 @@ truth_equiv : IsEquivalence is_same_truth
 truth_equiv = decided is_same_truth truth_decides
 
 -- texts whose members are all listed elsewhere
-all-listed : (xs ys : List (List ℕ)) → ((t : List ℕ) → lists xs t ≡ true → lists ys t ≡ true) → list_all (λ t. lists ys t) xs ≡ true
+all-listed : (xs ys : List (List ℕ)) → ((t : List ℕ) → lists xs t ≡ true → lists ys t ≡ true)
+    → list_all (λ t. lists ys t) xs ≡ true
 all-listed [] ys h = refl
-all-listed (x ∷ xs) ys h = and_from _ _ (h x (one-listed x xs)) (all-listed xs ys (λ t k. h t (or_right (is_same x t) (lists xs t) k)))
+all-listed (x ∷ xs) ys h = and_from _ _ (h x (one-listed x xs)) (all-listed xs ys
+    (λ t k. h t (or_right (is_same x t) (lists xs t) k)))
 
 -- sets with the same members are the same
 same_set : (xs ys : List (List ℕ)) → SameMembers xs ys → are_same_set xs ys ≡ true
@@ -71,10 +73,12 @@ set_equiv =
     (λ a. same_set a a (λ t. refl))
 
 mime_equiv : IsEquivalence is_same_mime
-mime_equiv = and_equiv (on_equiv (λ (m : Mime). m.main) nat_list_eq_equiv) (on_equiv (λ (m : Mime). m.sub) nat_list_eq_equiv)
+mime_equiv = and_equiv (on_equiv (λ (m : Mime). m.main) nat_list_eq_equiv)
+    (on_equiv (λ (m : Mime). m.sub) nat_list_eq_equiv)
 
 component_equiv : IsEquivalence is_same_component
-component_equiv = and_equiv (on_equiv (λ (c : Component). c.«package») nat_list_eq_equiv) (on_equiv (λ (c : Component). c.class) nat_list_eq_equiv)
+component_equiv = and_equiv (on_equiv (λ (c : Component). c.«package») nat_list_eq_equiv)
+    (on_equiv (λ (c : Component). c.class) nat_list_eq_equiv)
 
 uri_equiv : IsEquivalence is_same_uri
 uri_equiv = on_equiv (λ (u : Uri). u.text) nat_list_eq_equiv
@@ -107,8 +111,9 @@ same_equiv =
 pub key_equiv : IsEquivalence (λ (x y : Key). is_same_key y x)
 key_equiv = back_equiv same_equiv
 
--- where the same values are fed alike, so are the same values that may be there
-option_fed : {X : Type 0} (E : X → X → Bool) (F : X → fed.HashWrites) → ((x y : X) → E x y ≡ true → F x ≡ F y) → (a b : Option X) → option_eq E a b ≡ true → fed.option F a ≡ fed.option F b
+-- if the same values are fed alike, so are the same optional values
+option_fed : {X : Type 0} (E : X → X → Bool) (F : X → fed.HashWrites) → ((x y : X) → E x y ≡ true → F x ≡ F y)
+    → (a b : Option X) → option_eq E a b ≡ true → fed.option F a ≡ fed.option F b
 option_fed E F alike None None h = refl
 option_fed E F alike None (Some y) h = absurd (true≢false (sym h))
 option_fed E F alike (Some x) None h = absurd (true≢false (sym h))
@@ -131,7 +136,8 @@ kind_fed Receiver = fed.isize (pos 2)
 abbrev set_fed : List (List ℕ) → fed.HashWrites
 set_fed texts = fed_in_order 64 texts
 
--- what a hasher is fed of an intent: all that tells keys apart, of the categories the first 64 in their order, each once
+-- what a hasher is fed of an intent: everything that tells keys apart, and of the categories the first 64 in their
+-- order, each once
 abbrev pub fed_by_intent : Intent → fed.HashWrites
 fed_by_intent intent =
     (((((fed.option fed.str intent.action
@@ -156,7 +162,8 @@ fed_by key =
 text_alike : fed.Alike is_same fed.str
 text_alike = record { fed = λ x y h. ap fed.str (same_text x y h) }
 
-option_alike : {X : Type 0} {E : X → X → Bool} {F : X → fed.HashWrites} → fed.Alike E F → fed.Alike (option_eq E) (fed.option F)
+option_alike : {X : Type 0} {E : X → X → Bool} {F : X → fed.HashWrites} → fed.Alike E F
+    → fed.Alike (option_eq E) (fed.option F)
 option_alike {E = E} {F = F} alike = record { fed = option_fed E F alike.fed }
 
 set_alike : fed.Alike are_same_set set_fed
@@ -167,10 +174,13 @@ intent_alike =
     fed.and-Alike (fed.and-Alike (fed.and-Alike (fed.and-Alike (fed.and-Alike (fed.and-Alike
     (fed.on_Alike (λ (i : Intent). i.action) (option_alike text_alike))
     (fed.on_Alike (λ (i : Intent). i.uri) (option_alike (fed.on_Alike (λ (u : Uri). u.text) text_alike))))
-    (fed.on_Alike (λ (i : Intent). i.mime) (option_alike (fed.and-Alike (fed.on_Alike (λ (m : Mime). m.main) text_alike) (fed.on_Alike (λ (m : Mime). m.sub) text_alike)))))
+    (fed.on_Alike (λ (i : Intent). i.mime) (option_alike (fed.and-Alike (fed.on_Alike (λ (m : Mime). m.main) text_alike)
+    (fed.on_Alike (λ (m : Mime). m.sub) text_alike)))))
     (fed.on_Alike (λ (i : Intent). i.identifier) (option_alike text_alike)))
     (fed.on_Alike (λ (i : Intent). i.«package») (option_alike text_alike)))
-    (fed.on_Alike (λ (i : Intent). i.component) (option_alike (fed.and-Alike (fed.on_Alike (λ (c : Component). c.«package») text_alike) (fed.on_Alike (λ (c : Component). c.class) text_alike)))))
+    (fed.on_Alike (λ (i : Intent). i.component) (option_alike (fed.and-Alike
+    (fed.on_Alike (λ (c : Component). c.«package») text_alike)
+    (fed.on_Alike (λ (c : Component). c.class) text_alike)))))
     (fed.on_Alike (λ (i : Intent). i.categories) set_alike)
 
 key_alike : fed.Alike is_same_key fed_by

@@ -9,7 +9,7 @@ use Rattle.am_model.specs.Candidates.{is_kind}
 use Rattle.am_model.specs.Intents.{filter_equals}
 use Rattle.am_model.specs.Pendings.{Asked, is_same_truth}
 
--- what asks for the record of a key, or for none where there is none
+-- the request for the record of a key, which may say not to create one
 abbrev pub asking : Bool → Key → Asked
 asking no_create key = record {
   creator = key.creator;
@@ -26,7 +26,7 @@ asking no_create key = record {
   };
 }
 
--- what asks for the record of a key
+-- the request for the record of a key
 abbrev pub asked_by : Key → Asked
 asked_by key = asking false key
 
@@ -42,7 +42,7 @@ key_with creator kind code intent flags = record {
   intent = intent;
 }
 
--- the key of what is asked for
+-- the key of a request
 abbrev pub key_for : Asked → Key
 key_for asked = key_with asked.creator asked.kind asked.code asked.intent asked.flags
 

@@ -11,7 +11,7 @@ use Rattle.am_pending.specs.declared.key.Key.{Key}
 use Rattle.am_pending.specs.Keys.{asked_by, asking, is_same_key}
 use Rattle.am_pending.specs.Once.{AtMostOne}
 
--- a record: its key, with the whole intent, and those besides the creator who hold its token
+-- a record: its key, with the whole intent, and the uids other than the creator that hold its token
 pub record Kept : Type 0 where
   pub key : Key
   pub holders : List ℕ
@@ -20,7 +20,7 @@ pub record Kept : Type 0 where
 abbrev pub unheld : Key → Kept
 unheld key = record { key = key; holders = [] }
 
--- a record under its token, as the definitions see it
+-- a record under its token, as the model has it
 abbrev pub pending_of : ℕ → Kept → Pending
 pending_of token kept = record {
   token = token;
@@ -34,11 +34,11 @@ pending_of token kept = record {
   holders = kept.holders;
 }
 
--- the records that stand under tokens
+-- the records under their tokens
 abbrev pub pendings_of : List (ℕ × Kept) → List Pending
 pendings_of entries = map (λ (e : ℕ × Kept). pending_of e.0 e.1) entries
 
--- the records, before the next token
+-- the records, with the next token
 abbrev pub before : List Pending → ℕ → Pendings
 before records next = record { records = records; next = next }
 
@@ -46,19 +46,23 @@ before records next = record { records = records; next = next }
 abbrev pub is_holder_of : Kept → ℕ → Bool
 is_holder_of kept uid = is_holder (pending_of 0 kept) uid
 
--- what is lent of the record, with a fill-in if there is one
+-- what the record lends, with a fill-in if there is one
 abbrev pub lent_by : Kept → Option Intent → Result Intent FillFault
 lent_by kept fill = lent (pending_of 0 kept) fill
 
 -- the record with other extras
 abbrev pub with_extras : List Named → Kept → Kept
-with_extras extras kept = record kept { key = record (kept.key) { intent = record (kept.key.intent) { extras = extras } } }
+with_extras extras kept = record kept {
+  key = record (kept.key) {
+    intent = record (kept.key.intent) { extras = extras };
+  };
+}
 
 -- the record with one more holder
 abbrev pub held_by : ℕ → Kept → Kept
 held_by to kept = record kept { holders = kept.holders ++ to ∷ [] }
 
--- the record without a holder
+-- the record without this holder
 abbrev pub let_go_by : ℕ → Kept → Kept
 let_go_by uid kept = record kept { holders = filter (λ holder. not (holder == uid)) kept.holders }
 
@@ -66,7 +70,7 @@ let_go_by uid kept = record kept { holders = filter (λ holder. not (holder == u
 abbrev pub is_token : ℕ → Pending → Bool
 is_token token kept = kept.token == token
 
--- the record of the token, if there is one
+-- the record with this token, if there is one
 abbrev pub record_in : ℕ → List Pending → Option Pending
 record_in token records = find (is_token token) records
 
@@ -78,11 +82,11 @@ token_in key records = option_map (λ (kept : Pending). kept.token) (find (has_k
 abbrev pub token_at : List (Key × ℕ) → Key → Option ℕ
 token_at tokens key = lookup (λ k. is_same_key k key) tokens
 
--- a creator's number in a table of numbers
+-- a creator's number of records in a table of numbers
 abbrev pub count_at : List (ℕ × ℕ) → ℕ → ℕ
 count_at counts uid = unwrap_or (lookup (nat_eq uid) counts) 0
 
--- the key has that token, or none, and the others have what they had
+-- the key has this token, or none, and the others have what they had
 abbrev pub IsSetAt : List (Key × ℕ) → List (Key × ℕ) → Key → Option ℕ → Type 0
 IsSetAt old new key token = (other : Key) → token_at new other ≡ cond (is_same_key other key) token (token_at old other)
 
@@ -90,19 +94,19 @@ IsSetAt old new key token = (other : Key) → token_at new other ≡ cond (is_sa
 abbrev pub AreUnsetOf : List (Key × ℕ) → List (Key × ℕ) → ℕ → Type 0
 AreUnsetOf old new uid = (other : Key) → token_at new other ≡ cond (other.creator == uid) None (token_at old other)
 
--- a uid's number where a creator has one more
+-- a uid's number of records if a creator has one more
 abbrev pub raised : List (ℕ × ℕ) → ℕ → ℕ → ℕ
 raised counts creator uid = count_at counts uid + cond (uid == creator) 1 0
 
--- a uid's number where a creator has one less
+-- a uid's number of records if a creator has one less
 abbrev pub lowered : List (ℕ × ℕ) → ℕ → ℕ → ℕ
 lowered counts creator uid = count_at counts uid - cond (uid == creator) 1 0
 
--- a uid's number where a creator's is forgotten
+-- a uid's number of records if a creator's is removed
 abbrev pub forgotten : List (ℕ × ℕ) → ℕ → ℕ → ℕ
 forgotten counts creator uid = cond (uid == creator) 0 (count_at counts uid)
 
--- a fresh record of the key beside those that stay
+-- a fresh record of the key after those that stay
 abbrev pub with_fresh : Pendings → List Pending → Key → Pendings
 with_fresh all stay key = record { records = stay ++ fresh all.next (asked_by key) ∷ []; next = all.next + 1 }
 
@@ -110,21 +114,21 @@ with_fresh all stay key = record { records = stay ++ fresh all.next (asked_by ke
 abbrev pub without : Pendings → ℕ → Pendings
 without all token = record all { records = without_token all.records token }
 
--- what comes of a key that no record has
+-- the outcome for a key that no record has
 abbrev pub made_for : Pendings → Bool → Key → Result (Option ℕ × Pendings) PendingFault
 made_for all no_create key = made all all.records (asking no_create key)
 
--- what comes of a key whose record, that of the token, is canceled
+-- the outcome for a key if its record, the one with this token, is canceled
 abbrev pub renewed_for : Pendings → ℕ → Bool → Key → Result (Option ℕ × Pendings) PendingFault
 renewed_for all token no_create key = made all (without_token all.records token) (asking no_create key)
 
--- with other extras of the key's intent for the record of the token, if it is to be updated
+-- all records, where the token's record has the extras of the key's intent if it is to be updated
 abbrev pub kept_at : Pendings → ℕ → Key → Bool → Pendings
 kept_at all token key update =
     record all { records = if update then map (updated token key.intent.extras) all.records else all.records }
 
--- no two records have the same key or token, all tokens are below the next one, each key has the token of its record, and
--- each creator its number of records
+-- no two records have the same key or token, all tokens are below the next one, each key has the token of its record,
+-- and each creator has its number of records
 pub record IsIndexed (records : List Pending) (tokens : Key → Option ℕ) (counts : ℕ → ℕ) (next : ℕ) : Type 0 where
   pub apart : (key : Key) → AtMostOne (has_key (asked_by key)) records
   pub once : (token : ℕ) → AtMostOne (is_token token) records

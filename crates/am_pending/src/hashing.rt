@@ -4,15 +4,16 @@ ghost use Rattle.am_pending.specs.Hashings.{hasher_of};
 
 use std::hash::{BuildHasher, DefaultHasher, RandomState};
 
-/// SipHash under keys that were drawn for this run, or under those that everyone knows. With keys that its callers
-/// can't know nobody makes two keys of one hash on purpose: it is hashed one after another, and nothing is added up.
+/// SipHash under keys that were drawn for this run, or under publicly known ones. With keys that its callers can't
+/// know, nobody can make two keys with the same hash on purpose: the parts are hashed one after another, and nothing is
+/// added up.
 #[derive(Clone, Copy)]
 pub struct Hashing {
     drawn: Option<RandomState>,
 }
 
 impl Hashing {
-    /// Hashes under those keys, if some were drawn.
+    /// Hashes under the drawn keys, if there are any.
     pub fn under(drawn: Option<RandomState>) -> Hashing
         ensures { result.drawn ≡ drawn }
     {

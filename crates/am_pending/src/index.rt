@@ -21,7 +21,7 @@ pub fn make_room(tokens: &mut Tokens, counts: &mut IndexMap<u32, u32>) -> Result
     counts.reserve(1)
 }
 
-/// Gives the key a token, where there is room for it.
+/// Gives the key a token, for which there is room.
 pub fn put_token(tokens: &mut Tokens, key: Key, token: u64)
     requires { 1 ≤ spare tokens.old }
     ensures { IsSetAt tokens.old.entries tokens.new.entries key (Some token) }
@@ -32,7 +32,7 @@ pub fn put_token(tokens: &mut Tokens, key: Key, token: u64)
     }
 }
 
-/// Gives the key, which has one, another token. Takes no memory.
+/// Gives the key, which has a token, another one. Takes no memory.
 pub fn set_token(tokens: &mut Tokens, key: &Key, token: u64)
     requires { token_at tokens.old.entries key.now ≡ None → ⊥ }
     ensures { IsSetAt tokens.old.entries tokens.new.entries key.now (Some token) }
@@ -42,14 +42,14 @@ pub fn set_token(tokens: &mut Tokens, key: &Key, token: u64)
     }
 }
 
-/// Takes the key's token away. Takes no memory.
+/// Removes the key's token. Takes no memory.
 fn unset_token(tokens: &mut Tokens, key: &Key)
     ensures { IsSetAt tokens.old.entries tokens.new.entries key.now None }
 {
     tokens.swap_remove(key);
 }
 
-/// Takes the token of a key away, whose record is gone, and counts one less for its creator. Takes no memory.
+/// Removes the token of a key whose record is gone, and counts one less for its creator. Takes no memory.
 pub fn unlist(tokens: &mut Tokens, counts: &mut IndexMap<u32, u32>, key: &Key)
     ensures tokens { IsSetAt tokens.old.entries tokens.new.entries key.now None }
     ensures counts { (uid : ℕ) → count_at counts.new.entries uid ≡ lowered counts.old.entries key.now.creator uid }
@@ -58,7 +58,7 @@ pub fn unlist(tokens: &mut Tokens, counts: &mut IndexMap<u32, u32>, key: &Key)
     lower(counts, key.creator);
 }
 
-/// Takes the tokens of a creator's keys away. Takes no memory.
+/// Removes the tokens of a creator's keys. Takes no memory.
 pub fn forget_tokens(tokens: &mut Tokens, uid: u32)
     ensures { AreUnsetOf tokens.old.entries tokens.new.entries uid }
 {
@@ -72,7 +72,7 @@ pub fn count_of(counts: &IndexMap<u32, u32>, creator: u32) -> u32
     counts.get(&creator).copied().unwrap_or(0)
 }
 
-/// The creator has one record more, where there is room for its number.
+/// The creator has one more record; there is room for its number.
 pub fn raise(counts: &mut IndexMap<u32, u32>, creator: u32)
     requires room { 1 ≤ spare counts.old }
     requires few { count_at counts.old.entries creator < 1024 }
@@ -82,7 +82,7 @@ pub fn raise(counts: &mut IndexMap<u32, u32>, creator: u32)
     let _old = counts.insert(creator, count + 1);
 }
 
-/// The creator has one record less. Takes no memory.
+/// The creator has one less record. Takes no memory.
 fn lower(counts: &mut IndexMap<u32, u32>, creator: u32)
     ensures { (uid : ℕ) → count_at counts.new.entries uid ≡ lowered counts.old.entries creator uid }
 {
@@ -94,7 +94,7 @@ fn lower(counts: &mut IndexMap<u32, u32>, creator: u32)
     }
 }
 
-/// Takes a creator's number of records away. Takes no memory.
+/// Removes a creator's number of records. Takes no memory.
 pub fn forget_count(counts: &mut IndexMap<u32, u32>, uid: u32)
     ensures { (other : ℕ) → count_at counts.new.entries other ≡ forgotten counts.old.entries uid other }
 {

@@ -14,7 +14,7 @@ use am_types::{Intent, Kind, List, Named, PendingFlags, Text, Uri, copy_parts};
 use std::alloc::AllocError;
 use std::hash::{Hash, Hasher};
 
-/// As many categories of an intent as its hash depends on. What is read of a request has no more.
+/// How many categories of an intent its hash depends on. An intent that was read from a request has no more.
 const MOST_CATEGORIES: usize = 64;
 
 /// Who made a pending intent and what for: the key of its record. Extras and flags of the intent don't count.
@@ -51,7 +51,7 @@ fn uri_text(uri: &Option<Uri>) -> Option<&Text>
     }
 }
 
-/// The text comes behind the last one, if there was one.
+/// The text comes after the last one, if there was one.
 fn is_behind(last: Option<&Text>, text: &Text) -> bool
     ensures { result ≡ is_behind (option_copied last.entry) text.now }
 {
@@ -71,7 +71,7 @@ fn is_nearer(found: Option<&Text>, text: &Text) -> bool
     }
 }
 
-/// The first of the texts, by bytes, or the first behind the last one.
+/// The first of the texts, by bytes, or the first after the last one.
 fn next_text<'a>(last: Option<&Text>, texts: &'a [Text]) -> Option<&'a Text>
     ensures { option_copied result ≡ next_text (option_copied last.entry) texts.now }
 {
@@ -84,7 +84,7 @@ fn next_text<'a>(last: Option<&Text>, texts: &'a [Text]) -> Option<&'a Text>
     found
 }
 
-/// Feeds the first texts of a set in their order, each once, and a mark where there are no more.
+/// Feeds the first texts of a set in their order, each once, and a mark if there are no more.
 #[tactic(auto, unfolding(crate::specs::Orders::fed_in_order, crate::specs::Orders::last_after))]
 fn hash_in_order<H: Hasher>(texts: &[Text], rounds: usize, state: &mut H)
     ensures { state.new ≡ fold H.write state.old (fed_in_order rounds texts.now) }
@@ -97,7 +97,7 @@ fn hash_in_order<H: Hasher>(texts: &[Text], rounds: usize, state: &mut H)
     }
 }
 
-/// Feeds all of the intent that tells keys apart.
+/// Feeds everything of the intent that tells keys apart.
 fn hash_intent<H: Hasher>(intent: &Intent, state: &mut H)
     ensures { state.new ≡ fold H.write state.old (fed_by_intent intent.now) }
 {
@@ -111,7 +111,7 @@ fn hash_intent<H: Hasher>(intent: &Intent, state: &mut H)
 }
 
 impl Key {
-    /// The key of what is asked for with these flags. Takes no memory.
+    /// The key of a request with these flags. Takes no memory.
     pub fn asked(creator: u32, kind: Kind, code: i64, intent: Intent, flags: PendingFlags) -> Key
         ensures { result ≡ key_with creator kind code intent flags }
     {

@@ -1,4 +1,4 @@
-//! Pending intents: records that lend their creator's identity to those who hold their token.
+//! Pending intents: records that lend their creator's identity to whoever holds their token.
 #![tactic(auto)]
 
 mod hashing;

@@ -25,7 +25,7 @@ const MOST_RECORDS: u32 = 1024;
 /// The live pending intents of all creators. Contracts see the records in the order of their tokens, and the next
 /// token.
 ///
-/// A step, wherever a call counts steps, is one look-up of a record: by its key, or by its token to read, change or
+/// In a call that counts steps, a step is one look-up of a record: by its key, or by its token to read, change or
 /// remove it. A record that is canceled is read and then removed in one step. Keeping the tables of tokens and of
 /// numbers in line with the records takes none.
 pub struct Pending {
@@ -61,7 +61,7 @@ fn is_clear(flags: PendingFlags) -> bool
     flags.mutable != flags.immutable
 }
 
-/// The record's intent, with what is filled in if it is mutable.
+/// The record's intent, with the fill-in applied if it is mutable.
 fn lent(alloc: Global, kept: &Record, fill: Option<&Intent>) -> Result<Intent, FillFault>
     ensures ok { IfOk result (λ intent. lent_by kept.now (option_copied fill.entry) ≡ Ok intent) }
     ensures full { (result ≡ Err FillFault.ExtrasFull) → (lent_by kept.now (option_copied fill.entry) ≡ Err FillFault.ExtrasFull) }
@@ -78,15 +78,16 @@ fn lent(alloc: Global, kept: &Record, fill: Option<&Intent>) -> Result<Intent, F
 }
 
 impl Pending {
-    /// No record; the next token is 1. Takes no memory.
+    /// No records; the next token is 1. Takes no memory.
     pub fn new(alloc: Global) -> Pending
         ensures { result ≡ no_pendings }
     {
         Pending::keyed(alloc, None)
     }
 
-    /// The same, where records are looked up by hashes under those keys, if some were drawn. Draw them where callers
-    /// aren't trusted: without them a caller can make keys of one hash, and a look-up compares with each of these.
+    /// The same, except that records are looked up by hashes under these keys, if some were drawn. Draw them if callers
+    /// aren't trusted: without them a caller can make keys with the same hash, and a look-up compares with each of
+    /// these.
     pub fn keyed(alloc: Global, drawn: Option<RandomState>) -> Pending
         ensures { result ≡ no_pendings }
     {
@@ -100,8 +101,8 @@ impl Pending {
     }
 
     /// The token of the creator's record for the intent, kind, code and flags, or none if `no_create` is given and
-    /// there is no such record. Extras and flags of the intent don't tell records apart; `cancel_current` cancels the
-    /// record that is there, and `update_current` gives it the new extras. Refusals: `Mutability` unless exactly one of
+    /// there is no such record. Extras and flags of the intent don't tell records apart; `cancel_current` cancels an
+    /// existing record, and `update_current` gives it the new extras. Refusals: `Mutability` unless exactly one of
     /// `mutable` and `immutable` is given; `Full` if a record would be made and the creator has 1,024; `NoMemory` only
     /// if nothing else is refused. (`PendingIntent`; AOSP, `PendingIntentController.getIntentSender`.)
     pub fn get<L: Ledger>(
@@ -155,7 +156,7 @@ impl Pending {
         }
     }
 
-    /// Makes a record for a key that none has, unless none is to be made.
+    /// Makes a record for a key that has none, unless none is to be made.
     fn make(&mut self, key: Key, no_create: bool) -> Result<Option<u64>, PendingFault>
         requires next { self.old.next ≤ 1125899906842624 }
         requires absent { token_in key self.old.records ≡ None }
@@ -214,7 +215,7 @@ impl Pending {
         index::count_of(&self.counts, creator)
     }
 
-    /// How many records the key's creator has besides the one that has the key.
+    /// How many records the key's creator has apart from the one that has the key.
     fn count_besides(&self, old: u64, key: &Key) -> u32
         requires { token_in key.now self.now.records ≡ Some old }
         ensures { result ≡ count_of (without_token self.now.records old) key.now.creator }
@@ -222,7 +223,7 @@ impl Pending {
         index::count_of(&self.counts, key.creator).saturating_sub(1)
     }
 
-    /// Adds a record without holders under the next token, which it tells. Without memory all stays.
+    /// Adds a record without holders under the next token, which it returns. If memory runs out, nothing changes.
     fn add(&mut self, key: Key) -> Result<u64, AllocError>
         requires next { self.old.next ≤ 1125899906842624 }
         requires absent { token_in key self.old.records ≡ None }
@@ -240,8 +241,8 @@ impl Pending {
         }
     }
 
-    /// Adds a record without holders under the next token, which it tells, with a copy of its key for the table of
-    /// tokens. Without memory all stays.
+    /// Adds a record without holders under the next token, which it returns, with a copy of its key for the table of
+    /// tokens. If memory runs out, nothing changes.
     fn put(&mut self, key: Key, other: Key) -> Result<u64, AllocError>
         requires next { self.old.next ≤ 1125899906842624 }
         requires absent { token_in key self.old.records ≡ None }
@@ -271,8 +272,8 @@ impl Pending {
         }
     }
 
-    /// Adds a record without holders under the next token, which it tells, in the place of the one with its key.
-    /// Without memory all stays.
+    /// Adds a record without holders under the next token, which it returns, in place of the record with its key. If
+    /// memory runs out, nothing changes.
     fn replace<L: Ledger>(
         &mut self,
         old: u64,
@@ -296,7 +297,7 @@ impl Pending {
         Ok(token)
     }
 
-    /// Takes the token's record away, if there is one. Takes no memory.
+    /// Removes the token's record, if there is one. Takes no memory.
     fn remove<L: Ledger>(&mut self, token: u64, steps: &mut Steps<L>)
         ensures others { self.new ≡ without self.old token }
         ensures steps { steps.new ≡ steps.old + 1 }
@@ -348,9 +349,9 @@ impl Pending {
         self.records.give(token, uid, to, steps)
     }
 
-    /// What a token stands for, used by a uid: a mutable record takes what that one fills in. Nothing changes, even if
-    /// the token is for one use, which the answer tells. Refusals in this order: `NoToken` if the token was never made;
-    /// `Canceled` if it isn't live any more; `NotHolder` if the uid neither made it nor was given it; `ExtrasFull`.
+    /// What a uid gets by using a token: a mutable record takes the uid's fill-in. Nothing changes, even if the token
+    /// is for one use, which the answer tells. Refusals in this order: `NoToken` if the token was never made;
+    /// `Canceled` if it is no longer live; `NotHolder` if the uid neither made it nor was given it; `ExtrasFull`.
     /// (`PendingIntent.send`; AOSP, `PendingIntentRecord.sendInner`.)
     pub fn use_token<L: Ledger>(
         &self,
@@ -393,7 +394,8 @@ impl Pending {
         }
     }
 
-    /// Cancels the records of a uid, which then holds no token any more. It goes over all records, and takes no memory.
+    /// Cancels the records of a uid, which then no longer holds any token. It goes over all records, and takes no
+    /// memory.
     pub fn forget_uid(&mut self, uid: u32)
         ensures { self.new ≡ forget_uid self.old uid }
     {

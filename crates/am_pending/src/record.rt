@@ -8,10 +8,10 @@ use am_types::{List, Named};
 use std::alloc::{AllocError, Global};
 use std::marker::Model;
 
-/// The most holders of a token besides its creator.
+/// The most holders of a token, not counting its creator.
 const MOST_HOLDERS: usize = 64;
 
-/// A record: its key, with the whole intent, and the uids besides the creator's that hold its token.
+/// A record: its key, with the whole intent, and the uids other than the creator's that hold its token.
 #[derive(Drop)]
 pub struct Record {
     key: Key,
@@ -65,14 +65,14 @@ impl Record {
         self.creator() == uid || was_given(self.holders.as_slice(), uid)
     }
 
-    /// Whether no more uids can hold the token.
+    /// Whether no further uid can hold the token.
     pub fn is_full(&self) -> bool
         ensures { result ≡ nat_le 64 (length self.now.holders) }
     {
         self.holders.len() >= MOST_HOLDERS
     }
 
-    /// Adds a holder. Without memory all stays.
+    /// Adds a holder. If memory runs out, nothing changes.
     pub fn hold(&mut self, to: u32) -> Result<(), AllocError>
         ensures ok { OnOk result (self.new ≡ held_by to self.old) }
         ensures err { OnErr result (self.new ≡ self.old) }
@@ -88,7 +88,7 @@ impl Record {
         self.key.intent.extras = extras;
     }
 
-    /// Takes a holder away. Takes no memory.
+    /// Removes a holder. Takes no memory.
     pub fn let_go(&mut self, uid: u32)
         ensures { self.new ≡ let_go_by uid self.old }
     {

@@ -12,8 +12,8 @@ use std::collections::BTreeMap;
 use std::marker::Model;
 use std::sync::ledger::Ledger;
 
-/// Records under their tokens. Whoever reads, changes or removes one of them by its token takes a step. Contracts see
-/// them as the definitions do, in the order of their tokens.
+/// Records under their tokens. Reading, changing or removing one of them by its token takes a step. Contracts see them
+/// as the model does, in the order of their tokens.
 #[derive(Drop)]
 pub struct Records {
     by_token: BTreeMap<u64, Record, Global>,
@@ -30,7 +30,7 @@ impl Model for Records {
 }
 
 impl Records {
-    /// No record. Takes no memory.
+    /// No records. Takes no memory.
     pub fn new(alloc: Global) -> Records
         ensures { result ≡ [] }
     {
@@ -39,7 +39,7 @@ impl Records {
         }
     }
 
-    /// The record of the token.
+    /// The record with this token.
     pub fn read<L: Ledger>(&self, token: u64, steps: &mut Steps<L>) -> Option<&Record>
         ensures found { option_map (pending_of token) (option_copied result) ≡ record_in token self.now }
         ensures steps { steps.new ≡ steps.old + 1 }
@@ -48,7 +48,7 @@ impl Records {
         self.by_token.get(&token)
     }
 
-    /// Adds a record under a token above all others. Without memory all stays.
+    /// Adds a record under a token above all others. If memory runs out, nothing changes.
     pub fn push(&mut self, token: u64, kept: Record) -> Result<(), AllocError>
         requires { All (λ (other : Pending). other.token < token) self.old }
         ensures ok { OnOk result (self.new ≡ self.old ++ pending_of token kept ∷ []) }
@@ -63,7 +63,7 @@ impl Records {
         }
     }
 
-    /// Takes the record of the token out. Takes no memory.
+    /// Removes the record with this token. Takes no memory.
     pub fn take<L: Ledger>(&mut self, token: u64, steps: &mut Steps<L>) -> Option<Record>
         ensures found { option_map (pending_of token) result ≡ record_in token self.old }
         ensures others { self.new ≡ without_token self.old token }
@@ -73,7 +73,7 @@ impl Records {
         self.by_token.remove(&token)
     }
 
-    /// Takes the record of the token out for its creator, whom it reads once. Refusals: `NoToken`; `NotCreator`. Takes
+    /// Removes the record with this token for its creator, looking it up once. Refusals: `NoToken`; `NotCreator`. Takes
     /// no memory.
     pub fn take_own<L: Ledger>(
         &mut self,
@@ -114,7 +114,7 @@ impl Records {
         kept.set_extras(extras);
     }
 
-    /// Gives a token to another uid, by its creator. Looks the record up once. Without memory all stays.
+    /// Gives a token to another uid, by its creator. Looks the record up once. If memory runs out, nothing changes.
     pub fn give<L: Ledger>(
         &mut self,
         token: u64,
@@ -145,14 +145,14 @@ impl Records {
         Ok(())
     }
 
-    /// Takes the records of a creator out. Takes no memory.
+    /// Removes the records of a creator. Takes no memory.
     pub fn forget_creator(&mut self, uid: u32)
         ensures { self.new ≡ filter (λ (kept : Pending). not (kept.creator == uid)) self.old }
     {
         self.by_token.retain(|_, kept| kept.creator() != uid);
     }
 
-    /// Takes a holder away from each record. Takes no memory.
+    /// Removes a holder from each record. Takes no memory.
     pub fn forget_holder(&mut self, uid: u32)
         ensures { self.new ≡ map (without_holder uid) self.old }
     {

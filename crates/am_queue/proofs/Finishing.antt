@@ -14,8 +14,9 @@ use Rattle.am_queue_normal.specs.Kept.{AllLive, at_once_by, is_other}
 use Rattle.am_queue.specs.Sound.{has_current, IsSound}
 use Rattle.am_queue.specs.Taken.{fault_of}
 
--- a delivery that isn't held is none of these
-unheld_in : (number : ℕ) (deliveries : List Delivery) → held_in_deliveries number deliveries ≡ None → filter (is_other number) deliveries ≡ deliveries
+-- a delivery that isn't held isn't one of these
+unheld_in : (number : ℕ) (deliveries : List Delivery) → held_in_deliveries number deliveries ≡ None
+    → filter (is_other number) deliveries ≡ deliveries
 unheld_in number [] none = refl
 unheld_in number (first ∷ others) none = by (first.number == number) none (unheld_in number others)
   where
@@ -34,26 +35,31 @@ both : (a b : Bool) → a && b ≡ true → (a ≡ true) × (b ≡ true)
 both true b pass = (refl, pass)
 both false b pass = cc
 
--- where a delivery isn't held all stay without it
-pub unheld : (number : ℕ) (normal : List Normal) → held_in_normals number normal ≡ None → AllLive normal → normals_keeping (is_other number) normal ≡ normal
+-- if a delivery isn't held, all stay without it
+pub unheld : (number : ℕ) (normal : List Normal) → held_in_normals number normal ≡ None → AllLive normal
+    → normals_keeping (is_other number) normal ≡ normal
 unheld number [] none live = refl
 unheld number (n ∷ others) none live =
     let parts = neither (held_in_deliveries number n.deliveries) (held_in_normals number others) none in
-    let tests = both (not (is_empty n.deliveries)) (list_all (λ (n : Normal). not (is_empty n.deliveries)) others) live in
+    let tests = both (not (is_empty n.deliveries)) (list_all (λ (n : Normal). not (is_empty n.deliveries)) others) live
+    in
     rw (unheld_in number n.deliveries parts.0, tests.0, unheld number others parts.1 tests.1) refl
 
--- no holder is found where none holds it
-pub no_holder : (holder : Option ℕ) (held : Option Held) → held ≡ option_map at_once_by holder → is_some holder ≡ false → held ≡ None
+-- no holder is found if none holds it
+pub no_holder : (holder : Option ℕ) (held : Option Held) → held ≡ option_map at_once_by holder → is_some holder ≡ false
+    → held ≡ None
 no_holder None held is none = is
 no_holder (Some uid) held is none = cc
 
 -- the head that has the delivery has its turn
-pub answered_turned : (number : ℕ) (doing : Doing) (queue : List InTurn) → is_head number queue ≡ true → answered_head number doing queue ≡ head_turned doing queue
+pub answered_turned : (number : ℕ) (doing : Doing) (queue : List InTurn) → is_head number queue ≡ true
+    → answered_head number doing queue ≡ head_turned doing queue
 answered_turned number doing [] is = refl
 answered_turned number doing (head ∷ others) is = rw is refl
 
 -- another head stays
-pub unanswered : (number : ℕ) (doing : Doing) (queue : List InTurn) → is_head number queue ≡ false → answered_head number doing queue ≡ queue
+pub unanswered : (number : ℕ) (doing : Doing) (queue : List InTurn) → is_head number queue ≡ false
+    → answered_head number doing queue ≡ queue
 unanswered number doing [] is = refl
 unanswered number doing (head ∷ others) is = rw is refl
 
@@ -63,32 +69,39 @@ head_current number [] is = cc
 head_current number (head ∷ others) is = rw is refl
 
 -- the heads of both queues have different deliveries
-pub heads_differ : (number : ℕ) (all : Broadcasts) → IsSound all → is_head number all.foreground ≡ true → is_head number all.background ≡ false
+pub heads_differ : (number : ℕ) (all : Broadcasts) → IsSound all → is_head number all.foreground ≡ true
+    → is_head number all.background ≡ false
 heads_differ number all sound is =
     false_unless (is_head number all.background)
-    (λ other. sound.queues.differ number (head_current number all.foreground is) (head_current number all.background other))
+    (λ other. sound.queues.differ number (head_current number all.foreground is)
+    (head_current number all.background other))
   where
     false_unless : (b : Bool) → (b ≡ true → ⊥) → b ≡ false
     false_unless true never = absurd (never refl)
     false_unless false never = refl
 
 -- without a fault it is finished
-pub finished_without : (all : Broadcasts) (number uid : ℕ) (answer : Answer) (now : ℕ) (held : Option Held) → fault_of uid answer held ≡ None
+pub finished_without : (all : Broadcasts) (number uid : ℕ) (answer : Answer) (now : ℕ) (held : Option Held)
+    → fault_of uid answer held ≡ None
     → finish_held all number uid answer now held ≡ Ok (finished all number answer now)
 finished_without all number uid answer now None none = absurd cc
-finished_without all number uid answer now (Some holder) none = by (not (holder.uid == uid)) (is_for_ordered answer && not holder.ordered) none
+finished_without all number uid answer now (Some holder) none = by (not (holder.uid == uid))
+    (is_for_ordered answer && not holder.ordered) none
   where
     by : (other unfit : Bool) → cond other (Some NotYours) (cond unfit (Some NotOrdered) None) ≡ None
-        → cond other (Err NotYours) (cond unfit (Err NotOrdered) (Ok (finished all number answer now))) ≡ Ok (finished all number answer now)
+        → cond other (Err NotYours) (cond unfit (Err NotOrdered) (Ok (finished all number answer now)))
+        ≡ Ok (finished all number answer now)
     by true unfit none = absurd cc
     by false true none = absurd cc
     by false false none = refl
 
 -- a fault is the refusal
-pub refused_with : (all : Broadcasts) (number uid : ℕ) (answer : Answer) (now : ℕ) (held : Option Held) (fault : FinishFault) → fault_of uid answer held ≡ Some fault
+pub refused_with : (all : Broadcasts) (number uid : ℕ) (answer : Answer) (now : ℕ) (held : Option Held)
+    (fault : FinishFault) → fault_of uid answer held ≡ Some fault
     → finish_held all number uid answer now held ≡ Err fault
 refused_with all number uid answer now None fault is = let e : NoDelivery ≡ fault = cc in ap (λ f. Err f) e
-refused_with all number uid answer now (Some holder) fault is = by (not (holder.uid == uid)) (is_for_ordered answer && not holder.ordered) is
+refused_with all number uid answer now (Some holder) fault is = by (not (holder.uid == uid))
+    (is_for_ordered answer && not holder.ordered) is
   where
     by : (other unfit : Bool) → cond other (Some NotYours) (cond unfit (Some NotOrdered) None) ≡ Some fault
         → cond other (Err NotYours) (cond unfit (Err NotOrdered) (Ok (finished all number answer now))) ≡ Err fault

@@ -16,7 +16,8 @@ as_many_owed [] = omega arith
 as_many_owed (b ∷ others) = rw sum_by-cons (omega (arith, as_many_owed others))
 
 -- both queues are short, since each broadcast in them may still take a number
-pub are_short : (all : Broadcasts) → IsSound all → length all.foreground + length all.background ≤ 1025 * 1125899906842625
+pub are_short : (all : Broadcasts) → IsSound all → length all.foreground + length all.background ≤ 1025 *
+    1125899906842625
 are_short all sound =
     omega (arith, sound.queues.suffice, sound.broadcasts, as_many_owed all.foreground, as_many_owed all.background)
 
@@ -31,7 +32,8 @@ module _ (next bound : ℕ) (one other : List InTurn) (share : ShareNumbers next
   }
 
   -- one of them settles
-  pub one_settles : (deadline : ℕ) → ShareNumbers (settled next deadline one).next bound (settled next deadline one).queue other
+  pub one_settles : (deadline : ℕ) → ShareNumbers (settled next deadline one).next bound
+      (settled next deadline one).queue other
   one_settles deadline = record {
     suffice = omega (arith, share.suffice, settled_owes next deadline one);
     one_free = λ number free is. new number free (settled_current next deadline one number is);
@@ -61,57 +63,70 @@ module _ (next bound : ℕ) (one other : List InTurn) (share : ShareNumbers next
 -- one of the two queues settles
 pub sound_settled : (foreground : Bool) (now : ℕ) (all : Broadcasts) → IsSound all → IsSound (settle foreground now all)
 sound_settled true now all sound = record {
-  queues = one_settles all.next_delivery (1025 * all.next_broadcast) all.foreground all.background sound.queues (now + 10000);
+  queues = one_settles all.next_delivery (1025 * all.next_broadcast) all.foreground all.background sound.queues
+      (now + 10000);
   broadcasts = sound.broadcasts;
   rising = settled_rising all.next_delivery (now + 10000) all.foreground all.results sound.rising;
 }
 sound_settled false now all sound = record {
-  queues = swapped _ _ _ _ (one_settles all.next_delivery (1025 * all.next_broadcast) all.background all.foreground (swapped _ _ _ _ sound.queues) (now + 60000));
+  queues = swapped _ _ _ _ (one_settles all.next_delivery (1025 * all.next_broadcast) all.background all.foreground
+      (swapped _ _ _ _ sound.queues) (now + 60000));
   broadcasts = sound.broadcasts;
   rising = settled_rising all.next_delivery (now + 60000) all.background all.results sound.rising;
 }
 
 -- all with other parts, and the queues changed mildly
-pub sound_mild : (all : Broadcasts) (normal : List Normal) (foreground background : List InTurn) (results : List broadcasts.Result)
-    → IsSound all → AreRising 0 all.next_delivery results → AreMild all.foreground foreground → AreMild all.background background
+pub sound_mild : (all : Broadcasts) (normal : List Normal) (foreground background : List InTurn)
+    (results : List broadcasts.Result)
+    → IsSound all → AreRising 0 all.next_delivery results → AreMild all.foreground foreground
+    → AreMild all.background background
     → IsSound (all_of normal foreground background results all.next_broadcast all.next_delivery)
 sound_mild all normal foreground background results sound rising first second = record {
-  queues = swapped _ _ _ _ (one_changes _ _ _ _ (swapped _ _ _ _ (one_changes _ _ _ _ sound.queues foreground first)) background second);
+  queues = swapped _ _ _ _ (one_changes _ _ _ _ (swapped _ _ _ _ (one_changes _ _ _ _ sound.queues foreground first))
+      background second);
   broadcasts = sound.broadcasts;
   rising = rising;
 }
 
--- the same, with all that the code keeps beside the broadcasts
-pub mild : (end room room' : ℕ) (counts counts' : List (ℕ × ℕ)) (all : Broadcasts) (normal : List Normal) (foreground background : List InTurn) (results : List broadcasts.Result)
-    → AreSound end room counts all → AreRising 0 all.next_delivery results → AreMild all.foreground foreground → AreMild all.background background
+-- the same, with everything that the code keeps apart from the broadcasts
+pub mild : (end room room' : ℕ) (counts counts' : List (ℕ × ℕ)) (all : Broadcasts) (normal : List Normal)
+    (foreground background : List InTurn) (results : List broadcasts.Result)
+    → AreSound end room counts all → AreRising 0 all.next_delivery results → AreMild all.foreground foreground
+    → AreMild all.background background
     → room ≤ room'
-    → Follows counts counts' (λ uid. normals_of all.normal uid + results_of all.results uid) (λ uid. normals_of normal uid + results_of results uid)
+    → Follows counts counts' (λ uid. normals_of all.normal uid + results_of all.results uid)
+    (λ uid. normals_of normal uid + results_of results uid)
     → AreSound end room' counts' (all_of normal foreground background results all.next_broadcast all.next_delivery)
-mild end room room' counts counts' all normal foreground background results sound rising first second more follows = record {
-  sound = sound_mild all normal foreground background results sound.sound rising first second;
-  counted = λ uid. omega (arith, sound.counted uid, follows uid, first.senders uid, second.senders uid);
-  end_before = sound.end_before;
-  results_fit = omega (arith, sound.results_fit, first.as_many, second.as_many, more);
-}
+mild end room room' counts counts' all normal foreground background results sound rising first second more follows =
+    record {
+      sound = sound_mild all normal foreground background results sound.sound rising first second;
+      counted = λ uid. omega (arith, sound.counted uid, follows uid, first.senders uid, second.senders uid);
+      end_before = sound.end_before;
+      results_fit = omega (arith, sound.results_fit, first.as_many, second.as_many, more);
+    }
 
 -- one of the two queues settled
-pub settles : (foreground : Bool) (end room room' now deadline : ℕ) (counts counts' : List (ℕ × ℕ)) (all : Broadcasts) (queue : List InTurn) (results : List broadcasts.Result) (next : ℕ)
+pub settles : (foreground : Bool) (end room room' now deadline : ℕ) (counts counts' : List (ℕ × ℕ)) (all : Broadcasts)
+    (queue : List InTurn) (results : List broadcasts.Result) (next : ℕ)
     → AreSound end room counts all → deadline ≡ now + span foreground
     → queue ≡ (settled all.next_delivery deadline (queue_of foreground all)).queue
     → results ≡ all.results ++ (settled all.next_delivery deadline (queue_of foreground all)).results
     → next ≡ (settled all.next_delivery deadline (queue_of foreground all)).next
     → length queue + room ≤ length (queue_of foreground all) + room'
-    → Follows counts counts' (λ uid. queued_of (queue_of foreground all) uid + results_of all.results uid) (λ uid. queued_of queue uid + results_of results uid)
+    → Follows counts counts' (λ uid. queued_of (queue_of foreground all) uid + results_of all.results uid)
+    (λ uid. queued_of queue uid + results_of results uid)
     → AreSound end room' counts' (record (with_queue foreground queue all) { results = results; next_delivery = next })
-settles true end room room' now deadline counts counts' all queue results next sound deadline_is queue_is results_are next_is fits follows = record {
-  sound = rw (queue_is, results_are, next_is, deadline_is) (sound_settled true now all sound.sound);
-  counted = λ uid. omega (arith, sound.counted uid, follows uid);
-  end_before = omega (arith, sound.end_before, next_is, settled_rises all.next_delivery deadline all.foreground);
-  results_fit = omega (arith, sound.results_fit, fits);
-}
-settles false end room room' now deadline counts counts' all queue results next sound deadline_is queue_is results_are next_is fits follows = record {
-  sound = rw (queue_is, results_are, next_is, deadline_is) (sound_settled false now all sound.sound);
-  counted = λ uid. omega (arith, sound.counted uid, follows uid);
-  end_before = omega (arith, sound.end_before, next_is, settled_rises all.next_delivery deadline all.background);
-  results_fit = omega (arith, sound.results_fit, fits);
-}
+settles true end room room' now deadline counts counts' all queue results next sound deadline_is queue_is results_are
+    next_is fits follows = record {
+      sound = rw (queue_is, results_are, next_is, deadline_is) (sound_settled true now all sound.sound);
+      counted = λ uid. omega (arith, sound.counted uid, follows uid);
+      end_before = omega (arith, sound.end_before, next_is, settled_rises all.next_delivery deadline all.foreground);
+      results_fit = omega (arith, sound.results_fit, fits);
+    }
+settles false end room room' now deadline counts counts' all queue results next sound deadline_is queue_is results_are
+    next_is fits follows = record {
+      sound = rw (queue_is, results_are, next_is, deadline_is) (sound_settled false now all sound.sound);
+      counted = λ uid. omega (arith, sound.counted uid, follows uid);
+      end_before = omega (arith, sound.end_before, next_is, settled_rises all.next_delivery deadline all.background);
+      results_fit = omega (arith, sound.results_fit, fits);
+    }

@@ -23,7 +23,8 @@ one_for_it : (sender uid : ℕ) → cond (sender == uid) 1 0 ≡ one_for sender 
 one_for_it sender uid = grind (arith, nat_tests)
 
 -- numbers that were given out
-numbered : (next bound bound' count : ℕ) (one other : List InTurn) → bound + count ≤ bound' → ShareNumbers next bound one other → ShareNumbers (next + count) bound' one other
+numbered : (next bound bound' count : ℕ) (one other : List InTurn) → bound + count ≤ bound'
+    → ShareNumbers next bound one other → ShareNumbers (next + count) bound' one other
 numbered next bound bound' count one other more share = record {
   suffice = omega (arith, share.suffice, more);
   one_free = λ number free is. share.one_free number (omega (arith, free)) is;
@@ -31,29 +32,44 @@ numbered next bound bound' count one other more share = record {
   differ = share.differ;
 }
 
-pub sound_numbered : (all : Broadcasts) (normal : List Normal) (count : ℕ) → IsSound all → all.next_broadcast ≤ 1125899906842624 → count ≤ 1024
-    → IsSound (all_of normal all.foreground all.background all.results (all.next_broadcast + 1) (all.next_delivery + count))
+pub sound_numbered : (all : Broadcasts) (normal : List Normal) (count : ℕ) → IsSound all
+    → all.next_broadcast ≤ 1125899906842624 → count ≤ 1024
+    → IsSound (all_of normal all.foreground all.background all.results (all.next_broadcast + 1)
+    (all.next_delivery + count))
 sound_numbered all normal count sound few short = record {
-  queues = numbered all.next_delivery (1025 * all.next_broadcast) (1025 * (all.next_broadcast + 1)) count all.foreground all.background (omega (arith, short)) sound.queues;
+  queues = numbered all.next_delivery (1025 * all.next_broadcast) (1025 * (all.next_broadcast + 1)) count all.foreground
+      all.background (omega (arith, short)) sound.queues;
   broadcasts = omega (arith, few);
   rising = rising_further 0 all.next_delivery (all.next_delivery + count) all.results (omega arith) sound.rising;
 }
 
 -- a normal broadcast that is sent
-pub at_once_sound : (end room first : ℕ) (counts counts' : List (ℕ × ℕ)) (all : Broadcasts) (sending : Sending) → AreSound end room counts all → all.next_broadcast ≤ 1125899906842624
+pub at_once_sound : (end room first : ℕ) (counts counts' : List (ℕ × ℕ)) (all : Broadcasts) (sending : Sending)
+    → AreSound end room counts all → all.next_broadcast ≤ 1125899906842624
     → length sending.to ≤ 1024 → ((uid : ℕ) → count_of counts' uid ≡ count_of counts uid + one_for sending.sender uid)
     → AreSound (all.next_delivery + length sending.to) room counts'
-    (all_of (all.normal ++ at_once all.next_broadcast first sending ∷ []) all.foreground all.background all.results (all.next_broadcast + 1) (all.next_delivery + length sending.to))
+    (all_of (all.normal ++ at_once all.next_broadcast first sending ∷ []) all.foreground all.background all.results
+    (all.next_broadcast + 1) (all.next_delivery + length sending.to))
 at_once_sound end room first counts counts' all sending sound few short counted = record {
-  sound = sound_numbered all (all.normal ++ at_once all.next_broadcast first sending ∷ []) (length sending.to) sound.sound few short;
-  counted = λ uid. omega (arith, counted uid, sound.counted uid, one_for_it sending.sender uid, count_by-append (λ (n : Normal). n.sender == uid) all.normal (at_once all.next_broadcast first sending ∷ []));
+  sound = sound_numbered all (all.normal ++ at_once all.next_broadcast first sending ∷ []) (length sending.to)
+      sound.sound few short;
+  counted = λ uid. omega (
+    arith,
+    counted uid,
+    sound.counted uid,
+    one_for_it sending.sender uid,
+    count_by-append
+        (λ (n : Normal). n.sender == uid) all.normal (at_once all.next_broadcast first sending ∷ []),
+  );
   end_before = omega arith;
   results_fit = sound.results_fit;
 }
 
 -- a number that no delivery has
-pub passed_sound : (end room : ℕ) (counts : List (ℕ × ℕ)) (all : Broadcasts) → AreSound end room counts all → all.next_broadcast ≤ 1125899906842624
-    → AreSound end room counts (all_of all.normal all.foreground all.background all.results (all.next_broadcast + 1) all.next_delivery)
+pub passed_sound : (end room : ℕ) (counts : List (ℕ × ℕ)) (all : Broadcasts) → AreSound end room counts all
+    → all.next_broadcast ≤ 1125899906842624
+    → AreSound end room counts (all_of all.normal all.foreground all.background all.results (all.next_broadcast + 1)
+    all.next_delivery)
 passed_sound end room counts all sound few = record {
   sound = rw add-zero at (sound_numbered all all.normal 0 sound.sound few (omega arith));
   counted = sound.counted;
@@ -62,7 +78,8 @@ passed_sound end room counts all sound few = record {
 }
 
 -- the same numbers, counted alike
-pub recounted : (end room room' : ℕ) (counts counts' : List (ℕ × ℕ)) (all : Broadcasts) → AreSound end room counts all → room ≤ room' → ((uid : ℕ) → count_of counts' uid ≡ count_of counts uid) → AreSound end room' counts' all
+pub recounted : (end room room' : ℕ) (counts counts' : List (ℕ × ℕ)) (all : Broadcasts) → AreSound end room counts all
+    → room ≤ room' → ((uid : ℕ) → count_of counts' uid ≡ count_of counts uid) → AreSound end room' counts' all
 recounted end room room' counts counts' all sound more same = record {
   sound = sound.sound;
   counted = λ uid. same uid ∙ sound.counted uid;
@@ -75,78 +92,117 @@ module _ (queue : List InTurn) (number : ℕ) (sending : Sending) (ordered : Ord
   more_owed : owed_in (queue ++ in_turn number sending ordered ∷ []) ≡ owed_in queue + (length sending.to + 1)
   more_owed = omega (arith, sum_by-append owed queue (in_turn number sending ordered ∷ []))
 
-  no_more_current : (delivery : ℕ) → has_current delivery (queue ++ in_turn number sending ordered ∷ []) ≡ has_current delivery queue
-  no_more_current delivery = list_any-append (λ (b : InTurn). is_current delivery b.current) queue (in_turn number sending ordered ∷ []) ∙ or_false (has_current delivery queue)
+  no_more_current : (delivery : ℕ) → has_current delivery (queue ++ in_turn number sending ordered ∷ [])
+      ≡ has_current delivery queue
+  no_more_current delivery = list_any-append (λ (b : InTurn). is_current delivery b.current) queue
+      (in_turn number sending ordered ∷ []) ∙ or_false (has_current delivery queue)
     where
       or_false : (b : Bool) → b || false ≡ b
       or_false true = refl
       or_false false = refl
 
-  more_queued : (uid : ℕ) → queued_of (queue ++ in_turn number sending ordered ∷ []) uid ≡ queued_of queue uid + one_for sending.sender uid
-  more_queued uid = omega (arith, count_by-append (λ (b : InTurn). b.sender == uid) queue (in_turn number sending ordered ∷ []), one_for_it sending.sender uid)
+  more_queued : (uid : ℕ) → queued_of (queue ++ in_turn number sending ordered ∷ []) uid
+      ≡ queued_of queue uid + one_for sending.sender uid
+  more_queued uid = omega (
+    arith,
+    count_by-append (λ (b : InTurn). b.sender == uid) queue
+        (in_turn number sending ordered ∷ []),
+    one_for_it sending.sender uid,
+  )
 
 -- one of two queues with one more
-one_put : (next bound bound' : ℕ) (one other : List InTurn) (number : ℕ) (sending : Sending) (ordered : Ordered) → bound + (length sending.to + 1) ≤ bound'
+one_put : (next bound bound' : ℕ) (one other : List InTurn) (number : ℕ) (sending : Sending) (ordered : Ordered)
+    → bound + (length sending.to + 1) ≤ bound'
     → ShareNumbers next bound one other → ShareNumbers next bound' (one ++ in_turn number sending ordered ∷ []) other
 one_put next bound bound' one other number sending ordered more share = record {
   suffice = omega (arith, share.suffice, more, more_owed one number sending ordered);
-  one_free = λ delivery free is. share.one_free delivery free (sym (no_more_current one number sending ordered delivery) ∙ is);
+  one_free = λ delivery free is. share.one_free delivery free (sym (no_more_current one number sending ordered delivery)
+      ∙ is);
   other_free = share.other_free;
-  differ = λ delivery is other_is. share.differ delivery (sym (no_more_current one number sending ordered delivery) ∙ is) other_is;
+  differ = λ delivery is other_is. share.differ delivery (sym (no_more_current one number sending ordered delivery)
+      ∙ is) other_is;
 }
 
 -- an ordered broadcast that is sent
-pub last_sent : (foreground : Bool) (end room room' : ℕ) (counts counts' : List (ℕ × ℕ)) (all : Broadcasts) (sending : Sending) (ordered : Ordered) → AreSound end room counts all → all.next_broadcast ≤ 1125899906842624
+pub last_sent : (foreground : Bool) (end room room' : ℕ) (counts counts' : List (ℕ × ℕ)) (all : Broadcasts)
+    (sending : Sending) (ordered : Ordered) → AreSound end room counts all → all.next_broadcast ≤ 1125899906842624
     → length sending.to ≤ 1024 → ((uid : ℕ) → count_of counts' uid ≡ count_of counts uid + one_for sending.sender uid)
     → length all.foreground + length all.background + 1 ≤ room'
     → AreSound end room' counts' (with_last foreground (in_turn all.next_broadcast sending ordered) all)
 last_sent true end room room' counts counts' all sending ordered sound few short counted fits = record {
   sound = record {
-    queues = one_put all.next_delivery (1025 * all.next_broadcast) (1025 * (all.next_broadcast + 1)) all.foreground all.background all.next_broadcast sending ordered (omega (arith, short)) sound.sound.queues;
+    queues = one_put all.next_delivery (1025 * all.next_broadcast) (1025 * (all.next_broadcast + 1)) all.foreground
+        all.background all.next_broadcast sending ordered (omega (arith, short)) sound.sound.queues;
     broadcasts = omega (arith, few);
     rising = sound.sound.rising;
   };
-  counted = λ uid. omega (arith, counted uid, sound.counted uid, more_queued all.foreground all.next_broadcast sending ordered uid);
+  counted = λ uid. omega (
+    arith,
+    counted uid,
+    sound.counted uid,
+    more_queued all.foreground all.next_broadcast sending
+        ordered uid,
+  );
   end_before = sound.end_before;
   results_fit = rw length-append (omega (arith, fits));
 }
 last_sent false end room room' counts counts' all sending ordered sound few short counted fits = record {
   sound = record {
-    queues = swapped _ _ _ _ (one_put all.next_delivery (1025 * all.next_broadcast) (1025 * (all.next_broadcast + 1)) all.background all.foreground all.next_broadcast sending ordered (omega (arith, short)) (swapped _ _ _ _ sound.sound.queues));
+    queues = swapped _ _ _ _ (one_put all.next_delivery (1025 * all.next_broadcast) (1025 * (all.next_broadcast + 1))
+        all.background all.foreground all.next_broadcast sending ordered (omega (arith, short))
+        (swapped _ _ _ _ sound.sound.queues));
     broadcasts = omega (arith, few);
     rising = sound.sound.rising;
   };
-  counted = λ uid. omega (arith, counted uid, sound.counted uid, more_queued all.background all.next_broadcast sending ordered uid);
+  counted = λ uid. omega (
+    arith,
+    counted uid,
+    sound.counted uid,
+    more_queued all.background all.next_broadcast sending
+        ordered uid,
+  );
   end_before = sound.end_before;
   results_fit = rw length-append (omega (arith, fits));
 }
 
--- the same of an ordered broadcast whose start is known to stand, and of what the code keeps then
-pub last_put : (foreground : Bool) (end room room' : ℕ) (counts counts' : List (ℕ × ℕ)) (all : Broadcasts) (sending : Sending) (queue : List InTurn) (results : List broadcasts.Result) (ordered : Option Ordered) → IsSome ordered
-    → IfSome ordered (λ ordered. queue ≡ queue_of foreground all ++ in_turn all.next_broadcast sending ordered ∷ []) → results ≡ all.results
-    → AreSound end room counts all → all.next_broadcast ≤ 1125899906842624 → length sending.to ≤ 1024 → ((uid : ℕ) → count_of counts' uid ≡ count_of counts uid + one_for sending.sender uid)
+-- the same of an ordered broadcast whose start is known to be there, and of what the code keeps then
+pub last_put : (foreground : Bool) (end room room' : ℕ) (counts counts' : List (ℕ × ℕ)) (all : Broadcasts)
+    (sending : Sending) (queue : List InTurn) (results : List broadcasts.Result) (ordered : Option Ordered)
+    → IsSome ordered
+    → IfSome ordered (λ ordered. queue ≡ queue_of foreground all ++ in_turn all.next_broadcast sending ordered ∷ [])
+    → results ≡ all.results
+    → AreSound end room counts all → all.next_broadcast ≤ 1125899906842624 → length sending.to ≤ 1024
+    → ((uid : ℕ) → count_of counts' uid ≡ count_of counts uid + one_for sending.sender uid)
     → length all.foreground + length all.background + 1 ≤ room'
-    → AreSound end room' counts' (with_queue foreground queue (record all { results = results; next_broadcast = all.next_broadcast + 1 }))
-last_put foreground end room room' counts counts' all sending queue results None some queue_is results_are sound few short counted fits = absurd cc
-last_put foreground end room room' counts counts' all sending queue results (Some ordered) some queue_is results_are sound few short counted fits =
-    rw (queue_is, results_are) (last_sent foreground end room room' counts counts' all sending ordered sound few short counted fits)
+    → AreSound end room' counts' (with_queue foreground queue (record all
+    { results = results; next_broadcast = all.next_broadcast + 1 }))
+last_put foreground end room room' counts counts' all sending queue results None some queue_is results_are sound few
+    short counted fits = absurd cc
+last_put foreground end room room' counts counts' all sending queue results (Some ordered) some queue_is results_are
+    sound few short counted fits =
+    rw (queue_is, results_are) (last_sent foreground end room room' counts counts' all sending ordered sound few short
+    counted fits)
 
 -- a refusal is what the definition answers
-pub refused : {X : Type 0} (all : Broadcasts) (sender receivers : ℕ) (sent : X) (fault : SendFault) → refusal_of all sender receivers ≡ Some fault
+pub refused : {X : Type 0} (all : Broadcasts) (sender receivers : ℕ) (sent : X) (fault : SendFault)
+    → refusal_of all sender receivers ≡ Some fault
     → cond (nat_le 64 (live all sender)) (Err Full) (cond (nat_lt 1024 receivers) (Err TooMany) (Ok sent)) ≡ Err fault
 refused {X} all sender receivers sent fault is = by (nat_le 64 (live all sender)) (nat_lt 1024 receivers) is
   where
-    by : (full many : Bool) → cond full (Some Full) (cond many (Some TooMany) None) ≡ Some fault → cond full (Err Full) (cond many (Err TooMany) (Ok sent)) ≡ Err fault
+    by : (full many : Bool) → cond full (Some Full) (cond many (Some TooMany) None) ≡ Some fault
+        → cond full (Err Full) (cond many (Err TooMany) (Ok sent)) ≡ Err fault
     by true many is = let e : Full ≡ fault = cc in ap (λ f. Err f) e
     by false true is = let e : TooMany ≡ fault = cc in ap (λ f. Err f) e
     by false false is = absurd cc
 
 -- without one it is sent
-pub not_refused : {X : Type 0} (all : Broadcasts) (sender receivers : ℕ) (sent : X) → refusal_of all sender receivers ≡ None
+pub not_refused : {X : Type 0} (all : Broadcasts) (sender receivers : ℕ) (sent : X) → refusal_of all sender receivers
+    ≡ None
     → cond (nat_le 64 (live all sender)) (Err Full) (cond (nat_lt 1024 receivers) (Err TooMany) (Ok sent)) ≡ Ok sent
 not_refused {X} all sender receivers sent none = by (nat_le 64 (live all sender)) (nat_lt 1024 receivers) none
   where
-    by : (full many : Bool) → cond full (Some Full) (cond many (Some TooMany) None) ≡ None → cond full (Err Full) (cond many (Err TooMany) (Ok sent)) ≡ Ok sent
+    by : (full many : Bool) → cond full (Some Full) (cond many (Some TooMany) None) ≡ None
+        → cond full (Err Full) (cond many (Err TooMany) (Ok sent)) ≡ Ok sent
     by true many is = absurd cc
     by false true is = absurd cc
     by false false is = refl

@@ -6,7 +6,8 @@ use Rattle.am_queue_ordered.proofs.Deadlines.{has_come, either_comes, joined_com
 use Rattle.am_queue.specs.Sooner.{sooner}
 
 -- the sooner of two moments has come just when one of them has
-sooner_comes : (now : ℕ) (one other : Option ℕ) → has_come now (sooner one other) ≡ has_come now one || has_come now other
+sooner_comes : (now : ℕ) (one other : Option ℕ) → has_come now (sooner one other)
+    ≡ has_come now one || has_come now other
 sooner_comes now None other = refl
 sooner_comes now (Some moment) other = either_comes now moment other
 

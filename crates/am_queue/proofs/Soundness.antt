@@ -22,9 +22,15 @@ pub record IsMild (before after : InTurn) : Type 0 where
 
 -- a turn
 pub turn_mild : (doing : Doing) (b : InTurn) → IsMild b (turn doing b)
-turn_mild doing b = record { owes_less = less b.rest b.current refl refl; current = λ number is. absurd (gone b.rest number is); sender = same b.rest }
+turn_mild doing b = record {
+  owes_less = less b.rest b.current refl refl;
+  current = λ number is. absurd
+      (gone b.rest number is);
+  sender = same b.rest;
+}
   where
-    less : (rest : List Spot) (current : Option Current) → b.rest ≡ rest → b.current ≡ current → owed (turned doing b rest) ≤ length (undelivered rest current) + 1
+    less : (rest : List Spot) (current : Option Current) → b.rest ≡ rest → b.current ≡ current
+        → owed (turned doing b rest) ≤ length (undelivered rest current) + 1
     less [] None is now = rw is (omega arith)
     less [] (Some current) is now = rw is (omega arith)
     less (spot ∷ rest) None is now = omega arith
@@ -38,44 +44,55 @@ turn_mild doing b = record { owes_less = less b.rest b.current refl refl; curren
     same [] = refl
     same (spot ∷ rest) = refl
 
--- a filter keeps no more
+-- a filter doesn't keep more
 fewer : {X : Type 0} (test : X → Bool) (xs : List X) → length (filter test xs) ≤ length xs
 fewer test [] = omega arith
 fewer test (x ∷ xs) = by (test x) (fewer test xs)
   where
-    by : (b : Bool) → length (filter test xs) ≤ length xs → length (cond b (x ∷ filter test xs) (filter test xs)) ≤ length (x ∷ xs)
+    by : (b : Bool) → length (filter test xs) ≤ length xs → length (cond b (x ∷ filter test xs) (filter test xs)) ≤
+        length (x ∷ xs)
     by true less = omega (arith, less)
     by false less = omega (arith, less)
 
 -- a strike
 pub strike_mild : (struck : Spot → Bool) (b : InTurn) → IsMild b (strike struck b)
-strike_mild struck b = record { owes_less = less b.rest b.current refl refl; current = still b.rest b.current refl refl; sender = same b.rest b.current }
+strike_mild struck b = record {
+  owes_less = less b.rest b.current refl refl;
+  current = still b.rest b.current refl refl;
+  sender = same b.rest b.current;
+}
   where
     keeps : Spot → Bool
     keeps = λ spot. not (struck spot)
 
-    shown : (rest : List Spot) (current : Option Current) → b.rest ≡ rest → b.current ≡ current → owed b ≡ length (undelivered rest current) + 1
+    shown : (rest : List Spot) (current : Option Current) → b.rest ≡ rest → b.current ≡ current → owed b
+        ≡ length (undelivered rest current) + 1
     shown rest current is now = rw (is, now) refl
 
-    less : (rest : List Spot) (current : Option Current) → b.rest ≡ rest → b.current ≡ current → owed (strike_from struck b rest current) ≤ length (undelivered rest current) + 1
+    less : (rest : List Spot) (current : Option Current) → b.rest ≡ rest → b.current ≡ current
+        → owed (strike_from struck b rest current) ≤ length (undelivered rest current) + 1
     less rest None is now = rw (now, is) (omega (arith, fewer keeps rest))
     less [] (Some current) is now = rw (shown [] (Some current) is now) (omega arith)
     less (spot ∷ rest) (Some current) is now = either (struck spot) refl
       where
-        either : (gone : Bool) → struck spot ≡ gone → owed (cond gone (strike_rest struck (turn Gone b)) (strike_rest struck b)) ≤ length rest + 1
+        either : (gone : Bool) → struck spot ≡ gone → owed (cond gone (strike_rest struck (turn Gone b))
+            (strike_rest struck b)) ≤ length rest + 1
         either true on = rw is (omega (arith, fewer keeps rest))
         either false on = rw (now, is, on) (omega (arith, fewer keeps rest))
 
-    still : (rest : List Spot) (current : Option Current) → b.rest ≡ rest → b.current ≡ current → (number : ℕ) → is_current number (strike_from struck b rest current).current ≡ true → is_current number b.current ≡ true
+    still : (rest : List Spot) (current : Option Current) → b.rest ≡ rest → b.current ≡ current → (number : ℕ)
+        → is_current number (strike_from struck b rest current).current ≡ true → is_current number b.current ≡ true
     still rest None is now number on = on
     still [] (Some current) is now number on = on
     still (spot ∷ rest) (Some current) is now number on = either (struck spot) on
       where
-        gone : (rest' : List Spot) → is_current number (turned Gone b rest').current ≡ true → is_current number b.current ≡ true
+        gone : (rest' : List Spot) → is_current number (turned Gone b rest').current ≡ true
+            → is_current number b.current ≡ true
         gone [] is = cc
         gone (spot' ∷ rest') is = cc
 
-        either : (gone' : Bool) → is_current number (cond gone' (strike_rest struck (turn Gone b)) (strike_rest struck b)).current ≡ true → is_current number b.current ≡ true
+        either : (gone' : Bool) → is_current number (cond gone' (strike_rest struck (turn Gone b))
+            (strike_rest struck b)).current ≡ true → is_current number b.current ≡ true
         either true on = gone b.rest on
         either false on = on
 
@@ -88,11 +105,12 @@ strike_mild struck b = record { owes_less = less b.rest b.current refl refl; cur
         gone [] = refl
         gone (spot' ∷ rest') = refl
 
-        either : (gone' : Bool) → (cond gone' (strike_rest struck (turn Gone b)) (strike_rest struck b)).sender ≡ b.sender
+        either : (gone' : Bool) → (cond gone' (strike_rest struck (turn Gone b)) (strike_rest struck b)).sender
+            ≡ b.sender
         either true = gone b.rest
         either false = refl
 
--- a uid that wants no result any more
+-- a uid that no longer wants results
 pub unwanted_mild : (uid : ℕ) (b : InTurn) → IsMild b (unwanted uid b)
 unwanted_mild uid b = by (b.sender == uid)
   where
@@ -109,18 +127,26 @@ pub record AreMild (before after : List InTurn) : Type 0 where
 
 -- no change
 pub unchanged_mild : (queue : List InTurn) → AreMild queue queue
-unchanged_mild queue = record { owe_less = omega arith; current = λ number is. is; senders = λ uid. refl; as_many = refl }
+unchanged_mild queue = record {
+  owe_less = omega arith;
+  current = λ number is. is;
+  senders = λ uid. refl;
+  as_many = refl;
+}
 
 -- one more in front
-one_mild : (b b' : InTurn) (others others' : List InTurn) → IsMild b b' → AreMild others others' → AreMild (b ∷ others) (b' ∷ others')
+one_mild : (b b' : InTurn) (others others' : List InTurn) → IsMild b b' → AreMild others others'
+    → AreMild (b ∷ others) (b' ∷ others')
 one_mild b b' others others' head rest = record {
   owe_less = rw (sum_by-cons, sum_by-cons) (omega (arith, head.owes_less, rest.owe_less));
-  current = λ number. either (is_current number b'.current) (is_current number b.current) (has_current number others') (has_current number others) (head.current number) (rest.current number);
+  current = λ number. either (is_current number b'.current) (is_current number b.current) (has_current number others')
+      (has_current number others) (head.current number) (rest.current number);
   senders = λ uid. rw (count_by-cons, count_by-cons, head.sender, rest.senders uid) refl;
   as_many = ap suc rest.as_many;
 }
   where
-    either : (x y more more' : Bool) → (x ≡ true → y ≡ true) → (more ≡ true → more' ≡ true) → x || more ≡ true → y || more' ≡ true
+    either : (x y more more' : Bool) → (x ≡ true → y ≡ true) → (more ≡ true → more' ≡ true) → x || more ≡ true
+        → y || more' ≡ true
     either true y more more' first others is = rw (first refl) refl
     either false true more more' first others is = refl
     either false false more more' first others is = others is
@@ -128,12 +154,15 @@ one_mild b b' others others' head rest = record {
 -- the head's turn
 pub head_turned_mild : (doing : Doing) (queue : List InTurn) → AreMild queue (head_turned doing queue)
 head_turned_mild doing [] = unchanged_mild []
-head_turned_mild doing (head ∷ others) = one_mild head (turn doing head) others others (turn_mild doing head) (unchanged_mild others)
+head_turned_mild doing (head ∷ others) = one_mild head (turn doing head) others others (turn_mild doing head)
+    (unchanged_mild others)
 
 -- a change of each
-map_mild : (change : InTurn → InTurn) → ((b : InTurn) → IsMild b (change b)) → (queue : List InTurn) → AreMild queue (map change queue)
+map_mild : (change : InTurn → InTurn) → ((b : InTurn) → IsMild b (change b)) → (queue : List InTurn)
+    → AreMild queue (map change queue)
 map_mild change mild [] = unchanged_mild []
-map_mild change mild (b ∷ others) = one_mild b (change b) others (map change others) (mild b) (map_mild change mild others)
+map_mild change mild (b ∷ others) = one_mild b (change b) others (map change others) (mild b)
+    (map_mild change mild others)
 
 -- a strike of all
 pub struck_mild : (struck : Spot → Bool) (queue : List InTurn) → AreMild queue (map (strike struck) queue)
@@ -144,7 +173,8 @@ pub all_unwanted_mild : (uid : ℕ) (queue : List InTurn) → AreMild queue (map
 all_unwanted_mild uid queue = map_mild (unwanted uid) (unwanted_mild uid) queue
 
 -- the delivery numbers that a queue may still take, after it settled
-pub settled_owes : (next deadline : ℕ) (queue : List InTurn) → (settled next deadline queue).next + owed_in (settled next deadline queue).queue ≤ next + owed_in queue
+pub settled_owes : (next deadline : ℕ) (queue : List InTurn) → (settled next deadline queue).next + owed_in
+    (settled next deadline queue).queue ≤ next + owed_in queue
 settled_owes next deadline [] = omega arith
 settled_owes next deadline (head ∷ others) =
     by (is_over head) refl (settled_owes (next + length (result_of next head)) deadline others)
@@ -153,7 +183,8 @@ settled_owes next deadline (head ∷ others) =
     rest_first [] some = cc
     rest_first (spot ∷ rest) some = omega arith
 
-    begun : (rest : List Spot) (number : ℕ) → is_empty rest ≡ false → length (undelivered rest (Some (record { number = number; deadline = deadline }))) + 1 ≤ length rest
+    begun : (rest : List Spot) (number : ℕ) → is_empty rest ≡ false
+        → length (undelivered rest (Some (record { number = number; deadline = deadline }))) + 1 ≤ length rest
     begun [] number some = cc
     begun (spot ∷ rest) number some = omega arith
 
@@ -162,7 +193,8 @@ settled_owes next deadline (head ∷ others) =
     left false b none = refl
 
     current : (c : Option Current) → head.current ≡ c → is_over head ≡ false
-        → (dispatched next deadline head others c).next + owed_in (dispatched next deadline head others c).queue ≤ next + owed_in (head ∷ others)
+        → (dispatched next deadline head others c).next + owed_in (dispatched next deadline head others c).queue ≤ next
+        + owed_in (head ∷ others)
     current (Some c) is on = omega arith
     current None is on =
         let some : is_empty head.rest ≡ false = left _ _ on in
@@ -170,9 +202,13 @@ settled_owes next deadline (head ∷ others) =
         rw (sum_by-cons, sum_by-cons) (omega (arith, had, begun head.rest next some))
 
     by : (over : Bool) → is_over head ≡ over
-        → (settled (next + length (result_of next head)) deadline others).next + owed_in (settled (next + length (result_of next head)) deadline others).queue ≤ (next + length (result_of next head)) + owed_in others
-        → (cond over (with_results (result_of next head) (settled (next + length (result_of next head)) deadline others)) (dispatched next deadline head others head.current)).next
-        + owed_in (cond over (with_results (result_of next head) (settled (next + length (result_of next head)) deadline others)) (dispatched next deadline head others head.current)).queue
+        → (settled (next + length (result_of next head)) deadline others).next + owed_in
+        (settled (next + length (result_of next head)) deadline others).queue ≤
+        (next + length (result_of next head)) + owed_in others
+        → (cond over (with_results (result_of next head) (settled (next + length (result_of next head)) deadline
+        others)) (dispatched next deadline head others head.current)).next
+        + owed_in (cond over (with_results (result_of next head) (settled (next + length (result_of next head)) deadline
+        others)) (dispatched next deadline head others head.current)).queue
         ≤ next + owed_in (head ∷ others)
     by true over rest = rw sum_by-cons (omega (arith, rest, one_result next head))
     by false over rest = current head.current refl over
@@ -180,19 +216,23 @@ settled_owes next deadline (head ∷ others) =
 -- its delivery numbers rise
 pub settled_rises : (next deadline : ℕ) (queue : List InTurn) → next ≤ (settled next deadline queue).next
 settled_rises next deadline [] = omega arith
-settled_rises next deadline (head ∷ others) = by (is_over head) (settled_rises (next + length (result_of next head)) deadline others)
+settled_rises next deadline (head ∷ others) = by (is_over head) (settled_rises (next + length (result_of next head))
+    deadline others)
   where
     current : (c : Option Current) → next ≤ (dispatched next deadline head others c).next
     current (Some c) = omega arith
     current None = omega arith
 
-    by : (over : Bool) → next + length (result_of next head) ≤ (settled (next + length (result_of next head)) deadline others).next
-        → next ≤ (cond over (with_results (result_of next head) (settled (next + length (result_of next head)) deadline others)) (dispatched next deadline head others head.current)).next
+    by : (over : Bool) → next + length (result_of next head) ≤ (settled (next + length (result_of next head)) deadline
+        others).next
+        → next ≤ (cond over (with_results (result_of next head) (settled (next + length (result_of next head)) deadline
+        others)) (dispatched next deadline head others head.current)).next
     by true rest = omega (arith, rest)
     by false rest = current head.current
 
--- a delivery of a queue that settled was there before, or has a number that was free
-pub settled_current : (next deadline : ℕ) (queue : List InTurn) (number : ℕ) → has_current number (settled next deadline queue).queue ≡ true
+-- a delivery of a queue that settled was there earlier, or has a number that was free
+pub settled_current : (next deadline : ℕ) (queue : List InTurn) (number : ℕ)
+    → has_current number (settled next deadline queue).queue ≡ true
     → (has_current number queue ≡ true) ⊎ ((next ≤ number) × (number < (settled next deadline queue).next))
 settled_current next deadline [] number is = inl is
 settled_current next deadline (head ∷ others) number is =
@@ -210,20 +250,27 @@ settled_current next deadline (head ∷ others) number is =
     later (inl old) = inl (more (is_current number head.current) (has_current number others) old)
     later (inr new) = inr (omega (arith, new.0), new.1)
 
-    fresh : (same : Bool) → next == number ≡ same → same || has_current number others ≡ true → (has_current number (head ∷ others) ≡ true) ⊎ ((next ≤ number) × (number < next + 1))
+    fresh : (same : Bool) → next == number ≡ same → same || has_current number others ≡ true
+        → (has_current number (head ∷ others) ≡ true) ⊎ ((next ≤ number) × (number < next + 1))
     fresh true same is = let e : next ≡ number = number_of next number same in inr (omega arith, omega arith)
       where
         number_of : (a b : ℕ) → a == b ≡ true → a ≡ b
         number_of a b same = grind (arith, nat_tests)
     fresh false same is = inl (more (is_current number head.current) (has_current number others) is)
 
-    current : (c : Option Current) → head.current ≡ c → has_current number (dispatched next deadline head others c).queue ≡ true
-        → (has_current number (head ∷ others) ≡ true) ⊎ ((next ≤ number) × (number < (dispatched next deadline head others c).next))
+    current : (c : Option Current) → head.current ≡ c → has_current number
+        (dispatched next deadline head others c).queue ≡ true
+        → (has_current number (head ∷ others) ≡ true) ⊎ ((next ≤ number)
+        × (number < (dispatched next deadline head others c).next))
     current (Some c) at is = inl is
     current None at is = fresh (next == number) refl is
 
-    by : (over : Bool) → (has_current number rest.queue ≡ true → (has_current number others ≡ true) ⊎ ((next + length (result_of next head) ≤ number) × (number < rest.next)))
-        → has_current number (cond over (with_results (result_of next head) rest) (dispatched next deadline head others head.current)).queue ≡ true
-        → (has_current number (head ∷ others) ≡ true) ⊎ ((next ≤ number) × (number < (cond over (with_results (result_of next head) rest) (dispatched next deadline head others head.current)).next))
+    by : (over : Bool) → (has_current number rest.queue ≡ true → (has_current number others ≡ true) ⊎
+        ((next + length (result_of next head) ≤ number) × (number < rest.next)))
+        → has_current number (cond over (with_results (result_of next head) rest)
+        (dispatched next deadline head others head.current)).queue ≡ true
+        → (has_current number (head ∷ others) ≡ true) ⊎ ((next ≤ number)
+        × (number < (cond over (with_results (result_of next head) rest)
+        (dispatched next deadline head others head.current)).next))
     by true found is = later (found is)
     by false found is = current head.current refl is

@@ -1,4 +1,4 @@
--- Which results go, and why a delivery isn't finished.
+-- Which results are removed, and why a delivery isn't finished.
 use Rattle.std.specs.Prelude.{ℕ, Bool, not, ◌&&◌, ◌==◌, nat_le, nat_lt, Option, Some, None, if◌then◌else◌}
 use Rattle.am_types.specs.declared.broadcast.Answer.{Answer}
 use Rattle.am_types.specs.declared.broadcast.FinishFault.{FinishFault}
@@ -11,12 +11,12 @@ use Rattle.am_types.specs.declared.broadcast.SendFault.TheVariants.{Full, TooMan
 use Rattle.am_queue.specs.declared.results.Taken.{Taken}
 use Rattle.am_queue.specs.declared.results.Taken.TheVariants.{Delivery, Sender}
 
--- the result of a delivery number, or those of a sender
+-- the result with a delivery number, or the results of a sender
 abbrev pub is_taken : Taken → broadcasts.Result → Bool
 is_taken (Delivery number) result = result.delivery == number
 is_taken (Sender uid) result = result.sender == uid
 
--- whose a delivery is, and whether it is an ordered broadcast's
+-- who holds a delivery, and whether it is an ordered broadcast's
 abbrev pub held_as : ℕ × Bool → Held
 held_as holder = record { uid = holder.0; ordered = holder.1 }
 
@@ -28,7 +28,7 @@ fault_of uid answer (Some holder) =
     else if is_for_ordered answer && not holder.ordered then Some NotOrdered
     else None
 
--- why a broadcast of a sender to so many receivers isn't sent
+-- why a broadcast of a sender to this many receivers isn't sent
 abbrev pub refusal_of : Broadcasts → ℕ → ℕ → Option SendFault
 refusal_of all sender receivers =
     if nat_le 64 (live all sender) then Some Full else if nat_lt 1024 receivers then Some TooMany else None

@@ -10,7 +10,7 @@ use std::alloc::{AllocError, Global};
 /// How many items an inbox shows.
 pub(crate) const SHOWN: usize = 64;
 
-/// Puts an item behind others, if there is one.
+/// Adds an item after the others, if there is one.
 pub(crate) fn push_item(items: &mut Vec<Item>, item: Option<Item>) -> Result<(), AllocError>
     ensures { OnOk result (items.new.items ≡ items.old.items ++ option_to_list item) }
 {
@@ -23,7 +23,7 @@ pub(crate) fn push_item(items: &mut Vec<Item>, item: Option<Item>) -> Result<(),
     }
 }
 
-/// How many items stand before those above a number.
+/// How many items come before those above a number.
 fn place_of(items: &[Item], number: u64) -> usize
     ensures { result ≡ place_of number items.now }
 {

@@ -1,4 +1,4 @@
-//! Broadcasts that are put to those that are live, with all memory that they need.
+//! Adds broadcasts to the live ones, with all the memory that they need.
 ghost use Rattle.std.specs.Prelude.{◌≡◌, ℕ, ◌+◌, ◌^◌, ◌<◌, ◌≤◌, [], ◌∷◌, ◌++◌, false, length, IsSome, IfSome, OnOk, OnErr};
 ghost use Rattle.am_model.specs.Broadcasts.{span};
 ghost use Rattle.am_model.specs.Filters.{is_empty};
@@ -11,7 +11,7 @@ use am_queue_ordered::{Counts, InTurn, Queue};
 use am_types::Sending;
 use std::alloc::{AllocError, Global};
 
-/// Puts a normal broadcast to the others, and counts it.
+/// Adds a normal broadcast to the others, and counts it.
 pub(crate) fn put_normal(
     alloc: Global,
     normals: &mut Normals,
@@ -65,7 +65,7 @@ fn add_turn(
     queue.push(sent)
 }
 
-/// What an ordered broadcast is put with: its number, and for how many results there is to be room.
+/// What comes with an ordered broadcast: its number, and for how many results to make room.
 #[derive(Clone, Copy)]
 pub(crate) struct Last {
     pub alloc: Global,
@@ -109,7 +109,7 @@ pub(crate) fn put_turn(
     }
 }
 
-/// Makes room for so many results more, and counts a broadcast of the sender.
+/// Makes room for this many more results, and counts a broadcast of the sender.
 fn room_for(
     results: &mut Results,
     more: usize,

@@ -37,17 +37,17 @@ const MOST_RECEIVERS: usize = 1024;
 /// How long a delivery of the foreground queue may take, in milliseconds.
 const FOREGROUND_SPAN: u64 = 10_000;
 
-/// How long another delivery may take, in milliseconds.
+/// How long any other delivery may take, in milliseconds.
 const BACKGROUND_SPAN: u64 = 60_000;
 
 /// All live broadcasts, and the next numbers. The calls take moments up to `LAST_MOMENT`: the manager
-/// counts a later one as that.
+/// treats a later one as `LAST_MOMENT`.
 pub struct Queues {
     alloc: Global,
     normals: Normals,
     foreground: Queue,
     background: Queue,
-    /// With room for those of all that stand in the queues.
+    /// Has room for the results of all broadcasts in the queues.
     results: Results,
     /// How many broadcasts of each sender are live.
     live: Counts,
@@ -75,7 +75,7 @@ impl Model for Queues {
         (all_of q.normals.normal q.foreground q.background q.results.list q.next_broadcast q.next_delivery) };
 }
 
-/// The sooner of two moments, if there are any.
+/// The sooner of two moments, if there is any.
 fn sooner(one: Option<u64>, other: Option<u64>) -> Option<u64>
     ensures { result ≡ sooner one other }
 {
@@ -87,7 +87,7 @@ fn sooner(one: Option<u64>, other: Option<u64>) -> Option<u64>
 }
 
 impl Queues {
-    /// No broadcast yet. Takes no memory.
+    /// No broadcasts yet. Takes no memory.
     pub fn new(alloc: Global) -> Self
         ensures { result ≡ no_broadcasts }
     {
@@ -103,7 +103,7 @@ impl Queues {
         }
     }
 
-    /// Whether the numbers of broadcasts suffice for one more. Takes no memory.
+    /// Whether there are numbers left for one more broadcast. Takes no memory.
     pub fn can_send(&self) -> bool
         ensures { IsTrue result ↔ (self.now.next_broadcast ≤ LAST_BROADCAST) }
     {
@@ -133,7 +133,7 @@ impl Queues {
         sooner(sooner(foreground, background), normal)
     }
 
-    /// Why a broadcast of the sender to so many receivers isn't sent.
+    /// Why a broadcast of the sender to this many receivers isn't sent.
     fn refusal(&self, sender: u32, receivers: usize) -> Option<SendFault>
         ensures { result ≡ refusal_of self.now sender receivers }
     {
@@ -146,7 +146,7 @@ impl Queues {
         None
     }
 
-    /// Gives out the number of a broadcast without receivers.
+    /// Uses up a number for a broadcast without receivers.
     fn pass_number(&mut self) -> u64
         requires { self.old.next_broadcast ≤ LAST_BROADCAST }
         ensures number { result ≡ self.old.next_broadcast }
@@ -258,9 +258,9 @@ impl Queues {
         self.put_at_once(sending)
     }
 
-    /// Sends a broadcast, and answers its number: `Full` where its sender has 64 live broadcasts,
-    /// else `TooMany` where it has more than 1,024 receivers. It takes all memory that the
-    /// broadcast's course needs. After a refusal, and without memory, all is as before. The moment is
+    /// Sends a broadcast, and returns its number: `Full` if its sender has 64 live broadcasts,
+    /// otherwise `TooMany` if it has more than 1,024 receivers. It takes all memory that the
+    /// broadcast's course needs. After a refusal, or if memory runs out, nothing has changed. The moment is
     /// at most `LAST_MOMENT`.
     pub fn send(&mut self, call: Sending) -> Result<u64, SendFault>
         requires broadcasts { self.old.next_broadcast ≤ LAST_BROADCAST }
@@ -282,7 +282,7 @@ impl Queues {
         }
     }
 
-    /// The first 64 deliveries and results of a uid by rising number. An ordered one has the outcome
+    /// The first 64 deliveries and results of a uid by rising number. An ordered delivery has the outcome
     /// so far.
     pub fn inbox(&self, uid: u32) -> Result<List<Item>, NoMemory>
         ensures { IfOk result (λ items. items ≡ inbox self.now uid) }
@@ -294,7 +294,7 @@ impl Queues {
         Ok(List::new(first_by_number(self.alloc, items)?))
     }
 
-    /// Equal queues, which have taken the same memory for the course of their broadcasts.
+    /// Equal queues, which also hold the memory for the course of their broadcasts.
     pub fn copy(&self) -> Result<Self, NoMemory>
         ensures { IfOk result (λ copy. copy ≡ self.now) }
     {
@@ -334,7 +334,7 @@ impl Queues {
         self.settle(false, now);
     }
 
-    /// The first receiver of the head of one of the two queues did this.
+    /// Records what the first receiver of the head of one of the two queues did.
     fn turn_head(&mut self, foreground: bool, doing: Doing)
         ensures { self.new
             ≡ with_queue foreground (head_turned (doing_of doing) (queue_of foreground self.old)) self.old }
@@ -358,7 +358,7 @@ impl Queues {
         }
     }
 
-    /// One of the two queues passes a late receiver over.
+    /// Passes over a late receiver in one of the two queues.
     fn expire_queue<L: Ledger>(&mut self, foreground: bool, now: u64, steps: &mut Steps<L>)
         requires { now ≤ LAST_MOMENT }
         ensures queue { self.new ≡ expired_queue foreground now self.old }
@@ -370,7 +370,7 @@ impl Queues {
         }
     }
 
-    /// The normal deliveries that are due leave.
+    /// Removes the normal deliveries that are due.
     fn expire_normal<L: Ledger>(&mut self, now: u64, steps: &mut Steps<L>)
         ensures normal { self.new ≡ record self.old { normal = normals_keeping (is_early now) self.old.normal } }
         ensures cost { steps.new + deliveries_in self.new.normal ≤ steps.old + 1 + deliveries_in self.old.normal }
@@ -378,7 +378,7 @@ impl Queues {
         self.normals.expire(now, &mut self.live, steps);
     }
 
-    /// Handles the deadlines that are due: one receiver of each queue at most, and all normal
+    /// Handles the deadlines that are due: at most one receiver of each queue, and all normal
     /// deliveries. A step is a reading of a deadline. `now` is at most `LAST_MOMENT`. Takes no memory.
     pub fn expire<L: Ledger>(&mut self, now: u64, steps: &mut Steps<L>)
         requires { now ≤ LAST_MOMENT }
@@ -390,7 +390,7 @@ impl Queues {
         self.expire_normal(now, steps);
     }
 
-    /// Whose the delivery or the result of that number is, and whether it is an ordered broadcast's.
+    /// Who holds the delivery or the result with this number, and whether it is an ordered broadcast's.
     fn held(&self, number: u64) -> Option<(u32, bool)>
         ensures { held self.now number ≡ option_map held_as result }
     {
@@ -409,7 +409,7 @@ impl Queues {
         }
     }
 
-    /// Finishes the normal delivery of that number, if there is one.
+    /// Finishes the normal delivery with this number, if there is one.
     fn finish_normal(&mut self, number: u64)
         ensures { self.new ≡ record self.old { normal = normals_keeping (is_other number) self.old.normal } }
     {
@@ -418,7 +418,7 @@ impl Queues {
         }
     }
 
-    /// Answers the ordered delivery of that number, if there is one.
+    /// Answers the ordered delivery with this number, if there is one.
     fn answer_head(&mut self, number: u64, answer: Answer)
         ensures { self.new ≡ record self.old {
           foreground = answered_head number (broadcasts.Answered answer) self.old.foreground;
@@ -434,7 +434,7 @@ impl Queues {
         }
     }
 
-    /// Takes results out.
+    /// Removes results.
     fn take_results(&mut self, taken: &Taken)
         ensures { self.new
             ≡ record self.old { results = filter (λ kept. not (is_taken taken.now kept)) self.old.results } }
@@ -442,7 +442,7 @@ impl Queues {
         self.results.take_out(taken, &mut self.live);
     }
 
-    /// Takes the result of that number out, if there is one.
+    /// Removes the result with this number, if there is one.
     fn finish_result(&mut self, number: u64)
         ensures { self.new
             ≡ record self.old { results = filter (λ kept. not (kept.delivery == number)) self.old.results } }
@@ -452,9 +452,9 @@ impl Queues {
         }
     }
 
-    /// Finishes a delivery, or takes a result: `NoDelivery` where none of that number stands,
-    /// `NotYours` where it is another uid's, and `NotOrdered` where the answer sets an outcome or
-    /// aborts, and it isn't an ordered delivery. After a refusal all is as before. `now` is at most
+    /// Finishes a delivery, or takes a result: `NoDelivery` if there is none with this number,
+    /// `NotYours` if it is another uid's, and `NotOrdered` if the answer sets an outcome or
+    /// aborts, and it isn't an ordered delivery. After a refusal nothing has changed. `now` is at most
     /// `LAST_MOMENT`. Takes no memory.
     pub fn finish(
         &mut self,
@@ -505,7 +505,7 @@ impl Queues {
         self.settle_both(now);
     }
 
-    /// A uid wants no result any more.
+    /// A uid no longer wants results.
     fn unwant(&mut self, uid: u32)
         ensures { self.new ≡ record self.old {
           foreground = map (unwanted uid) self.old.foreground;
@@ -516,7 +516,7 @@ impl Queues {
         self.background.unwant(uid);
     }
 
-    /// Strikes the receivers of a uid, and takes its results; it wants none any more. `now` is at most
+    /// Strikes the receivers of a uid, and removes its results; it no longer wants any. `now` is at most
     /// `LAST_MOMENT`. Takes no memory.
     pub fn forget_uid(&mut self, uid: u32, now: u64)
         requires { now ≤ LAST_MOMENT }

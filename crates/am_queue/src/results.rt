@@ -13,12 +13,12 @@ use am_types::Item;
 use std::alloc::{AllocError, Global};
 use std::marker::Model;
 
-/// Which results go.
+/// Which results are removed.
 #[derive(Clone, Copy)]
 pub(crate) enum Taken {
-    /// The one with that delivery number.
+    /// The result with this delivery number.
     Delivery(u64),
-    /// Those of a sender.
+    /// The results of a sender.
     Sender(u32),
 }
 
@@ -49,7 +49,7 @@ impl Model for Results {
     ghost view = { λ r. record { list = r.kept.items; room = vec_capacity r.kept - vec_len r.kept } };
 }
 
-/// The place of the result with that delivery number.
+/// The place of the result with this delivery number.
 fn place_of(kept: &[Final], number: u64) -> Option<usize>
     requires { (end : ℕ) × AreRising 0 end kept.now }
     ensures { MatchOption result (of_number number kept.now ≡ []) (IsOnly number kept.now) }
@@ -60,7 +60,7 @@ fn place_of(kept: &[Final], number: u64) -> Option<usize>
     }
 }
 
-/// Takes results out, and lowers their senders' numbers.
+/// Removes results, and lowers their senders' numbers.
 fn take_kept(results: &mut Vec<Final>, taken: &Taken, live: &mut Counts)
     requires { Covers live.old (results_of results.old.items) }
     ensures left { results.new.items ≡ filter (λ kept. not (is_taken taken.now kept)) results.old.items }
@@ -81,7 +81,7 @@ fn take_kept(results: &mut Vec<Final>, taken: &Taken, live: &mut Counts)
 }
 
 impl Results {
-    /// No result. Takes no memory.
+    /// No results. Takes no memory.
     pub(crate) fn new(alloc: Global) -> Self
         ensures { result.list ≡ [] }
     {
@@ -90,7 +90,7 @@ impl Results {
         }
     }
 
-    /// Makes room for so many more.
+    /// Makes room for this many more.
     pub(crate) fn reserve(&mut self, more: usize) -> Result<(), AllocError>
         ensures list { self.new.list ≡ self.old.list }
         ensures room { OnOk result (more ≤ self.new.room) }
@@ -100,7 +100,7 @@ impl Results {
         Ok(())
     }
 
-    /// A queue settles, and the results of its heads that are over are put to the others. Takes no
+    /// Settles a queue, and adds the results of its heads that are over to the others. Takes no
     /// memory.
     pub(crate) fn settle(
         &mut self,
@@ -123,7 +123,7 @@ impl Results {
         queue.settle(&mut self.kept, live, next, deadline)
     }
 
-    /// Whose the result with that delivery number is. Takes no memory.
+    /// Who the result with this delivery number is for. Takes no memory.
     pub(crate) fn holder(&self, number: u64) -> Option<u32>
         requires { (end : ℕ) × AreRising 0 end self.now.list }
         ensures { held_in_results number self.now.list ≡ option_map at_once_by result }
@@ -134,7 +134,7 @@ impl Results {
         }
     }
 
-    /// Takes results out, and lowers their senders' numbers. Takes no memory.
+    /// Removes results, and lowers their senders' numbers. Takes no memory.
     pub(crate) fn take_out(&mut self, taken: &Taken, live: &mut Counts)
         requires { Covers live.old (results_of self.old.list) }
         ensures left { self.new.list ≡ filter (λ kept. not (is_taken taken.now kept)) self.old.list }
@@ -144,7 +144,7 @@ impl Results {
         take_kept(&mut self.kept, taken, live);
     }
 
-    /// Puts the results of a uid behind other items.
+    /// Adds the results of a uid after the other items.
     pub(crate) fn push_items(&self, uid: u32, items: &mut Vec<Item>) -> Result<(), AllocError>
         ensures { OnOk result (items.new.items ≡ items.old.items ++ result_items uid self.now.list) }
     {
@@ -156,7 +156,7 @@ impl Results {
         Ok(())
     }
 
-    /// The same results, with room for so many more.
+    /// The same results, with room for this many more.
     pub(crate) fn copy(&self, more: usize) -> Result<Self, AllocError>
         ensures list { IfOk result (λ copy. copy.list ≡ self.now.list) }
         ensures room { IfOk result (λ copy. more ≤ copy.room) }

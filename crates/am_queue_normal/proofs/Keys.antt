@@ -13,12 +13,13 @@ same_from a b same = grind (arith, nat_tests)
 pub is_same_as_itself : (a : ℕ) → a == a ≡ true
 is_same_as_itself a = grind (arith, nat_tests)
 
--- a number is at another where they are the same
+-- a number is at another if they are the same
 pub same_number : (number other : ℕ) → is_at (nat_cmp number) other ≡ (number == other)
 same_number number other = grind (arith, nat_tests)
 
--- a pair is at another where both parts are the same
-pub same_key : (key number key' number' : ℕ) → is_at (by_both (key, number)) (key', number') ≡ is_same key number key' number'
+-- a pair is at another if both parts are the same
+pub same_key : (key number key' number' : ℕ) → is_at (by_both (key, number)) (key', number')
+    ≡ is_same key number key' number'
 same_key key number key' number' = grind (arith, nat_tests)
 
 -- a pair that isn't greater has no greater key
@@ -46,24 +47,28 @@ from_pair key from number up = grind (arith, nat_tests)
 
 module _ (pairs : List (ℕ × ℕ)) (key from first second : ℕ)
     (up : is_gt (by_both (key, from) (first, second)) ≡ false)
-    (least : (q : ℕ × ℕ) → is_gt (by_both (key, from) q) ≡ false → has pairs q.0 q.1 ≡ true → is_gt (by_both (first, second) q) ≡ false) where
-  -- the least pair from one on, where it has the key, has the key's next number
+    (least : (q : ℕ × ℕ) → is_gt (by_both (key, from) q) ≡ false → has pairs q.0 q.1 ≡ true
+    → is_gt (by_both (first, second) q) ≡ false) where
+  -- the least pair from a given one on, if it has the key, has the key's next number
   pub next_there : has pairs first second ≡ true → first ≡ key → IsNext (has pairs key) from second
   next_there there same = (
     higher,
     rw (← same) there,
-    λ number low less. false_unless (has pairs key number) (λ is. lower number less (least (key, number) (from_pair key from number low) is)),
+    λ number low less. false_unless (has pairs key number) (λ is. lower number less
+        (least (key, number) (from_pair key from number low) is)),
   )
     where
       higher : from ≤ second
       higher = let it : is_gt (by_both (key, from) (key, second)) ≡ false = rw same at up in grind (arith, nat_tests)
 
       lower : (number : ℕ) → number < second → is_gt (by_both (first, second) (key, number)) ≡ false → ⊥
-      lower number less not_gt = let it : is_gt (by_both (key, second) (key, number)) ≡ false = rw same at not_gt in grind (arith, nat_tests)
+      lower number less not_gt = let it : is_gt (by_both (key, second) (key, number))
+          ≡ false = rw same at not_gt in grind (arith, nat_tests)
 
-  -- where it has another key, the key has no number from there on
+  -- if it has another key, the key has no number from there on
   pub next_other : (first ≡ key → ⊥) → NoneFrom (has pairs key) from
-  next_other differs number low = false_unless (has pairs key number) (λ is. differs (same number (least (key, number) (from_pair key from number low) is)))
+  next_other differs number low = false_unless (has pairs key number)
+      (λ is. differs (same number (least (key, number) (from_pair key from number low) is)))
     where
       same : (number : ℕ) → is_gt (by_both (first, second) (key, number)) ≡ false → first ≡ key
       same number not_gt = grind (arith, nat_tests)

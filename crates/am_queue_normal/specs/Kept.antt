@@ -20,7 +20,7 @@ some_due normal now = list_any (λ (n : Normal). list_any (is_delivery_due now) 
 abbrev pub is_early : ℕ → Delivery → Bool
 is_early now delivery = not (is_delivery_due now delivery)
 
--- the delivery isn't that one
+-- the delivery isn't the one with this number
 abbrev pub is_other : ℕ → Delivery → Bool
 is_other number delivery = not (delivery.number == number)
 
@@ -44,7 +44,7 @@ at_once_by uid = record { uid = uid; ordered = false }
 abbrev pub items_of : ℕ → List Normal → List Item
 items_of uid normal = flat_map (normal_items uid) normal
 
--- items whose numbers rise, from one on
+-- items with rising numbers, the first at least a given one
 abbrev pub Rise : ℕ → List Item → Type 0
 Rise from [] = ⊤
 Rise from (item ∷ others) = (from ≤ item.delivery) × Rise (item.delivery + 1) others
@@ -57,16 +57,16 @@ is_spared struck delivery = not (struck delivery.spot)
 abbrev pub AllPass : (Delivery → Bool) → List Normal → Type 0
 AllPass keeps normal = normals_keeping keeps normal ≡ normal
 
--- the delivery is there, and it is none of those that pass the test: they are the same without it
+-- there is a delivery with this number, and it doesn't pass the test: those that pass are the same without it
 abbrev pub Fails : (Delivery → Bool) → List Normal → ℕ → Type 0
 Fails keeps normal number =
     IsSome (held_in_normals number normal)
     × (normals_keeping keeps (normals_keeping (is_other number) normal) ≡ normals_keeping keeps normal)
 
--- the delivery passes the test, or has a number below one
+-- the delivery passes the test, or its number is below a given one
 abbrev pub or_below : (Delivery → Bool) → ℕ → Delivery → Bool
 or_below keeps from delivery = keeps delivery || nat_lt delivery.number from
 
--- the deliveries with numbers below one all pass the test
+-- the deliveries with numbers below a given one all pass the test
 abbrev pub PassBelow : (Delivery → Bool) → ℕ → List Normal → Type 0
 PassBelow keeps from normal = normals_keeping keeps normal ≡ normals_keeping (or_below keeps from) normal

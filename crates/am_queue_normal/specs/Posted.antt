@@ -30,29 +30,29 @@ abbrev pub broadcast_of : Sent → List Delivery → Normal
 broadcast_of sent deliveries =
     record { number = sent.number; sender = sent.sender; intent = sent.intent; deliveries = deliveries }
 
--- the broadcasts with one delivery more in front, which is the first broadcast's or begins one of its own
+-- the broadcasts with one more delivery in front, which joins the first broadcast or begins one of its own
 abbrev pub joined : ℕ × Posted → Bool → List Normal → List Normal
 joined entry false normal = broadcast_of entry.1.sent (delivery_of entry ∷ []) ∷ normal
 joined entry true [] = broadcast_of entry.1.sent (delivery_of entry ∷ []) ∷ []
 joined entry true (first ∷ others) = broadcast_of entry.1.sent (delivery_of entry ∷ first.deliveries) ∷ others
 
--- the first delivery is of the broadcast whose deliveries begin with that number
+-- the first delivery belongs to the broadcast whose deliveries begin with this number
 abbrev pub begin_with : ℕ → List (ℕ × Posted) → Bool
 begin_with number [] = false
 begin_with number (entry ∷ others) = entry.1.sent.first == number
 
--- the normal broadcasts that these are the deliveries of; those of a broadcast follow each other
+-- the normal broadcasts that these deliveries belong to; the deliveries of a broadcast follow each other
 abbrev pub grouped : List (ℕ × Posted) → List Normal
 grouped [] = []
 grouped (entry ∷ others) = joined entry (begin_with entry.1.sent.first others) (grouped others)
 
--- the delivery's number is one of its broadcast's, which are below an end
+-- the delivery's number is one of its broadcast's numbers, which are below an end
 pub record IsWithin (end : ℕ) (entry : ℕ × Posted) : Type 0 where
   pub from : entry.1.sent.first ≤ entry.0
   pub below : entry.0 < entry.1.sent.end
   pub ended : entry.1.sent.end ≤ end
 
--- the delivery's number is lower than another's, and it is of the same broadcast or of one with lower numbers
+-- the delivery's number is lower than the other's, and it is of the same broadcast or of one with lower numbers
 pub record IsBefore (entry other : ℕ × Posted) : Type 0 where
   pub number : entry.0 < other.0
   pub sent : (entry.1.sent ≡ other.1.sent) ⊎ (entry.1.sent.end ≤ other.1.sent.first)
@@ -62,7 +62,7 @@ abbrev pub AreInOrder : ℕ → List (ℕ × Posted) → Type 0
 AreInOrder end [] = ⊤
 AreInOrder end (entry ∷ others) = IsWithin end entry × AllByRecursion (IsBefore entry) others × AreInOrder end others
 
--- the delivery of a number
+-- the delivery with this number
 abbrev pub posted_at : ℕ → List (ℕ × Posted) → Option Posted
 posted_at number entries = lookup (is_at (nat_cmp number)) entries
 
@@ -75,11 +75,11 @@ passes test (Some posted) = test posted
 abbrev pub passes_at : (Posted → Bool) → List (ℕ × Posted) → ℕ → Bool
 passes_at test entries number = passes test (posted_at number entries)
 
--- the delivery has that deadline
+-- the delivery has this deadline
 abbrev pub has_deadline : ℕ → Posted → Bool
 has_deadline deadline posted = posted.deadline == deadline
 
--- the delivery's deadline is at most that moment
+-- the delivery's deadline is at most this moment
 abbrev pub is_late : ℕ → Posted → Bool
 is_late now posted = nat_le posted.deadline now
 
@@ -87,13 +87,13 @@ is_late now posted = nat_le posted.deadline now
 abbrev pub NoneLate : List (ℕ × Posted) → Type 0
 NoneLate entries = (now number : ℕ) → passes_at (is_late now) entries number ≡ false
 
--- a delivery is late from that moment on, and none is before it
+-- a delivery becomes late at this moment, and none is late before it
 abbrev pub IsSoonest : List (ℕ × Posted) → ℕ → Type 0
 IsSoonest entries deadline =
     ((number : ℕ) × (passes_at (has_deadline deadline) entries number ≡ true))
     × ((now number : ℕ) → now < deadline → passes_at (is_late now) entries number ≡ false)
 
--- the delivery is to that uid
+-- the delivery is to this uid
 abbrev pub is_to : ℕ → Posted → Bool
 is_to uid posted = posted.spot.uid == uid
 
@@ -103,10 +103,11 @@ is_struck struck posted = struck posted.spot
 
 -- the pairs are the deadline and the number of each delivery, and the uid and the number of each
 pub record AreIndexed (by_deadline : List (ℕ × ℕ)) (by_uid : List (ℕ × ℕ)) (entries : List (ℕ × Posted)) : Type 0 where
-  pub deadlines : (deadline number : ℕ) → has by_deadline deadline number ≡ passes_at (has_deadline deadline) entries number
+  pub deadlines : (deadline number : ℕ) → has by_deadline deadline number
+      ≡ passes_at (has_deadline deadline) entries number
   pub uids : (uid number : ℕ) → has by_uid uid number ≡ passes_at (is_to uid) entries number
 
--- the delivery has one of the numbers from one on and below another
+-- the delivery's number is at least the first number and below the other
 abbrev pub is_between : ℕ → ℕ → ℕ × Posted → Bool
 is_between first end entry = nat_le first entry.0 && nat_lt entry.0 end
 
@@ -116,7 +117,7 @@ posted_to sent deadline number [] = []
 posted_to sent deadline number (spot ∷ others) =
     (number, posted_as sent deadline spot) ∷ posted_to sent deadline (number + 1) others
 
--- the deliveries without so many numbers from one on
+-- the deliveries without this many numbers, from a given one on
 abbrev pub without : ℕ → ℕ → List (ℕ × Posted) → List (ℕ × Posted)
 without number zero entries = entries
 without number (suc count) entries = without (number + 1) count (remove_entry (is_at (nat_cmp number)) entries)

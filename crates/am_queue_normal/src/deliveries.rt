@@ -40,7 +40,7 @@ impl Model for Deliveries {
     ghost invariant = { λ d. AreIndexed d.by_deadline d.by_uid d.by_number.entries };
 }
 
-/// Puts a delivery's number to those of its deadline and of its uid. Without memory all stay.
+/// Adds a delivery's number under its deadline and under its uid. If memory runs out, nothing changes.
 fn list(
     by_deadline: &mut Pairs,
     by_uid: &mut Pairs,
@@ -67,7 +67,7 @@ fn list(
 }
 
 impl Deliveries {
-    /// No delivery. Takes no memory.
+    /// No deliveries. Takes no memory.
     pub(crate) fn new(alloc: Global) -> Self
         ensures { result ≡ [] }
     {
@@ -78,14 +78,14 @@ impl Deliveries {
         }
     }
 
-    /// The delivery of a number. Takes no memory.
+    /// The delivery with this number. Takes no memory.
     pub(crate) fn get(&self, number: u64) -> Option<&Delivery>
         ensures { option_copied result ≡ posted_at number self.now }
     {
         self.by_number.get(&number)
     }
 
-    /// Puts a delivery under a number that none has. Without memory all stay.
+    /// Adds a delivery under an unused number. If memory runs out, nothing changes.
     pub(crate) fn put(&mut self, number: u64, delivery: Delivery) -> Result<(), AllocError>
         requires { posted_at number self.old ≡ None }
         ensures ok { OnOk result (self.new ≡ insert_entry nat_cmp self.old number delivery) }
@@ -104,7 +104,7 @@ impl Deliveries {
         }
     }
 
-    /// Takes the delivery of a number out. Takes no memory.
+    /// Removes the delivery with this number. Takes no memory.
     pub(crate) fn take(&mut self, number: u64) -> Option<Delivery>
         ensures taken { result ≡ posted_at number self.old }
         ensures left { self.new ≡ remove_entry (is_at (nat_cmp number)) self.old }
@@ -116,7 +116,7 @@ impl Deliveries {
     }
 
     /// The number of the delivery with the soonest deadline, if it is due. A step is a reading of that
-    /// deadline, and there is no other. Takes no memory.
+    /// deadline; there is no other. Takes no memory.
     pub(crate) fn first_late<L: Ledger>(&self, now: u64, steps: &mut Steps<L>) -> Option<u64>
         ensures late { MatchOption result ((number : ℕ) → passes_at (is_late now) self.now number ≡ false)
             (λ number. passes_at (is_late now) self.now number ≡ true) }
@@ -131,7 +131,7 @@ impl Deliveries {
         }
     }
 
-    /// The soonest deadline of a delivery. A step is a reading of that deadline, and there is no other. Takes no
+    /// The soonest deadline of a delivery. A step is a reading of that deadline; there is no other. Takes no
     /// memory.
     pub(crate) fn soonest<L: Ledger>(&self, steps: &mut Steps<L>) -> Option<u64>
         ensures soonest { MatchOption result (NoneLate self.now) (IsSoonest self.now) }
@@ -146,7 +146,7 @@ impl Deliveries {
         }
     }
 
-    /// The least number of a delivery to a uid from one on. Takes no memory.
+    /// The least number, from a given one on, of a delivery to a uid. Takes no memory.
     pub(crate) fn next_to(&self, uid: u32, from: u64) -> Option<u64>
         ensures { MatchOption result (NoneFrom (passes_at (is_to uid) self.now) from)
             (IsNext (passes_at (is_to uid) self.now) from) }
@@ -154,7 +154,7 @@ impl Deliveries {
         self.by_uid.next(u64::from(uid), from)
     }
 
-    /// The least number from one on of a delivery whose receiver is struck. Takes no memory.
+    /// The least number, from a given one on, of a delivery whose receiver is struck. Takes no memory.
     pub(crate) fn next_struck(&self, struck: &Struck, from: u64) -> Option<u64>
         ensures { MatchOption result (NoneFrom (passes_at (is_struck (strikes struck.now)) self.now) from)
             (IsNext (passes_at (is_struck (strikes struck.now)) self.now) from) }
@@ -167,7 +167,7 @@ impl Deliveries {
         None
     }
 
-    /// Whether a delivery has a number from one on and below another. Takes no memory.
+    /// Whether there is a delivery whose number is at least the first number and below the other. Takes no memory.
     pub(crate) fn is_any_between(&self, first: u64, end: u64) -> bool
         ensures { result ≡ list_any (is_between first end) self.now }
     {
@@ -177,7 +177,7 @@ impl Deliveries {
         }
     }
 
-    /// Puts the delivery of what was sent to one receiver. Without memory all stay.
+    /// Adds the delivery of what was sent to one receiver. If memory runs out, nothing changes.
     fn put_one(
         &mut self,
         number: u64,
@@ -194,7 +194,7 @@ impl Deliveries {
         self.put(number, delivery)
     }
 
-    /// Takes so many deliveries out, from one number on.
+    /// Removes this many deliveries, from one number on.
     fn take_back(&mut self, first: u64, count: u64)
         requires { first + count < 2 ^ 64 }
         ensures { self.new ≡ without first count self.old }
@@ -204,8 +204,8 @@ impl Deliveries {
         }
     }
 
-    /// Puts the deliveries of what was sent to some receivers behind all others. Without memory all
-    /// stay.
+    /// Adds the deliveries of what was sent to some receivers after all others. If memory runs out,
+    /// nothing changes.
     pub(crate) fn put_all(
         &mut self,
         sent: &Arc<Sent, Global>,
@@ -231,7 +231,7 @@ impl Deliveries {
         Ok(())
     }
 
-    /// Puts the delivery of a number as an item behind others, if there is one.
+    /// Adds the delivery with this number, if there is one, as an item after the others.
     fn push_item(&self, number: u64, items: &mut Vec<Item>) -> Result<(), AllocError>
         ensures { OnOk result (items.new.items ≡ items.old.items ++ items_at number (posted_at number self.now)) }
     {

@@ -24,7 +24,7 @@ pub(crate) struct Sent {
 pub(crate) struct Delivery {
     pub sent: Arc<Sent, Global>,
     pub spot: Spot,
-    /// The moment from which on it is late, in milliseconds.
+    /// The moment at which it becomes late, in milliseconds.
     pub deadline: u64,
 }
 
@@ -37,7 +37,7 @@ impl Model for Delivery {
 }
 
 impl Delivery {
-    /// A delivery of what was sent to a receiver.
+    /// The delivery of what was sent to a receiver.
     pub(crate) fn new(
         sent: &Arc<Sent, Global>,
         spot: &Spot,

@@ -30,7 +30,7 @@ pub struct Begin {
 #[derive(Drop)]
 pub struct Normals {
     deliveries: Deliveries,
-    /// A number above those of all deliveries.
+    /// A number above the numbers of all deliveries.
     end: u64,
 }
 
@@ -45,7 +45,7 @@ impl Model for Normals {
     ghost invariant = { λ n. AreInOrder n.end n.deliveries };
 }
 
-/// Lowers a sender's number where no other delivery of its broadcast is left.
+/// Lowers a sender's number if no other delivery of its broadcast is left.
 fn uncount(others: bool, sender: u32, live: &mut Counts)
     requires { others ≡ false → 0 < count_of live.old sender }
     ensures { (uid : ℕ) → count_of live.new uid + (if others then 0 else one_for sender uid) ≡ count_of live.old uid }
@@ -56,7 +56,7 @@ fn uncount(others: bool, sender: u32, live: &mut Counts)
 }
 
 impl Normals {
-    /// No broadcast. Takes no memory.
+    /// No broadcasts. Takes no memory.
     pub fn new(alloc: Global) -> Self
         ensures { result ≡ record { normal = []; end = 0 } }
     {
@@ -66,7 +66,7 @@ impl Normals {
         }
     }
 
-    /// Whose the delivery of that number is, if it isn't finished. Takes no memory.
+    /// The uid that the delivery with this number is for, if it isn't finished. Takes no memory.
     pub fn holder(&self, number: u64) -> Option<u32>
         ensures held { held_in_normals number self.now.normal ≡ option_map at_once_by result }
         ensures live { AllLive self.now.normal }
@@ -94,7 +94,7 @@ impl Normals {
         self.deliveries.soonest(steps)
     }
 
-    /// Finishes the delivery of that number. Takes no memory.
+    /// Finishes the delivery with this number. Takes no memory.
     pub fn finish(&mut self, number: u64, live: &mut Counts)
         requires held { IsSome (held_in_normals number self.old.normal) }
         requires counted { Covers live.old (normals_of self.old.normal) }
@@ -120,7 +120,7 @@ impl Normals {
         self.deliveries.first_late(now, steps)
     }
 
-    /// The deliveries that are due leave. A step is a reading of a deadline. Takes no memory.
+    /// Removes the deliveries that are due. A step is a reading of a deadline. Takes no memory.
     pub fn expire<L: Ledger>(&mut self, now: u64, live: &mut Counts, steps: &mut Steps<L>)
         requires { Covers live.old (normals_of self.old.normal) }
         ensures normal { self.new ≡ record self.old { normal = normals_keeping (is_early now) self.old.normal } }
@@ -132,7 +132,7 @@ impl Normals {
         }
     }
 
-    /// The least number from one on of a delivery whose receiver is struck, where none has a lower one.
+    /// The least number, from a given one on, of a delivery whose receiver is struck, if none has a lower number.
     fn next_struck(&self, struck: &Struck, from: u64) -> Option<u64>
         requires { PassBelow (is_spared (strikes struck.now)) from self.now.normal }
         ensures all { MatchOption result (AllPass (is_spared (strikes struck.now)) self.now.normal)
@@ -157,7 +157,7 @@ impl Normals {
         }
     }
 
-    /// Sends a normal broadcast, whose delivery numbers follow those before. Without memory all stays.
+    /// Sends a normal broadcast, whose delivery numbers follow the earlier ones. If memory runs out, nothing changes.
     pub fn add(&mut self, alloc: Global, begin: Begin, sending: Sending) -> Result<(), AllocError>
         requires end { self.old.end ≤ begin.first }
         requires some { is_empty sending.to ≡ false }

@@ -21,7 +21,7 @@ impl Model for Pairs {
 }
 
 impl Pairs {
-    /// No pair. Takes no memory.
+    /// No pairs. Takes no memory.
     pub(crate) fn new(alloc: Global) -> Self
         ensures { result ≡ [] }
     {
@@ -30,7 +30,7 @@ impl Pairs {
         }
     }
 
-    /// Puts a pair in its place. Without memory all stay.
+    /// Puts a pair in its place. If memory runs out, nothing changes.
     pub(crate) fn add(&mut self, key: u64, number: u64) -> Result<(), AllocError>
         ensures ok { OnOk result ((key' number' : ℕ)
             → has self.new key' number' ≡ (is_same key number key' number' || has self.old key' number')) }
@@ -40,7 +40,7 @@ impl Pairs {
         Ok(())
     }
 
-    /// Takes a pair out, if it is there. Takes no memory.
+    /// Removes a pair, if it is there. Takes no memory.
     pub(crate) fn remove(&mut self, key: u64, number: u64)
         ensures { (key' number' : ℕ)
             → has self.new key' number' ≡ (not (is_same key number key' number') && has self.old key' number') }
@@ -58,7 +58,7 @@ impl Pairs {
         }
     }
 
-    /// The least number of a key from one on. Takes no memory.
+    /// The least number of a key, from a given one on. Takes no memory.
     pub(crate) fn next(&self, key: u64, from: u64) -> Option<u64>
         ensures { MatchOption result (NoneFrom (has self.now key) from) (IsNext (has self.now key) from) }
     {

@@ -32,14 +32,16 @@ earlier_comes a b now = by (nat_le a now) (nat_le b now) refl refl
         lt-leb (min a b) now (omega arith)
 
 -- or of a moment and another, if there is another
-pub either_comes : (now moment : ℕ) (other : Option ℕ) → nat_le (earlier moment other) now ≡ nat_le moment now || has_come now other
+pub either_comes : (now moment : ℕ) (other : Option ℕ) → nat_le (earlier moment other) now
+    ≡ nat_le moment now || has_come now other
 either_comes now moment None = sym (or_false (nat_le moment now))
 either_comes now moment (Some other) = earlier_comes moment other now
 
 -- the earliest of some moments has come just when one of them has
 pub earliest_comes : (now : ℕ) (moments : List ℕ) → has_come now (earliest moments) ≡ some_came now moments
 earliest_comes now [] = refl
-earliest_comes now (first ∷ others) = either_comes now first (earliest others) ∙ ap (λ b. nat_le first now || b) (earliest_comes now others)
+earliest_comes now (first ∷ others) = either_comes now first (earliest others)
+    ∙ ap (λ b. nat_le first now || b) (earliest_comes now others)
 
 -- the earliest of two lists together has come just when that of one of them has
 pub joined_comes : (now : ℕ) (some others : List ℕ)
@@ -55,7 +57,8 @@ head_comes : (now : ℕ) (queue : List InTurn) → some_came now (head_deadline 
 head_comes now [] = refl
 head_comes now (head ∷ others) = by head.current
   where
-    by : (current : Option Current) → some_came now (current_deadline current) ≡ is_head_due now (record head { current = current } ∷ others)
+    by : (current : Option Current) → some_came now (current_deadline current)
+        ≡ is_head_due now (record head { current = current } ∷ others)
     by None = refl
     by (Some current) = or_false (nat_le current.deadline now)
 
@@ -67,7 +70,8 @@ deliveries_come now (first ∷ others) = ap (λ b. nat_le first.deadline now || 
 
 -- a normal delivery is due just when one of their deadlines has come
 pub normals_come : (now : ℕ) (normal : List Normal)
-    → some_came now (normal_deadlines normal) ≡ list_any (λ (n : Normal). list_any (is_delivery_due now) n.deliveries) normal
+    → some_came now (normal_deadlines normal) ≡ list_any (λ (n : Normal). list_any (is_delivery_due now) n.deliveries)
+    normal
 normals_come now [] = refl
 normals_come now (first ∷ others) =
     list_any-append (λ moment. nat_le moment now) (deadlines_of first) (normal_deadlines others)
@@ -79,9 +83,12 @@ pub due_at_earliest : (all : Broadcasts) (now : ℕ) → due all now ≡ has_com
 due_at_earliest all now = sym (
     earliest_comes now (deadlines all)
     ∙ list_any-append came (head_deadline all.foreground ++ head_deadline all.background) (normal_deadlines all.normal)
-    ∙ ap (λ b. b || some_came now (normal_deadlines all.normal)) (list_any-append came (head_deadline all.foreground) (head_deadline all.background))
-    ∙ ap (λ b. (b || some_came now (head_deadline all.background)) || some_came now (normal_deadlines all.normal)) (head_comes now all.foreground)
-    ∙ ap (λ b. (is_head_due now all.foreground || b) || some_came now (normal_deadlines all.normal)) (head_comes now all.background)
+    ∙ ap (λ b. b || some_came now (normal_deadlines all.normal)) (list_any-append came (head_deadline all.foreground)
+    (head_deadline all.background))
+    ∙ ap (λ b. (b || some_came now (head_deadline all.background)) || some_came now (normal_deadlines all.normal))
+    (head_comes now all.foreground)
+    ∙ ap (λ b. (is_head_due now all.foreground || b) || some_came now (normal_deadlines all.normal))
+    (head_comes now all.background)
     ∙ ap (λ b. (is_head_due now all.foreground || is_head_due now all.background) || b) (normals_come now all.normal))
   where
     came : ℕ → Bool

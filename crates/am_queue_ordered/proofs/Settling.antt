@@ -8,17 +8,21 @@ use Rattle.am_queue_ordered.specs.Heads.{is_head_over, behind_head, head_result}
 use Rattle.am_queue_ordered.specs.Counts.{Covers, Follows, queued_of, results_of}
 
 -- a queue is on its way from how it began to how it settles
-pub record IsUnderWay (deadline : ℕ) (next' next : ℕ) (queue' queue : List InTurn) (results' results : List broadcasts.Result) (live' live : List (ℕ × ℕ)) : Type 0 where
+pub record IsUnderWay (deadline : ℕ) (next' next : ℕ) (queue' queue : List InTurn)
+    (results' results : List broadcasts.Result) (live' live : List (ℕ × ℕ)) : Type 0 where
   pub queue_settles : (settled next deadline queue).queue ≡ (settled next' deadline queue').queue
-  pub results_settle : results ++ (settled next deadline queue).results ≡ results' ++ (settled next' deadline queue').results
+  pub results_settle : results ++ (settled next deadline queue).results ≡ results'
+      ++ (settled next' deadline queue').results
   pub next_settles : (settled next deadline queue).next ≡ (settled next' deadline queue').next
   pub room : length queue + length results ≤ length queue' + length results'
   pub small : next + length queue ≤ next' + length queue'
   pub counted : Covers live (queued_of queue)
-  pub follows : Follows live' live (λ uid. queued_of queue' uid + results_of results' uid) (λ uid. queued_of queue uid + results_of results uid)
+  pub follows : Follows live' live (λ uid. queued_of queue' uid + results_of results' uid)
+      (λ uid. queued_of queue uid + results_of results uid)
 
 -- at first
-pub not_begun : (deadline next : ℕ) (queue : List InTurn) (results : List broadcasts.Result) (live : List (ℕ × ℕ)) → Covers live (queued_of queue)
+pub not_begun : (deadline next : ℕ) (queue : List InTurn) (results : List broadcasts.Result) (live : List (ℕ × ℕ))
+    → Covers live (queued_of queue)
     → IsUnderWay deadline next next queue queue results results live live
 not_begun deadline next queue results live counted = record {
   queue_settles = refl;
@@ -48,29 +52,34 @@ at_most_one delivery (head ∷ others) = one_result delivery head
 
 -- the head that is over leaves, and the others settle
 settled-over : (next deadline : ℕ) (queue : List InTurn) → is_head_over queue ≡ true
-    → settled next deadline queue ≡ with_results (head_result next queue) (settled (next + length (head_result next queue)) deadline (behind_head queue))
+    → settled next deadline queue ≡ with_results (head_result next queue)
+    (settled (next + length (head_result next queue)) deadline (behind_head queue))
 settled-over next deadline [] over = cc
 settled-over next deadline (head ∷ others) over = rw over refl
 
--- a queue whose head is over is longer than what is behind it
+-- a queue whose head is over is longer than the rest after the head
 pub shorter_behind : (queue : List InTurn) → is_head_over queue ≡ true → length (behind_head queue) + 1 ≡ length queue
 shorter_behind [] over = cc
 shorter_behind (head ∷ others) over = omega arith
 
 -- more results count for no less
-more_results : (results more : List broadcasts.Result) (uid : ℕ) → results_of results uid ≤ results_of (results ++ more) uid
+more_results : (results more : List broadcasts.Result) (uid : ℕ) → results_of results uid ≤ results_of (results ++ more)
+    uid
 more_results results more uid = omega (arith, count_by-append (λ (r : broadcasts.Result). r.sender == uid) results more)
 
 -- one head more is out
-pub one_out : (deadline next' next : ℕ) (queue' queue : List InTurn) (results' results : List broadcasts.Result) (live' live after : List (ℕ × ℕ))
+pub one_out : (deadline next' next : ℕ) (queue' queue : List InTurn) (results' results : List broadcasts.Result)
+    (live' live after : List (ℕ × ℕ))
     → is_head_over queue ≡ true
     → IsUnderWay deadline next' next queue' queue results' results live' live
     → Follows live after (λ uid. queued_of queue uid + results_of results uid)
     (λ uid. queued_of (behind_head queue) uid + results_of (results ++ head_result next queue) uid)
-    → IsUnderWay deadline next' (next + length (head_result next queue)) queue' (behind_head queue) results' (results ++ head_result next queue) live' after
+    → IsUnderWay deadline next' (next + length (head_result next queue)) queue' (behind_head queue) results'
+    (results ++ head_result next queue) live' after
 one_out deadline next' next queue' queue results' results live' live after over way follows = record {
   queue_settles = sym (ap (λ (s : Settled). s.queue) out) ∙ way.queue_settles;
-  results_settle = append_assoc results (head_result next queue) rest.results ∙ sym (ap (λ (s : Settled). results ++ s.results) out) ∙ way.results_settle;
+  results_settle = append_assoc results (head_result next queue) rest.results
+      ∙ sym (ap (λ (s : Settled). results ++ s.results) out) ∙ way.results_settle;
   next_settles = sym (ap (λ (s : Settled). s.next) out) ∙ way.next_settles;
   room = rw length-append (omega (arith, way.room, shorter_behind queue over, at_most_one next queue));
   small = omega (arith, way.small, shorter_behind queue over, at_most_one next queue);

@@ -1,4 +1,4 @@
--- Those that wait behind the head of a queue.
+-- The broadcasts that wait after the head of a queue.
 use Rattle.std.proofs.Common.{◌≡◌, ℕ, ◌<◌, Bool, true, false, ◌&&◌, cond, List, [], ◌∷◌, ◌++◌, length, map, get_or, refl, sym, ap, ◌∙◌, arith}
 use Rattle.std.specs.Prelude.{Option, Some, None, is_none, ◌==◌}
 use Rattle.std.specs.List.{flat_map, list_all}
@@ -9,7 +9,8 @@ use Rattle.am_model.specs.Sending.{strike, unwanted, turn_item, turn_items}
 use Rattle.am_queue_ordered.specs.Heads.{waits, AllWait}
 
 -- what changes no broadcast that waits into one that doesn't
-all_wait_after : (change : InTurn → InTurn) → ((b : InTurn) → waits b ≡ true → waits (change b) ≡ true) → (queue : List InTurn)
+all_wait_after : (change : InTurn → InTurn) → ((b : InTurn) → waits b ≡ true → waits (change b) ≡ true)
+    → (queue : List InTurn)
     → list_all waits queue ≡ true → list_all waits (map change queue) ≡ true
 all_wait_after change keeps [] wait = refl
 all_wait_after change keeps (first ∷ others) wait =
@@ -20,8 +21,9 @@ all_wait_after change keeps (first ∷ others) wait =
     both true b pass = (refl, pass)
     both false b pass = cc
 
--- leaves the queue waiting behind its head
-waiting_after : (change : InTurn → InTurn) → ((b : InTurn) → waits b ≡ true → waits (change b) ≡ true) → (queue : List InTurn) → AllWait queue → AllWait (map change queue)
+-- leaves the queue waiting after its head
+waiting_after : (change : InTurn → InTurn) → ((b : InTurn) → waits b ≡ true → waits (change b) ≡ true)
+    → (queue : List InTurn) → AllWait queue → AllWait (map change queue)
 waiting_after change keeps [] wait = refl
 waiting_after change keeps (head ∷ others) wait = all_wait_after change keeps others wait
 
@@ -29,15 +31,17 @@ waiting_after change keeps (head ∷ others) wait = all_wait_after change keeps 
 pub waiting_struck : (struck : Spot → Bool) (queue : List InTurn) → AllWait queue → AllWait (map (strike struck) queue)
 waiting_struck struck queue wait = waiting_after (strike struck) (λ b w. by b b.current refl w) queue wait
   where
-    by : (b : InTurn) (current : Option Current) → b.current ≡ current → is_none b.current ≡ true → is_none (strike struck b).current ≡ true
+    by : (b : InTurn) (current : Option Current) → b.current ≡ current → is_none b.current ≡ true
+        → is_none (strike struck b).current ≡ true
     by b None is w = rw is refl
     by b (Some current) is w = absurd cc
 
--- and after a uid wants no result any more
+-- and after a uid no longer wants results
 pub waiting_unwanted : (uid : ℕ) (queue : List InTurn) → AllWait queue → AllWait (map (unwanted uid) queue)
 waiting_unwanted uid queue wait = waiting_after (unwanted uid) (λ b w. by b (b.sender == uid) w) queue wait
   where
-    by : (b : InTurn) (own : Bool) → is_none b.current ≡ true → is_none (cond own (record b { wanted = false }) b).current ≡ true
+    by : (b : InTurn) (own : Bool) → is_none b.current ≡ true → is_none
+        (cond own (record b { wanted = false }) b).current ≡ true
     by b true w = w
     by b false w = w
 
@@ -62,10 +66,12 @@ no_items uid (first ∷ others) wait =
     both false b pass = cc
 
 -- the items of a queue are the head's
-pub items_of_head : (uid : ℕ) (queue : List InTurn) (head : InTurn) → 0 < length queue → head ≡ get_or queue 0 head → AllWait queue
+pub items_of_head : (uid : ℕ) (queue : List InTurn) (head : InTurn) → 0 < length queue → head ≡ get_or queue 0 head
+    → AllWait queue
     → flat_map (turn_items uid) queue ≡ turn_items uid head
 items_of_head uid [] head some is wait = absurd (omega arith)
-items_of_head uid (first ∷ others) head some is wait = rw (no_items uid others wait) (append-nil _ ∙ ap (turn_items uid) (sym is))
+items_of_head uid (first ∷ others) head some is wait = rw (no_items uid others wait)
+    (append-nil _ ∙ ap (turn_items uid) (sym is))
   where
     append-nil : (items : List Item) → items ++ [] ≡ items
     append-nil [] = refl

@@ -11,22 +11,23 @@ use Rattle.am_model.specs.Broadcasts.{InTurn}
 abbrev pub count_of : List (ℕ × ℕ) → ℕ → ℕ
 count_of counts uid = unwrap_or (lookup (is_at (nat_cmp uid)) counts) 0
 
--- one for the app that it is about
+-- one for the app in question, zero for every other
 abbrev pub one_for : ℕ → ℕ → ℕ
 one_for uid other = if other == uid then 1 else 0
 
--- how many ordered broadcasts of a sender stand in a queue
+-- how many ordered broadcasts of a sender are in a queue
 abbrev pub queued_of : List InTurn → ℕ → ℕ
 queued_of queue sender = count_by (λ (b : InTurn). b.sender == sender) queue
 
--- how many results of a sender stand
+-- how many results of a sender there are
 abbrev pub results_of : List broadcasts.Result → ℕ → ℕ
 results_of results sender = count_by (λ (r : broadcasts.Result). r.sender == sender) results
 
--- the numbers count at least what there is
+-- each number is at least the count of what there is
 abbrev pub Covers : List (ℕ × ℕ) → (ℕ → ℕ) → Type 0
 Covers counts there_is = (uid : ℕ) → there_is uid ≤ count_of counts uid
 
--- the numbers changed as what is counted did, from what there was to what there is
+-- the numbers changed by as much as the counts did, from what there was to what there is
 abbrev pub Follows : List (ℕ × ℕ) → List (ℕ × ℕ) → (ℕ → ℕ) → (ℕ → ℕ) → Type 0
-Follows before after there_was there_is = (uid : ℕ) → count_of after uid + there_was uid ≡ count_of before uid + there_is uid
+Follows before after there_was there_is = (uid : ℕ) → count_of after uid + there_was uid
+    ≡ count_of before uid + there_is uid

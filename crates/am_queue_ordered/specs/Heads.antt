@@ -1,4 +1,4 @@
--- Queues of ordered broadcasts: the head's turn, and those that wait behind it.
+-- Queues of ordered broadcasts: the head's turn, and the broadcasts that wait after the head.
 use Rattle.std.specs.Prelude.{◌≡◌, ℕ, Bool, true, false, List, [], ◌∷◌, is_none}
 use Rattle.std.specs.List.{list_all}
 use Rattle.am_model.specs.Broadcasts as broadcasts
@@ -10,7 +10,7 @@ abbrev pub head_turned : Doing → List InTurn → List InTurn
 head_turned doing [] = []
 head_turned doing (head ∷ others) = turn doing head ∷ others
 
--- the head has a delivery of that number
+-- the head has a delivery with this number
 abbrev pub is_head : ℕ → List InTurn → Bool
 is_head number [] = false
 is_head number (head ∷ others) = is_current number head.current
@@ -20,7 +20,7 @@ abbrev pub is_head_over : List InTurn → Bool
 is_head_over [] = false
 is_head_over (head ∷ others) = is_over head
 
--- those behind the head
+-- the broadcasts after the head
 abbrev pub behind_head : List InTurn → List InTurn
 behind_head [] = []
 behind_head (head ∷ others) = others
@@ -30,10 +30,10 @@ abbrev pub head_result : ℕ → List InTurn → List broadcasts.Result
 head_result delivery [] = []
 head_result delivery (head ∷ others) = result_of delivery head
 
--- it has no delivery
+-- the broadcast has no delivery
 abbrev pub waits : InTurn → Bool
 waits broadcast = is_none broadcast.current
 
--- none behind the head has a delivery
+-- no broadcast after the head has a delivery
 abbrev pub AllWait : List InTurn → Type 0
 AllWait queue = list_all waits (behind_head queue) ≡ true

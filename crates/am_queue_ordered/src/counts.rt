@@ -6,7 +6,7 @@ use std::alloc::{AllocError, Global};
 use std::collections::BTreeMap;
 use std::marker::Model;
 
-/// A number for each app, 0 where none was raised.
+/// A number for each app; 0 if it was never raised.
 #[derive(Drop)]
 pub struct Counts {
     by_uid: BTreeMap<u32, u32>,
@@ -37,7 +37,7 @@ impl Counts {
         self.by_uid.get(&uid).copied().unwrap_or(0)
     }
 
-    /// The number of an app is one more. Without memory all stays.
+    /// Raises the number of an app by one. If memory runs out, nothing changes.
     pub fn raise(&mut self, uid: u32) -> Result<(), AllocError>
         requires { count_of self.old uid + 1 < 2 ^ 32 }
         ensures ok { OnOk result ((other : ℕ) → count_of self.new other ≡ count_of self.old other + one_for uid other) }
@@ -48,7 +48,7 @@ impl Counts {
         Ok(())
     }
 
-    /// The number of an app is one less. Takes no memory.
+    /// Lowers the number of an app by one. Takes no memory.
     pub fn lower(&mut self, uid: u32)
         requires { 0 < count_of self.old uid }
         ensures { (other : ℕ) → count_of self.new other + one_for uid other ≡ count_of self.old other }

@@ -51,7 +51,7 @@ impl Final {
         self.delivery
     }
 
-    /// Whose it is. Takes no memory.
+    /// The uid that the result is for. Takes no memory.
     pub fn sender(&self) -> u32
         ensures { result ≡ self.now.sender }
     {

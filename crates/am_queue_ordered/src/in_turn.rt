@@ -16,7 +16,7 @@ use std::sync::Arc;
 use std::sync::ledger::Ledger;
 use std::vec::VecCloneMethods;
 
-/// An ordered broadcast in a queue. It has taken the memory for all that its receivers do.
+/// An ordered broadcast in a queue. It already holds the memory for everything that its receivers do.
 #[derive(Drop)]
 pub struct InTurn {
     number: u64,
@@ -67,7 +67,7 @@ fn waiting(alloc: Global, to: &[Spot]) -> Result<VecDeque<Spot>, AllocError>
     Ok(VecDeque::from_vec(copy))
 }
 
-/// The place of the receiver that set the outcome last, after one more.
+/// The place of the last receiver that set the outcome, after one more receiver.
 fn last_after(before: Option<usize>, sets: bool, place: usize) -> Option<usize>
     ensures { result ≡ (if sets then Some place else before) }
 {
@@ -87,7 +87,7 @@ fn set_at<'a>(past: &'a [Past], place: usize, initial: &'a Outcome) -> &'a Outco
     }
 }
 
-/// Hands out the outcome that the receiver at a place set, or the initial one.
+/// Takes out the outcome that the receiver at a place set, or the initial one.
 fn taken_at(mut past: Vec<Past>, place: usize, initial: Outcome) -> Outcome
     requires { place < vec_len past }
     ensures { result ≡ outcome_after initial (set_by_past (slice_get past.items place)) }
@@ -133,14 +133,14 @@ impl InTurn {
         })
     }
 
-    /// Whether it ended. Takes no memory.
+    /// Whether the broadcast has ended. Takes no memory.
     pub fn is_over(&self) -> bool
         ensures { result ≡ is_over self.now }
     {
         self.rest.is_empty() || self.aborted
     }
 
-    /// The first receiver that is left did this, and its delivery goes. Takes no memory.
+    /// Records what the first remaining receiver did, and removes its delivery. Takes no memory.
     pub fn turn(&mut self, doing: Doing)
         ensures { self.new ≡ turn (doing_of doing) self.old }
     {
@@ -165,7 +165,7 @@ impl InTurn {
         }
     }
 
-    /// Whether its sender wants the result. Takes no memory.
+    /// Whether the sender wants the result. Takes no memory.
     pub fn is_wanted(&self) -> bool
         ensures { result ≡ self.now.wanted }
     {
@@ -203,21 +203,21 @@ impl InTurn {
         Final::new(delivery, number, sender, outcome)
     }
 
-    /// Gives the first receiver that is left its delivery. Takes no memory.
+    /// Gives the first remaining receiver its delivery. Takes no memory.
     pub fn begin(&mut self, number: u64, deadline: u64)
         ensures { self.new ≡ record self.old { current = Some (record { number = number; deadline = deadline }) } }
     {
         self.current = Some(Current::new(number, deadline));
     }
 
-    /// Whether a receiver has its delivery. Takes no memory.
+    /// Whether a receiver currently has a delivery. Takes no memory.
     pub fn has_delivery(&self) -> bool
         ensures { result ≡ is_some self.now.current }
     {
         self.current.is_some()
     }
 
-    /// Whether it has a delivery of that number. Takes no memory.
+    /// Whether the broadcast has a delivery with this number. Takes no memory.
     pub fn is_current(&self, number: u64) -> bool
         ensures { result ≡ is_current number self.now.current }
     {
@@ -227,7 +227,7 @@ impl InTurn {
         }
     }
 
-    /// Whether it has a delivery that is due. A step is a reading of its deadline. Takes no memory.
+    /// Whether the broadcast has a delivery that is due. A step is a reading of its deadline. Takes no memory.
     pub fn is_late<L: Ledger>(&self, now: u64, steps: &mut Steps<L>) -> bool
         ensures late { result ≡ is_late now self.now.current }
         ensures cost { steps.new ≤ steps.old + 1 }
@@ -238,7 +238,7 @@ impl InTurn {
         }
     }
 
-    /// The deadline of its delivery, if it has one. A step is a reading of it. Takes no memory.
+    /// The deadline of the broadcast's delivery, if it has one. A step is a reading of it. Takes no memory.
     pub fn deadline<L: Ledger>(&self, steps: &mut Steps<L>) -> Option<u64>
         ensures deadline { result ≡ earliest (current_deadline self.now.current) }
         ensures cost { steps.new ≤ steps.old + 1 }
@@ -249,7 +249,7 @@ impl InTurn {
         }
     }
 
-    /// The uid of the first receiver that is left. Takes no memory.
+    /// The uid of the first remaining receiver. Takes no memory.
     pub fn holder(&self) -> Option<u32>
         ensures { held_by self.now.rest ≡ option_map in_order result }
     {
@@ -259,7 +259,7 @@ impl InTurn {
         }
     }
 
-    /// Its delivery as an item of a uid's inbox, if it is to that uid.
+    /// The broadcast's delivery as an item of a uid's inbox, if it is to that uid.
     pub fn item(&self, uid: u32) -> Result<Option<Item>, AllocError>
         ensures { IfOk result (λ item. option_to_list item ≡ turn_items uid self.now) }
     {
@@ -283,7 +283,7 @@ impl InTurn {
         }))
     }
 
-    /// Its uid wants no result any more. Takes no memory.
+    /// If the sender is this uid, it no longer wants the result. Takes no memory.
     pub fn unwant(&mut self, uid: u32)
         ensures { self.new ≡ unwanted uid self.old }
     {
@@ -299,7 +299,7 @@ impl InTurn {
         self.sender
     }
 
-    /// Whether the receiver that has its delivery is struck.
+    /// Whether the receiver that has the broadcast's delivery is struck.
     fn is_current_struck(&self, struck: &Struck) -> bool
         ensures { result ≡ strikes_current (strikes struck.now) self.now.rest self.now.current }
     {
@@ -312,14 +312,14 @@ impl InTurn {
         }
     }
 
-    /// Leaves out the receivers that are struck among those left.
+    /// Removes the struck receivers from the remaining ones.
     fn strike_rest(&mut self, struck: &Struck)
         ensures { self.new ≡ strike_rest (strikes struck.now) self.old }
     {
         self.rest.retain(|spot| !struck.strikes(spot));
     }
 
-    /// Strikes receivers; one that has its delivery is gone. Takes no memory.
+    /// Strikes receivers; a struck receiver that has its delivery counts as gone. Takes no memory.
     pub fn strike(&mut self, struck: &Struck)
         ensures { self.new ≡ strike (strikes struck.now) self.old }
     {
@@ -330,7 +330,7 @@ impl InTurn {
     }
 }
 
-/// An equal broadcast, which has taken the same memory for what its receivers do.
+/// An equal broadcast, which also holds the memory for what its receivers do.
 impl Clone for InTurn {
     ghost is_clone = { λ x y. y ≡ x };
 

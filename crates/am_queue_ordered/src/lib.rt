@@ -1,4 +1,4 @@
-//! Ordered broadcasts, whose receivers have their turn one after the other.
+//! Ordered broadcasts, whose receivers take turns one after the other.
 #![tactic(auto)]
 
 mod counts;

@@ -1,4 +1,4 @@
-//! A receiver that is past, and the delivery of the one whose turn it is.
+//! A past receiver, and the delivery to the receiver whose turn it is.
 ghost use Rattle.std.specs.Prelude.{◌≡◌, ◌+◌, ◌≤◌, ◌&&◌, ◌||◌, not, is_some};
 ghost use Rattle.std.specs.Option.{option_copied};
 ghost use Rattle.am_model.specs.Broadcasts.{is_abort, is_late};
@@ -19,7 +19,7 @@ pub enum Doing {
     Gone,
 }
 
-/// A receiver that is past, and what it did.
+/// A past receiver, and what it did.
 #[derive(Drop)]
 pub struct Past {
     spot: Spot,
@@ -56,7 +56,7 @@ impl Past {
         }
     }
 
-    /// Whether it set the outcome of a broadcast that had ended by then or not.
+    /// Whether it set the outcome of a broadcast, which may have ended before.
     pub fn sets(&self, ended: bool) -> bool
         ensures { result ≡ (is_some (set_by self.now.doing) && not ended) }
     {
@@ -67,7 +67,7 @@ impl Past {
         }
     }
 
-    /// Whether an abort ended the broadcast with it, or before.
+    /// Whether an abort ended the broadcast with this receiver, or earlier.
     pub fn ends(&self, ended: bool, no_abort: bool) -> bool
         ensures { result ≡ (ended || (not no_abort && is_abort self.now.doing)) }
     {
@@ -78,7 +78,7 @@ impl Past {
         }
     }
 
-    /// Hands out the outcome that it set.
+    /// Takes out the outcome that it set.
     pub fn into_outcome(self) -> Option<Outcome>
         ensures { result ≡ set_by self.doing }
     {
@@ -116,7 +116,7 @@ impl Clone for Past {
 #[derive(Drop)]
 pub struct Current {
     number: u64,
-    /// The moment from which on it is late, in milliseconds.
+    /// The moment at which it becomes late, in milliseconds.
     deadline: u64,
 }
 
@@ -152,7 +152,7 @@ impl Current {
         self.number
     }
 
-    /// The moment from which on it is late. A step is a reading of it, and there is no other. Takes no memory.
+    /// The moment at which it becomes late. A step is a reading of it; there is no other. Takes no memory.
     pub fn deadline<L: Ledger>(&self, steps: &mut Steps<L>) -> u64
         ensures deadline { result ≡ self.now.deadline }
         ensures cost { steps.new ≤ steps.old + 1 }
@@ -161,7 +161,7 @@ impl Current {
         self.deadline
     }
 
-    /// Whether it is late. A step is a reading of its deadline, and there is no other. Takes no memory.
+    /// Whether it is late. A step is a reading of its deadline; there is no other. Takes no memory.
     pub fn is_late<L: Ledger>(&self, now: u64, steps: &mut Steps<L>) -> bool
         ensures late { result ≡ is_late now (Some self.now) }
         ensures cost { steps.new ≤ steps.old + 1 }

@@ -45,14 +45,14 @@ impl Queue {
         }
     }
 
-    /// How many broadcasts stand in it. Takes no memory.
+    /// How many broadcasts are in it. Takes no memory.
     pub fn len(&self) -> usize
         ensures { result ≡ length self.now }
     {
         self.turns.len()
     }
 
-    /// Puts a broadcast at the end. Without memory the queue stays.
+    /// Puts a broadcast at the end. If memory runs out, the queue doesn't change.
     pub fn push(&mut self, sent: InTurn) -> Result<(), AllocError>
         requires { is_none sent.current ≡ true }
         ensures ok { OnOk result (self.new ≡ self.old ++ sent ∷ []) }
@@ -86,7 +86,7 @@ impl Queue {
         }
     }
 
-    /// Whether the head has a delivery of that number. Takes no memory.
+    /// Whether the head has a delivery with this number. Takes no memory.
     pub fn is_head(&self, number: u64) -> bool
         ensures { result ≡ is_head number self.now }
     {
@@ -96,7 +96,7 @@ impl Queue {
         }
     }
 
-    /// Whose the delivery of that number is, if the head has it. Takes no memory.
+    /// The uid that the delivery with this number is for, if the head has it. Takes no memory.
     pub fn holder(&self, number: u64) -> Option<u32>
         ensures { held_at_head number self.now ≡ option_map in_order result }
     {
@@ -108,7 +108,7 @@ impl Queue {
         }
     }
 
-    /// The head's first receiver did this. Takes no memory.
+    /// Records what the head's first receiver did. Takes no memory.
     pub fn turn_head(&mut self, doing: Doing)
         ensures { self.new ≡ head_turned (doing_of doing) self.old }
     {
@@ -127,7 +127,7 @@ impl Queue {
         }
     }
 
-    /// Takes out the head, which is over, and puts its result to the others.
+    /// Removes the head, which is over, and adds its result to the others.
     fn end_head(&mut self, results: &mut Vec<Final>, live: &mut Counts, next: u64) -> u64
         requires over { is_head_over self.old ≡ true }
         requires room { vec_len results.old < vec_capacity results.old }
@@ -153,7 +153,7 @@ impl Queue {
         next
     }
 
-    /// Gives the head, which isn't over, its delivery if it has none.
+    /// Gives the head, which isn't over, its delivery if it doesn't have one.
     fn begin_head(&mut self, next: u64, deadline: u64) -> u64
         requires over { is_head_over self.old ≡ false }
         requires small { next + 1 < 2 ^ 64 }
@@ -171,8 +171,8 @@ impl Queue {
         next + 1
     }
 
-    /// Takes out the heads that are over, puts their results to the others, and gives the head that
-    /// is left its delivery if it has none. Takes no memory.
+    /// Removes the heads that are over, adds their results to the others, and gives the head that
+    /// is left its delivery if it doesn't have one. Takes no memory.
     pub fn settle(
         &mut self,
         results: &mut Vec<Final>,
@@ -208,7 +208,7 @@ impl Queue {
         }
     }
 
-    /// A uid wants no result any more. Takes no memory.
+    /// A uid no longer wants results. Takes no memory.
     pub fn unwant(&mut self, uid: u32)
         ensures { self.new ≡ map (unwanted uid) self.old }
     {
@@ -228,7 +228,7 @@ impl Queue {
         }
     }
 
-    /// An equal queue, which has taken the same memory for what its receivers do.
+    /// An equal queue, which also holds the memory for what its receivers do.
     pub fn copy(&self) -> Result<Self, AllocError>
         ensures { IfOk result (λ copy. copy ≡ self.now) }
     {

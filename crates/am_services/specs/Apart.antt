@@ -1,4 +1,4 @@
--- What a start makes of a service, and that no two services are of one component.
+-- What a start does to a service, and that no two services have the same component.
 use Rattle.std.specs.Prelude.{ℕ, ◌+◌, Bool, true, ◌&&◌, List, [], ◌∷◌, is_none}
 use Rattle.am_types.specs.declared.intent.Intent.{Intent}
 use Rattle.am_types.specs.declared.intent.Component.{Component}
@@ -13,7 +13,7 @@ fresh component owner intent = record { component = component; owner = owner; in
 abbrev pub again : Intent → Service → Service
 again intent service = record service { intent = intent; starts = service.starts + 1 }
 
--- no two services are of one component
+-- no two services have the same component
 abbrev pub are_apart : List Service → Bool
 are_apart [] = true
 are_apart (first ∷ others) = is_none (running others first.component) && are_apart others

@@ -1,4 +1,4 @@
-//! Services that run.
+//! Running services.
 #![tactic(auto)]
 
 mod services;

@@ -1,4 +1,4 @@
-//! All services that run, in the order of their first start.
+//! All running services, in the order of their first start.
 ghost use Rattle.std.specs.Prelude.{◌≡◌, ◌+◌, ◌<◌, ◌≤◌, ◌||◌, ◌==◌, not, filter, slice_set, List as Items, [], All, IfOk, OnOk, OnErr, is_some, option_copied, vec_len};
 ghost use Rattle.std.specs.List.{position, HoldsAt};
 ghost use Rattle.am_model.specs.Gates.{is_privileged};
@@ -10,10 +10,10 @@ use am_types::{Component, Intent, List, NoMemory, ServiceView, drop_parts};
 use std::alloc::{AllocError, Global};
 use std::marker::Model;
 
-/// The most services that run.
+/// The greatest number of services that can run.
 const MOST: usize = 256;
 
-/// A service that runs.
+/// A running service.
 #[derive(Drop)]
 struct Running {
     component: Component,
@@ -30,7 +30,7 @@ impl Model for Running {
     ghost view = { λ r. record { component = r.component; owner = r.owner; intent = r.intent; starts = r.starts } };
 }
 
-/// All services that run, in the order of their first start. It keeps the allocator for its later calls.
+/// All running services, in the order of their first start. It keeps the allocator for later calls.
 pub struct Services {
     alloc: Global,
     running: Vec<Running>,
@@ -51,12 +51,12 @@ impl Model for Services {
 
     ghost view = { λ s. s.running.items };
 
-    // So that a start changes one service at most.
+    // This makes sure that a start changes at most one service.
     ghost invariant = { λ s. IsTrue (are_apart s.running.items) };
 }
 
 impl Services {
-    /// No service runs. Takes no memory.
+    /// No running services. Takes no memory.
     pub fn new(alloc: Global) -> Services
         ensures { result ≡ [] }
     {
@@ -88,8 +88,8 @@ impl Services {
         !self.runs(component) && self.running.len() >= MOST
     }
 
-    /// Starts the component's service with the intent: once more if it runs, else as a new one of the
-    /// owner, behind the others. Answers how often it was started since it began to run. After
+    /// Starts the component's service with the intent: once more if it runs, else as a new service of
+    /// the owner, after the others. Returns how often it was started since it began to run. After
     /// `NoMemory` the services are as before.
     pub fn start(
         &mut self,
@@ -132,7 +132,7 @@ impl Services {
     }
 }
 
-/// The service is the component's.
+/// Whether the service is the component's.
 fn is_service(component: &Component, service: &Running) -> bool
     ensures { result ≡ is_service component.now service.now }
 {
@@ -148,7 +148,7 @@ fn find<'a>(services: &'a [Running], component: &Component) -> Option<&'a Runnin
         .find(|service| is_service(component, service))
 }
 
-/// The place of the component's service, if it runs.
+/// The index of the component's service, if it runs.
 fn place_of(services: &[Running], component: &Component) -> Option<usize>
     ensures { result ≡ position (is_service component.now) services.now }
 {
@@ -169,7 +169,7 @@ fn fresh(component: &Component, owner: u32, intent: &Intent) -> Result<Running, 
     })
 }
 
-/// Starts the service at the place once more, with an intent. Answers how often it was started.
+/// Starts the service at the index once more, with an intent. Returns how often it was started.
 fn start_again(services: &mut Vec<Running>, place: usize, intent: Intent) -> u64
     requires within { place < vec_len services.old }
     requires bound { HoldsAt (λ (service : Service). service.starts ≤ 1125899906842624) services.old.items place }
@@ -179,7 +179,7 @@ fn start_again(services: &mut Vec<Running>, place: usize, intent: Intent) -> u64
     start_once_more(&mut services[place], intent)
 }
 
-/// Starts the service once more, with an intent. Answers how often it was started.
+/// Starts the service once more, with an intent. Returns how often it was started.
 fn start_once_more(service: &mut Running, intent: Intent) -> u64
     requires { service.old.starts ≤ 1125899906842624 }
     ensures starts { result ≡ service.old.starts + 1 }
@@ -214,7 +214,7 @@ fn view_of(service: &Running) -> Result<ServiceView, AllocError>
     })
 }
 
-/// The caller sees a service of the owner.
+/// Whether the caller sees a service of the owner.
 fn sees(caller: u32, owner: u32) -> bool
     ensures { result ≡ (is_privileged caller || (owner == caller)) }
 {

@@ -17,16 +17,19 @@ answers_seen : (all : Tasks) (found : Option Instance) → (back_from all found)
 answers_seen all None = refl
 answers_seen all (Some instance) = refl
 
--- where nothing is seen there is no task
+-- if nothing is seen, there is no task
 pub nothing_seen : (all : Tasks) → IsSound all → None ≡ seen_number (seen all.tasks) → all.tasks ≡ []
-nothing_seen all sound none = back_ends_one all (sound_inhabited all.tasks sound.filled) (answers_seen all (seen all.tasks) ∙ sym none)
+nothing_seen all sound none = back_ends_one all (sound_inhabited all.tasks sound.filled)
+    (answers_seen all (seen all.tasks) ∙ sym none)
 
--- where something is seen it is ended
-pub ends_seen : (all after : Tasks) (number : ℕ) → Some number ≡ seen_number (seen all.tasks) → after ≡ record all { tasks = tasks_keeping (stays (Numbered number)) all.tasks }
+-- if something is seen, it is ended
+pub ends_seen : (all after : Tasks) (number : ℕ) → Some number ≡ seen_number (seen all.tasks) → after
+    ≡ record all { tasks = tasks_keeping (stays (Numbered number)) all.tasks }
     → ◌≡◌ {A = Option ℕ × Tasks} (Some number, after) (back all)
 ends_seen all after number is ended = by (seen all.tasks) is
   where
-    by : (found : Option Instance) → Some number ≡ seen_number found → ◌≡◌ {A = Option ℕ × Tasks} (Some number, after) (back_from all found)
+    by : (found : Option Instance) → Some number ≡ seen_number found
+        → ◌≡◌ {A = Option ℕ × Tasks} (Some number, after) (back_from all found)
     by None is = absurd cc
     by (Some instance) is =
         let same : number ≡ instance.number = cc in

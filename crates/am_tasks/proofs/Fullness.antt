@@ -17,10 +17,11 @@ use Rattle.am_tasks.proofs.Once.{IsOnce, stands_below}
 use Rattle.am_tasks.proofs.Soundness.{instance_number}
 use Rattle.am_tasks.proofs.Carrying.{number_there}
 
--- there is no more below an instance than its place tells
+-- there are at most as many below an instance as its place tells
 short_below : (xs : List Instance) (place : ℕ) → place < length xs → length (below (number_at xs place) xs) ≤ place
 short_below xs place low = elim (cases_lt place (prefix_len stands xs)) [
-  | inl beyond ↦ absurd (both_ways (stands here) (not_from_true _ (eq-eqb here.number (number_at xs place) (sym (number_there xs place d low)))) (prefix_len_passes stands xs place d beyond))
+  | inl beyond ↦ absurd (both_ways (stands here) (not_from_true _ (eq-eqb here.number (number_at xs place)
+      (sym (number_there xs place d low)))) (prefix_len_passes stands xs place d beyond))
   | inr within ↦ omega (arith, length-take (prefix_len stands xs) xs)
 ]
   where
@@ -34,19 +35,25 @@ short_below xs place low = elim (cases_lt place (prefix_len stands xs)) [
     stands i = not (i.number == number_at xs place)
 
 -- so a fresh one in its place finds room
-pub room_at_place : (all : Tasks) (task : Task) (place : ℕ) → place < length task.instances → length task.instances ≤ 64 → too_full all (change_in task (FreshAt place)) ≡ None
-room_at_place all task place low most = rw (lt-leb 64 (length (below (number_at task.instances place) task.instances)) (omega (arith, short_below task.instances place low))) refl
+pub room_at_place : (all : Tasks) (task : Task) (place : ℕ) → place < length task.instances → length task.instances ≤ 64
+    → too_full all (change_in task (FreshAt place)) ≡ None
+room_at_place all task place low most = rw (lt-leb 64 (length (below (number_at task.instances place) task.instances))
+    (omega (arith, short_below task.instances place low))) refl
 
--- where a fresh one on top is not refused there is room for it
-pub room_on_top : (all : Tasks) (task : Task) → too_full all (model.FreshOn task task.instances) ≡ None → length task.instances < 64
+-- if a fresh one on top isn't refused, there is room for it
+pub room_on_top : (all : Tasks) (task : Task) → too_full all (model.FreshOn task task.instances) ≡ None
+    → length task.instances < 64
 room_on_top all task room = by (nat_le 64 (length task.instances)) refl room
   where
-    by : (b : Bool) → nat_le 64 (length task.instances) ≡ b → ◌≡◌ {A = Option PlaceFault} (cond b (Some TaskFull) None) None → length task.instances < 64
+    by : (b : Bool) → nat_le 64 (length task.instances) ≡ b → ◌≡◌ {A = Option PlaceFault} (cond b (Some TaskFull) None)
+        None → length task.instances < 64
     by true is room = absurd cc
     by false is room = leb-false 64 (length task.instances) is
 
--- a fresh one in the place of an instance stands on what is in front of that place
-pub fresh_at : (task : Task) (place : ℕ) → IsOnce instance_number task.instances → place < length task.instances → change_in task (FreshAt place) ≡ model.FreshOn task (take place task.instances)
+-- a fresh one in the place of an instance is on top of what is in front of that place
+pub fresh_at : (task : Task) (place : ℕ) → IsOnce instance_number task.instances → place < length task.instances
+    → change_in task (FreshAt place) ≡ model.FreshOn task (take place task.instances)
 fresh_at task place once low =
     let d : Instance = (at_there task.instances place low).0 in
-    ap (λ l. model.FreshOn task l) (ap (λ n. below n task.instances) (number_there task.instances place d low) ∙ stands_below instance_number task.instances place d once low)
+    ap (λ l. model.FreshOn task l) (ap (λ n. below n task.instances) (number_there task.instances place d low)
+    ∙ stands_below instance_number task.instances place d once low)

@@ -15,6 +15,8 @@ carried_rise all start (NewIntentTo task kept number) = (omega arith, omega arit
 carried_rise all start (FrontOf task) = (omega arith, omega arith)
 
 -- and so does a start
-pub place_rises : (all after : Tasks) (start : StartCall) (landed : Landed) → place all start ≡ Ok (landed, after) → NumbersRise all after
+pub place_rises : (all after : Tasks) (start : StartCall) (landed : Landed) → place all start ≡ Ok (landed, after)
+    → NumbersRise all after
 place_rises all after start landed done =
-    subst (λ (r : Landed × Tasks). NumbersRise all r.1) (sym (place_carries_out all start (landed, after) done)) (carried_rise all start (plan_for all start))
+    subst (λ (r : Landed × Tasks). NumbersRise all r.1) (sym (place_carries_out all start (landed, after) done))
+    (carried_rise all start (plan_for all start))

@@ -8,10 +8,12 @@ use Rattle.am_tasks.proofs.Finding.{place_found, none_found}
 
 -- without a task that has it nobody does
 pub owner_none : (all : Tasks) (number : ℕ) → position (has_number number) all.tasks ≡ None → owner all number ≡ None
-owner_none all number none = ap (λ found. owner_in (option_and_then (instance_in number) found)) (none_found (has_number number) all.tasks none)
+owner_none all number none = ap (λ found. owner_in (option_and_then (instance_in number) found))
+    (none_found (has_number number) all.tasks none)
 
--- else who owns it in its task
-pub owner_at : (all : Tasks) (number place : ℕ) (d : Task) → position (has_number number) all.tasks ≡ Some place → owner all number ≡ owner_in (instance_in number (get_or all.tasks place d))
+-- otherwise the one that owns it in its task
+pub owner_at : (all : Tasks) (number place : ℕ) (d : Task) → position (has_number number) all.tasks ≡ Some place
+    → owner all number ≡ owner_in (instance_in number (get_or all.tasks place d))
 owner_at all number place d found =
     let here = place_found (has_number number) all.tasks place found in
     ap (λ found. owner_in (option_and_then (instance_in number) found)) (here.is d)

@@ -1,8 +1,8 @@
--- Numbers by which components are told apart.
+-- Numbers that tell components apart.
 use Rattle.std.specs.Prelude.{ℕ, ◌+◌, ◌*◌, ◌%◌, ◌^◌, List, fold}
 use Rattle.am_types.specs.declared.intent.Component.{Component}
 
--- of each byte in turn: 31 times the number so far and the byte, each within 64 bits
+-- for each byte in turn: 31 times the number so far plus the byte, each within 64 bits
 abbrev pub with_byte : ℕ → ℕ → ℕ
 with_byte mark byte = ((mark * 31) % 2 ^ 64 + byte) % 2 ^ 64
 

@@ -2,7 +2,7 @@
 use Rattle.std.specs.Prelude.{◌≤◌, ◌+◌}
 use Rattle.am_model.specs.Tasks.{Tasks}
 
--- there are numbers left: neither of the next ones is beyond the last
+-- there are numbers left: neither of the next ones is above the last
 abbrev pub HasNumbers : Tasks → Type 0
 HasNumbers all = (all.next_task ≤ 1125899906842624) × (all.next_instance ≤ 1125899906842624)
 

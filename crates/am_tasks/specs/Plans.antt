@@ -1,4 +1,4 @@
--- What a start does, told by places: of its task among the tasks, and of an instance in that task.
+-- What a start does, in terms of places: of its task among the tasks, and of an instance in that task.
 use Rattle.std.specs.Prelude.{◌≡◌, ℕ, ◌<◌, List, [], ◌++◌, length, slice_get, option_to_list}
 use Rattle.std.specs.List.{HoldsAt}
 use Rattle.am_types.specs.declared.task.StartCall.{StartCall}
@@ -19,8 +19,10 @@ number_at instances place = number_of (slice_get instances place)
 -- what is kept of a task for a new intent to the instance at a place
 abbrev pub kept_by : Keeping → ℕ → List Instance → List Instance
 kept_by All place instances = instances
-kept_by Below place instances = below (number_at instances place) instances ++ option_to_list (slice_get instances place)
-kept_by Others place instances = besides (number_at instances place) instances ++ option_to_list (slice_get instances place)
+kept_by Below place instances = below (number_at instances place) instances
+    ++ option_to_list (slice_get instances place)
+kept_by Others place instances = besides (number_at instances place) instances
+    ++ option_to_list (slice_get instances place)
 
 -- what the change makes of a task
 abbrev pub change_in : Task → Change → model.Plan
@@ -31,7 +33,7 @@ change_in task (NewIntent keeping place) =
     model.NewIntentTo task (kept_by keeping place task.instances) (number_at task.instances place)
 change_in task OnlyFronted = model.FrontOf task
 
--- the change speaks of an instance that the task has
+-- the change refers to an instance that the task has
 abbrev pub IsIn : Task → Change → Type 0
 IsIn task FreshRoot = Unit {0}
 IsIn task (FreshAt place) = place < length task.instances
@@ -39,7 +41,7 @@ IsIn task FreshOnTop = Unit {0}
 IsIn task (NewIntent keeping place) = place < length task.instances
 IsIn task OnlyFronted = Unit {0}
 
--- the plan by places is that plan of the tasks
+-- the plan in terms of places is the same as the plan in terms of tasks
 abbrev pub Plans : List Task → Plan → model.Plan → Type 0
 Plans tasks (NewTask single) plan = plan ≡ model.NewTask single
 Plans tasks (InTask place change) plan =

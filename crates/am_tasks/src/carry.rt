@@ -76,7 +76,7 @@ fn put_on(instances: &mut Vec<Instance>, kept: usize, fresh: Instance) -> Result
     ensures ok { OnOk result (instances.new.items ≡ take kept instances.old.items ++ fresh ∷ []) }
     ensures err { OnErr result (instances.new.items ≡ instances.old.items) }
 {
-    // Where something is destroyed, its place is free already.
+    // If something is destroyed, its place is already free.
     if kept < instances.len() {
         instances[kept] = fresh;
         instances.truncate(kept + 1);
@@ -86,7 +86,7 @@ fn put_on(instances: &mut Vec<Instance>, kept: usize, fresh: Instance) -> Result
     Ok(())
 }
 
-/// The new intent goes to the instance at the place, and the others are kept as told. Answers the
+/// Gives the instance at the place the new intent, and keeps the others as `keeping` says. Returns the
 /// number of the instance. Takes no memory.
 fn renew(task: &mut Task, keeping: Keeping, place: usize, intent: Intent) -> u64
     requires within { place < length task.old.instances }
@@ -99,7 +99,7 @@ fn renew(task: &mut Task, keeping: Keeping, place: usize, intent: Intent) -> u64
     give_at(&mut task.instances, top, intent)
 }
 
-/// Keeps what is told, and answers the place at which the instance is then.
+/// Keeps what `keeping` says, and returns the place at which the instance is then.
 fn arrange(instances: &mut Vec<Instance>, keeping: Keeping, place: usize) -> usize
     requires within { place < vec_len instances.old }
     requires once { (number : ℕ) → count_by (is_number number) instances.old.items ≤ 1 }
@@ -126,14 +126,14 @@ fn move_to_top(instances: &mut Vec<Instance>, place: usize)
         instances.old.items place }
 {
     let instance = instances.remove(place);
-    // What was taken out left room.
+    // The removal left room.
     match instances.push(instance) {
         Ok(()) => {}
         Err(_) => unreachable!(),
     }
 }
 
-/// Gives the instance at the place the intent, and answers its number.
+/// Gives the instance at the place the intent, and returns its number.
 fn give_at(instances: &mut Vec<Instance>, place: usize, intent: Intent) -> u64
     requires within { place < vec_len instances.old }
     requires once { (number : ℕ) → count_by (is_number number) instances.old.items ≤ 1 }
@@ -151,21 +151,21 @@ fn give(instance: &mut Instance, intent: Intent) -> u64
     instance.number
 }
 
-/// The task at the place comes to the front.
+/// Brings the task at the place to the front.
 pub(crate) fn to_front(tasks: &mut Vec<Task>, place: usize)
     requires { place < vec_len tasks.old }
     ensures { HoldsAt (λ (task : Kept). tasks.new.items ≡ task ∷ remove tasks.old.items place)
         tasks.old.items place }
 {
     let task = tasks.remove(place);
-    // What was taken out left room.
+    // The removal left room.
     match tasks.insert(0, task) {
         Ok(()) => {}
         Err(_) => unreachable!(),
     }
 }
 
-/// A fresh instance on the first `kept` of the task at the place, which comes to the front. Answers
+/// Puts a fresh instance on the first `kept` of the task at the place, which comes to the front. Returns
 /// the task's number. After `NoMemory` the tasks are as before.
 pub(crate) fn put_in(
     tasks: &mut Vec<Task>,
@@ -189,7 +189,7 @@ pub(crate) fn put_in(
     Ok(number)
 }
 
-/// A new intent to an instance of the task at the place, which comes to the front. Answers the
+/// Gives an instance of the task at the place, which comes to the front, a new intent. Returns the
 /// numbers of the task and of the instance. Takes no memory.
 pub(crate) fn renew_in(
     tasks: &mut Vec<Task>,
@@ -216,7 +216,7 @@ pub(crate) fn renew_in(
     (number, renewed)
 }
 
-/// Where a start lands that only brings the task to the front.
+/// Where a start ends up that only brings the task to the front.
 pub(crate) fn fronted(task: &Task) -> Landed
     ensures { result ≡ record {
       how = Placed.Fronted;

@@ -1,4 +1,4 @@
-//! What is found among the tasks, by its place.
+//! Finds things among the tasks, by their places.
 ghost use Rattle.std.specs.Prelude.{◌≡◌, ◌<◌, length, reverse, IfSome, option_map};
 ghost use Rattle.std.specs.List.{find, position};
 ghost use Rattle.am_model.specs.Placement.{is_of, topmost};
@@ -9,7 +9,7 @@ ghost use Rattle.am_tasks.specs.Finds.{at, has_component, has_number, is_for, is
 use crate::task::{Instance, Task, mark_of};
 use am_types::{Component, Text};
 
-/// The instance is one of the component.
+/// The activity is an instance of the component.
 pub(crate) fn is_of(component: &Component, instance: &Instance) -> bool
     ensures { result ≡ is_of component.now instance.now }
 {
@@ -37,14 +37,14 @@ fn topmost(instances: &[Instance], component: &Component) -> Option<usize>
     found
 }
 
-/// The place of the task in which the instance of that number stands.
+/// The place of the task that has the instance with this number.
 pub(crate) fn task_of(tasks: &[Task], number: u64) -> Option<usize>
     ensures { result ≡ position (has_number number) tasks.now }
 {
     tasks.iter().position(|task| has_number(task, number))
 }
 
-/// The task has the instance of that number.
+/// The task has the instance with this number.
 fn has_number(task: &Task, number: u64) -> bool
     ensures { result ≡ has_number number task.now }
 {
@@ -53,7 +53,7 @@ fn has_number(task: &Task, number: u64) -> bool
         .any(|instance| is_number(instance, number))
 }
 
-/// The instance has that number.
+/// The instance has this number.
 fn is_number(instance: &Instance, number: u64) -> bool
     ensures { result ≡ is_number number instance.now }
 {
@@ -86,7 +86,7 @@ fn has_component(task: &Task, component: &Component, mark: u64) -> bool
         .any(|instance| is_marked(component, mark, instance))
 }
 
-/// The instance is one of the component, which has this mark.
+/// The activity is an instance of the component, which has this mark.
 #[tactic(auto, using(crate::proofs::MarkLemmas::other_mark))]
 fn is_marked(component: &Component, mark: u64, instance: &Instance) -> bool
     requires { mark ≡ mark_of component.now }
@@ -95,14 +95,14 @@ fn is_marked(component: &Component, mark: u64, instance: &Instance) -> bool
     instance.mark == mark && is_of(component, instance)
 }
 
-/// The place of the frontmost task whose root is one of the component.
+/// The place of the frontmost task whose root is an instance of the component.
 pub(crate) fn task_rooted(tasks: &[Task], component: &Component) -> Option<usize>
     ensures { result ≡ position (is_rooted component.now) tasks.now }
 {
     tasks.iter().position(|task| is_rooted(task, component))
 }
 
-/// The root of the task is one of the component.
+/// The root of the task is an instance of the component.
 pub(crate) fn is_rooted(task: &Task, component: &Component) -> bool
     ensures { result ≡ is_rooted component.now task.now }
 {
@@ -112,7 +112,7 @@ pub(crate) fn is_rooted(task: &Task, component: &Component) -> bool
     }
 }
 
-/// The place of the frontmost task of that affinity that isn't for a single instance; an empty
+/// The place of the frontmost task with this affinity that isn't for a single instance; an empty
 /// affinity matches none.
 pub(crate) fn task_of_affinity(tasks: &[Task], affinity: &Text) -> Option<usize>
     ensures { result ≡ position (is_for affinity.now) tasks.now }
@@ -126,7 +126,7 @@ fn is_for(task: &Task, affinity: &Text) -> bool
     !task.single && !affinity.as_str().is_empty() && task.affinity == *affinity
 }
 
-/// The uid of the instance's package, if the task has an instance of that number.
+/// The uid of the instance's package, if the task has an instance with this number.
 pub(crate) fn owner_in(task: &Task, number: u64) -> Option<u32>
     ensures { result ≡ owner_in (instance_in number task.now) }
 {

@@ -9,13 +9,13 @@ use crate::task::{Instance, Task};
 /// Which instances end.
 #[derive(Clone, Copy)]
 pub(crate) enum Leaving {
-    /// That of this number.
+    /// The one with this number.
     Numbered(u64),
-    /// Those of this uid.
+    /// All of this uid.
     OwnedBy(u32),
 }
 
-/// The tasks without the instances that end; a task without one is gone. Takes no memory.
+/// The tasks without the instances that end; a task without instances is gone. Takes no memory.
 pub(crate) fn leave(tasks: &mut Vec<Task>, leaving: Leaving)
     ensures { tasks.new.items ≡ tasks_keeping (stays leaving) tasks.old.items }
 {

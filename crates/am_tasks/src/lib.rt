@@ -1,4 +1,4 @@
-//! Tasks and the back stack: in which task a started activity is placed, and what ends activities.
+//! Tasks and the back stack: which task a started activity is put in, and what ends activities.
 #![tactic(auto)]
 
 mod carry;

@@ -12,15 +12,15 @@ use am_types::{Mode, StartCall};
 /// What is kept of a task for a new intent to one of its instances.
 #[derive(Clone, Copy)]
 pub(crate) enum Keeping {
-    /// All as they stand.
+    /// All instances, as they are.
     All,
-    /// It and what is below it.
+    /// The instance and the ones below it.
     Below,
-    /// All, with it moved to the top.
+    /// All instances, with the one moved to the top.
     Others,
 }
 
-/// What happens in a task that is there. An instance is named by its place from the root.
+/// What happens in an existing task. An instance is named by its place from the root.
 #[derive(Clone, Copy)]
 pub(crate) enum Change {
     /// All are destroyed, and a fresh root is made.
@@ -44,7 +44,7 @@ pub(crate) enum Plan {
     InTask(usize, Change),
 }
 
-/// What the start does. The source stands in the task at the place `source`.
+/// What the start does. `source` is the place of the source's task.
 pub(crate) fn plan_of(start: &StartCall, tasks: &[Task], source: Option<usize>) -> Plan
     requires { IfSome source (λ place. place < length tasks.now) }
     ensures { Plans tasks.now result (plan_of start.now tasks.now (at tasks.now source)) }
@@ -56,7 +56,7 @@ pub(crate) fn plan_of(start: &StartCall, tasks: &[Task], source: Option<usize>) 
     }
 }
 
-/// The instance that exists gets the new intent, wherever it stands; else a task for it alone.
+/// An existing instance gets the new intent, in whichever task it is; otherwise it gets a new task of its own.
 fn placed_single(start: &StartCall, tasks: &[Task]) -> Plan
     ensures { Plans tasks.now result (placed_single start.now tasks.now) }
 {
@@ -69,8 +69,8 @@ fn placed_single(start: &StartCall, tasks: &[Task]) -> Plan
     }
 }
 
-/// The root that is the component gets the new intent, and all above it is destroyed; else a new
-/// task.
+/// A root that is an instance of the component gets the new intent, and everything above it is destroyed;
+/// otherwise there is a new task.
 fn placed_per_task(start: &StartCall, tasks: &[Task]) -> Plan
     ensures { Plans tasks.now result (placed_per_task start.now tasks.now) }
 {
@@ -83,8 +83,8 @@ fn placed_per_task(start: &StartCall, tasks: &[Task]) -> Plan
     }
 }
 
-/// In the other modes: in the task of the component's affinity where a new task is wanted, and in
-/// the source's task where it isn't.
+/// In the other modes: in the task of the component's affinity if a new task is wanted, and in
+/// the source's task if it isn't.
 fn placed_ordinary(start: &StartCall, tasks: &[Task], source: Option<usize>) -> Plan
     requires { IfSome source (λ place. place < length tasks.now) }
     ensures { Plans tasks.now result
@@ -101,8 +101,8 @@ fn placed_ordinary(start: &StartCall, tasks: &[Task], source: Option<usize>) -> 
     }
 }
 
-/// The place of the task of the component's affinity where a new task is wanted, else of the
-/// source's.
+/// The place of the task of the component's affinity if a new task is wanted, otherwise of the
+/// source's task.
 #[tactic(auto, using(crate::proofs::Finding::found_at, crate::proofs::Finding::found_within))]
 fn task_for(start: &StartCall, tasks: &[Task], wanted: bool, source: Option<usize>) -> Option<usize>
     requires { IfSome source (λ place. place < length tasks.now) }
@@ -117,7 +117,7 @@ fn task_for(start: &StartCall, tasks: &[Task], wanted: bool, source: Option<usiz
     }
 }
 
-/// A new task is wanted: the start asks for one, the mode does, or the source stands in a task for
+/// A new task is wanted: the start asks for one, the mode does, or the source is in a task for
 /// a single instance.
 fn wants_new_task(start: &StartCall, tasks: &[Task], source: Option<usize>) -> bool
     requires { IfSome source (λ place. place < length tasks.now) }
@@ -144,7 +144,7 @@ fn is_multiple(start: &StartCall, wanted: bool) -> bool
         && (is_mode(Mode::Standard, start.mode) || is_mode(Mode::SingleTop, start.mode))
 }
 
-/// In a task that is there: the first case that applies.
+/// The change in an existing task: the first case that applies.
 fn placed_in(start: &StartCall, wanted: bool, task: &Task) -> Change
     ensures plan { change_in task.now result ≡ placed_in start.now wanted task.now }
     ensures within { IsIn task.now result }
@@ -167,7 +167,7 @@ fn placed_in(start: &StartCall, wanted: bool, task: &Task) -> Change
     }
 }
 
-/// With singleTask or CLEAR_TOP, where the task has an instance of the component: all above it is
+/// With singleTask or CLEAR_TOP, if the task has an instance of the component: everything above it is
 /// destroyed.
 fn clearing_top(start: &StartCall, task: &Task) -> Option<Change>
     ensures plan { option_map (change_in task.now) result
@@ -181,7 +181,7 @@ fn clearing_top(start: &StartCall, task: &Task) -> Option<Change>
     Some(cleared_to(start, place))
 }
 
-/// A standard activity without SINGLE_TOP is made anew, another gets the new intent.
+/// A standard activity without SINGLE_TOP is made anew; any other gets the new intent.
 fn cleared_to(start: &StartCall, place: usize) -> Change
     ensures plan { (task : Kept) (instance : Held) → slice_get task.instances place ≡ Some instance →
         change_in task result ≡ cleared_to start.now task instance }
@@ -207,7 +207,7 @@ fn reordering(start: &StartCall, wanted: bool, task: &Task) -> Option<Change>
     Some(Change::NewIntent(Keeping::Others, place))
 }
 
-/// With singleTop or SINGLE_TOP, where the top is the component: it gets the new intent.
+/// With singleTop or SINGLE_TOP, if the top is an instance of the component: it gets the new intent.
 #[tactic(auto, using(crate::proofs::Finding::last_at))]
 fn on_top(start: &StartCall, task: &Task) -> Option<Change>
     ensures plan { option_map (change_in task.now) result ≡ on_top start.now task.now (top_of task.now) }

@@ -10,11 +10,11 @@ use std::marker::Model;
 pub(crate) struct Instance {
     pub(crate) number: u64,
     pub(crate) component: Component,
-    /// Components of different marks differ, so that few texts are compared in a search.
+    /// Components with different marks differ, so a search compares few texts.
     pub(crate) mark: u64,
     /// The uid of the component's package.
     pub(crate) owner: u32,
-    /// The intent that it was given last, apart, so that a search goes over little memory.
+    /// The last intent that it was given; kept separately, so that a search goes over little memory.
     pub(crate) intent: Box<Intent>,
 }
 
@@ -57,7 +57,7 @@ fn mark_of_bytes(bytes: &[u8]) -> u64
 #[derive(Drop)]
 pub(crate) struct Task {
     pub(crate) number: u64,
-    /// That of the component for which it was made; empty for none.
+    /// The affinity of the component that it was made for; empty for none.
     pub(crate) affinity: Text,
     /// Whether it is for a single instance.
     pub(crate) single: bool,

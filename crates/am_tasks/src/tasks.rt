@@ -85,7 +85,7 @@ fn intent_of(start: StartCall) -> Intent
 }
 
 impl Tasks {
-    /// No task yet. Keeps the allocator, and takes no memory.
+    /// No tasks yet. Keeps the allocator, and takes no memory.
     pub fn new(alloc: Global) -> Tasks
         ensures { result ≡ no_tasks }
     {
@@ -165,7 +165,7 @@ impl Tasks {
         }
     }
 
-    /// Why the plan finds no room.
+    /// Why there is no room for the plan.
     fn too_full(&self, plan: Plan) -> Option<PlaceFault>
         ensures full { (meant : model.Plan) →
             Plans self.now.tasks plan meant → result ≡ too_full self.now meant }
@@ -197,7 +197,7 @@ impl Tasks {
         }
     }
 
-    /// A fresh instance in a new task, in front of all others.
+    /// Puts a fresh instance in a new task, in front of all others.
     fn start_task(&mut self, single: bool, start: StartCall) -> Result<Landed, NoMemory>
         requires numbers { HasNumbers self.old }
         requires room { length self.old.tasks < 64 }
@@ -217,7 +217,7 @@ impl Tasks {
         })
     }
 
-    /// The change in the task at the place, which comes to the front.
+    /// Makes the change in the task at the place, which comes to the front.
     fn change_task(
         &mut self,
         place: usize,
@@ -250,7 +250,7 @@ impl Tasks {
         }
     }
 
-    /// A fresh instance on the first `kept` of the task at the place.
+    /// Puts a fresh instance on the first `kept` of the task at the place.
     fn put_fresh(&mut self, place: usize, kept: usize, start: StartCall) -> Result<Landed, NoMemory>
         requires numbers { HasNumbers self.old }
         requires within { place < length self.old.tasks }
@@ -273,7 +273,7 @@ impl Tasks {
         })
     }
 
-    /// A new intent to an instance of the task at the place.
+    /// Gives an instance of the task at the place a new intent.
     fn renew(&mut self, place: usize, keeping: Keeping, instance: usize, intent: Intent) -> Landed
         requires within { place < length self.old.tasks }
         requires fits { HoldsAt (λ (task : Kept). instance < length task.instances) self.old.tasks place }
@@ -290,7 +290,7 @@ impl Tasks {
         }
     }
 
-    /// The task at the place comes to the front.
+    /// Brings the task at the place to the front.
     fn bring_to_front(&mut self, place: usize) -> Landed
         requires within { place < length self.old.tasks }
         ensures { (start : StartCall) → HoldsAt
@@ -328,8 +328,8 @@ impl Tasks {
         }
     }
 
-    /// Goes back: the top of the front task is ended, and its number answered. ("Tasks and the back
-    /// stack", Lifecycle of a task and its back stack.) There is none exactly where there is no
+    /// Goes back: ends the top of the front task, and returns its number. ("Tasks and the back
+    /// stack", Lifecycle of a task and its back stack.) There is none exactly if there is no
     /// task. Takes no memory.
     pub fn back(&mut self) -> Option<u64>
         ensures ended { (result, self.new) ≡ back self.old }
@@ -341,8 +341,8 @@ impl Tasks {
         Some(seen)
     }
 
-    /// The tasks as the uid sees them, from front to back: its own instances, or all where it is
-    /// the system or the root. A task without one is left out.
+    /// The tasks as the uid sees them, from front to back: its own instances, or all if it is
+    /// the system or the root. A task without any is left out.
     pub fn views(&self, uid: u32) -> Result<List<TaskView>, NoMemory>
         ensures { IfOk result (λ shown. shown ≡ views self.now uid) }
     {

@@ -7,7 +7,7 @@ use crate::task::{Instance, Task};
 use am_types::{InstanceView, List, NoMemory, ROOT, SYSTEM, TaskView};
 use std::alloc::{AllocError, Global};
 
-/// The tasks with the instances that the uid sees, from front to back; a task without one is left
+/// The tasks with the instances that the uid sees, from front to back; a task without any is left
 /// out.
 pub(crate) fn task_views(
     alloc: Global,
@@ -55,14 +55,14 @@ fn instance_view(instance: &Instance) -> Result<InstanceView, AllocError>
     })
 }
 
-/// The uid sees the instance: its own, or each where it is the system or the root.
+/// The uid sees the instance: its own, or any if it is the system or the root.
 fn may_see(uid: u32, instance: &Instance) -> bool
     ensures { result ≡ may_see uid instance.now }
 {
     is_privileged(uid) || instance.owner == uid
 }
 
-/// The uid may end what another owns: what is its own, or all where it is the system or the root.
+/// The uid may end what another owns: its own, or anything if it is the system or the root.
 pub(crate) fn may_end(uid: u32, owner: u32) -> bool
     ensures { result ≡ may_end uid owner }
 {

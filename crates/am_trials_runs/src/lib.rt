@@ -17,13 +17,13 @@ use std::sync::Wait;
 use std::test::Fail;
 use std::thread::Threads;
 
-/// What a run of the program takes of the runtime.
+/// What a run of the program takes from the runtime.
 pub trait Runtime: Threads + Wait + Clone + Drop + Send + Sync {}
 
 impl<R: Threads + Wait + Clone + Drop + Send + Sync> Runtime for R {}
 
-/// How the outside behaves: how many bytes a read and a write take at most, which call of which object fails, or of
-/// which objects, between `+`, and the first moment that the clock tells, with how much later each further one is.
+/// How the outside behaves: the most bytes that a read and a write take, which call of which object fails, or of
+/// which objects, between `+`, the first moment that the clock tells, and how much later each further one is.
 #[derive(Clone, Copy)]
 pub struct Outside {
     pub most: usize,
@@ -177,7 +177,7 @@ pub fn try_run(
     run_over(rt, alloc, asked, outside, &mut store)
 }
 
-/// A session over the device with that input.
+/// A session over the device with this input.
 pub fn session_over(
     rt: &impl Runtime,
     alloc: Global,

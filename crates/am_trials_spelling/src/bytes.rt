@@ -33,7 +33,7 @@ fn push_unescaped(bytes: &mut Vec<u8>, text: &str) -> Result<(), Fail> {
     Ok(())
 }
 
-/// Adds the byte of an escape, without its backslash, and what is behind it.
+/// Adds the byte of an escape, without its backslash, and what follows it.
 fn push_escape(bytes: &mut Vec<u8>, part: &str) -> Result<(), Fail> {
     let (letter, behind) = part.split_at_checked(1).ok_or("an escape")?;
     match letter {
@@ -46,7 +46,7 @@ fn push_escape(bytes: &mut Vec<u8>, part: &str) -> Result<(), Fail> {
     Ok(())
 }
 
-/// Adds the byte of two digits, and what is behind them.
+/// Adds the byte of two digits, and what follows them.
 fn push_hex(bytes: &mut Vec<u8>, part: &str) -> Result<(), Fail> {
     let (digits, behind) = part.split_at_checked(2).ok_or("two digits")?;
     bytes.push(u8::from_str_radix(digits, 16).ok().ok_or("a byte")?)?;

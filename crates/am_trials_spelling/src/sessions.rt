@@ -37,7 +37,7 @@ fn push_response(wanted: &mut String, shown: &str) -> Result<(), Fail> {
     Ok(())
 }
 
-/// What the calls of these rows are asked by, and answered with.
+/// What the calls of these rows ask, and how they are answered.
 pub fn session_of(alloc: Global, rows: &str) -> Result<Exchanged, Fail> {
     let mut all = Exchanged {
         calls: 0,

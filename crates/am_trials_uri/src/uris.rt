@@ -9,7 +9,7 @@ use am_uri::{parse_uri, passes_path};
 use std::alloc::{AllocError, Global};
 use std::test::Fail;
 
-/// What is read from the text as a URI.
+/// The answer when the text is read as a URI.
 fn uri_read(alloc: Global, text: &str) -> Result<String, AllocError> {
     let whole = Text::of(alloc, text)?;
     match parse_uri(alloc, &whole) {
@@ -60,7 +60,7 @@ fn filled(alloc: Global, front: &str, len: usize) -> Result<String, AllocError> 
     Ok(text)
 }
 
-/// A request with such a text is refused before.
+/// A request with such a text is refused earlier.
 #[test]
 fn long_uris_are_refused_unread(rt: HostRuntime) -> Result<(), Fail> {
     let alloc = rt.alloc();
@@ -71,7 +71,7 @@ fn long_uris_are_refused_unread(rt: HostRuntime) -> Result<(), Fail> {
     Ok(())
 }
 
-/// The rule that the word writes.
+/// The rule that the word stands for.
 fn rule(alloc: Global, word: &str) -> Result<PathRule, Fail> {
     let (kind, value) = word.split_once('=').ok_or("a rule")?;
     let value = Text::of(alloc, value)?;
@@ -82,7 +82,7 @@ fn rule(alloc: Global, word: &str) -> Result<PathRule, Fail> {
     }
 }
 
-/// Whether the path passes the rule that the word writes.
+/// Whether the path passes the rule that the word stands for.
 fn passing(alloc: Global, word: &str, path: &str) -> Result<&'static str, Fail> {
     let path = Text::of(alloc, path)?;
     let rule = rule(alloc, word)?;

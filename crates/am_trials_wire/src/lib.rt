@@ -1,4 +1,4 @@
-//! Trials of what no session shows: bodies, targets and manifests that no frame holds, replies that no call brings about,
+//! Trials of what no session shows: bodies, targets and manifests that no frame holds, replies that no call causes,
 //! and what the root sees.
 #![tactic(auto)]
 

@@ -1,4 +1,4 @@
-//! Replies that no call of a session brings about.
+//! Replies that no call of a session causes.
 use am_trials_words::lent;
 use am_types::{
     Account, Aim, Entry, List, Narrowing, Reply, Request, Rule, Standing, TaskView, Why,
@@ -8,15 +8,15 @@ use std::alloc::{AllocError, Global};
 use std::process::Abort;
 use std::test::Fail;
 
-/// A status and a reply a line: a task without instances, entries of another desk, of which one wasn't kept, a history that
-/// is full, and a keeper that fails.
+/// A status and a reply in each line: a task without instances, entries of another desk, one of them not kept, a
+/// history that is full, and a keeper that fails.
 const ROWS: &str = r#"200 {"tasks":[{"instances":[],"task":5}]}
 200 {"entries":[{"at":3,"desk":7,"kept":true,"now":18446744073709551615,"request":{"from":0},"route":"/v1/history","uid":0,"weight":65536},{"at":4,"desk":7,"kept":false,"now":18446744073709551615,"request":{"from":0},"route":"/v1/history","uid":10000,"weight":65536}],"from":3}
 200 {"entries":[{"at":18446744073709551615,"desk":7,"kept":true,"now":18446744073709551615,"request":{"from":0},"route":"/v1/history","uid":0,"weight":65536},{"at":18446744073709551615,"desk":7,"kept":false,"now":18446744073709551615,"request":{"from":0},"route":"/v1/history","uid":10000,"weight":65536}],"from":18446744073709551615}
 429 {"error":"history_full"}
 503 {"error":"keeper_fault"}"#;
 
-/// A status and a reply a line: what is said of components alone, here of a registered receiver.
+/// A status and a reply in each line: what is said only of components, here of a registered receiver.
 const ACCOUNTS: &str = r#"200 {"accounts":[{"to":8,"verdict":"disabled"}]}
 200 {"accounts":[{"reasons":[],"to":8,"verdict":"filters"}]}
 200 {"accounts":[{"reasons":["action","scheme","host","path","type","category","action"],"to":8,"verdict":"filters"}]}
@@ -117,7 +117,7 @@ fn reply_line(alloc: Global, reply: Reply) -> Result<String, Fail> {
     Ok(format!(in alloc; "{status} {text}")?)
 }
 
-/// What is written for the numbers from 0 on is what the lines of the table have, of which there are as many as wanted.
+/// What is written for the numbers from 0 on is what the lines of the table have, of which there must be so many.
 fn try_lines<F: Fn(u32) -> Result<String, Fail>>(
     rt: &impl Abort,
     table: &str,

@@ -41,7 +41,7 @@ fn line_of(alloc: Global, line: &Text) -> Result<String, AllocError> {
     String::from_str(alloc, line.as_str().strip_suffix('\n').unwrap_or("no line"))
 }
 
-/// What the root is answered.
+/// The answer to the root.
 fn answered(alloc: Global) -> Result<String, AllocError> {
     let Ok(known) = read_described(alloc, DEVICE.as_bytes()) else {
         return String::from_str(alloc, "not read");

@@ -18,7 +18,7 @@ pub fn texts(alloc: Global, words: &str) -> Result<List<Text>, AllocError> {
     Ok(List::new(texts))
 }
 
-/// The text around `<3:a>`, the number and the part in it; none if the text has no such.
+/// The text around `<3:a>`, the number and the part in it; none if the text has nothing like it.
 fn repeated(text: &str) -> Option<(&str, usize, &str, &str)> {
     let (front, behind) = text.split_once('<')?;
     let (count, behind) = behind.split_once(':')?;
@@ -40,7 +40,7 @@ pub fn spelled_out(alloc: Global, text: &str) -> Result<String, AllocError> {
     Ok(all)
 }
 
-/// The parts of a row behind bars; a row of fewer has empty ones, which no row wants.
+/// The parts of a row after bars; a row with fewer has empty ones, which no row expects.
 pub fn parts(line: &str) -> (&str, &str, &str) {
     let (first, rest) = line.split_once(" | ").unwrap_or((line, ""));
     let (second, wanted) = rest.split_once(" | ").unwrap_or((rest, "no row"));

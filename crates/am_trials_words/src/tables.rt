@@ -3,7 +3,7 @@ use crate::spelled_out;
 use std::alloc::Global;
 use std::test::Fail;
 
-/// Tries each row of a table, of which there are as many as wanted. A line that begins with `#` is a remark, and no
+/// Tries each row of a table, of which there must be so many. A line that begins with `#` is a remark, not a
 /// row.
 ///
 /// # Errors
@@ -26,7 +26,7 @@ pub fn try_each<F: FnMut(&str) -> Result<(), Fail>>(
     same_count(rows, wanted)
 }
 
-/// Tries each section of a text between the separators, of which there are as many as wanted.
+/// Tries each section of a text between the separators, of which there must be so many.
 ///
 /// # Errors
 ///
@@ -45,8 +45,8 @@ pub fn try_sections<F: FnMut(&str) -> Result<(), Fail>>(
     same_count(text.split(separator).count(), wanted)
 }
 
-/// Asks what each row of a table asks, which is answered by what stands behind the row's first separator. There are as
-/// many rows as wanted.
+/// Asks what each row of a table asks. The answer must be the text after the row's first separator. There must be so
+/// many rows.
 ///
 /// # Errors
 ///
@@ -67,7 +67,7 @@ pub fn try_answers<F: FnMut(&str) -> Result<String, Fail>>(
     same_count(table.lines().count(), wanted)
 }
 
-/// Asks what becomes of each document of a table, which is answered by the line behind it that begins with `= `. In a
+/// Asks what becomes of each document of a table. The answer must be the line after it that begins with `= `. In a
 /// document `<3:a>` is spelled out, and lines end as given.
 ///
 /// # Errors

@@ -1,4 +1,4 @@
--- The intent that says nothing.
+-- The empty intent.
 use Rattle.std.specs.Prelude.{false, [], None}
 use Rattle.am_types.specs.declared.intent.Flags.{Flags}
 use Rattle.am_types.specs.declared.intent.Intent.{Intent}
@@ -18,7 +18,7 @@ no_flags = record {
   include_stopped = false;
 }
 
--- the intent that says nothing
+-- the empty intent
 abbrev pub no_intent : Intent
 no_intent = record {
   action = None;

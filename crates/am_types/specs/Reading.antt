@@ -1,4 +1,4 @@
--- Reading from left to right, with the first fault that is met.
+-- Reading from left to right, up to the first fault.
 use Rattle.std.specs.Prelude.{◌≡◌, Result, Ok, Err}
 use Rattle.am_types.specs.declared.failure.Unmade.{Unmade}
 use Rattle.am_types.specs.declared.failure.Unmade.TheVariants as unmade

@@ -73,7 +73,7 @@ impl Clone for Aim {
 pub struct Receiving {
     pub uid: u32,
     pub aim: Aim,
-    /// Why it was left out; none where it was admitted.
+    /// Why it was left out; none if it was admitted.
     pub skip: Option<Rule>,
 }
 
@@ -123,9 +123,9 @@ pub struct Sending {
     pub sender: u32,
     /// The moment of the sending, in milliseconds.
     pub now: u64,
-    /// Whether it stands in the foreground queue and has the short deadlines.
+    /// Whether it waits in the foreground queue and has the short deadlines.
     pub foreground: bool,
-    /// Whether aborts count for nothing.
+    /// Whether aborts are ignored.
     pub no_abort: bool,
     pub intent: Intent,
     /// The admitted receivers, in order.
@@ -147,10 +147,10 @@ pub enum SendFault {
 /// Why a delivery isn't finished.
 #[derive(Clone, Copy, Debug, PartialEq, Eq)]
 pub enum FinishFault {
-    /// No such delivery or result stands.
+    /// There is no such delivery or result.
     NoDelivery,
-    /// It is another uid's.
+    /// It belongs to another uid.
     NotYours,
-    /// A result or an abort for what isn't an ordered delivery.
+    /// A result or an abort for a delivery that isn't ordered.
     NotOrdered,
 }

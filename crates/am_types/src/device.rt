@@ -8,7 +8,7 @@ pub struct Package {
     /// From 10,000 to 4,294,967,294.
     pub uid: u32,
     pub name: Text,
-    /// What its calls carry, 1 to 255 visible ASCII bytes.
+    /// The key that its calls carry, 1 to 255 visible ASCII bytes.
     pub key: Text,
     pub stopped: bool,
     pub decls: List<Decl>,
@@ -43,12 +43,12 @@ pub struct Link {
     pub host: Text,
 }
 
-/// What a right of a package is to.
+/// What a package has a right to.
 #[derive(Clone, Copy)]
 pub enum RightKind {
-    /// To what a permission guards.
+    /// What a permission guards.
     Permission,
-    /// To the web links of a host.
+    /// The web links of a host.
     Host,
 }
 
@@ -59,7 +59,7 @@ pub struct Device {
     pub system_key: Text,
     /// The key of uid 0.
     pub root_key: Option<Text>,
-    /// The package of the default browser, which needn't be there.
+    /// The package of the default browser, which needn't be installed.
     pub browser: Option<Text>,
     /// The actions that only the system and the root may broadcast.
     pub protected: List<Text>,

@@ -2,7 +2,7 @@ use std::alloc::{AllocError, AllocFailed};
 use std::error::Error;
 use std::fmt;
 
-/// Memory ran out. What was asked is as it was before, unless the call says otherwise.
+/// Memory ran out. What was called is as it was before, unless the call says otherwise.
 #[derive(Clone, Copy, Debug, PartialEq, Eq)]
 pub struct NoMemory;
 
@@ -26,7 +26,7 @@ impl<T: Drop> From<AllocFailed<T>> for NoMemory {
     }
 }
 
-/// Why nothing was made of what was given.
+/// Why nothing was made from what was given.
 #[derive(Debug, Drop)]
 pub enum Unmade<F> {
     /// What is wrong with it: the first fault that is met.

@@ -45,7 +45,7 @@ impl Clone for PathRule {
     }
 }
 
-/// An intent filter: what a component, or a registered receiver, is willing to get.
+/// An intent filter: what a component, or a registered receiver, is willing to receive.
 pub struct Filter {
     /// Sorted by bytes, each once.
     pub actions: List<Text>,

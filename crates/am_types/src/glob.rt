@@ -23,7 +23,7 @@ impl Model for Glob {
 }
 
 impl Glob {
-    /// The pattern that the text writes. A text of more than 1,024 bytes is handed back.
+    /// The pattern written as this text. A text of more than 1,024 bytes is handed back.
     /// Takes no memory.
     pub fn new(text: Text) -> Result<Glob, Text>
         ensures short { length text ≤ 1024 → result ≡ Ok text }

@@ -12,7 +12,7 @@ pub struct Entry {
     /// The length of the request's body, in bytes.
     pub weight: u32,
     pub request: Request,
-    /// False where the keeper failed, so that the request had no effect.
+    /// False if the keeper failed, so that the request had no effect.
     pub kept: bool,
 }
 
@@ -34,7 +34,7 @@ impl Clone for Entry {
 pub struct Shown {
     /// The number of entries before the call.
     pub at: u64,
-    /// Whether the call is entry `at`.
+    /// Whether the call is stored, as entry `at`.
     pub stored: bool,
     pub reply: Reply,
 }

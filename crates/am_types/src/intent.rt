@@ -76,7 +76,7 @@ pub struct Flags {
     pub include_stopped: bool,
 }
 
-/// What an app asks for: an action, data, and who may get it.
+/// What an app asks for: an action, data, and who may receive it.
 pub struct Intent {
     pub action: Option<Text>,
     pub uri: Option<Uri>,
@@ -84,9 +84,9 @@ pub struct Intent {
     pub identifier: Option<Text>,
     /// Sorted by bytes, each once.
     pub categories: List<Text>,
-    /// Only this package may get it.
+    /// Only this package may receive it.
     pub package: Option<Text>,
-    /// Only this component may get it, and no filter is asked.
+    /// Only this component may receive it, and no filter is asked.
     pub component: Option<Component>,
     pub flags: Flags,
     /// Sorted by key, each key once.

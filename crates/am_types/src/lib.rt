@@ -1,4 +1,4 @@
-//! The values that the activity manager speaks of.
+//! The values that the activity manager works with.
 #![tactic(auto)]
 
 mod account;

@@ -1,4 +1,4 @@
-//! What drops and clones by hand write again for each field.
+//! What drops and clones written by hand repeat for each field.
 
 /// Takes a value apart by all its fields, and drops each: the body of a `drop`. With a derived one each crate that drops
 /// such a value would prove again how its parts are dropped.
@@ -9,8 +9,8 @@ macro_rules! drop_parts {
     };
 }
 
-/// A copy of a value by all its fields: the body of a `clone` that gives an equal value. Each field stands under the
-/// function of `copies` that copies it, and those that are `Copy` behind the semicolon, as in
+/// A copy of a value by all its fields: the body of a `clone` that gives an equal value. Each field is listed under the
+/// function of `copies` that copies it, and those that are `Copy` after the semicolon, as in
 /// `copy_parts!(self, Uri: value(text scheme path) option(host); port)`.
 #[macro_export]
 macro_rules! copy_parts {

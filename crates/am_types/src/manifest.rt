@@ -4,7 +4,7 @@ use crate::{Filter, List, Text, copy_parts, drop_parts};
 use std::alloc::AllocError;
 use std::fmt;
 
-/// What kind of component.
+/// The kind of a component.
 #[derive(Clone, Copy, Debug, PartialEq, Eq, Hash)]
 pub enum Kind {
     Activity,
@@ -33,7 +33,7 @@ pub struct Decl {
     /// What a caller from another app must hold.
     pub permission: Option<Text>,
     pub mode: Mode,
-    /// The task that it wants to be in; empty for none.
+    /// The name of the task that it belongs in; empty for none.
     pub affinity: Text,
     /// Each lists an action.
     pub filters: List<Filter>,
@@ -64,29 +64,29 @@ pub struct Manifest {
 /// Why a manifest or a device file is refused. Each but `NotToml` and `BadPriority` names a place or a thing.
 #[derive(Debug, Drop)]
 pub enum ManifestFault {
-    /// It is no TOML document in UTF-8.
+    /// It isn't a TOML document in UTF-8.
     NotToml,
-    /// A key that must be there is absent, at this place.
+    /// A required key is missing, at this place.
     Missing(Text),
     /// A value of another kind, or out of its range, at this place.
     WrongKind(Text),
-    /// A scheme that is none, at this place.
+    /// A scheme that isn't valid, at this place.
     BadUri(Text),
-    /// A MIME type that is none, at this place.
+    /// A MIME type that isn't valid, at this place.
     BadMime(Text),
     /// A priority beyond 32 bits.
     BadPriority,
     /// This class has filters, and `exported` isn't stated.
     ExportedUnstated(Text),
-    /// This class, package or key stands twice.
+    /// This class, package or key is given twice.
     Duplicate(Text),
     /// More of this quantity than its limit.
     OverLimit(Text),
-    /// A key that isn't read, at this place.
+    /// An unknown key, at this place.
     LeftOut(Text),
 }
 
-/// As a line shows it: its name, then a blank and the place or the thing that it names.
+/// As a line shows it: its name, then a space and the place or the thing that it names.
 impl fmt::Display for ManifestFault {
     ghost use Rattle.std.specs.Prelude.{Some};
     ghost use Rattle.am_types.specs.Printing.{printed};

@@ -27,9 +27,9 @@ pub enum Reply {
     Token(Option<u64>),
     /// The uid of the new package.
     Installed(u32),
-    /// Nothing was done, but for what the rule's own words say.
+    /// The request is refused under this rule. Nothing was done, except what the rule itself says.
     Refused(Rule),
-    /// A service runs: how often it was started since it began to.
+    /// A service runs: how many times it was started since it began to run.
     Started {
         component: Component,
         starts: u64,

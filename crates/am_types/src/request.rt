@@ -12,9 +12,9 @@ pub enum Request {
         intent: Intent,
         default_only: bool,
     },
-    /// Whom the intent would reach as a start with NEW_TASK and without a source, a start of a service or a normal
-    /// broadcast, component by component, and why it doesn't reach the others. Of the package's calls, if `caller` names
-    /// one; only what the package has, if `shown` names one.
+    /// Who the intent would reach as a start with NEW_TASK and without a source, a start of a service or a normal
+    /// broadcast, component by component, and why it doesn't reach the others. The package calls, if `caller` names
+    /// one; only the package's components are told, if `shown` names one.
     Explain {
         kind: Kind,
         intent: Intent,
@@ -56,7 +56,7 @@ pub enum Request {
         filter: Filter,
         permission: Option<Text>,
     },
-    /// Takes a registered receiver back.
+    /// Unregisters a receiver.
     Unregister {
         number: u64,
     },
@@ -74,7 +74,7 @@ pub enum Request {
         intent: Intent,
         flags: PendingFlags,
     },
-    /// Does what a token stands for, as its creator.
+    /// Sends a pending intent: does what its token stands for, as its creator.
     PendingSend {
         token: u64,
         fill: Option<Intent>,

@@ -61,7 +61,7 @@ pub enum Rule {
     NeedsNewTask,
     /// Exactly one of mutable and immutable must be given.
     Mutability,
-    /// A result or an abort for what isn't an ordered delivery.
+    /// A result or an abort for a delivery that isn't ordered.
     NotOrdered,
     /// The name or the key is in use.
     Installed,

@@ -3,7 +3,7 @@ ghost use Rattle.std.specs.Prelude.{◌≡◌, ◌+◌, ◌<◌, ℕ};
 use std::marker::Model;
 use std::sync::ledger::{Blank, Book, Ledger, Share};
 
-/// How many steps were taken so far, for contracts that bound them. What a step is, each call that counts says. It takes
+/// The number of steps taken so far, for contracts that bound it. Each call that counts says what a step is. It takes
 /// no bytes and no time, and only `tick` changes it.
 #[derive(Drop)]
 pub struct Steps<L: Ledger> {

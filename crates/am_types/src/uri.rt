@@ -9,9 +9,9 @@ pub struct Uri {
     pub text: Text,
     /// The scheme, as it was written.
     pub scheme: Text,
-    /// The host, which may be empty. None where there is no authority.
+    /// The host, which may be empty. None if there is no authority.
     pub host: Option<Text>,
-    /// The port, from 0 to 99,999. None where none is written.
+    /// The port, from 0 to 99,999. None if none is written.
     pub port: Option<u32>,
     /// The path, percent-decoded.
     pub path: Text,
@@ -34,9 +34,9 @@ impl Clone for Uri {
 /// A MIME type.
 #[derive(Drop, PartialEq, Eq, Hash)]
 pub struct Mime {
-    /// What stands before the slash.
+    /// The part before the slash.
     pub main: Text,
-    /// What stands behind the slash.
+    /// The part after the slash.
     pub sub: Text,
 }
 
@@ -48,7 +48,7 @@ impl Clone for Mime {
     }
 }
 
-/// Why a text is no URI, the first that applies: over its length first, then from left to right.
+/// Why a text isn't a URI: the first reason that applies, its length first, then from left to right.
 #[derive(Clone, Copy, Debug, PartialEq, Eq)]
 pub enum UriFault {
     /// It doesn't begin with a scheme and a colon.
@@ -64,14 +64,14 @@ pub enum UriFault {
     NoMemory,
 }
 
-/// Why a text is no MIME type.
+/// Why a text isn't a MIME type.
 #[derive(Clone, Copy, Debug, PartialEq, Eq)]
 pub enum MimeFault {
     /// It has no slash.
     NoSlash,
     /// A part is empty.
     EmptyPart,
-    /// A blank, a control character or a second slash.
+    /// It has a space, a control character or a second slash.
     BadCharacter,
     NoMemory,
 }

@@ -31,17 +31,23 @@ bit_low w a = grind arith
 from_half : (x h l : ℕ) → x / 2 ≡ h → x % 2 ≡ l → x ≡ h * 2 + l
 from_half x h l half low = omega arith
 
-word_both : (p q : Element → Bool) (elements : List Element) → bit_and (word_where p elements) (word_where q elements) ≡ word_where (λ e. p e && q e) elements
+word_both : (p q : Element → Bool) (elements : List Element) → bit_and (word_where p elements) (word_where q elements)
+    ≡ word_where (λ e. p e && q e) elements
 word_both p q [] = refl
 word_both p q (e ∷ others) = from_half _ _ _
-    (half_and (word_where p (e ∷ others)) (word_where q (e ∷ others)) ∙ rw (half_where (word_where p others) (p e), half_where (word_where q others) (q e)) (word_both p q others))
-    (low_and (word_where p (e ∷ others)) (word_where q (e ∷ others)) ∙ rw (bit_low (word_where p others) (p e), bit_low (word_where q others) (q e)) (bit_both (p e) (q e)))
+    (half_and (word_where p (e ∷ others)) (word_where q (e ∷ others))
+    ∙ rw (half_where (word_where p others) (p e), half_where (word_where q others) (q e)) (word_both p q others))
+    (low_and (word_where p (e ∷ others)) (word_where q (e ∷ others))
+    ∙ rw (bit_low (word_where p others) (p e), bit_low (word_where q others) (q e)) (bit_both (p e) (q e)))
 
-word_either : (p q : Element → Bool) (elements : List Element) → bit_or (word_where p elements) (word_where q elements) ≡ word_where (λ e. p e || q e) elements
+word_either : (p q : Element → Bool) (elements : List Element) → bit_or (word_where p elements) (word_where q elements)
+    ≡ word_where (λ e. p e || q e) elements
 word_either p q [] = refl
 word_either p q (e ∷ others) = from_half _ _ _
-    (half_or (word_where p (e ∷ others)) (word_where q (e ∷ others)) ∙ rw (half_where (word_where p others) (p e), half_where (word_where q others) (q e)) (word_either p q others))
-    (low_or (word_where p (e ∷ others)) (word_where q (e ∷ others)) ∙ rw (bit_low (word_where p others) (p e), bit_low (word_where q others) (q e)) (bit_either (p e) (q e)))
+    (half_or (word_where p (e ∷ others)) (word_where q (e ∷ others))
+    ∙ rw (half_where (word_where p others) (p e), half_where (word_where q others) (q e)) (word_either p q others))
+    (low_or (word_where p (e ∷ others)) (word_where q (e ∷ others))
+    ∙ rw (bit_low (word_where p others) (p e), bit_low (word_where q others) (q e)) (bit_either (p e) (q e)))
 
 low_without : (x y : ℕ) → bit_xor x (bit_and x y) % 2 ≡ (x % 2 + min (x % 2) (y % 2)) % 2
 low_without x y = simp (low_xor, low_and)
@@ -49,32 +55,56 @@ low_without x y = simp (low_xor, low_and)
 half_without : (x y : ℕ) → bit_xor x (bit_and x y) / 2 ≡ bit_xor (x / 2) (bit_and (x / 2) (y / 2))
 half_without x y = simp (half_xor, half_and)
 
-word_without : (p q : Element → Bool) (elements : List Element) → bit_xor (word_where p elements) (bit_and (word_where p elements) (word_where q elements)) ≡ word_where (λ e. p e && not (q e)) elements
+word_without : (p q : Element → Bool) (elements : List Element) → bit_xor (word_where p elements)
+    (bit_and (word_where p elements) (word_where q elements)) ≡ word_where (λ e. p e && not (q e)) elements
 word_without p q [] = refl
 word_without p q (e ∷ others) = from_half _ _ _
-    (half_without (word_where p (e ∷ others)) (word_where q (e ∷ others)) ∙ rw (half_where (word_where p others) (p e), half_where (word_where q others) (q e)) (word_without p q others))
-    (low_without (word_where p (e ∷ others)) (word_where q (e ∷ others)) ∙ rw (bit_low (word_where p others) (p e), bit_low (word_where q others) (q e)) (bit_without (p e) (q e)))
+    (half_without (word_where p (e ∷ others)) (word_where q (e ∷ others))
+    ∙ rw (half_where (word_where p others) (p e), half_where (word_where q others) (q e)) (word_without p q others))
+    (low_without (word_where p (e ∷ others)) (word_where q (e ∷ others))
+    ∙ rw (bit_low (word_where p others) (p e), bit_low (word_where q others) (q e)) (bit_without (p e) (q e)))
 
-words_both : (p q : Element → Bool) (n count : ℕ) (elements : List Element) → both (words_where n q count elements) (words_where n p count elements) ≡ words_where n (λ e. p e && q e) count elements
+words_both : (p q : Element → Bool) (n count : ℕ) (elements : List Element)
+    → both (words_where n q count elements) (words_where n p count elements)
+    ≡ words_where n (λ e. p e && q e) count elements
 words_both p q n zero elements = refl
-words_both p q n (suc count) elements = rw (word_both p q (take n elements), words_both p q n count (drop n elements)) refl
+words_both p q n (suc count) elements = rw (word_both p q (take n elements), words_both p q n count (drop n elements))
+    refl
 
-words_either : (p q : Element → Bool) (n count : ℕ) (elements : List Element) → either (words_where n q count elements) (words_where n p count elements) ≡ words_where n (λ e. p e || q e) count elements
+words_either : (p q : Element → Bool) (n count : ℕ) (elements : List Element)
+    → either (words_where n q count elements) (words_where n p count elements)
+    ≡ words_where n (λ e. p e || q e) count elements
 words_either p q n zero elements = refl
-words_either p q n (suc count) elements = rw (word_either p q (take n elements), words_either p q n count (drop n elements)) refl
+words_either p q n (suc count) elements = rw (
+  word_either p q (take n elements),
+  words_either p q n count
+      (drop n elements),
+) refl
 
-words_without : (p q : Element → Bool) (n count : ℕ) (elements : List Element) → without (words_where n q count elements) (words_where n p count elements) ≡ words_where n (λ e. p e && not (q e)) count elements
+words_without : (p q : Element → Bool) (n count : ℕ) (elements : List Element)
+    → without (words_where n q count elements) (words_where n p count elements)
+    ≡ words_where n (λ e. p e && not (q e)) count elements
 words_without p q n zero elements = refl
-words_without p q n (suc count) elements = rw (word_without p q (take n elements), words_without p q n count (drop n elements)) refl
+words_without p q n (suc count) elements = rw (
+  word_without p q (take n elements),
+  words_without p q n count
+      (drop n elements),
+) refl
 
 -- tests that agree mark the same elements
-word_same : (p q : Element → Bool) (elements : List Element) → ((e : Element) → p e ≡ q e) → word_where p elements ≡ word_where q elements
+word_same : (p q : Element → Bool) (elements : List Element) → ((e : Element) → p e ≡ q e) → word_where p elements
+    ≡ word_where q elements
 word_same p q [] same = refl
 word_same p q (e ∷ others) same = rw (same e, word_same p q others same) refl
 
-words_same : (p q : Element → Bool) (n count : ℕ) (elements : List Element) → ((e : Element) → p e ≡ q e) → words_where n p count elements ≡ words_where n q count elements
+words_same : (p q : Element → Bool) (n count : ℕ) (elements : List Element) → ((e : Element) → p e ≡ q e)
+    → words_where n p count elements ≡ words_where n q count elements
 words_same p q n zero elements same = refl
-words_same p q n (suc count) elements same = rw (word_same p q (take n elements) same, words_same p q n count (drop n elements) same) refl
+words_same p q n (suc count) elements same = rw (
+  word_same p q (take n elements) same,
+  words_same p q n count
+      (drop n elements) same,
+) refl
 
 -- a character is found by one bit more
 bit_set : (x y : ℕ) → y % 2 ≡ 1 → (x / 2 == y / 2) && (x % 2 == 1) ≡ (x == y)
@@ -87,10 +117,13 @@ above_more : (x b : ℕ) → x / 2 ^ (b + 1) ≡ x / 2 ^ b / 2
 above_more x b = sym (shr-shr x b 1)
 
 above_set : (b c : ℕ) (e : Element) → c / 2 ^ b % 2 ≡ 1 → is_above (b + 1) c e && passes (Bit b) e ≡ is_above b c e
-above_set b c e set = rw (above_more e.mark.character b, above_more c b) (bit_set (e.mark.character / 2 ^ b) (c / 2 ^ b) set)
+above_set b c e set = rw (above_more e.mark.character b, above_more c b)
+    (bit_set (e.mark.character / 2 ^ b) (c / 2 ^ b) set)
 
-above_clear : (b c : ℕ) (e : Element) → (c / 2 ^ b % 2 ≡ 1 → ⊥) → is_above (b + 1) c e && not (passes (Bit b) e) ≡ is_above b c e
-above_clear b c e clear = rw (above_more e.mark.character b, above_more c b) (bit_clear (e.mark.character / 2 ^ b) (c / 2 ^ b) clear)
+above_clear : (b c : ℕ) (e : Element) → (c / 2 ^ b % 2 ≡ 1 → ⊥) → is_above (b + 1) c e && not (passes (Bit b) e)
+    ≡ is_above b c e
+above_clear b c e clear = rw (above_more e.mark.character b, above_more c b)
+    (bit_clear (e.mark.character / 2 ^ b) (c / 2 ^ b) clear)
 
 mod_small : (b : ℕ) → b < 21 → b % 32 ≡ b
 mod_small b below = omega arith
@@ -106,30 +139,42 @@ bit_row : (b : ℕ) → b < 21 → test_of b ≡ Bit b
 bit_row b below = grind (arith, mod_small)
 
 pub found_set : (count b c : ℕ) (elements : List Element) (row words made : List ℕ) → b < 21 → c / 2 ^ b % 2 ≡ 1
-    → row ≡ words_where 63 (passes (test_of b)) count elements → words ≡ words_where 63 (is_above (b + 1) c) count elements → made ≡ both row words
+    → row ≡ words_where 63 (passes (test_of b)) count elements → words
+    ≡ words_where 63 (is_above (b + 1) c) count elements → made ≡ both row words
     → made ≡ words_where 63 (is_above b c) count elements
 found_set count b c elements row words made below set at_row held done =
     let at_bit = rw (bit_row b below) at at_row in
-    rw (done, at_bit, held) (words_both (is_above (b + 1) c) (passes (Bit b)) 63 count elements ∙ words_same (λ e. is_above (b + 1) c e && passes (Bit b) e) (is_above b c) 63 count elements (λ e. above_set b c e set))
+    rw (done, at_bit, held) (words_both (is_above (b + 1) c) (passes (Bit b)) 63 count elements
+    ∙ words_same (λ e. is_above (b + 1) c e && passes (Bit b) e) (is_above b c) 63 count elements
+    (λ e. above_set b c e set))
 
 pub found_clear : (count b c : ℕ) (elements : List Element) (row words made : List ℕ) → b < 21 → (c / 2 ^ b % 2 ≡ 1 → ⊥)
-    → row ≡ words_where 63 (passes (test_of b)) count elements → words ≡ words_where 63 (is_above (b + 1) c) count elements → made ≡ without row words
+    → row ≡ words_where 63 (passes (test_of b)) count elements → words
+    ≡ words_where 63 (is_above (b + 1) c) count elements → made ≡ without row words
     → made ≡ words_where 63 (is_above b c) count elements
 found_clear count b c elements row words made below clear at_row held done =
     let at_bit = rw (bit_row b below) at at_row in
-    rw (done, at_bit, held) (words_without (is_above (b + 1) c) (passes (Bit b)) 63 count elements ∙ words_same (λ e. is_above (b + 1) c e && not (passes (Bit b) e)) (is_above b c) 63 count elements (λ e. above_clear b c e clear))
+    rw (done, at_bit, held) (words_without (is_above (b + 1) c) (passes (Bit b)) 63 count elements
+    ∙ words_same (λ e. is_above (b + 1) c e && not (passes (Bit b) e)) (is_above b c) 63 count elements
+    (λ e. above_clear b c e clear))
 
 -- at the start no bit from there on is set
 start_same : (b c : ℕ) (e : Element) → c < 2 ^ b → passes (Below b) e ≡ is_above b c e
 start_same b c e below = rw (div_below_pow c b below) refl
 
-pub found_start : (count b c : ℕ) (elements : List Element) → c < 2 ^ b → words_where 63 (passes (Below b)) count elements ≡ words_where 63 (is_above b c) count elements
-found_start count b c elements below = words_same (passes (Below b)) (is_above b c) 63 count elements (λ e. start_same b c e below)
+pub found_start : (count b c : ℕ) (elements : List Element) → c < 2 ^ b
+    → words_where 63 (passes (Below b)) count elements ≡ words_where 63 (is_above b c) count elements
+found_start count b c elements below = words_same (passes (Below b)) (is_above b c) 63 count elements
+    (λ e. start_same b c e below)
 
--- at the end every bit is the same; where it stands for any, an element allows each character
+-- at the end every bit is the same; if the element is wild, it allows each character
 end_same : (c : ℕ) (e : Element) → (is_above 0 c e || passes Wild e) ≡ allowed_at c e
-end_same c e = bool_turn (e.mark.character == c) (e.mark.plain && (e.mark.character == 46)) (e.mark.character / 1 == c / 1) (grind arith)
+end_same c e = bool_turn (e.mark.character == c) (e.mark.plain && (e.mark.character == 46))
+    (e.mark.character / 1 == c / 1) (grind arith)
 
-pub found_end : (count c : ℕ) (elements : List Element) (row words made : List ℕ) → row ≡ words_where 63 (passes Wild) count elements → words ≡ words_where 63 (is_above 0 c) count elements → made ≡ either row words → made ≡ words_where 63 (allowed_at c) count elements
+pub found_end : (count c : ℕ) (elements : List Element) (row words made : List ℕ) → row
+    ≡ words_where 63 (passes Wild) count elements → words ≡ words_where 63 (is_above 0 c) count elements → made
+    ≡ either row words → made ≡ words_where 63 (allowed_at c) count elements
 found_end count c elements row words made at_row held done =
-    rw (done, at_row, held) (words_either (is_above 0 c) (passes Wild) 63 count elements ∙ words_same (λ e. is_above 0 c e || passes Wild e) (allowed_at c) 63 count elements (λ e. end_same c e))
+    rw (done, at_row, held) (words_either (is_above 0 c) (passes Wild) 63 count elements
+    ∙ words_same (λ e. is_above 0 c e || passes Wild e) (allowed_at c) 63 count elements (λ e. end_same c e))

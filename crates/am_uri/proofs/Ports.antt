@@ -9,7 +9,7 @@ use Rattle.std.proofs.lemmas.Bool.{and_parts, leb-true}
 use Rattle.std.proofs.lemmas.Str.Parse.{IsNumeralModel, numerals_by_fold, parse_digits, parse_gives, digits_value_short}
 use Rattle.am_model.specs.Uris.{is_port, port_of}
 
--- the number that the digits write behind this one
+-- the number that the digits write after this one
 abbrev read_on : ℕ → List ℕ → ℕ
 read_on number digits = number_from_digits_after 10 number (map (λ b. b - 48) digits)
 
@@ -20,7 +20,8 @@ empty_fails : {E : Type 0} (r : Result ℕ E) → ParsesUnsigned 32 10 [] r → 
 empty_fails {E} (Ok number) h = absurd (omega (arith, (parse_digits own {E = E} 32 [] (Ok number) h refl).0.0))
 empty_fails (Err fault) h = refl
 
-pub port_of-parse : {E : Type 0} (digits : List ℕ) (r : Result ℕ E) → ParsesUnsigned 32 10 digits r → is_port digits ≡ true → result_ok r ≡ port_of digits
+pub port_of-parse : {E : Type 0} (digits : List ℕ) (r : Result ℕ E) → ParsesUnsigned 32 10 digits r → is_port digits
+    ≡ true → result_ok r ≡ port_of digits
 port_of-parse [] r h port = empty_fails r h
 port_of-parse (digit ∷ digits) r h port =
     let parts = and_parts (nat_le (length (digit ∷ digits)) 5) (list_all is_ascii_digit (digit ∷ digits)) port in

@@ -1,4 +1,4 @@
--- What the readers answer, against the definitions.
+-- The readers' results, compared with the definitions.
 use Rattle.std.specs.Prelude.{◌≡◌, Bool, true, false, Result, Ok, Err, IsOk, IsTrue}
 use Rattle.am_types.specs.declared.uri.Uri.{Uri}
 use Rattle.am_types.specs.declared.uri.UriFault.{UriFault}
@@ -17,7 +17,7 @@ is_decoded (Err fault.NotUtf8) = true
 is_decoded (Err fault.TooLong) = false
 is_decoded (Err fault.NoMemory) = false
 
--- the answer is the definition's; memory may be wanting where a path is decoded
+-- the result is the definition's; decoding a path may run out of memory
 abbrev pub IsUriAnswer : Result Uri UriFault → Result Uri UriFault → Type 0
 IsUriAnswer wanted (Ok uri) = wanted ≡ Ok uri
 IsUriAnswer wanted (Err fault.NoScheme) = wanted ≡ Err fault.NoScheme
@@ -27,7 +27,7 @@ IsUriAnswer wanted (Err fault.NotUtf8) = wanted ≡ Err fault.NotUtf8
 IsUriAnswer wanted (Err fault.TooLong) = wanted ≡ Err fault.TooLong
 IsUriAnswer wanted (Err fault.NoMemory) = IsTrue (is_decoded wanted)
 
--- the answer is the definition's; memory may be wanting for a MIME type alone
+-- the result is the definition's; only a MIME type may run out of memory
 abbrev pub IsMimeAnswer : Result Mime MimeFault → Result Mime MimeFault → Type 0
 IsMimeAnswer wanted (Ok mime) = wanted ≡ Ok mime
 IsMimeAnswer wanted (Err NoSlash) = wanted ≡ Err NoSlash

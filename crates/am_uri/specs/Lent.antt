@@ -10,7 +10,7 @@ use Rattle.am_types.specs.declared.uri.UriFault.TheVariants.{NoScheme, BadPort, 
 use Rattle.am_model.specs.Uris.{is_port_good, host_of, port_in}
 use Rattle.am_uri.specs.declared.uri.Written.{Written}
 
--- the URI of a text with these parts and this path
+-- the URI of a text, from these parts and this path
 abbrev pub uri_with : List ℕ → Written → List ℕ → Uri
 uri_with text parts path = record {
   text = text;
@@ -20,14 +20,13 @@ uri_with text parts path = record {
   path = path;
 }
 
--- the URI of a text with these parts, or that its path isn't UTF-8
+-- the URI of a text, from these parts, or the error that its path isn't UTF-8
 abbrev pub decoded : List ℕ → Written → Result Uri UriFault
 decoded text parts =
     if not (is_utf8 (percent_decode parts.path.now)) then Err NotUtf8
     else Ok (uri_with text parts (percent_decode parts.path.now))
 
--- the parts are those of the URI that is wanted, whose path is still to be decoded, or the fault is the one that is
--- wanted
+-- the parts are those of the expected URI, whose path is still to be decoded, or the fault is the expected one
 abbrev pub UriParts : List ℕ → Result Uri UriFault → Result Written UriFault → Type 0
 UriParts text wanted (Ok parts) = wanted ≡ decoded text parts
 UriParts text wanted (Err NoScheme) = wanted ≡ Err NoScheme
@@ -37,12 +36,13 @@ UriParts text wanted (Err NotUtf8) = ⊥
 UriParts text wanted (Err TooLong) = wanted ≡ Err TooLong
 UriParts text wanted (Err NoMemory) = ⊥
 
--- the host and the port of the rest, or that its port is none
+-- the host and the port of the rest, or the error that its port isn't valid
 abbrev pub Serves : List ℕ → Result (Option (Bor (List ℕ)) × Option ℕ) UriFault → Type 0
-Serves rest (Ok server) = (is_port_good rest ≡ true) × (option_copied server.0 ≡ host_of rest) × (server.1 ≡ port_in rest)
+Serves rest (Ok server) = (is_port_good rest ≡ true) × (option_copied server.0 ≡ host_of rest)
+    × (server.1 ≡ port_in rest)
 Serves rest (Err fault) = (fault ≡ BadPort) × (is_port_good rest ≡ false)
 
--- the path is decoded, or isn't UTF-8 then, or memory is wanting
+-- the path is decoded, or the decoded path isn't UTF-8, or memory runs out
 abbrev pub Decodes : List ℕ → Result (List ℕ) UriFault → Type 0
 Decodes path (Ok text) = (is_utf8 (percent_decode path) ≡ true) × (text ≡ percent_decode path)
 Decodes path (Err NoScheme) = ⊥

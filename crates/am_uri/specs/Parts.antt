@@ -5,11 +5,11 @@ use Rattle.am_types.specs.declared.uri.Mime.{Mime}
 use Rattle.am_types.specs.declared.uri.MimeFault.{MimeFault}
 use Rattle.am_types.specs.declared.uri.MimeFault.TheVariants.{NoSlash, EmptyPart, BadCharacter, NoMemory}
 
--- the two texts that are lent
+-- the two borrowed texts
 abbrev pub both : Bor (List ℕ) × Bor (List ℕ) → List ℕ × List ℕ
 both lent = (lent.0.now, lent.1.now)
 
--- the parts that are lent are those of the MIME type that is wanted, or the fault is the one that is wanted
+-- the borrowed parts are those of the expected MIME type, or the fault is the expected one
 abbrev pub MimeParts : Result Mime MimeFault → Result (Bor (List ℕ) × Bor (List ℕ)) MimeFault → Type 0
 MimeParts wanted (Ok lent) = wanted ≡ Ok (record { main = lent.0.now; sub = lent.1.now })
 MimeParts wanted (Err NoSlash) = wanted ≡ Err NoSlash

@@ -1,12 +1,12 @@
--- Rows of a pattern: the words of the tests by which a character is found.
+-- Rows of a pattern: the words of the tests that find the elements for a character.
 use Rattle.std.specs.Prelude.{ℕ, ◌<◌, ◌≤◌, ◌==◌, ◌%◌, ◌≡◌, if◌then◌else◌, List, [], ◌∷◌, take, length, slice_index_or, bit_and, bit_or, bit_xor}
 use Rattle.am_model.specs.Paths.{Element}
 use Rattle.am_uri.specs.declared.words.Test.{Test}
 use Rattle.am_uri.specs.declared.words.Test.TheVariants.{Wild, Bit, Below}
 use Rattle.am_uri.specs.PathWords.{passes, words_where}
 
--- the test of a row: that the character has a bit, that it has none from the 7th or from the 21st on, or that each
--- character is allowed
+-- the test of a row: that the character has a certain bit, that it has no bit from the 7th or from the 21st on, or that
+-- every character is allowed
 abbrev pub test_of : ℕ → Test
 test_of k =
     if k == 21 then Below 7
@@ -16,7 +16,8 @@ test_of k =
 
 -- the first words of each row are those of the elements that pass its test
 abbrev pub AreRows : List Element → List (List ℕ) → Type 0
-AreRows elements rows = (k m : ℕ) → k < length rows → m ≤ 17 → take m (slice_index_or rows k []) ≡ words_where 63 (passes (test_of k)) m elements
+AreRows elements rows = (k m : ℕ) → k < length rows → m ≤ 17 → take m (slice_index_or rows k [])
+    ≡ words_where 63 (passes (test_of k)) m elements
 
 -- the bits that are in the words and in the row
 abbrev pub both : List ℕ → List ℕ → List ℕ
@@ -24,7 +25,7 @@ both row [] = []
 both [] (word ∷ words) = word ∷ words
 both (r ∷ row) (word ∷ words) = bit_and word r ∷ both row words
 
--- the bits that are in the words and not in the row
+-- the bits that are in the words but not in the row
 abbrev pub without : List ℕ → List ℕ → List ℕ
 without row [] = []
 without [] (word ∷ words) = word ∷ words

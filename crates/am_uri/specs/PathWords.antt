@@ -13,7 +13,7 @@ passes Wild element = is_wild element.mark
 passes (Bit b) element = element.mark.character / 2 ^ b % 2 == 1
 passes (Below b) element = element.mark.character / 2 ^ b == 0
 
--- the test shifts a character by less than the bits that it is kept in
+-- the test shifts a character by less than its width in bits
 abbrev pub IsShift : Test → Type 0
 IsShift Repeated = Unit {0}
 IsShift (Allows c) = Unit {0}
@@ -30,7 +30,8 @@ abbrev pub word_where : (Element → Bool) → List Element → ℕ
 word_where test [] = 0
 word_where test (element ∷ others) = word_where test others * 2 + cond (test element) 1 0
 
--- so many words of a width, with a bit for each element
+-- this many words of a width, with a bit for each element
 abbrev pub words_where : ℕ → (Element → Bool) → ℕ → List Element → List ℕ
 words_where width test zero elements = []
-words_where width test (suc n) elements = word_where test (take width elements) ∷ words_where width test n (drop width elements)
+words_where width test (suc n) elements = word_where test (take width elements)
+    ∷ words_where width test n (drop width elements)

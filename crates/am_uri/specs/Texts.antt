@@ -8,7 +8,7 @@ use Rattle.am_model.specs.Sound.{is_name, is_package_name, is_access_key}
 use Rattle.am_uri.specs.declared.text.Form.{Form}
 use Rattle.am_uri.specs.declared.text.Form.TheVariants.{Any, Filled, Class, PackageName, AccessKey}
 
--- whether a text may stand where this form is asked for
+-- whether a text has this form
 abbrev pub fits : Form → List ℕ → Bool
 fits Any text = true
 fits Filled text = not (length text == 0)

@@ -1,6 +1,6 @@
-//! Whether a pattern's elements match a path, by the set of places in the pattern that the path has reached: there is
-//! one before each element, and one behind the last. A character moves the whole set on, a word at a time, so that the
-//! time depends on the lengths of path and pattern alone.
+//! Whether a pattern's elements match a path, found with the set of places in the pattern that the path has reached:
+//! there is one place before each element, and one after the last. A character moves the whole set on, a word at a
+//! time, so the time depends only on the lengths of the path and the pattern.
 ghost use Rattle.std.specs.Prelude.{◌≡◌, ◌<◌, ◌≤◌, ◌*◌, map, length, replicate, chars};
 ghost use Rattle.am_model.specs.Paths.{matches};
 ghost use Rattle.am_uri.specs.PathElements.{element_of};
@@ -11,19 +11,19 @@ use crate::places::{advance, is_empty, is_reached, skip};
 use crate::rows::{ROWS, Row, write_allowed, write_rows};
 use crate::words::{Test, WIDTH, WORDS, write_where};
 
-/// Whether the characters of the path, all of them, are what the elements say one after the other.
+/// Whether all the characters of the path are matched by the elements, one after the other.
 pub(crate) fn matches(elements: &[Element], path: &str) -> bool
     requires { length elements.now ≤ 1024 }
     ensures { result ≡ matches (map element_of elements.now) (chars path.now) }
 {
-    // To ask each element at each new character is dear if there are many of both; rows cost something to make.
+    // Asking each element at each new character is expensive if there are many of both; rows cost something to make.
     if elements.len() >= WIDTH && changes_often(path) {
         return matches_varied(elements, path);
     }
     matches_by(elements, &[], path)
 }
 
-/// The same by rows, which are made first.
+/// The same with rows, which are made first.
 fn matches_varied(elements: &[Element], path: &str) -> bool
     requires { length elements.now ≤ 1024 }
     ensures { result ≡ matches (map element_of elements.now) (chars path.now) }
@@ -33,7 +33,7 @@ fn matches_varied(elements: &[Element], path: &str) -> bool
     matches_by(elements, &rows, path)
 }
 
-/// The same by these rows, or without.
+/// The same with these rows, or without rows.
 fn matches_by(elements: &[Element], rows: &[Row], path: &str) -> bool
     requires fits { length elements.now ≤ 1024 }
     requires rows { AreRows (map element_of elements.now) rows.now }
@@ -69,8 +69,8 @@ fn changes_often(path: &str) -> bool {
     false
 }
 
-/// Goes through the path, with words for the places that are reached, for the elements that are repeated, and for those
-/// that allow a character.
+/// Goes through the path, with words for the places that are reached, for the elements that are repeated, and for the
+/// elements that allow a character.
 fn walk(
     elements: &[Element],
     rows: &[Row],

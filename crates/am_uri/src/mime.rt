@@ -8,12 +8,12 @@ ghost use Rattle.am_uri.specs.Parts.{both, MimeParts};
 use am_types::{Mime, MimeFault, Text};
 use std::alloc::{AllocError, Global};
 
-/// Reads a MIME type: two nonempty parts round exactly one slash, with no byte up to 0x20 and no
-/// 0x7F (own: RFC 6838 allows fewer bytes, and Android's `IntentFilter.addDataType` asks for the
-/// parts and the slash alone). Case stays as it is written, and parameters belong to the sub part.
+/// Reads a MIME type: two nonempty parts around exactly one slash, with no byte up to 0x20 and no
+/// 0x7F (own: RFC 6838 allows fewer bytes, and Android's `IntentFilter.addDataType` asks only for
+/// the parts and the slash). Case stays as it is written, and parameters belong to the sub part.
 ///
 /// The first fault that applies is `NoSlash`, `BadCharacter` for such a byte or a second slash, and
-/// `EmptyPart`. `NoMemory` comes only where the text is a MIME type.
+/// `EmptyPart`. `NoMemory` comes only if the text is a MIME type.
 pub fn parse_mime(alloc: Global, text: &Text) -> Result<Mime, MimeFault>
     ensures { IsMimeAnswer (mime_of text.now) result }
 {
@@ -33,7 +33,7 @@ fn copied(alloc: Global, main: &str, sub: &str) -> Result<Mime, AllocError>
     })
 }
 
-/// What stands before the slash and what stands behind it.
+/// The text before the slash and the text after it.
 #[tactic(auto, unfolding(am_model::specs::MimeTypes::mime_of))]
 fn parts(text: &str) -> Result<(&str, &str), MimeFault>
     ensures { MimeParts (mime_of text.now) result }
@@ -50,7 +50,7 @@ fn parts(text: &str) -> Result<(&str, &str), MimeFault>
     Ok((main, sub))
 }
 
-/// What stands before the first slash and what stands behind it.
+/// The text before the first slash and the text after it.
 fn split(text: &str) -> Option<(&str, &str)>
     ensures { option_map both result
         ≡ (if list_any is_slash text.now then Some (main_in text.now, sub_in text.now) else None) }

@@ -8,8 +8,8 @@ use crate::words::WIDTH;
 use am_types::{PathRule, Text};
 
 /// Whether the path passes the rule. In a pattern a backslash makes the next character literal, a
-/// dot stands for any one character, and a star repeats what stands before it, also no times; the
-/// match is the full one. Takes no memory.
+/// dot matches any one character, and a star repeats the mark before it any number of times, also
+/// zero; the pattern must match the whole path. Takes no memory.
 pub fn passes_path(rule: &PathRule, path: &Text) -> bool
     ensures { result ≡ passes_path rule.now path.now }
 {
@@ -22,8 +22,8 @@ pub fn passes_path(rule: &PathRule, path: &Text) -> bool
     }
 }
 
-/// Whether the pattern matches the path. Up to the first repeated element there is one way to match, so that a plain
-/// comparison will do; behind a last `.*` nothing is left to compare.
+/// Whether the pattern matches the path. Up to the first repeated element there is only one way to match, so a plain
+/// comparison is enough; after a last `.*` nothing is left to compare.
 fn passes_pattern(pattern: &str, path: &str) -> bool
     requires { length pattern.now ≤ 1024 }
     ensures { result ≡ passes_pattern pattern.now path.now }
@@ -51,7 +51,7 @@ fn passes_pattern(pattern: &str, path: &str) -> bool
     rest.next().is_none()
 }
 
-/// The same of a pattern with repeated elements. Most are short, and a small table costs less to fill.
+/// The same for a pattern with repeated elements. Most are short, and a small table costs less to fill.
 fn passes_repeated(pattern: &str, path: &str) -> bool
     requires { length pattern.now ≤ 1024 }
     ensures { result ≡ passes_pattern pattern.now path.now }
@@ -63,7 +63,7 @@ fn passes_repeated(pattern: &str, path: &str) -> bool
     }
 }
 
-/// The same by a table with room for so many elements.
+/// The same with a table that has room for this many elements.
 fn passes_in<const ROOM: usize>(pattern: &str, path: &str) -> bool
     requires fits { length pattern.now ≤ ROOM }
     requires most { ROOM ≤ 1024 }

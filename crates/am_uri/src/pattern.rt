@@ -9,7 +9,7 @@ use std::str::Chars;
 /// The most elements that a pattern has.
 pub(crate) const MOST: usize = 1024;
 
-/// A character of a pattern, and whether it is plain or stands behind a backslash.
+/// A character of a pattern, and whether it is plain or follows a backslash.
 #[derive(Clone, Copy)]
 pub(crate) struct Mark {
     pub(crate) character: char,
@@ -24,7 +24,7 @@ impl Mark {
         self.plain && self.character == '.'
     }
 
-    /// The character may stand at the mark.
+    /// The mark allows the character.
     pub(crate) fn allows(self, c: char) -> bool
         ensures { result ≡ allows (mark_of self) c }
     {
@@ -40,7 +40,7 @@ pub(crate) struct Element {
 }
 
 impl Element {
-    /// The element that fills a table before it is read.
+    /// The element that fills a table until the table is written.
     pub(crate) fn filler() -> Element {
         Element {
             mark: Mark {
@@ -93,7 +93,7 @@ pub(crate) fn next_element(rest: &mut Chars<'_>) -> Option<Element>
     Some(Element { mark, repeated })
 }
 
-/// Writes the elements of the pattern into the table, and tells how many there are.
+/// Writes the elements of the pattern into the table, and returns how many there are.
 pub(crate) fn read_elements(pattern: &str, elements: &mut [Element]) -> usize
     requires fits { length pattern.now ≤ length elements.old }
     ensures within { result ≤ length elements.new }

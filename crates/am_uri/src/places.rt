@@ -1,11 +1,11 @@
-//! Sets of places in a pattern, as words with a bit for each place, and what they lead on to.
+//! Sets of places in a pattern, as words with a bit for each place, and the places that these lead to.
 ghost use Rattle.std.specs.Prelude.{◌≡◌, ◌<◌, ◌*◌, ◌/◌, ◌%◌, ◌^◌, ◌==◌, length, IsTrue, EachIndex, slice_index};
 ghost use Rattle.am_uri.specs.PathPlaces.{skipped, advanced};
 ghost use Rattle.am_uri.specs.PathWords.{AreWithin};
 
 use crate::words::WIDTH;
 
-/// Reaches the places behind repeated elements too. A carry runs up a word as far as elements are repeated.
+/// Reaches the places after repeated elements too. A carry runs up a word as far as elements are repeated.
 pub(crate) fn skip(repeated: &[u64], reached: &mut [u64])
     requires same_length { length repeated.now ≡ length reached.old }
     requires spare { AreWithin 63 repeated.now }
@@ -19,8 +19,8 @@ pub(crate) fn skip(repeated: &[u64], reached: &mut [u64])
     }
 }
 
-/// One character on. Of the places that are reached, those of elements that allow it stay if the element is repeated,
-/// and go one up if it isn't.
+/// Moves one character on. Among the places that are reached, the place of an element that allows the character stays
+/// if the element is repeated, and moves up by one if it isn't.
 pub(crate) fn advance(allowed: &[u64], repeated: &[u64], reached: &mut [u64])
     requires allowed_length { length allowed.now ≡ length reached.old }
     requires repeated_length { length repeated.now ≡ length reached.old }

@@ -1,4 +1,4 @@
-//! Rows of a pattern: by them the elements that allow a character are found without asking each element.
+//! Rows of a pattern: with them the elements that allow a character are found without asking each element.
 ghost use Rattle.std.specs.Prelude.{◌≡◌, ◌≤◌, ℕ, map, take, length, List as Items};
 ghost use Rattle.am_model.specs.Paths.{Element as ReadElement};
 ghost use Rattle.am_uri.specs.PathElements.{element_of, allowed_at};
@@ -17,7 +17,7 @@ pub(crate) const ROWS: usize = 24;
 /// The row of the elements whose character is below 2^7.
 const ASCII: usize = 21;
 
-/// The row of the elements whose character is below 2^21. Each is, but as a row this needs no fact about characters.
+/// The row of the elements whose character is below 2^21. All are, but as a row this needs no fact about characters.
 const WHOLE: usize = 22;
 
 /// The row of the elements that allow every character.
@@ -56,8 +56,8 @@ pub(crate) fn write_rows(elements: &[Element], rows: &mut [Row])
     }
 }
 
-/// Writes the words of the elements that allow the character over those of the last one: by the rows if there are any,
-/// else by asking each element.
+/// Overwrites the previous character's words with the words of the elements that allow this character: with the rows if
+/// there are any, otherwise by asking each element.
 pub(crate) fn write_allowed(
     elements: &[Element],
     rows: &[Row],
@@ -79,7 +79,8 @@ pub(crate) fn write_allowed(
     }
 }
 
-/// Writes the words of the elements that allow the character: those whose character has the same bits, and the wild ones.
+/// Writes the words of the elements that allow the character: elements whose character has the same bits, and wild
+/// ones.
 fn find(rows: &[Row], c: char, words: &mut [u64])
     requires rows { length rows.now ≡ 24 }
     requires words { length words.old ≤ 17 }
@@ -106,7 +107,7 @@ fn find(rows: &[Row], c: char, words: &mut [u64])
     add(&rows[WILD][..count], words);
 }
 
-/// Clears the bits that the row hasn't.
+/// Clears the bits that aren't in the row.
 fn keep(row: &[u64], words: &mut [u64])
     requires { length row.now ≡ length words.old }
     ensures { words.new ≡ both row.now words.old }
@@ -116,7 +117,7 @@ fn keep(row: &[u64], words: &mut [u64])
     }
 }
 
-/// Clears the bits that the row has.
+/// Clears the bits that are in the row.
 fn remove(row: &[u64], words: &mut [u64])
     requires { length row.now ≡ length words.old }
     ensures { words.new ≡ without row.now words.old }
@@ -126,7 +127,7 @@ fn remove(row: &[u64], words: &mut [u64])
     }
 }
 
-/// Sets the bits that the row has.
+/// Sets the bits that are in the row.
 fn add(row: &[u64], words: &mut [u64])
     requires { length row.now ≡ length words.old }
     ensures { words.new ≡ either row.now words.old }

@@ -7,23 +7,23 @@ use am_types::{List, Text};
 use std::alloc::{AllocError, Global};
 use std::collections::BTreeSet;
 
-/// What a text must be where it stands.
+/// The form that a text must have.
 #[derive(Clone, Copy)]
 pub enum Form {
     /// Any text.
     Any,
-    /// Any text but the empty one.
+    /// Any text except the empty one.
     Filled,
     /// The name of a class: not empty, and without `/`.
     Class,
-    /// The name of a package: as that of a class, and without a dot at its start.
+    /// The name of a package: like the name of a class, and without a dot at its start.
     PackageName,
-    /// What a caller is known by: 1 to 255 bytes from 0x21 to 0x7E.
+    /// The name of a caller: 1 to 255 bytes from 0x21 to 0x7E.
     AccessKey,
 }
 
 impl Form {
-    /// Whether the text may stand where this form is asked for.
+    /// Whether the text has this form.
     pub fn fits(self, text: &str) -> bool
         ensures { result ≡ fits self text.now }
     {

@@ -19,22 +19,23 @@ const MAX_LEN: usize = 1024;
 /// The most digits of a port.
 const MAX_DIGITS: usize = 5;
 
-/// Reads a URI, which is a scheme, a colon and a rest (RFC 3986, section 3). A relative reference is
-/// none (own). Takes time linear in the text; one over its length isn't read at all.
+/// Reads a URI, which is a scheme, a colon and a rest (RFC 3986, section 3). A relative reference
+/// isn't a URI (own). Takes time linear in the text; a text that is too long isn't read at all.
 ///
 /// - A rest that doesn't begin with `/` is opaque: it has no host, no port and an empty path, and
-///   nothing of it is looked at (own; Android's `Uri` has opaque forms too).
-/// - The authority stands behind `//`, up to the next `/`, `?` or `#`. Its host follows the last
-///   `@`, as Android's `Uri.getHost` has it, may be empty, and keeps its brackets. The port follows
-///   the last colon behind every `]`: at most five digits, so from 0 to 99,999; no digits are no
-///   port (own).
-/// - The path runs from there to the next `?` or `#`. It is percent-decoded once, as Android's
-///   `Uri.getPath` does, and no dots are removed from it. Query and fragment stay in the text alone.
+///   isn't looked at any further (own; Android's `Uri` has opaque forms too).
+/// - The authority follows `//`, up to the next `/`, `?` or `#`. Its host follows the last
+///   `@`, as in Android's `Uri.getHost`, may be empty, and keeps its brackets. The port follows
+///   the last colon after every `]`: at most five digits, so from 0 to 99,999; without digits there
+///   is no port (own).
+/// - The path runs from there to the next `?` or `#`. It is percent-decoded once, as in Android's
+///   `Uri.getPath`, and no dots are removed from it. The query and the fragment are kept only in the
+///   text.
 ///
-/// The first fault that applies is `TooLong` over 1,024 bytes, `NoScheme`, `BadPort` where something
-/// else than a port stands behind that colon, `BadEscape` where a percent sign of the path isn't
-/// followed by two hexadecimal digits, and `NotUtf8` where the decoded path isn't UTF-8 (own:
-/// Android's `Uri` refuses none of these). `NoMemory` comes only where the path is decoded.
+/// The first fault that applies is `TooLong` over 1,024 bytes, `NoScheme`, `BadPort` if something
+/// other than a port follows that colon, `BadEscape` if a percent sign of the path isn't
+/// followed by two hexadecimal digits, and `NotUtf8` if the decoded path isn't UTF-8 (own:
+/// Android's `Uri` refuses none of these). `NoMemory` comes only if the path is decoded.
 pub fn parse_uri(alloc: Global, text: &Text) -> Result<Uri, UriFault>
     ensures { IsUriAnswer (uri_of text.now) result }
 {
@@ -74,7 +75,7 @@ fn parts(text: &str) -> Result<Written<'_>, UriFault>
     })
 }
 
-/// The scheme and what stands behind its colon.
+/// The scheme and the text after its colon.
 fn split_scheme(text: &str) -> Option<(&str, &str)>
     ensures { option_map both result
         ≡ (if has_scheme text.now then Some (scheme_in text.now, rest_in text.now) else None) }
@@ -87,7 +88,7 @@ fn split_scheme(text: &str) -> Option<(&str, &str)>
     }
 }
 
-/// The host and the port, where there is an authority.
+/// The host and the port, if there is an authority.
 fn host_and_port(rest: &str) -> Result<(Option<&str>, Option<u32>), UriFault>
     ensures { Serves rest.now result }
 {
@@ -98,7 +99,7 @@ fn host_and_port(rest: &str) -> Result<(Option<&str>, Option<u32>), UriFault>
     Ok((Some(host), read_port(digits)?))
 }
 
-/// The authority, which follows two slashes, and what stands behind it.
+/// The authority, which follows two slashes, and the text after it.
 fn split_authority(rest: &str) -> Option<(&str, &str)>
     ensures { option_map both result
         ≡ (if has_authority rest.now then Some (authority_in rest.now, behind_authority rest.now) else None) }
@@ -125,7 +126,7 @@ fn server_of(authority: &str) -> &str
     }
 }
 
-/// The host and the digits of the port, none where there is no port.
+/// The host and the digits of the port, which are absent if there is no port.
 fn split_port(server: &str) -> (&str, &str)
     ensures { both result ≡ (host_in server.now, port_text server.now) }
 {
@@ -135,7 +136,7 @@ fn split_port(server: &str) -> (&str, &str)
     }
 }
 
-/// Whether there is a colon behind the last `]`.
+/// Whether there is a colon after the last `]`.
 fn has_port(server: &str) -> bool
     ensures { result ≡ has_port server.now }
 {
@@ -151,7 +152,7 @@ fn has_colon(text: &str) -> bool
     text.as_bytes().contains(&b':')
 }
 
-/// The number that the digits write, where there are any.
+/// The number that the digits write, if there are any.
 fn read_port(digits: &str) -> Result<Option<u32>, UriFault>
     ensures { result ≡ (if is_port digits.now then Ok (port_of digits.now) else Err UriFault.BadPort) }
 {
@@ -185,7 +186,7 @@ fn path_of(rest: &str) -> &str
     }
 }
 
-/// What stands before the first question mark or number sign.
+/// The text before the first question mark or number sign.
 fn before_query(text: &str) -> &str
     ensures { result.now ≡ take_while (λ b. not (ends_path b)) text.now }
 {
@@ -200,7 +201,7 @@ fn path_len(text: &str) -> usize
         .unwrap_or(text.len())
 }
 
-/// Whether two hexadecimal digits stand behind each percent sign.
+/// Whether two hexadecimal digits follow each percent sign.
 fn is_escaped(path: &[u8]) -> bool
     ensures { result ≡ is_escaped path.now }
 {

@@ -8,10 +8,10 @@ use crate::pattern::Element;
 /// The bits of a word that are used. The highest one is spare, so that no sum of two words wraps.
 pub(crate) const WIDTH: usize = 63;
 
-/// The most words: a pattern has a place before each element, and one behind the last.
+/// The most words: a pattern has a place before each element, and one after the last.
 pub(crate) const WORDS: usize = 17;
 
-/// What an element is asked.
+/// A test of an element.
 #[derive(Clone, Copy)]
 pub(crate) enum Test {
     /// It is repeated.
@@ -56,7 +56,7 @@ pub(crate) fn write_where(elements: &[Element], test: Test, words: &mut [u64])
     }
 }
 
-/// The word of elements that fit into one.
+/// The word of elements that fit into one word.
 fn word_of(elements: &[Element], test: Test) -> u64
     requires few { length elements.now ≤ 63 }
     requires shift { IsShift test }

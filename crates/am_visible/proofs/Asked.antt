@@ -16,7 +16,7 @@ use Rattle.am_wire.specs.Activities.{fields_of, query_in}
 use Rattle.am_wire.specs.Requests.{posted, request_in, request_of}
 use Rattle.am_visible.specs.Answers.{is_query}
 
--- a second step that reads queries alone does so behind a first one
+-- a second step that reads only queries does so after a first one
 behind : {A : Type 0} (first : Result A WireFault) (next : A → Result Request WireFault)
     → ((x : A) (r : Request) → next x ≡ Ok r → is_query r ≡ true)
     → (r : Request) → (first >>= next) ≡ Ok r → is_query r ≡ true

@@ -1,4 +1,4 @@
--- What a question of a package about a device is answered.
+-- The answer to a package's question about a device.
 use Rattle.std.specs.Prelude.{ℕ, Bool, true, false, nat_lt, codes, List, [], ◌++◌, length, map, if◌then◌else◌, Option, Some, None, Result, Ok, Err}
 use Rattle.serde_json.specs.Written.{compact_text}
 use Rattle.am_types.specs.declared.intent.Component.{Component}
@@ -35,7 +35,7 @@ question_of text = if nat_lt 65536 (length text) then Err (TooLong (codes "body"
 abbrev pub components_of : List Hit → List Component
 components_of found = map (λ (hit : Hit). hit.component) found
 
--- what the caller is answered: the components that it sees of those that its query finds (it asks nothing else)
+-- the answer to the caller: of the components that its query finds, those that it sees (it asks nothing else)
 abbrev pub reply_to : Board → List Queries → ℕ → Request → Reply
 reply_to board queries caller (asks.Query kind intent default_only) =
     replies.Components (components_of (visible board queries caller kind intent default_only))
@@ -45,29 +45,29 @@ reply_to board queries caller _ = replies.Components []
 abbrev pub line_of : Reply → List ℕ
 line_of reply = compact_text (reply_data reply) ++ codes "\n"
 
--- the line that answers what the caller asks about the device
+-- the line that answers the caller's question about the device
 unfoldable pub answer_to : Described → ℕ → List ℕ → Result (List ℕ) WireFault
 answer_to known caller text = do
   request ← question_of text
   Ok (line_of (reply_to (board_of known.device) known.queries caller request))
 
--- an answer, whose fault is that of what was asked
+-- an answer, with the fault of the question
 unfoldable pub answer_of : Result (List ℕ) WireFault → Result (List ℕ) VisibleFault
 answer_of (Ok line) = Ok line
 answer_of (Err fault) = Err (ends.Query fault)
 
--- the answer to a caller, if it is one
+-- the answer to a caller, if there is one
 unfoldable pub known_answer : Described → Option ℕ → List ℕ → Result (List ℕ) VisibleFault
 known_answer known None text = Err ends.NoPackage
 known_answer known (Some caller) text = answer_of (answer_to known caller text)
 
--- the answer about what a file describes, if it describes something
+-- the answer about the device that a file describes, if it describes one
 unfoldable pub described_answer : Result Described ManifestFault → List ℕ → List ℕ → Result (List ℕ) VisibleFault
 described_answer (Err fault) name text = Err (ends.Device fault)
 described_answer (Ok known) name text =
     known_answer known (caller_of known.device.packages name) text
 
--- the answer to what the package of that name asks about the device of a file: the faults of the file come first, then
--- that nobody has the name, then the fault of what is asked
+-- the answer to what the package with this name asks about the device of a file: the faults of the file come first,
+-- then that nobody has the name, then the fault of the question
 unfoldable pub file_answer : List ℕ → List ℕ → List ℕ → Result (List ℕ) VisibleFault
 file_answer file name text = described_answer (described file) name text

@@ -1,4 +1,4 @@
-//! What a question about a device is answered.
+//! The answer to a question about a device.
 ghost use Rattle.std.specs.Prelude.{◌≡◌, IfOk, IsSome, IsTrue, Err};
 ghost use Rattle.am_model.specs.Boards.{board_of, caller_of};
 ghost use Rattle.am_model.specs.Sound.{IsSound};
@@ -33,13 +33,13 @@ fn line_to(
     line_of(alloc, &reply)
 }
 
-/// Answers what the caller asks about the device: the line of the components that the query finds and the caller sees,
+/// Answers the caller's question about the device: the line of the components that the query finds and the caller sees,
 /// as JSON in its compact form, with its newline.
 ///
 /// # Errors
 ///
-/// `Unmade::Fault` with `too_long body` for a text of more than 65,536 bytes, else with the first fault that the reader
-/// of a query's body meets; `Unmade::NoMemory` if memory runs out.
+/// `Unmade::Fault` with `too_long body` for a text of more than 65,536 bytes, otherwise with the first fault that the
+/// reader of a query's body finds; `Unmade::NoMemory` if memory runs out.
 #[tactic(auto, unfolding(crate::specs::Answers::answer_to))]
 pub fn answer(alloc: Global, known: Described, caller: u32, text: &[u8]) -> Result<Text, Unread>
     requires sound { IsSound known.device }
@@ -54,7 +54,7 @@ pub fn answer(alloc: Global, known: Described, caller: u32, text: &[u8]) -> Resu
     }
 }
 
-/// Answers what the package of that name asks about a device that is known, as [`answer`] does.
+/// Answers what the package with this name asks about a known device, as [`answer`] does.
 #[tactic(auto, unfolding(crate::specs::Answers::known_answer, crate::specs::Answers::answer_of))]
 fn answer_known(
     alloc: Global,
@@ -76,12 +76,12 @@ fn answer_known(
     }
 }
 
-/// Answers what the package of that name asks about the device of a file, as [`answer`] does.
+/// Answers what the package with this name asks about the device of a file, as [`answer`] does.
 ///
 /// # Errors
 ///
-/// In this order: `Device` with the first fault of the file, `NoPackage` where the device has no package of the name
-/// and it isn't `android`, and `Query` as [`answer`]. `NoMemory` if memory runs out.
+/// In this order: `Device` with the first fault of the file, `NoPackage` if the device has no package with the name
+/// and it isn't `android`, and `Query` as for [`answer`]. `NoMemory` if memory runs out.
 #[tactic(auto, unfolding(crate::specs::Answers::file_answer, crate::specs::Answers::described_answer))]
 pub fn answer_file(
     alloc: Global,

@@ -1,5 +1,5 @@
-//! Package visibility: which packages an app sees by the queries of its manifest, which components of a query it sees,
-//! and what a question of an app about a device is answered.
+//! Package visibility: which packages an app sees through the queries of its manifest, which components of a query it
+//! sees, and the answer to an app's question about a device.
 #![tactic(auto)]
 
 mod answers;

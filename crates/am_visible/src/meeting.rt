@@ -9,8 +9,8 @@ use am_filter::{has_host, lists, lists_all, passes_type};
 use am_types::{Authority, Filter, List, Mime, Signature, Text};
 
 /// Whether the filter meets the signature: it lists the action and each category, and takes the scheme, the host and
-/// the type. A type without a scheme stands for `content`. A filter without schemes takes a type of `content` or
-/// `file`. Without a scheme the host counts for nothing; ports and paths aren't asked. (The `<queries>` element of the
+/// the type. A type without a scheme means the scheme `content`. A filter without schemes takes a type with `content`
+/// or `file`. Without a scheme the host is ignored; ports and paths aren't compared. (The `<queries>` element of the
 /// reference; ports and paths: own.) Takes no memory.
 pub fn meets(filter: &Filter, signature: &Signature) -> bool
     ensures { result ≡ meets filter.now signature.now }
@@ -20,7 +20,7 @@ pub fn meets(filter: &Filter, signature: &Signature) -> bool
         && takes_data(filter, signature)
 }
 
-/// The filter takes the data that is asked for.
+/// The filter takes the data of the signature.
 fn takes_data(filter: &Filter, signature: &Signature) -> bool
     ensures { result ≡ takes_data filter.now signature.now }
 {
@@ -32,7 +32,7 @@ fn takes_data(filter: &Filter, signature: &Signature) -> bool
         && takes_host(filter, &signature.scheme, &signature.host)
 }
 
-/// The scheme that is asked for: with a type and without a scheme it is `content`.
+/// The signature's scheme: with a type and without a scheme it is `content`.
 fn asked_scheme(signature: &Signature) -> Option<&str>
     ensures { option_copied result ≡ asked_scheme signature.now.scheme signature.now.mime }
 {
@@ -43,7 +43,7 @@ fn asked_scheme(signature: &Signature) -> Option<&str>
     }
 }
 
-/// Where no scheme is asked for, the filter lists neither a scheme nor a type.
+/// If the signature has no scheme, the filter lists neither a scheme nor a type.
 fn takes_no_scheme(filter: &Filter, scheme: Option<&str>) -> bool
     ensures { result ≡ takes_no_scheme filter.now (option_copied scheme.entry) }
 {
@@ -53,7 +53,7 @@ fn takes_no_scheme(filter: &Filter, scheme: Option<&str>) -> bool
     }
 }
 
-/// The filter lists the scheme that is asked for, or it lists none and a type of local content is asked for.
+/// The filter lists the signature's scheme, or it lists none and the signature has a type of local content.
 fn takes_scheme(filter: &Filter, scheme: Option<&str>, mime: &Option<Mime>) -> bool
     ensures { result ≡ takes_scheme filter.now (option_copied scheme.entry) mime.now }
 {
@@ -83,7 +83,7 @@ fn is_local(scheme: &str) -> bool
     scheme == "content" || scheme == "file"
 }
 
-/// Where a scheme is asked for and no type, the filter lists no type.
+/// If the signature has a scheme and no type, the filter lists no type.
 fn takes_no_type(filter: &Filter, scheme: Option<&str>, mime: &Option<Mime>) -> bool
     ensures { result ≡ takes_no_type filter.now (option_copied scheme.entry) mime.now }
 {
@@ -93,7 +93,7 @@ fn takes_no_type(filter: &Filter, scheme: Option<&str>, mime: &Option<Mime>) -> 
     }
 }
 
-/// The filter takes the type, if one is asked for.
+/// The filter takes the type, if the signature has one.
 fn takes_type(filter: &Filter, mime: &Option<Mime>) -> bool
     ensures { result ≡ takes_type filter.now mime.now }
 {
@@ -103,8 +103,8 @@ fn takes_type(filter: &Filter, mime: &Option<Mime>) -> bool
     }
 }
 
-/// The filter takes the host that is asked for beside a scheme: it lists no scheme, or no authority, or one of the
-/// host, at whatever port.
+/// The filter takes the host that the signature has with a scheme: it lists no scheme, or no authority, or an authority
+/// with the host, at any port.
 fn takes_host(filter: &Filter, scheme: &Option<Text>, host: &Option<Text>) -> bool
     ensures { result ≡ takes_host filter.now scheme.now host.now }
 {

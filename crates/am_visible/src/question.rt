@@ -1,4 +1,4 @@
-//! What is asked.
+//! The question.
 ghost use Rattle.std.specs.Prelude.{◌≡◌, IfOk, IsTrue};
 ghost use Rattle.am_types.specs.Reading.{Gives};
 ghost use Rattle.am_visible.specs.Answers.{is_query, question_of};
@@ -12,7 +12,7 @@ use std::alloc::Global;
 /// The greatest length of a question, in bytes.
 pub(crate) const MAX_QUESTION: usize = 65_536;
 
-/// The query that a text asks, which is that of a query's body.
+/// The query that a text asks, read as the body of a query.
 #[tactic(auto, unfolding(crate::specs::Answers::question_of))]
 pub(crate) fn question_of(alloc: Global, text: &[u8]) -> Result<Request, Unread>
     ensures reads { Gives result (question_of text.now) }

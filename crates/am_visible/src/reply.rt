@@ -1,4 +1,4 @@
-//! What a query is answered.
+//! The reply to a query.
 ghost use Rattle.std.specs.Prelude.{◌≡◌, ◌<◌, IfOk, IsTrue, map, string_bytes};
 ghost use Rattle.am_types.specs.declared.resolve.Hit.{Hit};
 ghost use Rattle.am_visible.specs.Answers.{components_of, is_query, line_of, reply_to};
@@ -20,7 +20,7 @@ fn components_of(alloc: Global, found: List<Hit>) -> Result<List<Component>, All
     Ok(List::new(names))
 }
 
-/// What the query is answered, by a counter that begins with the blank.
+/// The reply to the query, with a counter made from `blank`.
 fn counted<L: Ledger>(
     alloc: Global,
     board: &Board,
@@ -59,7 +59,7 @@ fn counted<L: Ledger>(
     }
 }
 
-/// What the query is answered: the components that the caller sees of those that it finds.
+/// The reply to the query: of the components that it finds, those that the caller sees.
 pub(crate) fn reply_to(
     alloc: Global,
     board: &Board,

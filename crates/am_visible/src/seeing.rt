@@ -9,14 +9,14 @@ use am_gates::{holds_named, is_privileged};
 use am_resolve::Board;
 use am_types::{Decl, Filter, List, Package, Queries, Signature};
 
-/// What shows every package to who holds it.
+/// The permission that shows every package to its holder.
 const QUERY_ALL_PACKAGES: &str = "android.permission.QUERY_ALL_PACKAGES";
 
-/// Whether the caller sees the package of that uid. The queries are those of the board's packages, in their order.
+/// Whether the caller sees the package of this uid. The queries are those of the board's packages, in their order.
 ///
-/// The system and the root see every package, and so does who holds `android.permission.QUERY_ALL_PACKAGES`. An app
-/// sees itself, what its queries name, and what has an exported and enabled component with a filter that meets one of
-/// their signatures. ("Package visibility filtering"; that the component must be enabled: own.) Takes no memory.
+/// The system and the root see every package, and so does a holder of `android.permission.QUERY_ALL_PACKAGES`. An app
+/// sees itself, what its queries name, and packages with an exported and enabled component with a filter that meets one
+/// of their signatures. ("Package visibility filtering"; that the component must be enabled: own.) Takes no memory.
 pub fn sees(board: &Board, queries: &List<Queries>, caller: u32, package: u32) -> bool
     ensures { result ≡ sees board.now queries.now caller «package» }
 {
@@ -29,7 +29,7 @@ pub fn sees(board: &Board, queries: &List<Queries>, caller: u32, package: u32) -
         )
 }
 
-/// The queries of the package of the uid, if there is one: the n-th queries are those of the n-th package.
+/// The queries of the package of the uid, if there is one: the n-th queries belong to the n-th package.
 fn queries_of<'a>(
     packages: &List<Package>,
     queries: &'a List<Queries>,
@@ -49,7 +49,7 @@ fn queries_of<'a>(
     None
 }
 
-/// The queries, if there are any, ask for the package, if there is one.
+/// The queries ask for the package, if both are present.
 fn ask_for(queries: Option<&Queries>, found: Option<&Package>) -> bool
     ensures { result ≡ ask_for (option_copied queries.entry) (option_copied found.entry) }
 {
@@ -66,14 +66,14 @@ fn is_asked_for(queries: &Queries, owner: &Package) -> bool
     lists(&queries.names, &owner.name) || some_shows(&queries.signatures, &owner.decls)
 }
 
-/// Some component shows its package to who asks for these signatures.
+/// Some component shows its package to an app that asks for these signatures.
 fn some_shows(signatures: &List<Signature>, decls: &List<Decl>) -> bool
     ensures { result ≡ list_any (shows signatures.now) decls.now }
 {
     decls.as_slice().iter().any(|decl| shows(signatures, decl))
 }
 
-/// The component is one that other apps may reach, and has a filter that meets one of the signatures.
+/// Other apps may reach the component, and it has a filter that meets one of the signatures.
 fn shows(signatures: &List<Signature>, decl: &Decl) -> bool
     ensures { result ≡ shows signatures.now decl.now }
 {

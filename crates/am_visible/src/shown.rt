@@ -12,9 +12,9 @@ use std::alloc::Global;
 use std::sync::ledger::Ledger;
 
 /// The components of the kind that the intent finds and whose packages the caller sees, in the order of
-/// [`Board::query`]: by falling priority, then uid, then place. No gate is asked: who sees a component may still not
-/// reach it. Each full test of a filter against the intent is a step, as in a query: at most as many as the intent's
-/// group has filters, and none where the intent names a component. ("Package visibility filtering".)
+/// [`Board::query`]: by falling priority, then uid, then place. No gate is asked: a caller that sees a component may
+/// still not reach it. Each full test of a filter against the intent is a step, as in a query: at most as many as the
+/// intent's group has filters, and none if the intent names a component. ("Package visibility filtering".)
 ///
 /// # Errors
 ///

@@ -1,4 +1,5 @@
--- A request that is read is asked at the endpoint at which it is read; a key in it is an access key, and a link's host in lower case.
+-- A request that is read is asked at the endpoint at which it is read; a key in it is an access key, and a link's host
+-- in lower case.
 use Rattle.std.proofs.Common.{◌≡◌, ℕ, ◌==◌, Bool, true, false, List, [], ◌∷◌, refl, ap, ◌∙◌, subst, IsTrue}
 use Rattle.std.specs.Prelude.{IfOk, Result, Ok, Err, Option, Some, None, codes, nat_lt, length, if◌then◌else◌}
 use Rattle.std.specs.Char.{to_ascii_lowercase}
@@ -41,7 +42,8 @@ abbrev pub IsMade : Endpoint → Request → Type 0
 IsMade endpoint request = (endpoint_for request ≡ endpoint) × HasForm request
 
 -- a request that is made of a value that is read is made so, if what each value makes is
-bound : {A : Type 0} (endpoint : Endpoint) (read : Result A WireFault) (next : A → Result Request WireFault) → ((x : A) → IfOk (next x) (IsMade endpoint))
+bound : {A : Type 0} (endpoint : Endpoint) (read : Result A WireFault) (next : A → Result Request WireFault)
+    → ((x : A) → IfOk (next x) (IsMade endpoint))
     → IfOk (read >>= next) (IsMade endpoint)
 bound endpoint (Ok x) next h = h x
 bound endpoint (Err fault) next h = tt
@@ -50,7 +52,8 @@ bound endpoint (Err fault) next h = tt
 pub lowered_again : (text : List ℕ) → lowered (lowered text) ≡ lowered text
 lowered_again [] = refl
 lowered_again (b ∷ bytes) =
-    ap (λ c. c ∷ lowered (lowered bytes)) (lowercase-lowercase b) ∙ ap (λ (cs : List ℕ). to_ascii_lowercase b ∷ cs) (lowered_again bytes)
+    ap (λ c. c ∷ lowered (lowered bytes)) (lowercase-lowercase b) ∙ ap (λ (cs : List ℕ). to_ascii_lowercase b ∷ cs)
+    (lowered_again bytes)
 
 -- a key that is read is an access key
 key_is_access_key : (o : Option (List ℕ)) → IfOk (key_of o) (λ key. IsTrue (is_access_key key))
@@ -58,7 +61,8 @@ unfolding key_of
 key_is_access_key None = tt
 key_is_access_key (Some text) = by (length text == 0) (is_visible text) (nat_lt 255 (length text)) refl refl refl
   where
-    by : (empty visible long : Bool) → (length text == 0) ≡ empty → is_visible text ≡ visible → nat_lt 255 (length text) ≡ long
+    by : (empty visible long : Bool) → (length text == 0) ≡ empty → is_visible text ≡ visible → nat_lt 255 (length text)
+        ≡ long
         → IfOk (if empty then Err (WrongKind (codes "key"))
         else if visible then (if long then Err (TooLong (codes "key")) else Ok text)
         else Err (WrongKind (codes "key"))) (λ key. IsTrue (is_access_key key))
@@ -84,54 +88,91 @@ install_is_made text (Ok found) = install_with_key text (key_of (as_str found)) 
 
 -- the request that a JSON value makes at an endpoint
 value_is_made : (endpoint : Endpoint) (value : Data) → IfOk (request_in endpoint value) (IsMade endpoint)
-unfolding request_in advance_in query_in explain_in asked_with start_in plain_in start_service_in stop_service_in send_in sent_with register_in finish_in pending_get_in pending_send_in pending_give_in install_in key_in grant_in link_in
+unfolding request_in advance_in query_in explain_in asked_with start_in plain_in start_service_in stop_service_in
+    send_in sent_with register_in finish_in pending_get_in pending_send_in pending_give_in install_in key_in grant_in
+    link_in
 value_is_made at.Query value =
-    bound at.Query (fields_of (codes "kind" ∷ codes "intent" ∷ codes "defaultOnly" ∷ []) value) _ (λ x0. bound at.Query (kind_of value) _ (λ x1. bound at.Query (required_intent (codes "intent") value) _ (λ x2. bound at.Query (optional_truth (codes "defaultOnly") value) _ (λ x3. (refl, tt)))))
+    bound at.Query (fields_of (codes "kind" ∷ codes "intent" ∷ codes "defaultOnly" ∷ []) value) _
+    (λ x0. bound at.Query (kind_of value) _ (λ x1. bound at.Query (required_intent (codes "intent") value) _
+    (λ x2. bound at.Query (optional_truth (codes "defaultOnly") value) _ (λ x3. (refl, tt)))))
 value_is_made at.Explain value =
-    bound at.Explain (fields_of (explain_fields (asks_receivers value)) value) _ (λ x0. bound at.Explain (kind_of value) _ (λ x1. bound at.Explain (required_intent (codes "intent") value) _ (λ x2. bound at.Explain (optional_text Any 1024 (codes "as") value) _ (λ x3. bound at.Explain (permission_for x1 value) _ (λ x4. bound at.Explain (optional_text Any 1024 (codes "of") value) _ (λ x5. (refl, tt)))))))
+    bound at.Explain (fields_of (explain_fields (asks_receivers value)) value) _
+    (λ x0. bound at.Explain (kind_of value) _ (λ x1. bound at.Explain (required_intent (codes "intent") value) _
+    (λ x2. bound at.Explain (optional_text Any 1024 (codes "as") value) _
+    (λ x3. bound at.Explain (permission_for x1 value) _ (λ x4. bound at.Explain
+    (optional_text Any 1024 (codes "of") value) _ (λ x5. (refl, tt)))))))
 value_is_made at.Start value =
-    bound at.Start (fields_of (codes "intent" ∷ codes "source" ∷ []) value) _ (λ x0. bound at.Start (required_intent (codes "intent") value) _ (λ x1. bound at.Start (optional_natural (codes "source") value) _ (λ x2. (refl, tt))))
+    bound at.Start (fields_of (codes "intent" ∷ codes "source" ∷ []) value) _
+    (λ x0. bound at.Start (required_intent (codes "intent") value) _
+    (λ x1. bound at.Start (optional_natural (codes "source") value) _ (λ x2. (refl, tt))))
 value_is_made at.FinishActivity value =
     bound at.FinishActivity (number_in (codes "instance") value) _ (λ x0. (refl, tt))
 value_is_made at.Back value =
     bound at.Back (fields_of [] value) _ (λ x0. (refl, tt))
 value_is_made at.ListTasks value = (refl, tt)
 value_is_made at.StartService value =
-    bound at.StartService (fields_of (codes "intent" ∷ []) value) _ (λ x0. bound at.StartService (required_intent (codes "intent") value) _ (λ x1. (refl, tt)))
+    bound at.StartService (fields_of (codes "intent" ∷ []) value) _
+    (λ x0. bound at.StartService (required_intent (codes "intent") value) _ (λ x1. (refl, tt)))
 value_is_made at.StopService value =
-    bound at.StopService (fields_of (codes "component" ∷ []) value) _ (λ x0. bound at.StopService (required_by component_in (codes "component") value) _ (λ x1. (refl, tt)))
+    bound at.StopService (fields_of (codes "component" ∷ []) value) _
+    (λ x0. bound at.StopService (required_by component_in (codes "component") value) _ (λ x1. (refl, tt)))
 value_is_made at.Services value = (refl, tt)
 value_is_made at.Send value =
-    bound at.Send (fields_of (send_fields (is_ordered value)) value) _ (λ x0. bound at.Send (required_intent (codes "intent") value) _ (λ x1. bound at.Send (optional_text Any 1024 (codes "permission") value) _ (λ x2. bound at.Send (optional_truth (codes "ordered") value) _ (λ x3. bound at.Send (ordered_if x3 value) _ (λ x4. (refl, tt))))))
+    bound at.Send (fields_of (send_fields (is_ordered value)) value) _
+    (λ x0. bound at.Send (required_intent (codes "intent") value) _
+    (λ x1. bound at.Send (optional_text Any 1024 (codes "permission") value) _
+    (λ x2. bound at.Send (optional_truth (codes "ordered") value) _
+    (λ x3. bound at.Send (ordered_if x3 value) _ (λ x4. (refl, tt))))))
 value_is_made at.Register value =
-    bound at.Register (fields_of (codes "filter" ∷ codes "permission" ∷ []) value) _ (λ x0. bound at.Register (required_filter (codes "filter") value) _ (λ x1. bound at.Register (optional_text Any 1024 (codes "permission") value) _ (λ x2. (refl, tt))))
+    bound at.Register (fields_of (codes "filter" ∷ codes "permission" ∷ []) value) _
+    (λ x0. bound at.Register (required_filter (codes "filter") value) _
+    (λ x1. bound at.Register (optional_text Any 1024 (codes "permission") value) _ (λ x2. (refl, tt))))
 value_is_made at.Unregister value =
     bound at.Unregister (number_in (codes "number") value) _ (λ x0. (refl, tt))
 value_is_made at.Inbox value = (refl, tt)
 value_is_made at.Finish value =
-    bound at.Finish (fields_of (finish_fields (sets_outcome value)) value) _ (λ x0. bound at.Finish (required_natural (codes "delivery") value) _ (λ x1. bound at.Finish (optional_truth (codes "abort") value) _ (λ x2. bound at.Finish (outcome_if (sets_outcome value) value) _ (λ x3. (refl, tt)))))
+    bound at.Finish (fields_of (finish_fields (sets_outcome value)) value) _
+    (λ x0. bound at.Finish (required_natural (codes "delivery") value) _
+    (λ x1. bound at.Finish (optional_truth (codes "abort") value) _
+    (λ x2. bound at.Finish (outcome_if (sets_outcome value) value) _ (λ x3. (refl, tt)))))
 value_is_made at.PendingGet value =
-    bound at.PendingGet (fields_of (codes "kind" ∷ codes "code" ∷ codes "intent" ∷ codes "flags" ∷ []) value) _ (λ x0. bound at.PendingGet (pending_kind_of value) _ (λ x1. bound at.PendingGet (required_whole (codes "code") value) _ (λ x2. bound at.PendingGet (required_intent (codes "intent") value) _ (λ x3. bound at.PendingGet (pending_flags_of value) _ (λ x4. (refl, tt))))))
+    bound at.PendingGet (fields_of (codes "kind" ∷ codes "code" ∷ codes "intent" ∷ codes "flags" ∷ []) value) _
+    (λ x0. bound at.PendingGet (pending_kind_of value) _ (λ x1. bound at.PendingGet
+    (required_whole (codes "code") value) _ (λ x2. bound at.PendingGet (required_intent (codes "intent") value) _
+    (λ x3. bound at.PendingGet (pending_flags_of value) _ (λ x4. (refl, tt))))))
 value_is_made at.PendingSend value =
-    bound at.PendingSend (fields_of (codes "token" ∷ codes "fill" ∷ []) value) _ (λ x0. bound at.PendingSend (required_natural (codes "token") value) _ (λ x1. bound at.PendingSend (optional_intent (codes "fill") value) _ (λ x2. (refl, tt))))
+    bound at.PendingSend (fields_of (codes "token" ∷ codes "fill" ∷ []) value) _
+    (λ x0. bound at.PendingSend (required_natural (codes "token") value) _
+    (λ x1. bound at.PendingSend (optional_intent (codes "fill") value) _ (λ x2. (refl, tt))))
 value_is_made at.PendingCancel value =
     bound at.PendingCancel (number_in (codes "token") value) _ (λ x0. (refl, tt))
 value_is_made at.PendingGive value =
-    bound at.PendingGive (fields_of (codes "token" ∷ codes "package" ∷ []) value) _ (λ x0. bound at.PendingGive (required_natural (codes "token") value) _ (λ x1. bound at.PendingGive (required_text Any 1024 (codes "package") value) _ (λ x2. (refl, tt))))
+    bound at.PendingGive (fields_of (codes "token" ∷ codes "package" ∷ []) value) _
+    (λ x0. bound at.PendingGive (required_natural (codes "token") value) _
+    (λ x1. bound at.PendingGive (required_text Any 1024 (codes "package") value) _ (λ x2. (refl, tt))))
 value_is_made at.Install value =
-    bound at.Install (fields_of (codes "manifest" ∷ codes "key" ∷ []) value) _ (λ x0. bound at.Install (required_text Any 65536 (codes "manifest") value) _ (λ x1. install_is_made x1 (required (codes "key") value)))
+    bound at.Install (fields_of (codes "manifest" ∷ codes "key" ∷ []) value) _
+    (λ x0. bound at.Install (required_text Any 65536 (codes "manifest") value) _
+    (λ x1. install_is_made x1 (required (codes "key") value)))
 value_is_made at.Uninstall value =
     bound at.Uninstall (package_in value) _ (λ x0. (refl, tt))
 value_is_made at.Grant value =
-    bound at.Grant (fields_of grant_fields value) _ (λ x0. bound at.Grant (required_text Any 1024 (codes "package") value) _ (λ x1. bound at.Grant (required_text Any 1024 (codes "permission") value) _ (λ x2. bound at.Grant (required_truth (codes "held") value) _ (λ x3. (refl, tt)))))
+    bound at.Grant (fields_of grant_fields value) _ (λ x0. bound at.Grant
+    (required_text Any 1024 (codes "package") value) _ (λ x1. bound at.Grant
+    (required_text Any 1024 (codes "permission") value) _ (λ x2. bound at.Grant
+    (required_truth (codes "held") value) _ (λ x3. (refl, tt)))))
 value_is_made at.Link value =
-    bound at.Link (fields_of (codes "package" ∷ codes "host" ∷ codes "approved" ∷ []) value) _ (λ x0. bound at.Link (required_text Any 1024 (codes "package") value) _ (λ x1. bound at.Link (required_text Any 1024 (codes "host") value) _ (λ x2. bound at.Link (required_truth (codes "approved") value) _ (λ x3. (refl, lowered_again x2)))))
+    bound at.Link (fields_of (codes "package" ∷ codes "host" ∷ codes "approved" ∷ []) value) _
+    (λ x0. bound at.Link (required_text Any 1024 (codes "package") value) _
+    (λ x1. bound at.Link (required_text Any 1024 (codes "host") value) _
+    (λ x2. bound at.Link (required_truth (codes "approved") value) _ (λ x3. (refl, lowered_again x2)))))
 value_is_made at.ForceStop value =
     bound at.ForceStop (package_in value) _ (λ x0. (refl, tt))
 value_is_made at.Tick value =
     bound at.Tick (fields_of [] value) _ (λ x0. (refl, tt))
 value_is_made at.Advance value =
-    bound at.Advance (fields_of (codes "by" ∷ []) value) _ (λ x0. bound at.Advance (required_up_to greatest_advance (codes "by") value) _ (λ x1. (refl, tt)))
+    bound at.Advance (fields_of (codes "by" ∷ []) value) _ (λ x0. bound at.Advance
+    (required_up_to greatest_advance (codes "by") value) _ (λ x1. (refl, tt)))
 value_is_made at.History value =
     bound at.History (number_in (codes "from") value) _ (λ x0. (refl, tt))
 value_is_made at.Status value = (refl, tt)
@@ -151,7 +192,8 @@ body_is_made at.Status body = (refl, tt)
 body_is_made endpoint body = posted_is_made endpoint body
 
 -- a request that was read
-pub read_is_made : (endpoint : Endpoint) (body : List ℕ) (request : Request) → request_of endpoint body ≡ Ok request → IsMade endpoint request
+pub read_is_made : (endpoint : Endpoint) (body : List ℕ) (request : Request) → request_of endpoint body ≡ Ok request
+    → IsMade endpoint request
 read_is_made endpoint body request is =
     let P : Result Request WireFault → Type 0 = λ r. IfOk r (IsMade endpoint) in
     subst P is (body_is_made endpoint body)

@@ -1,4 +1,4 @@
--- What is asked of whom an intent would reach.
+-- Questions about what an intent would reach.
 use Rattle.std.specs.Prelude.{ℕ, Bool, false, List, [], ◌∷◌, codes, if◌then◌else◌, Option, Some, None, Result, Ok}
 use Rattle.serde_json.specs.Data.{Data}
 use Rattle.serde_json.specs.Find.{get, as_str}
@@ -25,24 +25,25 @@ abbrev pub text_at : Option Data → Option (List ℕ)
 text_at None = None
 text_at (Some value) = as_str value
 
--- receivers are asked about: the field `kind` says literally `receiver`
+-- the question is about receivers: the field `kind` is literally `receiver`
 unfoldable pub asks_receivers : Data → Bool
 asks_receivers body = is_receiver (text_at (get (codes "kind") body))
 
--- the fields of the question, which are more where receivers are asked about
+-- the fields of the question; there are more if it is about receivers
 unfoldable pub explain_fields : Bool → List (List ℕ)
 explain_fields receivers =
     if receivers then codes "kind" ∷ codes "intent" ∷ codes "as" ∷ codes "permission" ∷ codes "of" ∷ []
     else codes "kind" ∷ codes "intent" ∷ codes "as" ∷ codes "of" ∷ []
 
--- the permission that receivers must hold; of no other kind it is asked
+-- the permission that receivers must hold; for other kinds there is none
 unfoldable pub permission_for : Kind → Data → Result (Option (List ℕ)) WireFault
 permission_for Activity body = Ok None
 permission_for Service body = Ok None
 permission_for Receiver body = optional_text Any 1024 (codes "permission") body
 
--- what is asked besides a kind and an intent, and what it makes
-unfoldable pub asked_with : {A : Type 0} → (Option (List ℕ) → Option (List ℕ) → Option (List ℕ) → A) → Kind → Data → Result A WireFault
+-- the rest of the question, apart from its kind and intent, and what `make` makes of it
+unfoldable pub asked_with : {A : Type 0} → (Option (List ℕ) → Option (List ℕ) → Option (List ℕ) → A) → Kind → Data
+    → Result A WireFault
 asked_with make kind body = do
   caller ← optional_text Any 1024 (codes "as") body
   permission ← permission_for kind body

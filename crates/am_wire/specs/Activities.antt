@@ -1,4 +1,4 @@
--- Bodies of one field or none, queries, activities and services.
+-- Bodies with one field or none, queries, activities and services.
 use Rattle.std.specs.Prelude.{ℕ, List, [], ◌∷◌, codes, Result, Ok}
 use Rattle.serde_json.specs.Data.{Data}
 use Rattle.am_types.specs.declared.request.Request.{Request}
@@ -27,15 +27,17 @@ number_in name body = do
   known ← fields_of (name ∷ []) body
   required_natural name body
 
--- a body with this field alone, and the request that its value makes
-abbrev pub one_in : {A : Type 0} → List ℕ → (List ℕ → Data → Result A WireFault) → (A → Request) → Data → Result Request WireFault
+-- a body with only this field, and the request that its value makes
+abbrev pub one_in : {A : Type 0} → List ℕ → (List ℕ → Data → Result A WireFault) → (A → Request) → Data
+    → Result Request WireFault
 one_in name read make body = do
   known ← fields_of (name ∷ []) body
   x ← read name body
   Ok (make x)
 
--- a body with these two fields alone, which are read in this order, and the request that their values make
-abbrev pub two_in : {A B : Type 0} → List ℕ → (List ℕ → Data → Result A WireFault) → List ℕ → (List ℕ → Data → Result B WireFault)
+-- a body with only these two fields, which are read in this order, and the request that their values make
+abbrev pub two_in : {A B : Type 0} → List ℕ → (List ℕ → Data → Result A WireFault) → List ℕ
+    → (List ℕ → Data → Result B WireFault)
     → (A → B → Request) → Data → Result Request WireFault
 two_in first read_first second read_second make body = do
   known ← fields_of (first ∷ second ∷ []) body

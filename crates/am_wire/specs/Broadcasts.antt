@@ -18,25 +18,26 @@ use Rattle.am_wire_intents.specs.Intents.{required_intent}
 use Rattle.am_wire_intents.specs.Filters.{filter_in}
 use Rattle.am_wire.specs.Activities.{fields_of, two_in}
 
--- the truth is `true`, and nothing else
+-- the boolean is `true`, and nothing else
 abbrev pub is_true : Option Bool → Bool
 is_true None = false
 is_true (Some truth) = truth
 
--- the value of a field, if it is a truth
+-- the value of a field, if it is a boolean
 abbrev pub truth_at : Option Data → Option Bool
 truth_at None = None
 truth_at (Some value) = as_bool value
 
--- the broadcast is an ordered one: its field says literally `true`
+-- the broadcast is ordered: its field is literally `true`
 unfoldable pub is_ordered : Data → Bool
 is_ordered body = is_true (truth_at (get (codes "ordered") body))
 
--- the fields of a broadcast, which are more where it is an ordered one
+-- the fields of a broadcast; there are more if it is ordered
 unfoldable pub send_fields : Bool → List (List ℕ)
 send_fields ordered =
     if ordered
-    then codes "intent" ∷ codes "permission" ∷ codes "ordered" ∷ codes "code" ∷ codes "data" ∷ codes "extras" ∷ codes "result" ∷ []
+    then codes "intent" ∷ codes "permission" ∷ codes "ordered" ∷ codes "code" ∷ codes "data" ∷ codes "extras"
+    ∷ codes "result" ∷ []
     else codes "intent" ∷ codes "permission" ∷ codes "ordered" ∷ []
 
 -- the number, or 0
@@ -53,14 +54,14 @@ ordered_in body = do
   wanted ← optional_truth (codes "result") body
   Ok (record { initial = record { code = or_zero code; text = text; extras = extras }; wanted = wanted })
 
--- how a broadcast starts, if it is an ordered one
+-- how a broadcast starts, if it is ordered
 unfoldable pub ordered_if : Bool → Data → Result (Option Ordered) WireFault
 ordered_if false body = Ok None
 ordered_if true body = do
   ordered ← ordered_in body
   Ok (Some ordered)
 
--- what a broadcast has besides its intent, and what it makes
+-- the rest of a broadcast, apart from its intent, and what `make` makes of it
 unfoldable pub sent_with : {A : Type 0} → (Option (List ℕ) → Option Ordered → A) → Data → Result A WireFault
 sent_with make body = do
   permission ← optional_text Any 1024 (codes "permission") body
@@ -79,13 +80,14 @@ unfoldable pub required_filter : List ℕ → Data → Result Filter WireFault
 required_filter name parent = required_by filter_in name parent
 
 unfoldable pub register_in : Data → Result Request WireFault
-register_in body = two_in (codes "filter") required_filter (codes "permission") (optional_text Any 1024) asks.Register body
+register_in body = two_in (codes "filter") required_filter (codes "permission") (optional_text Any 1024) asks.Register
+    body
 
--- the answer sets an outcome: its field `code` is there
+-- the answer sets an outcome: it has the field `code`
 unfoldable pub sets_outcome : Data → Bool
 sets_outcome body = is_some (field (codes "code") body)
 
--- the fields of an answer, which are more where it sets an outcome
+-- the fields of an answer; there are more if it sets an outcome
 unfoldable pub finish_fields : Bool → List (List ℕ)
 finish_fields sets =
     if sets then codes "delivery" ∷ codes "abort" ∷ codes "code" ∷ codes "data" ∷ codes "extras" ∷ []

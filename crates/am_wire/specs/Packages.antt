@@ -53,7 +53,7 @@ grant_in body = do
   held ← required_truth (codes "held") body
   Ok (asks.Grant name permission held)
 
--- a link; its host is put in lower ASCII case
+-- a link; its host is put in lower case (ASCII)
 unfoldable pub link_in : Data → Result Request WireFault
 link_in body = do
   known ← fields_of (codes "package" ∷ codes "host" ∷ codes "approved" ∷ []) body

@@ -25,4 +25,5 @@ unfoldable pub pending_send_in : Data → Result Request WireFault
 pending_send_in body = two_in (codes "token") required_natural (codes "fill") optional_intent asks.PendingSend body
 
 unfoldable pub pending_give_in : Data → Result Request WireFault
-pending_give_in body = two_in (codes "token") required_natural (codes "package") (required_text Any 1024) asks.PendingGive body
+pending_give_in body = two_in (codes "token") required_natural (codes "package") (required_text Any 1024)
+    asks.PendingGive body

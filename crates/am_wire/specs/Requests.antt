@@ -1,4 +1,4 @@
--- The request that a body makes at a route, or its first fault.
+-- The request that a body makes at a route, or the first fault of the body.
 use Rattle.std.specs.Prelude.{ℕ, List, codes, Result, Ok}
 use Rattle.serde_json.specs.Data.{Data}
 use Rattle.am_types.specs.declared.request.Request.{Request}
@@ -14,7 +14,7 @@ use Rattle.am_wire.specs.Broadcasts.{send_in, register_in, finish_in}
 use Rattle.am_wire.specs.Pendings.{pending_get_in, pending_send_in, pending_give_in}
 use Rattle.am_wire.specs.Packages.{install_in, package_in, grant_in, link_in}
 
--- the request that a JSON value makes at a route; at a route of GET no value is looked at
+-- the request that a JSON value makes at a route; at a route with GET the value isn't looked at
 unfoldable pub request_in : Endpoint → Data → Result Request WireFault
 request_in at.Query body = query_in body
 request_in at.Explain body = explain_in body
@@ -44,7 +44,7 @@ request_in at.Advance body = advance_in body
 request_in at.History body = number_in (codes "from") body >>= λ from. Ok (asks.History from)
 request_in at.Status body = Ok asks.Status
 
--- the request that the bytes of a body make by their JSON value
+-- the request that the bytes of a body make through their JSON value
 unfoldable pub posted : Endpoint → List ℕ → Result Request WireFault
 posted endpoint body = do
   value ← value_of body

@@ -14,11 +14,12 @@ use Rattle.am_types.specs.Reading.{◌>>=◌}
 unfoldable pub kind_words : List (List ℕ)
 kind_words = codes "activity" ∷ codes "service" ∷ codes "receiver" ∷ []
 
--- the kind that such a word names
+-- the kind that this word names
 abbrev pub kind_named : List ℕ → Kind
-kind_named word = if is_same word (codes "activity") then Activity else if is_same word (codes "service") then Service else Receiver
+kind_named word = if is_same word (codes "activity") then Activity else if is_same word (codes "service") then Service
+    else Receiver
 
--- the kind that the field `kind` names by one of these words
+-- the kind that the field `kind` names with one of these words
 unfoldable pub kind_among : List (List ℕ) → Data → Result Kind WireFault
 kind_among words body = do
   value ← required (codes "kind") body
@@ -40,7 +41,8 @@ pending_kind_of body = kind_among pending_words body
 -- the names of the flags with which a pending intent is asked for
 unfoldable pub pending_flag_names : List (List ℕ)
 pending_flag_names =
-    codes "ONE_SHOT" ∷ codes "NO_CREATE" ∷ codes "CANCEL_CURRENT" ∷ codes "UPDATE_CURRENT" ∷ codes "IMMUTABLE" ∷ codes "MUTABLE" ∷ []
+    codes "ONE_SHOT" ∷ codes "NO_CREATE" ∷ codes "CANCEL_CURRENT" ∷ codes "UPDATE_CURRENT" ∷ codes "IMMUTABLE"
+    ∷ codes "MUTABLE" ∷ []
 
 -- the flags whose names are set
 abbrev pub pending_flags_by : (List ℕ → Bool) → PendingFlags
@@ -57,7 +59,7 @@ pending_flags_by is_set = record {
 unfoldable pub pending_flags_listed : List (List ℕ) → PendingFlags
 pending_flags_listed names = pending_flags_by (lists names)
 
--- the field `flags` of a request for a pending intent, which must be there
+-- the field `flags` of a request for a pending intent, which is required
 unfoldable pub pending_flags_of : Data → Result PendingFlags WireFault
 pending_flags_of body = do
   value ← required (codes "flags") body

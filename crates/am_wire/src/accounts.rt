@@ -1,4 +1,4 @@
-//! Accounts of whom an intent would reach.
+//! Questions about what an intent would reach.
 ghost use Rattle.std.specs.Prelude.{◌≡◌};
 ghost use Rattle.serde_json.specs.Find.{as_str};
 ghost use Rattle.serde_json.specs.View.{view};
@@ -25,7 +25,7 @@ fn is_receiver(value: &Value) -> bool
     }
 }
 
-/// Whether the field `kind` says `receiver`.
+/// Whether the field `kind` is `receiver`.
 #[tactic(auto, unfolding(crate::specs::Accounts::asks_receivers))]
 fn asks_receivers(body: &Value) -> bool
     ensures { result ≡ asks_receivers (view body.now) }
@@ -36,7 +36,7 @@ fn asks_receivers(body: &Value) -> bool
     }
 }
 
-/// Refuses a question with other fields than its own, which are more where receivers are asked about.
+/// Refuses a question with other fields than its own; it has more if it is about receivers.
 #[tactic(auto, unfolding(crate::specs::Accounts::explain_fields))]
 fn only_explain_fields(alloc: Global, receivers: bool, body: &Value) -> Result<(), Unread>
     ensures { Gives result (fields_of (explain_fields receivers) (view body.now)) }
@@ -50,7 +50,7 @@ fn only_explain_fields(alloc: Global, receivers: bool, body: &Value) -> Result<(
     )
 }
 
-/// The permission that receivers must hold, if the text `permission` says one.
+/// The permission that receivers must hold, if the text `permission` is given.
 #[tactic(auto, unfolding(crate::specs::Accounts::permission_for))]
 fn permission_for(alloc: Global, kind: Kind, body: &Value) -> Result<Option<Text>, Unread>
     ensures { Gives result (permission_for kind (view body.now)) }
@@ -61,7 +61,7 @@ fn permission_for(alloc: Global, kind: Kind, body: &Value) -> Result<Option<Text
     }
 }
 
-/// What is asked besides a kind and an intent: perhaps the texts `as`, `permission` and `of`.
+/// The rest of the question, apart from its kind and intent: optionally the texts `as`, `permission` and `of`.
 #[tactic(auto, unfolding(crate::specs::Accounts::asked_with))]
 fn asked_with(
     alloc: Global,
@@ -76,8 +76,8 @@ fn asked_with(
     Ok((caller, permission, shown))
 }
 
-/// A question whom an intent would reach: `kind`, `intent`, and perhaps the texts `as` and `of`. Only where `kind` says
-/// `receiver` may there be the text `permission`, which is read before `of`.
+/// A question about what an intent would reach: `kind`, `intent`, and optionally the texts `as` and `of`. Only if
+/// `kind` is `receiver` may there be the text `permission`, which is read before `of`.
 #[tactic(auto, unfolding(crate::specs::Accounts::explain_in, crate::specs::Accounts::asked_with))]
 pub fn explain_in(alloc: Global, body: &Value) -> Result<Request, Unread>
     ensures { Gives result (explain_in (view body.now)) }

@@ -1,4 +1,4 @@
-//! Bodies of one field or none, queries, activities and services.
+//! Bodies with one field or none, queries, activities and services.
 ghost use Rattle.std.specs.Prelude.{[], ◌∷◌, codes, map, if◌then◌else◌};
 ghost use Rattle.serde_json.specs.View.{view};
 ghost use Rattle.am_wire_fields.specs.Fields.{optional_truth};
@@ -15,7 +15,7 @@ use am_wire_intents::{component_in, required_intent};
 use serde_json::Value;
 use std::alloc::Global;
 
-/// Refuses a body that is no object with these fields only.
+/// Refuses a body that isn't an object with only these fields.
 #[tactic(auto, unfolding(crate::specs::Activities::fields_of))]
 pub fn fields_of(alloc: Global, fields: &[&str], body: &Value) -> Result<(), Unread>
     ensures { Gives result (fields_of (map (λ listed. listed.now) fields.now) (view body.now)) }
@@ -23,8 +23,8 @@ pub fn fields_of(alloc: Global, fields: &[&str], body: &Value) -> Result<(), Unr
     only_fields(alloc, "body", fields, body)
 }
 
-/// Refuses a body that is no object with these fields only: those of the long list where there may be more, else those
-/// of the short one.
+/// Refuses a body that isn't an object with only these fields: those of the long list if there may be more, otherwise
+/// those of the short one.
 pub fn fields_where(
     alloc: Global,
     more: bool,
@@ -51,7 +51,7 @@ pub fn plain_in(alloc: Global, request: Request, body: &Value) -> Result<Request
     Ok(request)
 }
 
-/// What a body says whose only field is a whole number from 0 on.
+/// The number in a body whose only field is a whole number from 0 on.
 #[tactic(auto, unfolding(crate::specs::Activities::number_in))]
 pub fn number_in(alloc: Global, name: &str, body: &Value) -> Result<u64, Unread>
     ensures { Gives result (number_in name.now (view body.now)) }
@@ -80,14 +80,14 @@ fn only_query_fields(alloc: Global, body: &Value) -> Result<(), Unread>
     fields_of(alloc, &["kind", "intent", "defaultOnly"], body)
 }
 
-/// Whether a query asks only for filters that list the default category: `defaultOnly`, false where it isn't there.
+/// Whether a query asks only for filters that list the default category: `defaultOnly`, false if it is absent.
 fn default_only_in(alloc: Global, body: &Value) -> Result<bool, Unread>
     ensures { Gives result (optional_truth (codes "defaultOnly") (view body.now)) }
 {
     optional_truth(alloc, "defaultOnly", body)
 }
 
-/// A query: `kind`, `intent`, and `defaultOnly`, which is false where it isn't there.
+/// A query: `kind`, `intent`, and `defaultOnly`, which is false if it is absent.
 #[tactic(auto, unfolding(crate::specs::Activities::query_in))]
 pub fn query_in(alloc: Global, body: &Value) -> Result<Request, Unread>
     ensures { Gives result (query_in (view body.now)) }
@@ -103,7 +103,7 @@ pub fn query_in(alloc: Global, body: &Value) -> Result<Request, Unread>
     })
 }
 
-/// A start of an activity: `intent`, and perhaps the number `source` of an activity instance.
+/// A start of an activity: `intent`, and optionally the number `source` of an activity instance.
 #[tactic(auto, unfolding(crate::specs::Activities::start_in))]
 pub fn start_in(alloc: Global, body: &Value) -> Result<Request, Unread>
     ensures { Gives result (start_in (view body.now)) }

@@ -16,7 +16,7 @@ use am_wire_intents::{filter_in, optional_extras, required_intent};
 use serde_json::Value;
 use std::alloc::Global;
 
-/// Whether the field `ordered` says `true`.
+/// Whether the field `ordered` is `true`.
 #[tactic(auto, unfolding(crate::specs::Broadcasts::is_ordered))]
 fn is_ordered(body: &Value) -> bool
     ensures { result ≡ is_ordered (view body.now) }
@@ -27,7 +27,7 @@ fn is_ordered(body: &Value) -> bool
     }
 }
 
-/// Refuses a broadcast with other fields than its own, which are more where it is an ordered one.
+/// Refuses a broadcast with other fields than its own; it has more if it is ordered.
 #[tactic(auto, unfolding(crate::specs::Broadcasts::send_fields))]
 fn only_send_fields(alloc: Global, ordered: bool, body: &Value) -> Result<(), Unread>
     ensures { Gives result (fields_of (send_fields ordered) (view body.now)) }
@@ -49,8 +49,8 @@ fn only_send_fields(alloc: Global, ordered: bool, body: &Value) -> Result<(), Un
     )
 }
 
-/// How an ordered broadcast starts: `code`, which is 0 where it isn't there, perhaps the text `data` and `extras`, and
-/// `result`, which says whether the sender wants the result.
+/// How an ordered broadcast starts: `code`, which is 0 if it is absent, optionally the text `data` and `extras`, and
+/// `result`, which tells whether the sender wants the result.
 #[tactic(auto, unfolding(crate::specs::Broadcasts::ordered_in))]
 fn ordered_in(alloc: Global, body: &Value) -> Result<Ordered, Unread>
     ensures { Gives result (ordered_in (view body.now)) }
@@ -67,7 +67,7 @@ fn ordered_in(alloc: Global, body: &Value) -> Result<Ordered, Unread>
     Ok(Ordered { initial, wanted })
 }
 
-/// How a broadcast starts, if it is an ordered one.
+/// How a broadcast starts, if it is ordered.
 #[tactic(auto, unfolding(crate::specs::Broadcasts::ordered_if))]
 fn ordered_if(alloc: Global, ordered: bool, body: &Value) -> Result<Option<Ordered>, Unread>
     ensures { Gives result (ordered_if ordered (view body.now)) }
@@ -79,8 +79,8 @@ fn ordered_if(alloc: Global, ordered: bool, body: &Value) -> Result<Option<Order
     Ok(Some(start))
 }
 
-/// What a broadcast has besides its intent: the permission that receivers must hold, and how it starts if it is an
-/// ordered one.
+/// The rest of a broadcast, apart from its intent: the permission that receivers must hold, and how it starts if it is
+/// ordered.
 #[tactic(auto, unfolding(crate::specs::Broadcasts::sent_with))]
 fn sent_with(alloc: Global, body: &Value) -> Result<(Option<Text>, Option<Ordered>), Unread>
     ensures { Gives result (sent_with (λ permission ordered. (permission, ordered)) (view body.now)) }
@@ -91,8 +91,8 @@ fn sent_with(alloc: Global, body: &Value) -> Result<(Option<Text>, Option<Ordere
     Ok((permission, ordered))
 }
 
-/// A broadcast: `intent`, perhaps the text `permission`, and `ordered`, which is false where it isn't there. Only where
-/// it says `true` may there be `code`, `data`, `extras` and `result`.
+/// A broadcast: `intent`, optionally the text `permission`, and `ordered`, which is false if it is absent. Only if
+/// it is `true` may there be `code`, `data`, `extras` and `result`.
 #[tactic(auto, unfolding(crate::specs::Broadcasts::send_in, crate::specs::Broadcasts::sent_with))]
 pub fn send_in(alloc: Global, body: &Value) -> Result<Request, Unread>
     ensures { Gives result (send_in (view body.now)) }
@@ -123,7 +123,7 @@ fn required_filter(alloc: Global, body: &Value) -> Result<Filter, Unread>
     filter_in(alloc, "filter", value)
 }
 
-/// A receiver to be registered: `filter`, and perhaps the text `permission`.
+/// A receiver to be registered: `filter`, and optionally the text `permission`.
 #[tactic(auto, unfolding(crate::specs::Broadcasts::register_in))]
 pub fn register_in(alloc: Global, body: &Value) -> Result<Request, Unread>
     ensures { Gives result (register_in (view body.now)) }
@@ -137,7 +137,7 @@ pub fn register_in(alloc: Global, body: &Value) -> Result<Request, Unread>
     Ok(Request::Register { filter, permission })
 }
 
-/// Whether an answer sets an outcome: its field `code` is there.
+/// Whether an answer sets an outcome: it has the field `code`.
 #[tactic(auto, unfolding(crate::specs::Broadcasts::sets_outcome))]
 fn sets_outcome(body: &Value) -> bool
     ensures { result ≡ sets_outcome (view body.now) }
@@ -145,7 +145,7 @@ fn sets_outcome(body: &Value) -> bool
     field("code", body).is_some()
 }
 
-/// Refuses an answer with other fields than its own, which are more where it sets an outcome.
+/// Refuses an answer with other fields than its own; it has more if it sets an outcome.
 #[tactic(auto, unfolding(crate::specs::Broadcasts::finish_fields))]
 fn only_finish_fields(alloc: Global, sets: bool, body: &Value) -> Result<(), Unread>
     ensures { Gives result (fields_of (finish_fields sets) (view body.now)) }
@@ -159,7 +159,7 @@ fn only_finish_fields(alloc: Global, sets: bool, body: &Value) -> Result<(), Unr
     )
 }
 
-/// The outcome that an answer sets: `code`, and perhaps the text `data` and `extras`.
+/// The outcome that an answer sets: `code`, and optionally the text `data` and `extras`.
 #[tactic(auto, unfolding(crate::specs::Broadcasts::outcome_in))]
 fn outcome_in(alloc: Global, body: &Value) -> Result<Outcome, Unread>
     ensures { Gives result (outcome_in (view body.now)) }
@@ -182,8 +182,8 @@ fn outcome_if(alloc: Global, sets: bool, body: &Value) -> Result<Option<Outcome>
     Ok(Some(outcome))
 }
 
-/// The answer to a delivery: the number `delivery`, `abort`, which is false where it isn't there, and perhaps `code`.
-/// Only where that is there may there be `data` and `extras`.
+/// The answer to a delivery: the number `delivery`, `abort`, which is false if it is absent, and optionally `code`.
+/// Only if `code` is present may there be `data` and `extras`.
 #[tactic(auto, unfolding(crate::specs::Broadcasts::finish_in))]
 pub fn finish_in(alloc: Global, body: &Value) -> Result<Request, Unread>
     ensures { Gives result (finish_in (view body.now)) }

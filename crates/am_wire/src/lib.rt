@@ -1,6 +1,6 @@
-//! Reads the body of a request: what a call at an endpoint asks for, or the first fault that reading meets. Nothing is
-//! guessed: an object has no other fields than its own, a number is whole and within its range, and a text or a list
-//! has no more than its limit.
+//! Reads the body of a request: what a call at an endpoint asks for, or the first fault found. Nothing is
+//! guessed: an object has only its own fields, a number is whole and within its range, and a text or a list
+//! is within its limit.
 #![tactic(auto)]
 
 mod accounts;

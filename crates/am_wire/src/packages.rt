@@ -13,7 +13,7 @@ use am_wire_fields::{Unread, required, required_text, required_truth, text_withi
 use serde_json::Value;
 use std::alloc::Global;
 
-/// The key that a value says.
+/// The key in a value.
 #[tactic(auto, unfolding(crate::specs::Packages::key_of))]
 fn key_of(alloc: Global, value: &Value) -> Result<Text, Unread>
     ensures { Gives result (key_of (as_str (view value.now))) }
@@ -30,7 +30,7 @@ fn key_of(alloc: Global, value: &Value) -> Result<Text, Unread>
     text_within(alloc, 255, "key", text)
 }
 
-/// The field `key`, which must be there: 1 to 255 visible ASCII characters.
+/// The field `key`, which is required: 1 to 255 visible ASCII characters.
 #[tactic(auto, unfolding(crate::specs::Packages::key_in))]
 fn key_in(alloc: Global, body: &Value) -> Result<Text, Unread>
     ensures { Gives result (key_in (view body.now)) }
@@ -50,7 +50,7 @@ pub fn install_in(alloc: Global, body: &Value) -> Result<Request, Unread>
     Ok(Request::Install { text, key })
 }
 
-/// What a body says whose only field is the text `package`.
+/// The text in a body whose only field is the text `package`.
 #[tactic(auto, unfolding(crate::specs::Packages::package_in))]
 pub fn package_in(alloc: Global, body: &Value) -> Result<Text, Unread>
     ensures { Gives result (package_in (view body.now)) }
@@ -90,7 +90,7 @@ fn only_link_fields(alloc: Global, body: &Value) -> Result<(), Unread>
     fields_of(alloc, &["package", "host", "approved"], body)
 }
 
-/// A link approved or not: the texts `package` and `host`, which is put in lower ASCII case, and `approved`.
+/// A link approved or not: the texts `package` and `host`, which is put in lower case (ASCII), and `approved`.
 #[tactic(auto, unfolding(crate::specs::Packages::link_in))]
 pub fn link_in(alloc: Global, body: &Value) -> Result<Request, Unread>
     ensures { Gives result (link_in (view body.now)) }

@@ -30,7 +30,7 @@ pub fn pending_get_in(alloc: Global, body: &Value) -> Result<Request, Unread>
     })
 }
 
-/// A use of a pending intent: the number `token`, and perhaps the intent `fill`.
+/// A use of a pending intent: the number `token`, and optionally the intent `fill`.
 #[tactic(auto, unfolding(crate::specs::Pendings::pending_send_in))]
 pub fn pending_send_in(alloc: Global, body: &Value) -> Result<Request, Unread>
     ensures { Gives result (pending_send_in (view body.now)) }

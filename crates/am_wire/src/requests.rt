@@ -64,7 +64,7 @@ fn request_in(alloc: Global, endpoint: Endpoint, body: &Value) -> Result<Request
     }
 }
 
-/// The request that the bytes of a body make by their JSON value.
+/// The request that the bytes of a body make through their JSON value.
 #[tactic(auto, unfolding(crate::specs::Requests::posted))]
 fn posted(alloc: Global, endpoint: Endpoint, body: &[u8]) -> Result<Request, Unread>
     ensures { Gives result (posted endpoint body.now) }
@@ -76,21 +76,21 @@ fn posted(alloc: Global, endpoint: Endpoint, body: &[u8]) -> Result<Request, Unr
 /// The request that a body makes at an endpoint.
 ///
 /// At `ListTasks`, `Services`, `Inbox` and `Status` the body isn't looked at. At every other endpoint it is the UTF-8
-/// text of a JSON object with these fields and no others; those marked `?` need not be there:
+/// text of a JSON object with these fields and no others; those marked `?` are optional:
 ///
 /// | Endpoint | Fields, in the order in which they are read |
 /// |---|---|
 /// | `Query` | `kind` (`activity`, `service` or `receiver`), `intent`, `defaultOnly`? |
-/// | `Explain` | `kind` (the same), `intent`, `as`?; where `kind` is `receiver` also `permission`?; then `of`? |
+/// | `Explain` | `kind` (the same), `intent`, `as`?; if `kind` is `receiver` also `permission`?; then `of`? |
 /// | `Start` | `intent`, `source`? |
 /// | `FinishActivity` | `instance` |
 /// | `Back`, `Tick` | none |
 /// | `StartService` | `intent` |
 /// | `StopService` | `component` |
-/// | `Send` | `intent`, `permission`?, `ordered`?; where `ordered` is true also `code`?, `data`?, `extras`?, `result`? |
+/// | `Send` | `intent`, `permission`?, `ordered`?; if `ordered` is true also `code`?, `data`?, `extras`?, `result`? |
 /// | `Register` | `filter`, `permission`? |
 /// | `Unregister` | `number` |
-/// | `Finish` | `delivery`, `abort`?, `code`?; where `code` is there also `data`?, `extras`? |
+/// | `Finish` | `delivery`, `abort`?, `code`?; if `code` is present also `data`?, `extras`? |
 /// | `PendingGet` | `kind` (`activity`, `broadcast` or `service`), `code`, `intent`, `flags` |
 /// | `PendingSend` | `token`, `fill`? |
 /// | `PendingCancel` | `token` |
@@ -104,17 +104,17 @@ fn posted(alloc: Global, endpoint: Endpoint, body: &[u8]) -> Result<Request, Unr
 ///
 /// `source`, `instance`, `number`, `delivery`, `token` and `from` are whole numbers from 0 to
 /// 18,446,744,073,709,551,615, `by` is one from 0 to 1,125,899,906,842,624, and `code` is one from
-/// -9,223,372,036,854,775,808 to 9,223,372,036,854,775,807, 0 where an ordered broadcast has none. `defaultOnly`,
-/// `ordered`, `result`, `abort`, `held` and `approved` are truths, false where they aren't there. `as`, `permission`,
+/// -9,223,372,036,854,775,808 to 9,223,372,036,854,775,807, 0 if an ordered broadcast has none. `defaultOnly`,
+/// `ordered`, `result`, `abort`, `held` and `approved` are booleans, false if they are absent. `as`, `permission`,
 /// `of`, `data`, `package` and `host` are texts of at most 1,024 bytes, `manifest` is one of at most 65,536, and `key`
-/// has 1 to 255 visible ASCII characters. `flags` lists 64 names of pending flags at most. A host is put in lower ASCII
-/// case. A field that is `null` counts as absent, and of a key that stands twice in an object the last value counts.
+/// has 1 to 255 visible ASCII characters. `flags` lists at most 64 names of pending flags. A host is put in lower case
+/// (ASCII). A field that is `null` counts as absent, and if a key occurs twice in an object, the last value counts.
 ///
 /// # Errors
 ///
-/// `Unmade::Fault` with the first fault, in this order: the body is no JSON text in UTF-8; it is no object (the name of
-/// that fault is `body`); it has a key that is none of its fields, the least one by bytes; and then the first fault of
-/// its fields, in the order above. `Unmade::NoMemory` where memory ran out.
+/// `Unmade::Fault` with the first fault, in this order: the body isn't JSON text in UTF-8; it isn't an object (the name
+/// in that fault is `body`); it has a key that isn't one of its fields, the least one by bytes; and then the first
+/// fault of its fields, in the order above. `Unmade::NoMemory` if memory ran out.
 #[tactic(auto, unfolding(crate::specs::Requests::request_of))]
 pub fn read_request(alloc: Global, endpoint: Endpoint, body: &[u8]) -> Result<Request, Unread>
     ensures { Gives result (request_of endpoint body.now) }

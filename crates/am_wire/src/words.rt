@@ -21,7 +21,7 @@ fn kind_named(word: &str) -> Kind
     }
 }
 
-/// The kind that the field `kind` names by one of these words.
+/// The kind that the field `kind` names with one of these words.
 #[tactic(auto, unfolding(crate::specs::Words::kind_among))]
 fn kind_among(alloc: Global, words: &[&str], body: &Value) -> Result<Kind, Unread>
     ensures { Gives result (kind_among (map (λ listed. listed.now) words.now) (view body.now)) }
@@ -62,7 +62,7 @@ fn pending_flags_listed(names: &[&str]) -> PendingFlags
     }
 }
 
-/// The names of pending flags that values say.
+/// The names of pending flags in values.
 #[tactic(auto, unfolding(crate::specs::Words::pending_flag_names))]
 fn names_in<'v>(alloc: Global, values: &'v [Value]) -> Result<Vec<&'v str>, Unread>
     ensures { GivesBy (λ names. map (λ name. name.now) names.items) result
@@ -83,7 +83,7 @@ fn names_in<'v>(alloc: Global, values: &'v [Value]) -> Result<Vec<&'v str>, Unre
     )
 }
 
-/// The flags that the field `flags` lists by their names, 64 at most, each once or more often. It must be there.
+/// The flags that the field `flags` lists by name, 64 at most, each once or more often. The field is required.
 #[tactic(auto, unfolding(crate::specs::Words::pending_flags_of))]
 pub fn pending_flags_of(alloc: Global, body: &Value) -> Result<PendingFlags, Unread>
     ensures { Gives result (pending_flags_of (view body.now)) }

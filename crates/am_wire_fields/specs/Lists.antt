@@ -1,4 +1,4 @@
--- The fields that say lists of at most 64 entries.
+-- Fields with lists of at most 64 entries.
 use Rattle.std.specs.Prelude.{ℕ, nat_lt, List, [], ◌∷◌, length, if◌then◌else◌, Option, Some, None, Result, Ok, Err}
 use Rattle.serde_json.specs.Data.{Data, Items, no_items, item}
 use Rattle.serde_json.specs.Find.{as_str, as_array}
@@ -15,7 +15,7 @@ abbrev pub values_of : Items → List Data
 values_of no_items = []
 values_of (item value others) = value ∷ values_of others
 
--- so few values as a list may have
+-- at most as many values as a list may have
 unfoldable pub few : List ℕ → List Data → Result (List Data) WireFault
 few name values = if nat_lt 64 (length values) then Err (TooLong name) else Ok values
 
@@ -28,12 +28,12 @@ list_of name (Some items) = few name (values_of items)
 unfoldable pub list_in : List ℕ → Data → Result (List Data) WireFault
 list_in name value = list_of name (as_array value)
 
--- the values of an array that need not be there: none where it is absent
+-- the values of an optional array: none if it is absent
 unfoldable pub list_if_said : List ℕ → Option Data → Result (List Data) WireFault
 list_if_said name None = Ok []
 list_if_said name (Some value) = list_in name value
 
--- the values of a field that is a list, none where it is absent
+-- the values of a list field, none if it is absent
 unfoldable pub optional_list : List ℕ → Data → Result (List Data) WireFault
 optional_list name parent = list_if_said name (field name parent)
 
@@ -49,7 +49,7 @@ each read (value ∷ values) = do
 unfoldable pub texts_in : Form → List ℕ → List Data → Result (List (List ℕ)) WireFault
 texts_in form name values = each (text_in form 1024 name) values
 
--- a field that is a list of texts, none where it is absent
+-- a field with a list of texts, none if it is absent
 unfoldable pub optional_texts : Form → List ℕ → Data → Result (List (List ℕ)) WireFault
 optional_texts form name parent = do
   values ← optional_list name parent
@@ -60,7 +60,7 @@ unfoldable pub word_of : List (List ℕ) → List ℕ → Option (List ℕ) → 
 word_of words name None = Err (WrongKind name)
 word_of words name (Some text) = if lists words text then Ok text else Err (WrongKind name)
 
--- the word that a value says, of these
+-- the word in a value, which is one of these
 unfoldable pub word_in : List (List ℕ) → List ℕ → Data → Result (List ℕ) WireFault
 word_in words name value = word_of words name (as_str value)
 

@@ -8,7 +8,7 @@ use Rattle.am_types.specs.declared.uri.MimeFault.TheVariants as mimes
 use Rattle.am_wire_fields.specs.declared.fault.WireFault.{WireFault}
 use Rattle.am_wire_fields.specs.declared.fault.WireFault.TheVariants.{NotJson, Missing, WrongKind, UnknownField, BadUri, BadMime, TooLong}
 
--- the number of a fault of a URI (want of memory, which no body has, stands last)
+-- the number of a fault of a URI (`NoMemory`, which no body has, is last)
 abbrev pub uri_number : UriFault → ℕ
 uri_number uris.NoScheme = 1
 uri_number uris.BadPort = 2
@@ -17,7 +17,7 @@ uri_number uris.NotUtf8 = 4
 uri_number uris.TooLong = 5
 uri_number uris.NoMemory = 6
 
--- the number of a fault of a MIME type (want of memory, which no body has, stands last)
+-- the number of a fault of a MIME type (`NoMemory`, which no body has, is last)
 abbrev pub mime_number : MimeFault → ℕ
 mime_number mimes.NoSlash = 1
 mime_number mimes.EmptyPart = 2

@@ -10,7 +10,7 @@ use am_types::Unmade;
 use serde_json::Value;
 use std::alloc::Global;
 
-/// The fault of bytes at which `serde_json` met this error: they are no JSON, unless memory ran out.
+/// The fault of bytes for which `serde_json` gave this error: they aren't JSON, unless memory ran out.
 fn fault_of(error: &serde_json::Error) -> Unread
     ensures memory { IsMemory error.now → result ≡ Unmade.NoMemory }
     ensures refused { ¬ IsMemory error.now → result ≡ Unmade.Fault WireFault.NotJson }
@@ -22,12 +22,12 @@ fn fault_of(error: &serde_json::Error) -> Unread
     }
 }
 
-/// The JSON value that the bytes are. Of a key that stands twice in an object, the last value counts.
+/// The JSON value of the bytes. If a key occurs twice in an object, the last value counts.
 ///
 /// # Errors
 ///
-/// Where the bytes aren't one JSON value in UTF-8: also where arrays and objects nest more than 127 deep, and where a
-/// number is too large for a float.
+/// If the bytes aren't one JSON value in UTF-8: also if arrays and objects nest more than 127 deep, and if a number is
+/// too large for a float.
 #[tactic(auto, using(crate::proofs::JsonValues::value_of_text, crate::proofs::JsonValues::value_of_none))]
 pub fn json_value(alloc: Global, bytes: &[u8]) -> Result<Value, Unread>
     ensures { GivesBy view result (value_of bytes.now) }

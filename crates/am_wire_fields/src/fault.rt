@@ -1,19 +1,19 @@
 use am_types::{MimeFault, Text, Unmade, UriFault};
 
-/// Why a request's body is no request: the first fault that reading meets.
+/// Why a request's body isn't a request: the first fault found.
 #[derive(Drop)]
 pub enum WireFault {
-    /// It is no JSON text in UTF-8.
+    /// It isn't JSON text in UTF-8.
     NotJson,
-    /// This field must be there and isn't, or is null.
+    /// This field is required and is absent or null.
     Missing(Text),
     /// The value of this field is of another kind, or out of its range.
     WrongKind(Text),
-    /// An object has this key, which is none of its fields.
+    /// An object has this key, which isn't one of its fields.
     UnknownField(Text),
-    /// A text that must be a URI is none.
+    /// A text that must be a URI isn't one.
     BadUri(UriFault),
-    /// A text that must be a MIME type is none.
+    /// A text that must be a MIME type isn't one.
     BadMime(MimeFault),
     /// The value of this field has too many bytes or entries.
     TooLong(Text),

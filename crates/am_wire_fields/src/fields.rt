@@ -10,7 +10,7 @@ use crate::naming::{missing, unknown_field, wrong_kind};
 use serde_json::{Map, Value};
 use std::alloc::Global;
 
-/// The value of a field that is there and isn't null. None where the value is no object.
+/// The value of a field that is present and isn't null. None if the value isn't an object.
 #[tactic(auto, unfolding(crate::specs::Fields::field))]
 pub fn field<'v>(name: &str, value: &'v Value) -> Option<&'v Value>
     ensures { option_map (λ found. view found.now) result ≡ field name.now (view value.now) }
@@ -28,7 +28,7 @@ pub fn is_listed(texts: &[&str], text: &str) -> bool
     texts.iter().any(|listed| *listed == text)
 }
 
-/// The least key that is none of these fields.
+/// The least key that isn't one of these fields.
 fn unlisted<'m>(fields: &[&str], members: &'m Map<String, Value>) -> Option<&'m str>
     ensures { option_map (λ key. key.now) result
         ≡ unlisted (map (λ listed. listed.now) fields.now) (members_view members.now.entries) }
@@ -42,12 +42,12 @@ fn unlisted<'m>(fields: &[&str], members: &'m Map<String, Value>) -> Option<&'m 
     None
 }
 
-/// Refuses a value that is no object with these fields only. `name` is what a fault calls the value.
+/// Refuses a value that isn't an object with only these fields. `name` is what a fault calls the value.
 ///
 /// # Errors
 ///
-/// Where the value is no object, and then where it has a key that is none of the fields: the least such key by bytes,
-/// also where its value is null.
+/// If the value isn't an object, and then if it has a key that isn't one of the fields: the least such key by bytes,
+/// also if its value is null.
 #[tactic(auto, unfolding(crate::specs::Fields::only_fields, crate::specs::Fields::only_fields_in, crate::specs::Fields::none_unknown))]
 pub fn only_fields(alloc: Global, name: &str, fields: &[&str], value: &Value) -> Result<(), Unread>
     ensures { Gives result (only_fields name.now (map (λ listed. listed.now) fields.now) (view value.now)) }
@@ -61,11 +61,11 @@ pub fn only_fields(alloc: Global, name: &str, fields: &[&str], value: &Value) ->
     }
 }
 
-/// The value of a field that must be there.
+/// The value of a required field.
 ///
 /// # Errors
 ///
-/// Where the field isn't there or is null.
+/// If the field is absent or null.
 #[tactic(auto, unfolding(crate::specs::Fields::required, crate::specs::Fields::present))]
 pub fn required<'v>(alloc: Global, name: &str, object: &'v Value) -> Result<&'v Value, Unread>
     ensures { GivesBy (λ value. view value.now) result (required name.now (view object.now)) }
@@ -76,7 +76,7 @@ pub fn required<'v>(alloc: Global, name: &str, object: &'v Value) -> Result<&'v 
     }
 }
 
-/// The truth that a value says.
+/// The boolean in a value.
 #[tactic(auto, unfolding(crate::specs::Fields::truth_in, crate::specs::Fields::of_kind))]
 fn truth_in(alloc: Global, name: &str, value: &Value) -> Result<bool, Unread>
     ensures { Gives result (truth_in name.now (view value.now)) }
@@ -87,11 +87,11 @@ fn truth_in(alloc: Global, name: &str, value: &Value) -> Result<bool, Unread>
     }
 }
 
-/// The truth that a field says, which must be there.
+/// The boolean in a required field.
 ///
 /// # Errors
 ///
-/// Where the field isn't there or is null, and then where it says no truth.
+/// If the field is absent or null, and then if its value isn't a boolean.
 #[tactic(auto, unfolding(crate::specs::Fields::required_truth))]
 pub fn required_truth(alloc: Global, name: &str, object: &Value) -> Result<bool, Unread>
     ensures { Gives result (required_truth name.now (view object.now)) }
@@ -100,11 +100,11 @@ pub fn required_truth(alloc: Global, name: &str, object: &Value) -> Result<bool,
     truth_in(alloc, name, value)
 }
 
-/// The truth that a field says: false where it isn't there or is null.
+/// The boolean in a field: false if the field is absent or null.
 ///
 /// # Errors
 ///
-/// Where the field says no truth.
+/// If the field's value isn't a boolean.
 #[tactic(auto, unfolding(crate::specs::Fields::optional_truth, crate::specs::Fields::truth_or_false))]
 pub fn optional_truth(alloc: Global, name: &str, object: &Value) -> Result<bool, Unread>
     ensures { Gives result (optional_truth name.now (view object.now)) }

@@ -1,5 +1,5 @@
-//! Reads the fields of the JSON objects that a request's body holds. The answer is what a field says, or the first
-//! fault that reading meets.
+//! Reads the fields of the JSON objects in a request's body. The result is the value of a field, or the first
+//! fault found.
 #![tactic(auto)]
 
 mod body;

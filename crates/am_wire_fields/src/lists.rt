@@ -1,4 +1,4 @@
-//! The fields that say lists of at most 64 entries. A null among the entries is no entry of the kind asked for.
+//! Fields with lists of at most 64 entries. A null among the entries isn't an entry of the expected kind.
 ghost use Rattle.std.specs.Prelude.{◌≡◌, map};
 ghost use Rattle.serde_json.specs.View.{view};
 ghost use Rattle.am_model.specs.Texts.{lists};
@@ -25,11 +25,11 @@ fn few<'v>(alloc: Global, name: &str, values: &'v [Value]) -> Result<&'v [Value]
     Ok(values)
 }
 
-/// The values of the array that a value is, 64 at most. `name` is what a fault calls the value.
+/// The values of the array in a value, 64 at most. `name` is what a fault calls the value.
 ///
 /// # Errors
 ///
-/// Where the value is no array, and then where it has more than 64 values.
+/// If the value isn't an array, and then if it has more than 64 values.
 #[tactic(auto, using(crate::proofs::Each::values_of_view), unfolding(crate::specs::Lists::list_in, crate::specs::Lists::list_of))]
 pub fn list_in<'v>(alloc: Global, name: &str, value: &'v Value) -> Result<&'v [Value], Unread>
     ensures { GivesBy (λ values. map view values.now) result (list_in name.now (view value.now)) }
@@ -40,11 +40,11 @@ pub fn list_in<'v>(alloc: Global, name: &str, value: &'v Value) -> Result<&'v [V
     }
 }
 
-/// The values of the array that a field says, 64 at most: none where it isn't there or is null.
+/// The values of the array in a field, 64 at most: none if the field is absent or null.
 ///
 /// # Errors
 ///
-/// Where the field says no array, and then where that has more than 64 values.
+/// If the field's value isn't an array, and then if that has more than 64 values.
 #[tactic(auto, unfolding(crate::specs::Lists::optional_list, crate::specs::Lists::list_if_said))]
 pub fn optional_list<'v>(
     alloc: Global,
@@ -59,11 +59,11 @@ pub fn optional_list<'v>(
     }
 }
 
-/// The texts that values say, each of the form and of at most 1,024 bytes. `name` is what a fault calls each value.
+/// The texts in values, each of the form and of at most 1,024 bytes. `name` is what a fault calls each value.
 ///
 /// # Errors
 ///
-/// The first fault of the values in order: where one is no text of the form, and then where it is too long.
+/// The first fault of the values in order: if one isn't a text of the form, and then if it is too long.
 pub fn texts_in(
     alloc: Global,
     form: Form,
@@ -80,13 +80,12 @@ pub fn texts_in(
     Ok(texts)
 }
 
-/// The texts that a field says, 64 at most, each of the form and of at most 1,024 bytes: none where it isn't there or
-/// is null.
+/// The texts in a field, 64 at most, each of the form and of at most 1,024 bytes: none if the field is absent or null.
 ///
 /// # Errors
 ///
-/// Where the field says no array, then where that has more than 64 entries, and then the first fault of its entries in
-/// order.
+/// If the field's value isn't an array, then if that has more than 64 entries, and then the first fault of its entries
+/// in order.
 #[tactic(auto, unfolding(crate::specs::Lists::optional_texts))]
 pub fn optional_texts(
     alloc: Global,
@@ -100,11 +99,11 @@ pub fn optional_texts(
     texts_in(alloc, form, name, values)
 }
 
-/// The word that a value says, which is one of these. `name` is what a fault calls the value.
+/// The word in a value, which is one of these. `name` is what a fault calls the value.
 ///
 /// # Errors
 ///
-/// Where the value says none of the words.
+/// If the value isn't one of the words.
 #[tactic(auto, unfolding(crate::specs::Lists::word_in, crate::specs::Lists::word_of))]
 pub fn word_in<'v>(
     alloc: Global,
@@ -125,11 +124,11 @@ pub fn word_in<'v>(
     }
 }
 
-/// The words that values say, each one of these. `name` is what a fault calls each value.
+/// The words in values, each one of these. `name` is what a fault calls each value.
 ///
 /// # Errors
 ///
-/// Where a value says none of the words.
+/// If a value isn't one of the words.
 pub fn words_in<'v>(
     alloc: Global,
     words: &[&str],

@@ -1,6 +1,6 @@
 //! Steps that many readers take.
 
-/// What is read. A fault is returned instead, once what is held by then is dropped: a `?` with its drop.
+/// What was read. A fault is returned after what is held has been dropped: a `?` with its drop.
 #[macro_export]
 macro_rules! or_drop {
     ($read:expr, $held:ident) => {
@@ -14,7 +14,7 @@ macro_rules! or_drop {
     };
 }
 
-/// What is read of the value of a field: none where the field isn't there or is null. A fault is returned.
+/// What was read from the value of a field: none if the field is absent or null. A fault is returned.
 #[macro_export]
 macro_rules! if_said {
     ($name:expr, $object:expr, |$value:ident| $read:expr) => {{

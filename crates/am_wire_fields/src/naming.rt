@@ -1,4 +1,4 @@
-//! The faults that name a field. The name is copied only here, where a fault is met.
+//! The faults that name a field. The name is copied only here, when a fault is found.
 ghost use Rattle.am_wire_fields.specs.declared.fault.WireFault.TheVariants.{Missing, WrongKind, UnknownField, TooLong};
 ghost use Rattle.am_types.specs.Reading.{IsFault};
 
@@ -6,7 +6,7 @@ use crate::{Unread, WireFault};
 use am_types::{Text, Unmade};
 use std::alloc::Global;
 
-/// That a field must be there and isn't, or that memory ran out while its name was copied.
+/// The fault that a field is required and is absent, or that memory ran out while its name was copied.
 #[cold]
 pub fn missing(alloc: Global, name: &str) -> Unread
     ensures { IsFault result (Missing name.now) }
@@ -17,7 +17,8 @@ pub fn missing(alloc: Global, name: &str) -> Unread
     }
 }
 
-/// That the value of a field is of another kind or out of its range, or that memory ran out while its name was copied.
+/// The fault that the value of a field is of another kind or out of its range, or that memory ran out while its name
+/// was copied.
 #[cold]
 pub fn wrong_kind(alloc: Global, name: &str) -> Unread
     ensures { IsFault result (WrongKind name.now) }
@@ -28,7 +29,7 @@ pub fn wrong_kind(alloc: Global, name: &str) -> Unread
     }
 }
 
-/// That a key is none of an object's fields, or that memory ran out while it was copied.
+/// The fault that a key isn't one of an object's fields, or that memory ran out while it was copied.
 #[cold]
 pub fn unknown_field(alloc: Global, key: &str) -> Unread
     ensures { IsFault result (UnknownField key.now) }
@@ -39,7 +40,7 @@ pub fn unknown_field(alloc: Global, key: &str) -> Unread
     }
 }
 
-/// That the value of a field has too many bytes or entries, or that memory ran out while its name was copied.
+/// The fault that the value of a field has too many bytes or entries, or that memory ran out while its name was copied.
 #[cold]
 pub fn too_long(alloc: Global, name: &str) -> Unread
     ensures { IsFault result (TooLong name.now) }

@@ -1,4 +1,4 @@
-//! The fields that say whole numbers. A number with a fraction or an exponent is none, and neither is -0.
+//! Fields with whole numbers. A number with a fraction or an exponent isn't one, and neither is -0.
 ghost use Rattle.serde_json.specs.View.{view};
 ghost use Rattle.am_types.specs.Reading.{Gives};
 ghost use Rattle.am_wire_fields.specs.Numbers.{natural_in, optional_natural, optional_whole, required_natural, required_up_to, required_whole, whole_in};
@@ -9,11 +9,11 @@ use crate::{Unread, if_said};
 use serde_json::Value;
 use std::alloc::Global;
 
-/// The whole number from 0 to 18,446,744,073,709,551,615 that a value says. `name` is what a fault calls the value.
+/// The whole number from 0 to 18,446,744,073,709,551,615 in a value. `name` is what a fault calls the value.
 ///
 /// # Errors
 ///
-/// Where the value is no such number.
+/// If the value isn't such a number.
 #[tactic(auto, unfolding(crate::specs::Numbers::natural_in, crate::specs::Fields::of_kind))]
 pub fn natural_in(alloc: Global, name: &str, value: &Value) -> Result<u64, Unread>
     ensures { Gives result (natural_in name.now (view value.now)) }
@@ -24,11 +24,11 @@ pub fn natural_in(alloc: Global, name: &str, value: &Value) -> Result<u64, Unrea
     }
 }
 
-/// The signed whole number of 64 bits that a value says. `name` is what a fault calls the value.
+/// The signed whole number of 64 bits in a value. `name` is what a fault calls the value.
 ///
 /// # Errors
 ///
-/// Where the value is no such number.
+/// If the value isn't such a number.
 #[tactic(auto, unfolding(crate::specs::Numbers::whole_in, crate::specs::Fields::of_kind))]
 pub fn whole_in(alloc: Global, name: &str, value: &Value) -> Result<i64, Unread>
     ensures { Gives result (whole_in name.now (view value.now)) }
@@ -39,11 +39,11 @@ pub fn whole_in(alloc: Global, name: &str, value: &Value) -> Result<i64, Unread>
     }
 }
 
-/// The number from 0 on that a field says, which must be there.
+/// The number from 0 on in a required field.
 ///
 /// # Errors
 ///
-/// Where the field isn't there or is null, and then where it says no such number.
+/// If the field is absent or null, and then if its value isn't such a number.
 #[tactic(auto, unfolding(crate::specs::Numbers::required_natural))]
 pub fn required_natural(alloc: Global, name: &str, object: &Value) -> Result<u64, Unread>
     ensures { Gives result (required_natural name.now (view object.now)) }
@@ -52,11 +52,11 @@ pub fn required_natural(alloc: Global, name: &str, object: &Value) -> Result<u64
     natural_in(alloc, name, value)
 }
 
-/// The number from 0 to this one that a field says, which must be there.
+/// The number from 0 to this one in a required field.
 ///
 /// # Errors
 ///
-/// Where the field isn't there or is null, and then where it says no such number.
+/// If the field is absent or null, and then if its value isn't such a number.
 #[tactic(auto, unfolding(crate::specs::Numbers::required_up_to))]
 pub fn required_up_to(
     alloc: Global,
@@ -73,11 +73,11 @@ pub fn required_up_to(
     Ok(number)
 }
 
-/// The signed number that a field says, which must be there.
+/// The signed number in a required field.
 ///
 /// # Errors
 ///
-/// Where the field isn't there or is null, and then where it says no such number.
+/// If the field is absent or null, and then if its value isn't such a number.
 #[tactic(auto, unfolding(crate::specs::Numbers::required_whole))]
 pub fn required_whole(alloc: Global, name: &str, object: &Value) -> Result<i64, Unread>
     ensures { Gives result (required_whole name.now (view object.now)) }
@@ -86,11 +86,11 @@ pub fn required_whole(alloc: Global, name: &str, object: &Value) -> Result<i64, 
     whole_in(alloc, name, value)
 }
 
-/// The number from 0 on that a field says: none where it isn't there or is null.
+/// The number from 0 on in a field: none if the field is absent or null.
 ///
 /// # Errors
 ///
-/// Where the field says no such number.
+/// If the field's value isn't such a number.
 #[tactic(auto, unfolding(crate::specs::Numbers::optional_natural))]
 pub fn optional_natural(alloc: Global, name: &str, object: &Value) -> Result<Option<u64>, Unread>
     ensures { Gives result (optional_natural name.now (view object.now)) }
@@ -98,11 +98,11 @@ pub fn optional_natural(alloc: Global, name: &str, object: &Value) -> Result<Opt
     if_said!(name, object, |value| natural_in(alloc, name, value))
 }
 
-/// The signed number that a field says: none where it isn't there or is null.
+/// The signed number in a field: none if the field is absent or null.
 ///
 /// # Errors
 ///
-/// Where the field says no such number.
+/// If the field's value isn't such a number.
 #[tactic(auto, unfolding(crate::specs::Numbers::optional_whole))]
 pub fn optional_whole(alloc: Global, name: &str, object: &Value) -> Result<Option<i64>, Unread>
     ensures { Gives result (optional_whole name.now (view object.now)) }

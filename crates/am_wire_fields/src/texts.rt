@@ -1,4 +1,4 @@
-//! The fields that say texts.
+//! Fields with texts.
 ghost use Rattle.std.specs.Prelude.{Some};
 ghost use Rattle.serde_json.specs.View.{view};
 ghost use Rattle.am_types.specs.Reading.{Gives};
@@ -16,7 +16,7 @@ use std::alloc::Global;
 ///
 /// # Errors
 ///
-/// Where the text is too long.
+/// If the text is too long.
 pub fn text_within(alloc: Global, limit: usize, name: &str, text: &str) -> Result<Text, Unread>
     ensures { Gives result (text_within limit name.now text.now) }
 {
@@ -26,7 +26,7 @@ pub fn text_within(alloc: Global, limit: usize, name: &str, text: &str) -> Resul
     Ok(Text::of(alloc, text)?)
 }
 
-/// The text, if it may stand there.
+/// The text, if it has the form and isn't too long.
 #[tactic(auto, unfolding(crate::specs::Texts::text_of))]
 fn fitting(alloc: Global, form: Form, limit: usize, name: &str, text: &str) -> Result<Text, Unread>
     ensures { Gives result (text_of form limit name.now (Some text.now)) }
@@ -37,11 +37,11 @@ fn fitting(alloc: Global, form: Form, limit: usize, name: &str, text: &str) -> R
     text_within(alloc, limit, name, text)
 }
 
-/// The text of the form that a value says, of at most `limit` bytes. `name` is what a fault calls the value.
+/// The text of the form in a value, of at most `limit` bytes. `name` is what a fault calls the value.
 ///
 /// # Errors
 ///
-/// Where the value is no text of the form, and then where it is too long.
+/// If the value isn't a text of the form, and then if it is too long.
 #[tactic(auto, unfolding(crate::specs::Texts::text_in, crate::specs::Texts::text_of))]
 pub fn text_in(
     alloc: Global,
@@ -58,11 +58,11 @@ pub fn text_in(
     }
 }
 
-/// The text of the form that a field says, which must be there, of at most `limit` bytes.
+/// The text of the form in a required field, of at most `limit` bytes.
 ///
 /// # Errors
 ///
-/// Where the field isn't there or is null, then where it says no text of the form, and then where that is too long.
+/// If the field is absent or null, then if its value isn't a text of the form, and then if that is too long.
 #[tactic(auto, unfolding(crate::specs::Texts::required_text))]
 pub fn required_text(
     alloc: Global,
@@ -77,11 +77,11 @@ pub fn required_text(
     text_in(alloc, form, limit, name, value)
 }
 
-/// The text of the form that a field says, of at most `limit` bytes: none where it isn't there or is null.
+/// The text of the form in a field, of at most `limit` bytes: none if the field is absent or null.
 ///
 /// # Errors
 ///
-/// Where the field says no text of the form, and then where that is too long.
+/// If the field's value isn't a text of the form, and then if that is too long.
 #[tactic(auto, unfolding(crate::specs::Texts::optional_text))]
 pub fn optional_text(
     alloc: Global,

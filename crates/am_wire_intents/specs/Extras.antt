@@ -1,4 +1,4 @@
--- Extras: an object of at most 64 texts, signed whole numbers and truths.
+-- Extras: an object of at most 64 texts, signed whole numbers and booleans.
 use Rattle.std.specs.Prelude.{ℕ, ℤ, nat_lt, List, [], ◌∷◌, length, codes, if◌then◌else◌, Option, Some, None, Result, Ok, Err}
 use Rattle.serde_json.specs.Data.{Data, null, boolean, number, string, array, object, Members, no_members, member}
 use Rattle.serde_json.specs.Find.{as_i64, as_object}
@@ -10,7 +10,7 @@ use Rattle.am_wire_fields.specs.declared.fault.WireFault.TheVariants.{WrongKind,
 use Rattle.am_wire_fields.specs.Fields.{field, keys_in}
 use Rattle.am_types.specs.Reading.{◌>>=◌}
 
--- a text among the extras, or a key of theirs, has at most 1,024 bytes
+-- a text among the extras, or one of their keys, has at most 1,024 bytes
 unfoldable pub short : List ℕ → Result (List ℕ) WireFault
 short text = if nat_lt 1024 (length text) then Err (TooLong (codes "extras")) else Ok text
 
@@ -19,7 +19,7 @@ unfoldable pub whole_extra : Option ℤ → Result Extra WireFault
 whole_extra None = Err (WrongKind (codes "extras"))
 whole_extra (Some n) = Ok (Whole n)
 
--- the extra that a value is
+-- the extra in a value
 unfoldable pub extra_in : Data → Result Extra WireFault
 extra_in null = Err (WrongKind (codes "extras"))
 extra_in (boolean truth) = Ok (Truth truth)
@@ -45,7 +45,7 @@ each_named (member key value members) = do
   others ← each_named members
   Ok (first ∷ others)
 
--- so few members as extras may be
+-- at most as many members as extras may have
 unfoldable pub few_extras : Members → Result (List Named) WireFault
 few_extras members = if nat_lt 64 (length (keys_in members)) then Err (TooLong (codes "extras")) else each_named members
 
@@ -54,15 +54,15 @@ unfoldable pub extras_of : Option Members → Result (List Named) WireFault
 extras_of None = Err (WrongKind (codes "extras"))
 extras_of (Some members) = few_extras members
 
--- the extras that a value says
+-- the extras in a value
 unfoldable pub extras_in : Data → Result (List Named) WireFault
 extras_in value = extras_of (as_object value)
 
--- extras that need not be said
+-- optional extras
 unfoldable pub extras_if_said : Option Data → Result (List Named) WireFault
 extras_if_said None = Ok []
 extras_if_said (Some value) = extras_in value
 
--- the field `extras`, none where it is absent
+-- the field `extras`, none if it is absent
 unfoldable pub optional_extras : Data → Result (List Named) WireFault
 optional_extras parent = extras_if_said (field (codes "extras") parent)

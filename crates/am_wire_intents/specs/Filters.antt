@@ -39,7 +39,7 @@ port_of (Some n) = if nat_lt 99999 n then Err (WrongKind (codes "port")) else Ok
 unfoldable pub port_at : Data → Result (Option ℕ) WireFault
 port_at row = if_said (λ value. port_of (option_and_then as_u64 (as_number value))) (field (codes "port") row)
 
--- the authority of a row: its host with its port; a port without a host counts for nothing
+-- the authority of a row: its host with its port; a port without a host is ignored
 unfoldable pub authority_at : Data → Result (Option Authority) WireFault
 authority_at row = do
   host ← optional_text Filled 1024 (codes "host") row
@@ -55,7 +55,7 @@ paths_at row = do
   pattern ← optional_text Filled 1024 (codes "pathPattern") row
   Ok (record { literal = literal; prefix = prefix; suffix = suffix; pattern = pattern })
 
--- what the keys of a row say
+-- the contents of a row
 unfoldable pub row_of : Data → Result DataRow WireFault
 row_of row = do
   scheme ← scheme_at row
@@ -67,7 +67,8 @@ row_of row = do
 -- the keys of a row
 abbrev pub row_fields : List (List ℕ)
 row_fields =
-    codes "scheme" ∷ codes "host" ∷ codes "port" ∷ codes "path" ∷ codes "pathPrefix" ∷ codes "pathSuffix" ∷ codes "pathPattern"
+    codes "scheme" ∷ codes "host" ∷ codes "port" ∷ codes "path" ∷ codes "pathPrefix" ∷ codes "pathSuffix"
+    ∷ codes "pathPattern"
     ∷ codes "mimeType" ∷ []
 
 -- an entry of `data`
@@ -105,7 +106,7 @@ priority_of (Some n) =
     else if int_lt (pos 2147483647) n then Err (WrongKind (codes "priority"))
     else Ok n
 
--- a priority that need not be said: 0
+-- an optional priority: 0 if absent
 unfoldable pub priority_if_said : Option Data → Result ℤ WireFault
 priority_if_said None = Ok (pos 0)
 priority_if_said (Some value) = priority_of (option_and_then as_i64 (as_number value))
@@ -114,20 +115,29 @@ priority_if_said (Some value) = priority_of (option_and_then as_i64 (as_number v
 unfoldable pub priority_at : Data → Result ℤ WireFault
 priority_at filter = priority_if_said (field (codes "priority") filter)
 
--- what the fields of a filter say
+-- the contents of a filter
 unfoldable pub filter_of : Data → Result Filter WireFault
 filter_of filter = do
   actions ← actions_at filter
   categories ← categories_of Filled filter
   rows ← rows_at filter
   priority ← priority_at filter
-  Ok (record { actions = actions; categories = categories; schemes = rows.schemes; authorities = rows.authorities; paths = rows.paths; types = rows.types; priority = priority })
+  Ok (record {
+    actions = actions;
+    categories = categories;
+    schemes = rows.schemes;
+    authorities = rows.authorities;
+    paths
+        = rows.paths;
+    types = rows.types;
+    priority = priority;
+  })
 
 -- the fields of a filter
 abbrev pub filter_fields : List (List ℕ)
 filter_fields = codes "actions" ∷ codes "categories" ∷ codes "data" ∷ codes "priority" ∷ []
 
--- the filter that the value of the field of that name is
+-- the filter that is the value of the field with this name
 unfoldable pub filter_in : List ℕ → Data → Result Filter WireFault
 filter_in name value = do
   known ← only_fields name filter_fields value

@@ -10,7 +10,8 @@ use Rattle.am_types.specs.Reading.{◌>>=◌}
 -- the names of all flags
 abbrev pub flag_names : List (List ℕ)
 flag_names =
-    codes "NEW_TASK" ∷ codes "MULTIPLE_TASK" ∷ codes "CLEAR_TASK" ∷ codes "CLEAR_TOP" ∷ codes "SINGLE_TOP" ∷ codes "REORDER_TO_FRONT"
+    codes "NEW_TASK" ∷ codes "MULTIPLE_TASK" ∷ codes "CLEAR_TASK" ∷ codes "CLEAR_TOP" ∷ codes "SINGLE_TOP"
+    ∷ codes "REORDER_TO_FRONT"
     ∷ codes "REGISTERED_ONLY" ∷ codes "FOREGROUND" ∷ codes "NO_ABORT" ∷ codes "INCLUDE_STOPPED" ∷ []
 
 -- the flags whose names are set
@@ -32,7 +33,7 @@ flags_by is_set = record {
 unfoldable pub flags_listed : List (List ℕ) → Flags
 flags_listed names = flags_by (lists names)
 
--- the field `flags` of an intent, none where it is absent
+-- the field `flags` of an intent, none if it is absent
 unfoldable pub flags_of : Data → Result Flags WireFault
 flags_of parent = do
   values ← optional_list (codes "flags") parent

@@ -26,13 +26,13 @@ unfoldable pub uri_or_fault : Result Uri UriFault → Result Uri WireFault
 uri_or_fault (Ok uri) = Ok uri
 uri_or_fault (Err fault) = Err (BadUri fault)
 
--- the URI that a value says
+-- the URI in a value
 unfoldable pub uri_in : List ℕ → Data → Result Uri WireFault
 uri_in name value = do
   text ← text_in Any 1024 name value
   uri_or_fault (uri_of text)
 
--- a field that says a URI, if it is there
+-- a URI field, if it is present
 unfoldable pub optional_uri : List ℕ → Data → Result (Option Uri) WireFault
 optional_uri name parent = if_said (uri_in name) (field name parent)
 
@@ -41,13 +41,13 @@ unfoldable pub mime_or_fault : Result Mime MimeFault → Result Mime WireFault
 mime_or_fault (Ok mime) = Ok mime
 mime_or_fault (Err fault) = Err (BadMime fault)
 
--- the MIME type that a value says by a text of the form
+-- the MIME type in a value that is a text of the form
 unfoldable pub mime_in : Form → List ℕ → Data → Result Mime WireFault
 mime_in form name value = do
   text ← text_in form 1024 name value
   mime_or_fault (mime_of text)
 
--- a field that says a MIME type, if it is there
+-- a MIME type field, if it is present
 unfoldable pub optional_mime : Form → List ℕ → Data → Result (Option Mime) WireFault
 optional_mime form name parent = if_said (mime_in form name) (field name parent)
 
@@ -57,7 +57,7 @@ categories_of form parent = do
   texts ← optional_texts form (codes "categories") parent
   Ok (sorted_texts texts)
 
--- what the fields of an intent say
+-- the contents of an intent
 unfoldable pub intent_of : Data → Result Intent WireFault
 intent_of parent = do
   action ← optional_text Any 1024 (codes "action") parent
@@ -69,24 +69,36 @@ intent_of parent = do
   identifier ← optional_text Any 1024 (codes "identifier") parent
   name ← optional_text Any 1024 (codes "package") parent
   mime ← optional_mime Any (codes "type") parent
-  Ok (record { action = action; uri = uri; mime = mime; identifier = identifier; categories = categories; «package» = name; component = component; flags = flags; extras = extras })
+  Ok (record {
+    action = action;
+    uri = uri;
+    mime = mime;
+    identifier = identifier;
+    categories = categories;
+    «package» =
+        name;
+    component = component;
+    flags = flags;
+    extras = extras;
+  })
 
 -- the fields of an intent
 abbrev pub intent_fields : List (List ℕ)
 intent_fields =
-    codes "action" ∷ codes "categories" ∷ codes "component" ∷ codes "data" ∷ codes "extras" ∷ codes "flags" ∷ codes "identifier"
+    codes "action" ∷ codes "categories" ∷ codes "component" ∷ codes "data" ∷ codes "extras" ∷ codes "flags"
+    ∷ codes "identifier"
     ∷ codes "package" ∷ codes "type" ∷ []
 
--- the intent that the value of the field of that name is
+-- the intent that is the value of the field with this name
 unfoldable pub intent_in : List ℕ → Data → Result Intent WireFault
 intent_in name value = do
   known ← only_fields name intent_fields value
   intent_of value
 
--- a field that must be there and is an intent
+-- a required intent field
 unfoldable pub required_intent : List ℕ → Data → Result Intent WireFault
 required_intent name parent = required_by intent_in name parent
 
--- a field that is an intent, if it is there
+-- an intent field, if it is present
 unfoldable pub optional_intent : List ℕ → Data → Result (Option Intent) WireFault
 optional_intent name parent = if_said (intent_in name) (field name parent)

@@ -11,14 +11,14 @@ use am_wire_fields::{Unread, if_said, too_long, wrong_kind};
 use serde_json::Value;
 use std::alloc::{AllocError, Global};
 
-/// What stands before the first slash and what stands behind it.
+/// The part before the first slash and the part after it.
 fn parts_of(text: &str) -> Option<(&str, &str)>
     ensures { option_map both result ≡ parts_of text.now }
 {
     text.split_once('/')
 }
 
-/// The class: one that starts with a dot is put after the package.
+/// The class: a class that starts with a dot is put after the package.
 fn full_class(alloc: Global, package: &str, class: &str) -> Result<Text, AllocError>
     ensures { IfOk result (λ full. full ≡ full_class «package».now class.now) }
 {
@@ -46,7 +46,7 @@ fn measured(alloc: Global, name: &str, package: &str, class: &str) -> Result<Com
     Ok(Component { package, class })
 }
 
-/// The component of a package and a class, which must be names of such.
+/// The component of a package and a class, which must be valid names.
 #[tactic(auto, unfolding(crate::specs::Components::of_parts))]
 fn of_parts(alloc: Global, name: &str, package: &str, class: &str) -> Result<Component, Unread>
     ensures { Gives result (of_parts name.now (Some («package».now, class.now))) }
@@ -72,11 +72,11 @@ fn named(alloc: Global, name: &str, text: &str) -> Result<Component, Unread>
 }
 
 /// The component that a value names: the name of its package, a slash, and its class, which is put after the package
-/// where it starts with a dot. Each part has at most 1,024 bytes. `name` is what a fault calls the value.
+/// if it starts with a dot. Each part has at most 1,024 bytes. `name` is what a fault calls the value.
 ///
 /// # Errors
 ///
-/// Where the value is no text of two such names, and then where a part is too long.
+/// If the value isn't a text of two such names, and then if a part is too long.
 #[tactic(auto, unfolding(crate::specs::Components::component_in, crate::specs::Components::of_parts))]
 pub fn component_in(alloc: Global, name: &str, value: &Value) -> Result<Component, Unread>
     ensures { Gives result (component_in name.now (view value.now)) }
@@ -87,7 +87,7 @@ pub fn component_in(alloc: Global, name: &str, value: &Value) -> Result<Componen
     }
 }
 
-/// The component that a field names: none where the field isn't there or is null.
+/// The component that a field names: none if the field is absent or null.
 ///
 /// # Errors
 ///

@@ -1,4 +1,4 @@
-//! Extras: an object of texts, signed whole numbers and truths.
+//! Extras: an object of texts, signed whole numbers and booleans.
 ghost use Rattle.std.specs.Prelude.{◌≡◌, Some};
 ghost use Rattle.serde_json.specs.View.{view, members_view};
 ghost use Rattle.am_types.specs.Reading.{Gives, GivesBy};
@@ -9,7 +9,7 @@ use am_wire_fields::{Unread, field, text_within, too_long, wrong_kind};
 use serde_json::{Map, Value};
 use std::alloc::Global;
 
-/// A text among the extras, or a key of theirs: at most 1,024 bytes.
+/// A text among the extras, or one of their keys: at most 1,024 bytes.
 #[tactic(auto, unfolding(crate::specs::Extras::short))]
 fn short(alloc: Global, text: &str) -> Result<Text, Unread>
     ensures { Gives result (short text.now) }
@@ -17,7 +17,7 @@ fn short(alloc: Global, text: &str) -> Result<Text, Unread>
     text_within(alloc, 1024, "extras", text)
 }
 
-/// The extra that a value is.
+/// The extra in a value.
 #[tactic(auto, unfolding(crate::specs::Extras::extra_in, crate::specs::Extras::whole_extra))]
 fn extra_in(alloc: Global, value: &Value) -> Result<Extra, Unread>
     ensures { Gives result (extra_in (view value.now)) }
@@ -70,13 +70,13 @@ fn few_extras(alloc: Global, members: &Map<String, Value>) -> Result<List<Named>
     Ok(List::new(extras))
 }
 
-/// The extras that a value says: an object of at most 64 texts, signed whole numbers of 64 bits and truths. Its keys
-/// and texts have at most 1,024 bytes each. The extras stand by rising key, each key once.
+/// The extras in a value: an object of at most 64 texts, signed whole numbers of 64 bits and booleans. Its keys
+/// and texts have at most 1,024 bytes each. The extras are ordered by rising key, each key once.
 ///
 /// # Errors
 ///
-/// Where the value is no object, then where it has more than 64 members, and then the first fault of its members by
-/// rising key: where the value is none of these or too long, and then where the key is too long.
+/// If the value isn't an object, then if it has more than 64 members, and then the first fault of its members by
+/// rising key: if the value isn't one of these or is too long, and then if the key is too long.
 #[tactic(auto, unfolding(crate::specs::Extras::extras_in, crate::specs::Extras::extras_of))]
 pub fn extras_in(alloc: Global, value: &Value) -> Result<List<Named>, Unread>
     ensures { Gives result (extras_in (view value.now)) }
@@ -87,7 +87,7 @@ pub fn extras_in(alloc: Global, value: &Value) -> Result<List<Named>, Unread>
     }
 }
 
-/// The extras that the field `extras` says: none where it isn't there or is null.
+/// The extras in the field `extras`: none if it is absent or null.
 ///
 /// # Errors
 ///

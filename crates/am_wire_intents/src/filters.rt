@@ -37,7 +37,7 @@ fn actions_at(alloc: Global, filter: &Value) -> Result<List<Text>, Unread>
     Ok(sorted(alloc, texts)?)
 }
 
-/// The priority of a filter: a whole number of 32 bits, 0 where none is said.
+/// The priority of a filter: a whole number of 32 bits, 0 if none is given.
 #[tactic(auto, unfolding(crate::specs::Filters::priority_at, crate::specs::Filters::priority_if_said, crate::specs::Filters::priority_of))]
 fn priority_at(alloc: Global, filter: &Value) -> Result<i32, Unread>
     ensures { Gives result (priority_at (view filter.now)) }
@@ -57,14 +57,14 @@ fn priority_at(alloc: Global, filter: &Value) -> Result<i32, Unread>
     Ok(number as i32)
 }
 
-/// The filter that a value is: an object with the field `actions`, of one action or more, and perhaps `categories`,
+/// The filter in a value: an object with the field `actions`, of one action or more, and optionally `categories`,
 /// `data` (rows with the keys `scheme`, `host`, `port`, `path`, `pathPrefix`, `pathSuffix`, `pathPattern` and
-/// `mimeType`) and `priority`. No text is empty. Texts have at most 1,024 bytes, and lists at most 64 entries. `name` is
-/// what a fault calls the value.
+/// `mimeType`) and `priority`. No text is empty. Texts have at most 1,024 bytes, and lists at most 64 entries. `name`
+/// is what a fault calls the value.
 ///
 /// # Errors
 ///
-/// Where the value is no object, then where it has another field, the least by bytes, and then the first fault of its
+/// If the value isn't an object, then if it has another field, the least by bytes, and then the first fault of its
 /// fields in the order above.
 #[tactic(auto, unfolding(crate::specs::Filters::filter_in, crate::specs::Filters::filter_of))]
 pub fn filter_in(alloc: Global, name: &str, value: &Value) -> Result<Filter, Unread>

@@ -29,7 +29,7 @@ fn flags_listed(names: &[&str]) -> Flags
     }
 }
 
-/// The flags' names that values say.
+/// The flags' names in values.
 fn names_in<'v>(alloc: Global, values: &'v [Value]) -> Result<Vec<&'v str>, Unread>
     ensures { GivesBy (λ names. map (λ name. name.now) names.items) result
         (words_in flag_names (codes "flags") (map view values.now)) }
@@ -53,11 +53,12 @@ fn names_in<'v>(alloc: Global, values: &'v [Value]) -> Result<Vec<&'v str>, Unre
     )
 }
 
-/// The flags that the field `flags` lists, each once or more often: none where it isn't there or is null.
+/// The flags that the field `flags` lists, each once or more often: none if it is absent or null.
 ///
 /// # Errors
 ///
-/// Where the field says no array, then where that has more than 64 entries, and then where an entry is no flag's name.
+/// If the field's value isn't an array, then if that has more than 64 entries, and then if an entry isn't a flag's
+/// name.
 #[tactic(auto, unfolding(crate::specs::Flags::flags_of))]
 pub fn flags_of(alloc: Global, object: &Value) -> Result<Flags, Unread>
     ensures { Gives result (flags_of (view object.now)) }

@@ -17,7 +17,7 @@ use am_wire_fields::{
 use serde_json::Value;
 use std::alloc::Global;
 
-/// What a parser makes of a text: what it finds wrong is a fault of the body, and want of memory stays that.
+/// The result of a parser: an error in the text is a fault of the body, and running out of memory stays that.
 macro_rules! or_fault {
     ($parsed:expr, $fault:ident => $met:ident) => {
         match $parsed {
@@ -36,7 +36,7 @@ fn uri_of(alloc: Global, text: &Text) -> Result<Uri, Unread>
     or_fault!(parse_uri(alloc, text), UriFault => BadUri)
 }
 
-/// The URI that a field says, if it is there.
+/// The URI in a field, if it is present.
 #[tactic(auto, unfolding(crate::specs::Intents::optional_uri, crate::specs::Intents::uri_in))]
 fn optional_uri(alloc: Global, name: &str, object: &Value) -> Result<Option<Uri>, Unread>
     ensures { Gives result (optional_uri name.now (view object.now)) }
@@ -55,7 +55,7 @@ fn mime_of(alloc: Global, text: &Text) -> Result<Mime, Unread>
     or_fault!(parse_mime(alloc, text), MimeFault => BadMime)
 }
 
-/// The MIME type that a field says by a text of the form, if it is there.
+/// The MIME type in a field with a text of the form, if it is present.
 #[tactic(auto, unfolding(crate::specs::Intents::optional_mime, crate::specs::Intents::mime_in))]
 pub fn optional_mime(
     alloc: Global,
@@ -80,7 +80,7 @@ pub fn categories_of(alloc: Global, form: Form, object: &Value) -> Result<List<T
     Ok(sorted(alloc, texts)?)
 }
 
-/// What the fields of an intent say.
+/// The contents of an intent.
 #[tactic(auto, unfolding(crate::specs::Intents::intent_of))]
 fn intent_of(alloc: Global, object: &Value) -> Result<Intent, Unread>
     ensures { Gives result (intent_of (view object.now)) }
@@ -107,7 +107,7 @@ fn intent_of(alloc: Global, object: &Value) -> Result<Intent, Unread>
     })
 }
 
-/// Refuses a value that is no object with the fields of an intent only.
+/// Refuses a value that isn't an object with only the fields of an intent.
 fn only_intent_fields(alloc: Global, name: &str, value: &Value) -> Result<(), Unread>
     ensures { Gives result (only_fields name.now intent_fields (view value.now)) }
 {
@@ -129,13 +129,13 @@ fn only_intent_fields(alloc: Global, name: &str, value: &Value) -> Result<(), Un
     )
 }
 
-/// The intent that a value is: an object with the fields `action`, `categories`, `component`, `data` (a URI), `extras`,
+/// The intent in a value: an object with the fields `action`, `categories`, `component`, `data` (a URI), `extras`,
 /// `flags`, `identifier`, `package` and `type` (a MIME type), each of which may be absent or null. Texts have at most
 /// 1,024 bytes, and lists at most 64 entries. `name` is what a fault calls the value.
 ///
 /// # Errors
 ///
-/// Where the value is no object, then where it has another field, the least by bytes, and then the first fault of its
+/// If the value isn't an object, then if it has another field, the least by bytes, and then the first fault of its
 /// fields in the order above.
 #[tactic(auto, unfolding(crate::specs::Intents::intent_in))]
 pub fn intent_in(alloc: Global, name: &str, value: &Value) -> Result<Intent, Unread>
@@ -145,11 +145,11 @@ pub fn intent_in(alloc: Global, name: &str, value: &Value) -> Result<Intent, Unr
     intent_of(alloc, value)
 }
 
-/// The intent that a field is, which must be there.
+/// The intent in a required field.
 ///
 /// # Errors
 ///
-/// Where the field isn't there or is null, and then as for [`intent_in`].
+/// If the field is absent or null, and then as for [`intent_in`].
 #[tactic(auto, unfolding(crate::specs::Intents::required_intent))]
 pub fn required_intent(alloc: Global, name: &str, object: &Value) -> Result<Intent, Unread>
     ensures { Gives result (required_intent name.now (view object.now)) }
@@ -158,7 +158,7 @@ pub fn required_intent(alloc: Global, name: &str, object: &Value) -> Result<Inte
     intent_in(alloc, name, value)
 }
 
-/// The intent that a field is: none where it isn't there or is null.
+/// The intent in a field: none if the field is absent or null.
 ///
 /// # Errors
 ///

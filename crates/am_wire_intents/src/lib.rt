@@ -1,5 +1,5 @@
-//! Reads components, extras, flags, intents and filters out of JSON values. The answer is what was read, or the first
-//! fault that reading meets.
+//! Reads components, extras, flags, intents and filters from JSON values. The result is what was read, or the first
+//! fault found.
 #![tactic(auto)]
 
 mod components;

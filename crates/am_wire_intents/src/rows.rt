@@ -31,7 +31,7 @@ fn scheme_of(alloc: Global, text: &str) -> Result<Text, Unread>
     text_within(alloc, 1024, "scheme", text)
 }
 
-/// The scheme that a value says.
+/// The scheme in a value.
 #[tactic(auto, unfolding(crate::specs::Filters::scheme_of))]
 fn scheme_in(alloc: Global, value: &Value) -> Result<Text, Unread>
     ensures { Gives result (scheme_of (as_str (view value.now))) }
@@ -67,7 +67,7 @@ fn port_at(alloc: Global, row: &Value) -> Result<Option<u32>, Unread>
     Ok(Some(number as u32))
 }
 
-/// The authority of a row: its host with its port. A port without a host counts for nothing.
+/// The authority of a row: its host with its port. A port without a host is ignored.
 #[tactic(auto, unfolding(crate::specs::Filters::authority_at))]
 fn authority_at(alloc: Global, row: &Value) -> Result<Option<Authority>, Unread>
     ensures { Gives result (authority_at (view row.now)) }
@@ -110,7 +110,7 @@ fn paths_at(alloc: Global, row: &Value) -> Result<Paths, Unread>
     })
 }
 
-/// Refuses a value that is no object with the keys of a row only.
+/// Refuses a value that isn't an object with only the keys of a row.
 fn only_row_fields(alloc: Global, value: &Value) -> Result<(), Unread>
     ensures { Gives result (only_fields (codes "data") row_fields (view value.now)) }
 {

@@ -33,13 +33,15 @@ use Rattle.am_wire_read_back.proofs.Texts.{if_read, else_read, read_if, read_els
 
 -- ---- MIME types
 
-split_more : (x : ℕ) (xs : List ℕ) (n : ℕ) → (take n xs ++ 47 ∷ []) ++ drop (n + 1) xs ≡ xs → (take (1 + n) (x ∷ xs) ++ 47 ∷ []) ++ drop (1 + n + 1) (x ∷ xs) ≡ x ∷ xs
+split_more : (x : ℕ) (xs : List ℕ) (n : ℕ) → (take n xs ++ 47 ∷ []) ++ drop (n + 1) xs ≡ xs
+    → (take (1 + n) (x ∷ xs) ++ 47 ∷ []) ++ drop (1 + n + 1) (x ∷ xs) ≡ x ∷ xs
 split_more x xs n h =
     let first : 1 + n ≡ suc n = omega arith in
     let behind : 1 + n + 1 ≡ suc (n + 1) = omega arith in
     rw (behind, first) (ap (λ (ys : List ℕ). x ∷ ys) h)
 
-split_cons : (b : Bool) (x : ℕ) (xs : List ℕ) (n : ℕ) → (b ≡ true → x ≡ 47) → (b ≡ false → (take n xs ++ 47 ∷ []) ++ drop (n + 1) xs ≡ xs)
+split_cons : (b : Bool) (x : ℕ) (xs : List ℕ) (n : ℕ) → (b ≡ true → x ≡ 47)
+    → (b ≡ false → (take n xs ++ 47 ∷ []) ++ drop (n + 1) xs ≡ xs)
     → (take (cond (not b) (1 + n) 0) (x ∷ xs) ++ 47 ∷ []) ++ drop (cond (not b) (1 + n) 0 + 1) (x ∷ xs) ≡ x ∷ xs
 split_cons true x xs n h k = ap (λ (y : ℕ). y ∷ xs) (sym (h refl))
 split_cons false x xs n h k = split_more x xs n (k refl)
@@ -48,10 +50,12 @@ later_slash : (b c : Bool) → (b || c) ≡ true → b ≡ false → c ≡ true
 later_slash true c h e = absurd (true≢false e)
 later_slash false c h e = h
 
--- a text with a slash is what stands before its first one, that slash and what stands behind it
-split : (text : List ℕ) → list_any is_slash text ≡ true → (before_first is_slash text ++ codes "/") ++ after_first is_slash text ≡ text
+-- a text with a slash is the part before its first one, that slash and the part after it
+split : (text : List ℕ) → list_any is_slash text ≡ true → (before_first is_slash text ++ codes "/")
+    ++ after_first is_slash text ≡ text
 split [] h = absurd (true≢false (sym h))
-split (x ∷ xs) h = split_cons (is_slash x) x xs (position_or_len is_slash xs) (λ e. (Decides-eqb x 47).0 e) (λ e. split xs (later_slash (is_slash x) (list_any is_slash xs) h e))
+split (x ∷ xs) h = split_cons (is_slash x) x xs (position_or_len is_slash xs) (λ e. (Decides-eqb x 47).0 e)
+    (λ e. split xs (later_slash (is_slash x) (list_any is_slash xs) h e))
 
 not_true : (b : Bool) → not b ≡ false → b ≡ true
 not_true true h = refl
@@ -89,12 +93,16 @@ mime_again form name value mime k h =
     let s = step (text_in form 1024 name value) (λ text. mime_or_fault (mime_of text)) mime h in
     let same = mime_text s.value mime (mime_is (mime_of s.value) mime s.later) in
     ap (λ t. text_in form 1024 name (string t) >>= λ text. mime_or_fault (mime_of text)) same
-    ∙ steps (text_in form 1024 name (string s.value)) (λ text. mime_or_fault (mime_of text)) s.value mime (text_again form 1024 name value s.value k s.first) s.later
+    ∙ steps (text_in form 1024 name (string s.value)) (λ text. mime_or_fault (mime_of text)) s.value mime
+    (text_again form 1024 name value s.value k s.first) s.later
 
-pub mime_field : (name : List ℕ) (value : Data) (o : Option Mime) (es : List Entry) → IsKept value → optional_mime Any name value ≡ Ok o
-    → are_apart es ≡ true → value_at name es ≡ option_map mime_data o → optional_mime Any name (object (members_with es)) ≡ Ok o
+pub mime_field : (name : List ℕ) (value : Data) (o : Option Mime) (es : List Entry) → IsKept value
+    → optional_mime Any name value ≡ Ok o
+    → are_apart es ≡ true → value_at name es ≡ option_map mime_data o
+    → optional_mime Any name (object (members_with es)) ≡ Ok o
 unfolding optional_mime
-mime_field name value o es k h apart is = option_field (mime_in Any name) mime_data (mime_again Any name) (λ m. refl) name value o es k h apart is
+mime_field name value o es k h apart is = option_field (mime_in Any name) mime_data (mime_again Any name) (λ m. refl)
+    name value o es k h apart is
 
 -- ---- URIs
 
@@ -125,12 +133,16 @@ uri_again name value uri k h =
     let s = step (text_in Any 1024 name value) (λ text. uri_or_fault (uri_of text)) uri h in
     let same = uri_text s.value uri (uri_is (uri_of s.value) uri s.later) in
     ap (λ t. text_in Any 1024 name (string t) >>= λ text. uri_or_fault (uri_of text)) same
-    ∙ steps (text_in Any 1024 name (string s.value)) (λ text. uri_or_fault (uri_of text)) s.value uri (text_again Any 1024 name value s.value k s.first) s.later
+    ∙ steps (text_in Any 1024 name (string s.value)) (λ text. uri_or_fault (uri_of text)) s.value uri
+    (text_again Any 1024 name value s.value k s.first) s.later
 
-pub uri_field : (name : List ℕ) (value : Data) (o : Option Uri) (es : List Entry) → IsKept value → optional_uri name value ≡ Ok o
-    → are_apart es ≡ true → value_at name es ≡ option_map uri_data o → optional_uri name (object (members_with es)) ≡ Ok o
+pub uri_field : (name : List ℕ) (value : Data) (o : Option Uri) (es : List Entry) → IsKept value
+    → optional_uri name value ≡ Ok o
+    → are_apart es ≡ true → value_at name es ≡ option_map uri_data o → optional_uri name (object (members_with es))
+    ≡ Ok o
 unfolding optional_uri
-uri_field name value o es k h apart is = option_field (uri_in name) uri_data (uri_again name) (λ u. refl) name value o es k h apart is
+uri_field name value o es k h apart is = option_field (uri_in name) uri_data (uri_again name) (λ u. refl) name value o
+    es k h apart is
 
 -- ---- components
 
@@ -138,16 +150,19 @@ neither_is : (a b : Bool) → (a || b) ≡ false → (a ≡ false) × (b ≡ fal
 neither_is true b h = absurd (true≢false h)
 neither_is false b h = (refl, h)
 
-cut : (b : Bool) (x : ℕ) (rest : List ℕ) (o : Option (List ℕ × List ℕ)) (parts : List ℕ × List ℕ) → b ≡ false → o ≡ Some parts → cond b (Some ([], rest)) (with_first x o) ≡ Some (x ∷ parts.0, parts.1)
+cut : (b : Bool) (x : ℕ) (rest : List ℕ) (o : Option (List ℕ × List ℕ)) (parts : List ℕ × List ℕ) → b ≡ false → o
+    ≡ Some parts → cond b (Some ([], rest)) (with_first x o) ≡ Some (x ∷ parts.0, parts.1)
 cut true x rest o parts h e = absurd (true≢false h)
 cut false x rest o parts h e = ap (with_first x) e
 
--- a name without a slash and what stands behind one are the parts
-parts_again : (name class : List ℕ) → has_slash name ≡ false → parts_of ((name ++ codes "/") ++ class) ≡ Some (name, class)
+-- a name without a slash and the text after one are the parts
+parts_again : (name class : List ℕ) → has_slash name ≡ false → parts_of ((name ++ codes "/") ++ class)
+    ≡ Some (name, class)
 parts_again [] class h = refl
 parts_again (x ∷ xs) class h =
     let both = neither_is (x == 47) (has_slash xs) h in
-    cut (x == 47) x ((xs ++ codes "/") ++ class) (parts_of ((xs ++ codes "/") ++ class)) (xs, class) both.0 (parts_again xs class both.1)
+    cut (x == 47) x ((xs ++ codes "/") ++ class) (parts_of ((xs ++ codes "/") ++ class)) (xs, class) both.0
+    (parts_again xs class both.1)
 
 unless : (b c : Bool) → cond b false c ≡ true → (b ≡ false) × (c ≡ true)
 unless true c h = absurd (true≢false (sym h))
@@ -165,13 +180,15 @@ no_slash : (name : List ℕ) → is_name name ≡ true → has_slash name ≡ fa
 no_slash name h = not_false (has_slash name) (unless (length name == 0) (not (has_slash name)) h).1
 
 -- a package's name and a class of it are a name without a dot at its start
-full_is_name : (b : Bool) (name class : List ℕ) → is_package_name name ≡ true → is_name class ≡ true → starts_with_dot class ≡ b
+full_is_name : (b : Bool) (name class : List ℕ) → is_package_name name ≡ true → is_name class ≡ true
+    → starts_with_dot class ≡ b
     → (is_name (cond b (name ++ class) class) ≡ true) × (starts_with_dot (cond b (name ++ class) class) ≡ false)
 full_is_name false name class h k e = (k, e)
 full_is_name true [] class h k e = absurd (true≢false (sym h))
 full_is_name true (x ∷ xs) class h k e =
     let p = unless (starts_with_dot (x ∷ xs)) (is_name (x ∷ xs)) h in
-    let slashes : has_slash ((x ∷ xs) ++ class) ≡ false = list_any-append (λ b. b == 47) (x ∷ xs) class ∙ rw (no_slash (x ∷ xs) p.1) (no_slash class k) in
+    let slashes : has_slash ((x ∷ xs) ++ class) ≡ false = list_any-append (λ b. b == 47) (x ∷ xs) class
+    ∙ rw (no_slash (x ∷ xs) p.1) (no_slash class k) in
     let some : (length ((x ∷ xs) ++ class) == 0) ≡ false = ne_eqb (suc (length (xs ++ class))) 0 (λ e. omega arith) in
     (named (length ((x ∷ xs) ++ class) == 0) (not (has_slash ((x ∷ xs) ++ class))) some (ap not slashes), p.0)
 
@@ -195,17 +212,24 @@ component_again_of field_name (Some parts) c h =
     ∙ read_if (is_package_name parts.0) _ (WrongKind field_name) whole p.0
     (read_if (is_name full) (measured field_name parts.0 (full_class parts.0 full)) (WrongKind field_name) whole good.0
     (ap (measured field_name parts.0) stays
-    ∙ read_else (nat_lt 1024 (length parts.0)) (TooLong field_name) _ whole a.0 (read_else (nat_lt 1024 (length full)) (TooLong field_name) (Ok whole) whole b.0 refl))))
+    ∙ read_else (nat_lt 1024 (length parts.0)) (TooLong field_name) _ whole a.0
+    (read_else (nat_lt 1024 (length full)) (TooLong field_name) (Ok whole) whole b.0 refl))))
 
 pub component_again : (name : List ℕ) → IsReread (component_in name) component_data
 unfolding component_in
 component_again name value c k h = component_again_of name (option_and_then parts_of (as_str value)) c h
 
-pub component_field : (name : List ℕ) (value : Data) (o : Option Component) (es : List Entry) → IsKept value → optional_component name value ≡ Ok o
-    → are_apart es ≡ true → value_at name es ≡ option_map component_data o → optional_component name (object (members_with es)) ≡ Ok o
+pub component_field : (name : List ℕ) (value : Data) (o : Option Component) (es : List Entry) → IsKept value
+    → optional_component name value ≡ Ok o
+    → are_apart es ≡ true → value_at name es ≡ option_map component_data o
+    → optional_component name (object (members_with es)) ≡ Ok o
 unfolding optional_component
-component_field name value o es k h apart is = option_field (component_in name) component_data (component_again name) (λ c. refl) name value o es k h apart is
+component_field name value o es k h apart is = option_field (component_in name) component_data (component_again name)
+    (λ c. refl) name value o es k h apart is
 
-pub required_component_again : (name : List ℕ) (parent : Data) (c : Component) (es : List Entry) → IsKept parent → required_by component_in name parent ≡ Ok c
-    → are_apart es ≡ true → value_at name es ≡ Some (component_data c) → required_by component_in name (object (members_with es)) ≡ Ok c
-required_component_again name parent c es k h apart is = field_again (component_in name) component_data (component_again name) name parent c es k h apart is refl
+pub required_component_again : (name : List ℕ) (parent : Data) (c : Component) (es : List Entry) → IsKept parent
+    → required_by component_in name parent ≡ Ok c
+    → are_apart es ≡ true → value_at name es ≡ Some (component_data c)
+    → required_by component_in name (object (members_with es)) ≡ Ok c
+required_component_again name parent c es k h apart is = field_again (component_in name) component_data
+    (component_again name) name parent c es k h apart is refl

@@ -30,12 +30,14 @@ use Rattle.am_wire_read_back.proofs.Objects.{Entry, members_with, IsWithin, AreW
 least : (n : ℕ) → 0 ≤ n
 least n = omega arith
 
--- what need not be there
-maybe : {A : Type 0} (n : ℕ) (write : A → Data) → ((x : A) → depth (write x) ≤ n) → (o : Option A) → IsWithin n (option_map write o)
+-- optional values
+maybe : {A : Type 0} (n : ℕ) (write : A → Data) → ((x : A) → depth (write x) ≤ n) → (o : Option A)
+    → IsWithin n (option_map write o)
 maybe n write h None = tt
 maybe n write h (Some x) = h x
 
-flat : {A : Type 0} (n : ℕ) (write : A → Data) → ((x : A) → depth (write x) ≡ 0) → (o : Option A) → IsWithin n (option_map write o)
+flat : {A : Type 0} (n : ℕ) (write : A → Data) → ((x : A) → depth (write x) ≡ 0) → (o : Option A)
+    → IsWithin n (option_map write o)
 flat n write h None = tt
 flat n write h (Some x) = omega (arith, h x)
 
@@ -65,11 +67,13 @@ some_array : (n : ℕ) (ds : List Data) → AllByRecursion (λ d. depth d ≤ n)
 some_array n [] h = tt
 some_array n (d ∷ ds) h = array_of n (d ∷ ds) h
 
-mapped : {A : Type 0} (n : ℕ) (write : A → Data) → ((x : A) → depth (write x) ≤ n) → (xs : List A) → AllByRecursion (λ d. depth d ≤ n) (map write xs)
+mapped : {A : Type 0} (n : ℕ) (write : A → Data) → ((x : A) → depth (write x) ≤ n) → (xs : List A)
+    → AllByRecursion (λ d. depth d ≤ n) (map write xs)
 mapped n write h [] = tt
 mapped n write h (x ∷ xs) = (h x, mapped n write h xs)
 
-joined : (n : ℕ) (ds es : List Data) → AllByRecursion (λ d. depth d ≤ n) ds → AllByRecursion (λ d. depth d ≤ n) es → AllByRecursion (λ d. depth d ≤ n) (ds ++ es)
+joined : (n : ℕ) (ds es : List Data) → AllByRecursion (λ d. depth d ≤ n) ds → AllByRecursion (λ d. depth d ≤ n) es
+    → AllByRecursion (λ d. depth d ≤ n) (ds ++ es)
 joined n [] es h k = k
 joined n (d ∷ ds) es h k = (h.0, joined n ds es h.1 k)
 
@@ -86,7 +90,8 @@ extra_flat (Truth b) = omega arith
 
 extras_flat : (ns : List Named) (ms : Members) → members_depth ms ≤ 0 → members_depth (with_extras ns ms) ≤ 0
 extras_flat [] ms h = h
-extras_flat (n ∷ ns) ms h = extras_flat ns (put n.key (extra_data n.value) ms) (depth_put n.key (extra_data n.value) ms 0 (extra_flat n.value) h)
+extras_flat (n ∷ ns) ms h = extras_flat ns (put n.key (extra_data n.value) ms)
+    (depth_put n.key (extra_data n.value) ms 0 (extra_flat n.value) h)
 
 extras : (ns : List Named) → IsWithin 1 (some_extras ns)
 extras [] = tt
@@ -104,14 +109,21 @@ intent i =
           flat 1 string (λ t. refl) i.«package»,
           (
             flat 1 string (λ t. refl) i.identifier,
-            (flat 1 component_data (λ c. refl) i.component, (flat 1 mime_data (λ m. refl) i.mime, (flat 1 uri_data (λ u. refl) i.uri, (texts i.categories, (flat 1 string (λ t. refl) i.action, tt))))),
+            (
+              flat 1 component_data (λ c. refl) i.component,
+              (
+                flat 1 mime_data (λ m. refl) i.mime,
+                (flat 1 uri_data (λ u. refl) i.uri, (texts i.categories, (flat 1 string (λ t. refl) i.action, tt))),
+              ),
+            ),
           ),
         ),
       ),
     ))
 
 authority : (a : Authority) → depth (authority_row a) ≤ 1
-authority a = object_within 0 ((codes "port", option_map natural a.port) ∷ (codes "host", Some (string a.host)) ∷ []) (flat 0 natural (λ n. refl) a.port, (least 0, tt))
+authority a = object_within 0 ((codes "port", option_map natural a.port) ∷ (codes "host", Some (string a.host)) ∷ [])
+    (flat 0 natural (λ n. refl) a.port, (least 0, tt))
 
 path : (rule : PathRule) → depth (path_row rule) ≤ 1
 path (Literal t) = omega arith
@@ -122,10 +134,12 @@ path (Pattern t) = omega arith
 rows : (f : Filter) → IsWithin 2 (some_listed (rows_of f))
 unfolding rows_of
 rows f =
-    some_array 1 (((map scheme_row f.schemes ++ map authority_row f.authorities) ++ map path_row f.paths) ++ map type_row f.types)
+    some_array 1 (((map scheme_row f.schemes ++ map authority_row f.authorities) ++ map path_row f.paths)
+    ++ map type_row f.types)
     (joined 1 ((map scheme_row f.schemes ++ map authority_row f.authorities) ++ map path_row f.paths) _
     (joined 1 (map scheme_row f.schemes ++ map authority_row f.authorities) _
-    (joined 1 (map scheme_row f.schemes) _ (mapped 1 scheme_row (λ s. omega arith) f.schemes) (mapped 1 authority_row authority f.authorities)) (mapped 1 path_row path f.paths))
+    (joined 1 (map scheme_row f.schemes) _ (mapped 1 scheme_row (λ s. omega arith) f.schemes)
+    (mapped 1 authority_row authority f.authorities)) (mapped 1 path_row path f.paths))
     (mapped 1 type_row (λ m. omega arith) f.types))
 
 wider : (m n : ℕ) (o : Option Data) → m ≤ n → IsWithin m o → IsWithin n o
@@ -136,7 +150,16 @@ filter : (f : Filter) → depth (filter_data f) ≤ 3
 unfolding filter_entries
 filter f =
     let P : Data → Type 0 = λ d. depth d ≤ 3 in
-    subst P (sym (filter_is f)) (object_within 2 (filter_entries f) (number 2 f.priority, (rows f, (wider 1 2 (some_texts f.categories) (omega arith) (texts f.categories), (omega (arith, texts_array f.actions), tt)))))
+    subst P (sym (filter_is f)) (object_within 2 (filter_entries f) (
+      number 2 f.priority,
+      (
+        rows f,
+        (
+          wider 1 2 (some_texts f.categories) (omega arith) (texts f.categories),
+          (omega (arith, texts_array f.actions), tt),
+        ),
+      ),
+    ))
 
 -- a request
 abbrev pub IsShallow : Data → Type 0
@@ -154,46 +177,90 @@ some_extras_within ns = wider 1 3 (some_extras ns) (omega arith) (extras ns)
 one_flat : (name : List ℕ) (d : Data) → depth d ≤ 3 → IsShallow (with_one name d)
 one_flat name d h = within_four ((name, Some d) ∷ []) (h, tt)
 
-two_flat : (name : List ℕ) (d : Data) (other : List ℕ) (e : Data) → depth d ≤ 3 → depth e ≤ 3 → IsShallow (with_two name d other e)
+two_flat : (name : List ℕ) (d : Data) (other : List ℕ) (e : Data) → depth d ≤ 3 → depth e ≤ 3
+    → IsShallow (with_two name d other e)
 two_flat name d other e h k = within_four ((other, Some e) ∷ (name, Some d) ∷ []) (k, (h, tt))
 
 pub shallow : (r : Request) → IsShallow (request_data r)
-unfolding request_data query_data explain_data start_data send_data register_data finish_data get_data pending_send_data grant_data link_data with_ordered with_outcome
+unfolding request_data query_data explain_data start_data send_data register_data finish_data get_data pending_send_data
+    grant_data link_data with_ordered with_outcome
 shallow (asks.Query kind i default_only) =
-    within_four ((codes "defaultOnly", some_truth default_only) ∷ (codes "intent", Some (intent_data i)) ∷ (codes "kind", Some (string (kind_name kind))) ∷ []) (truth 3 default_only, (an_intent i, (least 3, tt)))
+    within_four ((codes "defaultOnly", some_truth default_only) ∷ (codes "intent", Some (intent_data i))
+    ∷ (codes "kind", Some (string (kind_name kind))) ∷ []) (truth 3 default_only, (an_intent i, (least 3, tt)))
 shallow (asks.Explain kind i caller permission shown) =
-    within_four (explain_entries kind i caller permission shown)
-    (flat 3 string (λ t. refl) shown, (flat 3 string (λ t. refl) permission, (flat 3 string (λ t. refl) caller, (an_intent i, (least 3, tt)))))
-shallow (asks.Start i source) = within_four ((codes "source", option_map natural source) ∷ (codes "intent", Some (intent_data i)) ∷ []) (flat 3 natural (λ n. refl) source, (an_intent i, tt))
+    within_four (explain_entries kind i caller permission shown) (
+      flat 3 string (λ t. refl) shown,
+      (
+        flat 3 string (λ t. refl) permission,
+        (flat 3 string (λ t. refl) caller, (an_intent i, (least 3, tt))),
+      ),
+    )
+shallow (asks.Start i source) = within_four ((codes "source", option_map natural source)
+    ∷ (codes "intent", Some (intent_data i)) ∷ []) (flat 3 natural (λ n. refl) source, (an_intent i, tt))
 shallow (asks.FinishActivity instance) = one_flat (codes "instance") (natural instance) (least 3)
 shallow (asks.StartService i) = one_flat (codes "intent") (intent_data i) (an_intent i)
 shallow (asks.StopService component) = one_flat (codes "component") (component_data component) (least 3)
-shallow (asks.Send i permission None) = within_four (plain_entries i permission) (flat 3 string (λ t. refl) permission, (an_intent i, tt))
+shallow (asks.Send i permission None) = within_four (plain_entries i permission)
+    (flat 3 string (λ t. refl) permission, (an_intent i, tt))
 shallow (asks.Send i permission (Some o)) =
     within_four (ordered_entries i permission o) (
       truth 3 o.wanted,
-      (number 3 o.initial.code, (some_extras_within o.initial.extras, (flat 3 string (λ t. refl) o.initial.text, (least 3, (flat 3 string (λ t. refl) permission, (an_intent i, tt)))))),
+      (
+        number 3 o.initial.code,
+        (
+          some_extras_within o.initial.extras,
+          (
+            flat 3 string (λ t. refl) o.initial.text,
+            (
+              least 3,
+              (
+                flat 3 string (λ t. refl) permission,
+                (an_intent i, tt),
+              ),
+            ),
+          ),
+        ),
+      ),
     )
-shallow (asks.Register f permission) = within_four ((codes "permission", option_map string permission) ∷ (codes "filter", Some (filter_data f)) ∷ []) (flat 3 string (λ t. refl) permission, (filter f, tt))
+shallow (asks.Register f permission) = within_four ((codes "permission", option_map string permission)
+    ∷ (codes "filter", Some (filter_data f)) ∷ []) (flat 3 string (λ t. refl) permission, (filter f, tt))
 shallow (asks.Unregister registered) = one_flat (codes "number") (natural registered) (least 3)
 shallow (asks.Finish delivery answer) = by answer.set
   where
     by : (set : Option Outcome) → IsShallow (finish_data delivery (record { set = set; abort = answer.abort }))
     by None = within_four (answer_entries delivery answer.abort) (truth 3 answer.abort, (least 3, tt))
     by (Some o) =
-        within_four (outcome_entries delivery answer.abort o) (some_extras_within o.extras, (flat 3 string (λ t. refl) o.text, (omega (arith, whole_flat o.code), (truth 3 answer.abort, (least 3, tt)))))
+        within_four (outcome_entries delivery answer.abort o) (
+          some_extras_within o.extras,
+          (
+            flat 3 string (λ t. refl) o.text,
+            (
+              omega (arith, whole_flat o.code),
+              (truth 3 answer.abort, (least 3, tt)),
+            ),
+          ),
+        )
 shallow (asks.PendingGet kind code i flags) =
-    within_four ((codes "flags", Some (texts_data (names_set (pending_named flags)))) ∷ (codes "intent", Some (intent_data i)) ∷ (codes "code", Some (whole code)) ∷ (codes "kind", Some (string (pending_name kind))) ∷ [])
-    (omega (arith, texts_array (names_set (pending_named flags))), (an_intent i, (omega (arith, whole_flat code), (least 3, tt))))
-shallow (asks.PendingSend token fill) = within_four ((codes "fill", option_map intent_data fill) ∷ (codes "token", Some (natural token)) ∷ []) (maybe 3 intent_data an_intent fill, (least 3, tt))
+    within_four ((codes "flags", Some (texts_data (names_set (pending_named flags))))
+    ∷ (codes "intent", Some (intent_data i)) ∷ (codes "code", Some (whole code))
+    ∷ (codes "kind", Some (string (pending_name kind))) ∷ []) (
+      omega (arith, texts_array (names_set (pending_named flags))),
+      (an_intent i, (omega (arith, whole_flat code), (least 3, tt))),
+    )
+shallow (asks.PendingSend token fill) = within_four ((codes "fill", option_map intent_data fill)
+    ∷ (codes "token", Some (natural token)) ∷ []) (maybe 3 intent_data an_intent fill, (least 3, tt))
 shallow (asks.PendingCancel token) = one_flat (codes "token") (natural token) (least 3)
-shallow (asks.PendingGive token name) = two_flat (codes "package") (string name) (codes "token") (natural token) (least 3) (least 3)
-shallow (asks.Install text key) = two_flat (codes "key") (string key) (codes "manifest") (string text) (least 3) (least 3)
+shallow (asks.PendingGive token name) = two_flat (codes "package") (string name) (codes "token") (natural token)
+    (least 3) (least 3)
+shallow (asks.Install text key) = two_flat (codes "key") (string key) (codes "manifest") (string text) (least 3)
+    (least 3)
 shallow (asks.Uninstall name) = one_flat (codes "package") (string name) (least 3)
 shallow (asks.Grant name permission held) =
-    within_four ((codes "held", Some (boolean held)) ∷ (codes "permission", Some (string permission)) ∷ (codes "package", Some (string name)) ∷ []) (least 3, (least 3, (least 3, tt)))
+    within_four ((codes "held", Some (boolean held)) ∷ (codes "permission", Some (string permission))
+    ∷ (codes "package", Some (string name)) ∷ []) (least 3, (least 3, (least 3, tt)))
 shallow (asks.Link name host approved) =
-    within_four ((codes "approved", Some (boolean approved)) ∷ (codes "host", Some (string host)) ∷ (codes "package", Some (string name)) ∷ []) (least 3, (least 3, (least 3, tt)))
+    within_four ((codes "approved", Some (boolean approved)) ∷ (codes "host", Some (string host))
+    ∷ (codes "package", Some (string name)) ∷ []) (least 3, (least 3, (least 3, tt)))
 shallow (asks.ForceStop name) = one_flat (codes "package") (string name) (least 3)
 shallow (asks.Advance by) = one_flat (codes "by") (natural by) (least 3)
 shallow (asks.History from) = one_flat (codes "from") (natural from) (least 3)

@@ -41,7 +41,8 @@ whole_extra_is (Some z) e h = (z, refl, same_ok (Whole z) e h)
 extra_again : (value : Data) (e : Extra) → IsKept value → extra_in value ≡ Ok e → extra_in (extra_data e) ≡ Ok e
 unfolding extra_in whole_extra
 extra_again Data.null e k h = absurd (cc)
-extra_again (Data.boolean b) e k h = let P : Extra → Type 0 = λ e. extra_in (extra_data e) ≡ Ok e in subst P (same_ok (Truth b) e h) refl
+extra_again (Data.boolean b) e k h = let P : Extra → Type 0 = λ e. extra_in (extra_data e)
+    ≡ Ok e in subst P (same_ok (Truth b) e h) refl
 extra_again (Data.number n) e k h =
     let w = whole_extra_is (as_i64 n) e h in
     let P : Extra → Type 0 = λ e. extra_in (extra_data e) ≡ Ok e in
@@ -49,7 +50,8 @@ extra_again (Data.number n) e k h =
 extra_again (Data.string s) e k h =
     let one = step (short s) (λ word. Ok (Word word)) e h in
     let P : Extra → Type 0 = λ e. extra_in (extra_data e) ≡ Ok e in
-    subst P (same_ok (Word one.value) e one.later) (steps (short one.value) (λ word. Ok (Word word)) one.value (Word one.value) (short_is s one.value one.first).1 refl)
+    subst P (same_ok (Word one.value) e one.later) (steps (short one.value) (λ word. Ok (Word word)) one.value
+    (Word one.value) (short_is s one.value one.first).1 refl)
 extra_again (Data.array ds) e k h = absurd (cc)
 extra_again (Data.object ms) e k h = absurd (cc)
 
@@ -57,7 +59,8 @@ extra_again (Data.object ms) e k h = absurd (cc)
 abbrev IsNamed : Named → Type 0
 IsNamed n = named_in n.key (extra_data n.value) ≡ Ok n
 
-named_again : (key : List ℕ) (value : Data) (n : Named) → IsKept value → named_in key value ≡ Ok n → (key ≡ n.key) × IsNamed n
+named_again : (key : List ℕ) (value : Data) (n : Named) → IsKept value → named_in key value ≡ Ok n → (key ≡ n.key)
+    × IsNamed n
 unfolding named_in
 named_again key value n k h =
     let one = step (extra_in value) (λ extra. short key >>= λ name. Ok (record { key = name; value = extra })) n h in
@@ -67,8 +70,10 @@ named_again key value n k h =
     let P : Named → Type 0 = λ n. (key ≡ n.key) × IsNamed n in
     subst P (same_ok got n two.later) (
       name.0,
-      steps (extra_in (extra_data one.value)) (λ extra. short two.value >>= λ name. Ok (record { key = name; value = extra })) one.value got
-          (extra_again value one.value k one.first) (steps (short two.value) (λ name. Ok (record { key = name; value = one.value })) two.value got name.1 refl),
+      steps (extra_in (extra_data one.value)) (λ extra. short two.value >>= λ name. Ok
+          (record { key = name; value = extra })) one.value got
+          (extra_again value one.value k one.first) (steps (short two.value)
+          (λ name. Ok (record { key = name; value = one.value })) two.value got name.1 refl),
     )
 
 -- ---- all of them
@@ -90,8 +95,11 @@ were_read (member key value ms) ns k h =
     let two = step (each_named ms) (λ others. Ok (one.value ∷ others)) ns one.later in
     let first = named_again key value one.value k.0 one.first in
     let others = were_read ms two.value k.1 two.first in
-    let keys : keys_in (member key value ms) ≡ keys_of (one.value ∷ two.value) = ap (λ (name : List ℕ). name ∷ keys_in ms) first.0 ∙ ap (λ (names : List (List ℕ)). one.value.key ∷ names) others.keys in
-    subst (WereRead (member key value ms)) (same_ok (one.value ∷ two.value) ns two.later) (record { named = (first.1, others.named); keys = keys })
+    let keys : keys_in (member key value ms) ≡ keys_of (one.value ∷ two.value) = ap
+    (λ (name : List ℕ). name ∷ keys_in ms) first.0 ∙ ap (λ (names : List (List ℕ)). one.value.key ∷ names)
+    others.keys in
+    subst (WereRead (member key value ms)) (same_ok (one.value ∷ two.value) ns two.later)
+    (record { named = (first.1, others.named); keys = keys })
 
 -- the members that extras are, in their order
 members_from : List Named → Members
@@ -117,46 +125,58 @@ unfolding behind
 behind_none no_members = refl
 behind_none (member k d ms) = ap (member k d) (behind_none ms)
 
-behind_one : (ms : Members) (k : List ℕ) (d : Data) (more : Members) → behind (behind ms (member k d no_members)) more ≡ behind ms (member k d more)
+behind_one : (ms : Members) (k : List ℕ) (d : Data) (more : Members) → behind (behind ms (member k d no_members)) more
+    ≡ behind ms (member k d more)
 unfolding behind
 behind_one no_members k d more = refl
 behind_one (member l e ms) k d more = ap (member l e) (behind_one ms k d more)
 
 -- a key above those before it goes last
-put_behind : (ms : Members) (k : List ℕ) (d : Data) (names : List (List ℕ)) → AreSorted (keys_in ms ++ k ∷ names) → put k d ms ≡ behind ms (member k d no_members)
+put_behind : (ms : Members) (k : List ℕ) (d : Data) (names : List (List ℕ)) → AreSorted (keys_in ms ++ k ∷ names)
+    → put k d ms ≡ behind ms (member k d no_members)
 unfolding behind IsStrictlySortedBy
 put_behind no_members k d names h = refl
 put_behind (member l e ms) k d names h =
-    let above : slice_cmp nat_cmp k l ≡ Greater = nat_list_cmp_total.antisymm k l ∙ ap ordering_reverse (all_front (λ z. slice_cmp nat_cmp l z ≡ Less) (keys_in ms) k names h.0) in
+    let above : slice_cmp nat_cmp k l ≡ Greater = nat_list_cmp_total.antisymm k l
+    ∙ ap ordering_reverse (all_front (λ z. slice_cmp nat_cmp l z ≡ Less) (keys_in ms) k names h.0) in
     rw above (ap (member l e) (put_behind ms k d names h.1))
 
-with_behind : (ns : List Named) (ms : Members) → AreSorted (keys_in ms ++ keys_of ns) → with_extras ns ms ≡ behind ms (members_from ns)
+with_behind : (ns : List Named) (ms : Members) → AreSorted (keys_in ms ++ keys_of ns) → with_extras ns ms
+    ≡ behind ms (members_from ns)
 unfolding keys_of members_from behind
 with_behind [] ms h = sym (behind_none ms)
 with_behind (n ∷ ns) ms h =
     let d = extra_data n.value in
     let last : put n.key d ms ≡ behind ms (member n.key d no_members) = put_behind ms n.key d (keys_of ns) h in
-    let grouped : keys_in ms ++ n.key ∷ keys_of ns ≡ keys_in (behind ms (member n.key d no_members)) ++ keys_of ns = rw (keys_behind ms (member n.key d no_members)) (simp append_assoc) in
-    ap (with_extras ns) last ∙ (with_behind ns (behind ms (member n.key d no_members)) (subst AreSorted grouped h) ∙ behind_one ms n.key d (members_from ns))
+    let grouped : keys_in ms ++ n.key ∷ keys_of ns ≡ keys_in (behind ms (member n.key d no_members))
+    ++ keys_of ns = rw (keys_behind ms (member n.key d no_members)) (simp append_assoc) in
+    ap (with_extras ns) last ∙ (with_behind ns (behind ms (member n.key d no_members)) (subst AreSorted grouped h)
+    ∙ behind_one ms n.key d (members_from ns))
 
 each_named_again : (ns : List Named) → AllByRecursion IsNamed ns → each_named (members_from ns) ≡ Ok ns
 unfolding each_named members_from
 each_named_again [] h = refl
 each_named_again (n ∷ ns) h =
-    steps (named_in n.key (extra_data n.value)) (λ first. each_named (members_from ns) >>= λ others. Ok (first ∷ others)) n (n ∷ ns) h.0
+    steps (named_in n.key (extra_data n.value)) (λ first. each_named (members_from ns) >>= λ others. Ok
+    (first ∷ others)) n (n ∷ ns) h.0
     (steps (each_named (members_from ns)) (λ others. Ok (n ∷ others)) ns (n ∷ ns) (each_named_again ns h.1) refl)
 
-few_again : (ms : Members) (ns : List Named) → AreMembersKept ms → AreSorted (keys_in ms) → few_extras ms ≡ Ok ns → few_extras (with_extras ns no_members) ≡ Ok ns
+few_again : (ms : Members) (ns : List Named) → AreMembersKept ms → AreSorted (keys_in ms) → few_extras ms ≡ Ok ns
+    → few_extras (with_extras ns no_members) ≡ Ok ns
 unfolding few_extras members_from behind
 few_again ms ns k sorted h =
     let e = else_read (nat_lt 64 (length (keys_in ms))) (TooLong (codes "extras")) (each_named ms) ns h in
     let were = were_read ms ns k e.1 in
-    let written : with_extras ns no_members ≡ members_from ns = with_behind ns no_members (subst AreSorted were.keys sorted) in
+    let written : with_extras ns no_members ≡ members_from ns = with_behind ns no_members
+    (subst AreSorted were.keys sorted) in
     let same : keys_in (with_extras ns no_members) ≡ keys_in ms = ap keys_in written ∙ (keys_from ns ∙ sym were.keys) in
-    read_else (nat_lt 64 (length (keys_in (with_extras ns no_members)))) (TooLong (codes "extras")) (each_named (with_extras ns no_members)) ns
-    (ap (λ (names : List (List ℕ)). nat_lt 64 (length names)) same ∙ e.0) (ap each_named written ∙ each_named_again ns were.named)
+    read_else (nat_lt 64 (length (keys_in (with_extras ns no_members)))) (TooLong (codes "extras"))
+    (each_named (with_extras ns no_members)) ns
+    (ap (λ (names : List (List ℕ)). nat_lt 64 (length names)) same ∙ e.0)
+    (ap each_named written ∙ each_named_again ns were.named)
 
-extras_of_again : (value : Data) (ns : List Named) → IsKept value → extras_of (as_object value) ≡ Ok ns → few_extras (with_extras ns no_members) ≡ Ok ns
+extras_of_again : (value : Data) (ns : List Named) → IsKept value → extras_of (as_object value) ≡ Ok ns
+    → few_extras (with_extras ns no_members) ≡ Ok ns
 unfolding extras_of
 extras_of_again Data.null ns k h = absurd (cc)
 extras_of_again (Data.boolean b) ns k h = absurd (cc)
@@ -169,19 +189,24 @@ none_few : few_extras (with_extras [] no_members) ≡ Ok []
 unfolding few_extras each_named
 none_few = refl
 
-if_said_again : (o : Option Data) (ns : List Named) → ForSome IsKept o → extras_if_said o ≡ Ok ns → few_extras (with_extras ns no_members) ≡ Ok ns
+if_said_again : (o : Option Data) (ns : List Named) → ForSome IsKept o → extras_if_said o ≡ Ok ns
+    → few_extras (with_extras ns no_members) ≡ Ok ns
 unfolding extras_if_said extras_in
-if_said_again None ns k h = let P : List Named → Type 0 = λ ns. few_extras (with_extras ns no_members) ≡ Ok ns in subst P (same_ok [] ns h) none_few
+if_said_again None ns k h = let P : List Named → Type 0 = λ ns. few_extras (with_extras ns no_members)
+    ≡ Ok ns in subst P (same_ok [] ns h) none_few
 if_said_again (Some value) ns k h = extras_of_again value ns k h
 
-some_again : (ns : List Named) → few_extras (with_extras ns no_members) ≡ Ok ns → extras_if_said (unless_null (some_extras ns)) ≡ Ok ns
+some_again : (ns : List Named) → few_extras (with_extras ns no_members) ≡ Ok ns
+    → extras_if_said (unless_null (some_extras ns)) ≡ Ok ns
 unfolding extras_if_said extras_in extras_of
 some_again [] h = refl
 some_again (n ∷ ns) h = h
 
 -- extras that were read are read of what is written for them
 pub extras_field : (value : Data) (ns : List Named) (es : List Entry) → IsKept value → optional_extras value ≡ Ok ns
-    → are_apart es ≡ true → value_at (codes "extras") es ≡ some_extras ns → optional_extras (object (members_with es)) ≡ Ok ns
+    → are_apart es ≡ true → value_at (codes "extras") es ≡ some_extras ns → optional_extras (object (members_with es))
+    ≡ Ok ns
 unfolding optional_extras
 extras_field value ns es k h apart is =
-    ap extras_if_said (field_at (codes "extras") es apart ∙ ap unless_null is) ∙ some_again ns (if_said_again (field (codes "extras") value) ns (field_kept (codes "extras") value k) h)
+    ap extras_if_said (field_at (codes "extras") es apart ∙ ap unless_null is)
+    ∙ some_again ns (if_said_again (field (codes "extras") value) ns (field_kept (codes "extras") value k) h)

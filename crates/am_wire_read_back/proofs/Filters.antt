@@ -1,4 +1,4 @@
--- A filter: what was read of a value is read of what is written for it, where that has few rows.
+-- A filter: what was read from a value is read from what is written for it, if that has few rows.
 use Rattle.std.proofs.Common.{◌≡◌, ℕ, ◌≤◌, ◌<◌, ℤ, pos, negsuc, Bool, true, false, cond, List, [], ◌∷◌, ◌++◌, length, map, fold, Option, Some, None, option_map, option_and_then, Ok, nat_cmp, Ordering, Less, Equal, Greater, refl, sym, ap, ◌∙◌, subst, arith}
 use Rattle.std.specs.Prelude.{codes, nat_lt, unsigned_abs, ◌==◌, int_lt}
 use Rattle.std.specs.BTreeSet.{insert_key}
@@ -77,7 +77,8 @@ as_filled [] [] e h = absurd h
 as_filled [] (y ∷ ys) e h = absurd (omega arith)
 as_filled (x ∷ xs) ys e h = tt
 
-actions_again : (value : Data) (actions : List (List ℕ)) (es : List Entry) → IsKept value → actions_at value ≡ Ok actions → are_apart es ≡ true → value_at (codes "actions") es ≡ Some (texts_data actions)
+actions_again : (value : Data) (actions : List (List ℕ)) (es : List Entry) → IsKept value → actions_at value
+    ≡ Ok actions → are_apart es ≡ true → value_at (codes "actions") es ≡ Some (texts_data actions)
     → actions_at (object (members_with es)) ≡ Ok actions
 unfolding actions_at texts_in
 actions_again value actions es k h apart is =
@@ -86,16 +87,23 @@ actions_again value actions es k h apart is =
     let three = step (some_values two.value) _ actions two.later in
     let four = step (texts_in Filled (codes "actions") three.value) _ actions three.later in
     let some = some_is two.value three.value three.first in
-    let listed : WasListed three.value = subst WasListed some.0 (was_list (codes "actions") one.value two.value (required_kept (codes "actions") value one.value k one.first) two.first) in
-    let r : AreRead Filled (codes "actions") (sorted_texts four.value) = sorted_are_read Filled (codes "actions") three.value four.value listed four.first in
-    let filled : IsFilled (sorted_texts four.value) = sorted_filled four.value (as_filled four.value three.value (each_length (text_in Filled 1024 (codes "actions")) three.value four.value four.first) (subst IsFilled some.0 some.1)) in
+    let listed : WasListed three.value = subst WasListed some.0 (was_list (codes "actions") one.value two.value
+    (required_kept (codes "actions") value one.value k one.first) two.first) in
+    let r : AreRead Filled (codes "actions") (sorted_texts four.value) = sorted_are_read Filled (codes "actions")
+    three.value four.value listed four.first in
+    let filled : IsFilled (sorted_texts four.value) = sorted_filled four.value
+    (as_filled four.value three.value (each_length (text_in Filled 1024 (codes "actions")) three.value four.value
+    four.first) (subst IsFilled some.0 some.1)) in
     let same : sorted_texts four.value ≡ actions = same_ok _ actions four.later in
-    again (object (members_with es)) actions (required_at (codes "actions") es (texts_data actions) apart is refl) (subst (AreRead Filled (codes "actions")) same r) (subst IsFilled same filled)
+    again (object (members_with es)) actions (required_at (codes "actions") es (texts_data actions) apart is refl)
+    (subst (AreRead Filled (codes "actions")) same r) (subst IsFilled same filled)
   where
-    again : (d : Data) (actions : List (List ℕ)) → required (codes "actions") d ≡ Ok (texts_data actions) → AreRead Filled (codes "actions") actions → IsFilled actions → actions_at d ≡ Ok actions
+    again : (d : Data) (actions : List (List ℕ)) → required (codes "actions") d ≡ Ok (texts_data actions)
+        → AreRead Filled (codes "actions") actions → IsFilled actions → actions_at d ≡ Ok actions
     again d actions there r filled =
         steps (required (codes "actions") d) _ (texts_data actions) actions there
-        (steps (list_in (codes "actions") (texts_data actions)) _ (map string actions) actions (list_again (codes "actions") (map string actions) r.within)
+        (steps (list_in (codes "actions") (texts_data actions)) _ (map string actions) actions
+        (list_again (codes "actions") (map string actions) r.within)
         (steps (some_values (map string actions)) _ (map string actions) actions (some_again actions filled)
         (steps (texts_in Filled (codes "actions") (map string actions)) _ actions actions r.read (ap Ok r.sorted))))
 
@@ -132,16 +140,19 @@ priority_if (Some value) z k h =
     let both = some_of (option_and_then as_i64 (as_number value)) z h in
     record { signed = signed_of (as_number value) z (number_kept value k) both.0; within = both.1 }
 
-priority_by : (b : Bool) (z : ℤ) → (unsigned_abs z == 0) ≡ b → IsPriority z → priority_if_said (unless_null (cond b None (Some (whole z)))) ≡ Ok z
+priority_by : (b : Bool) (z : ℤ) → (unsigned_abs z == 0) ≡ b → IsPriority z
+    → priority_if_said (unless_null (cond b None (Some (whole z)))) ≡ Ok z
 unfolding priority_if_said
 priority_by true z e p = ap Ok (is_zero z e)
 priority_by false z e p = ap priority_of p.signed ∙ p.within
 
-priority_again : (value : Data) (z : ℤ) (es : List Entry) → IsKept value → priority_at value ≡ Ok z → are_apart es ≡ true → value_at (codes "priority") es ≡ some_whole z → priority_at (object (members_with es)) ≡ Ok z
+priority_again : (value : Data) (z : ℤ) (es : List Entry) → IsKept value → priority_at value ≡ Ok z → are_apart es
+    ≡ true → value_at (codes "priority") es ≡ some_whole z → priority_at (object (members_with es)) ≡ Ok z
 unfolding priority_at
 priority_again value z es k h apart is =
     ap priority_if_said (field_at (codes "priority") es apart ∙ ap unless_null is)
-    ∙ priority_by (unsigned_abs z == 0) z refl (priority_if (field (codes "priority") value) z (field_kept (codes "priority") value k) h)
+    ∙ priority_by (unsigned_abs z == 0) z refl (priority_if (field (codes "priority") value) z
+    (field_kept (codes "priority") value k) h)
 
 -- ---- the rows
 
@@ -166,7 +177,8 @@ few_rows : (f : Filter) → rows_in f ≤ 64 → nat_lt 64 (length (rows_of f)) 
 few_rows f h = by (nat_lt 64 (length (rows_of f))) refl
   where
     by : (b : Bool) → nat_lt 64 (length (rows_of f)) ≡ b → b ≡ false
-    by true e = let more : 64 < length (rows_of f) = (Decides-ltb 64 (length (rows_of f))).0 e in absurd (omega (arith, rows_length f))
+    by true e = let more : 64 < length (rows_of f) = (Decides-ltb 64 (length (rows_of f))).0 e in absurd
+        (omega (arith, rows_length f))
     by false e = refl
 
 rows_were : (value : Data) (rows : DataRows) → IsKept value → rows_at value ≡ Ok rows → ReadRows rows
@@ -174,27 +186,33 @@ unfolding rows_at optional_list
 rows_were value rows k h =
     let one = step (list_if_said (codes "data") (field (codes "data") value)) _ rows h in
     let two = step (each row_in one.value) _ rows one.later in
-    let listed = was_list_if (codes "data") (field (codes "data") value) one.value (field_kept (codes "data") value k) one.first in
-    subst ReadRows (same_ok (fold with_row no_rows two.value) rows two.later) (merged_read two.value (rows_read one.value two.value listed.kept two.first))
+    let listed = was_list_if (codes "data") (field (codes "data") value) one.value (field_kept (codes "data") value k)
+    one.first in
+    subst ReadRows (same_ok (fold with_row no_rows two.value) rows two.later)
+    (merged_read two.value (rows_read one.value two.value listed.kept two.first))
 
-rows_again : (f : Filter) (es : List Entry) → ReadRows (listed_by f) → rows_in f ≤ 64 → are_apart es ≡ true → value_at (codes "data") es ≡ some_listed (rows_of f) → rows_at (object (members_with es)) ≡ Ok (listed_by f)
+rows_again : (f : Filter) (es : List Entry) → ReadRows (listed_by f) → rows_in f ≤ 64 → are_apart es ≡ true
+    → value_at (codes "data") es ≡ some_listed (rows_of f) → rows_at (object (members_with es)) ≡ Ok (listed_by f)
 unfolding rows_at optional_list
 rows_again f es r few apart is =
     steps (list_if_said (codes "data") (field (codes "data") (object (members_with es)))) _ (rows_of f) (listed_by f)
-    (ap (list_if_said (codes "data")) (field_at (codes "data") es apart ∙ ap unless_null is) ∙ list_if_again (codes "data") (rows_of f) (few_rows f few))
+    (ap (list_if_said (codes "data")) (field_at (codes "data") es apart ∙ ap unless_null is)
+    ∙ list_if_again (codes "data") (rows_of f) (few_rows f few))
     (steps (each row_in (rows_of f)) _ (rows_said f) (listed_by f) (each_row_again f r) (ap Ok (merged_again f r)))
 
 -- ---- the filter
 
 unfoldable pub filter_entries : Filter → List Entry
 filter_entries f =
-    (codes "priority", some_whole f.priority) ∷ (codes "data", some_listed (rows_of f)) ∷ (codes "categories", some_texts f.categories) ∷ (codes "actions", Some (texts_data f.actions)) ∷ []
+    (codes "priority", some_whole f.priority) ∷ (codes "data", some_listed (rows_of f))
+    ∷ (codes "categories", some_texts f.categories) ∷ (codes "actions", Some (texts_data f.actions)) ∷ []
 
 pub filter_is : (f : Filter) → filter_data f ≡ object (members_with (filter_entries f))
 unfolding filter_data filter_entries
 filter_is f = refl
 
-filter_of_again : (value : Data) (f : Filter) → IsKept value → filter_of value ≡ Ok f → rows_in f ≤ 64 → filter_of (object (members_with (filter_entries f))) ≡ Ok f
+filter_of_again : (value : Data) (f : Filter) → IsKept value → filter_of value ≡ Ok f → rows_in f ≤ 64
+    → filter_of (object (members_with (filter_entries f))) ≡ Ok f
 unfolding filter_of filter_entries
 filter_of_again value f k h few =
     let es = filter_entries f in
@@ -215,35 +233,46 @@ filter_of_again value f k h few =
     let is : got ≡ f = same_ok got f four.later in
     let read : ReadRows (listed_by f) = subst ReadRows (ap listed_by is) (rows_were value three.value k three.first) in
     let rows : listed_by f ≡ three.value = ap listed_by (sym is) in
-    steps (actions_at d) _ one.value f (actions_again value one.value es k one.first refl (ap (λ (f : Filter). Some (texts_data f.actions)) (sym is)))
-    (steps (categories_of Filled d) _ two.value f (categories_again Filled value two.value es k two.first refl (ap (λ (f : Filter). some_texts f.categories) (sym is)))
+    steps (actions_at d) _ one.value f (actions_again value one.value es k one.first refl
+    (ap (λ (f : Filter). Some (texts_data f.actions)) (sym is)))
+    (steps (categories_of Filled d) _ two.value f (categories_again Filled value two.value es k two.first refl
+    (ap (λ (f : Filter). some_texts f.categories) (sym is)))
     (steps (rows_at d) _ three.value f (rows_again f es read few refl refl ∙ ap Ok rows)
-    (steps (priority_at d) _ four.value f (priority_again value four.value es k four.first refl (ap (λ (f : Filter). some_whole f.priority) (sym is))) (ap Ok is))))
+    (steps (priority_at d) _ four.value f (priority_again value four.value es k four.first refl
+    (ap (λ (f : Filter). some_whole f.priority) (sym is))) (ap Ok is))))
 
-fields_listed : (f : Filter) (name : List ℕ) → only_fields name filter_fields (object (members_with (filter_entries f))) ≡ Ok tt
+fields_listed : (f : Filter) (name : List ℕ) → only_fields name filter_fields (object (members_with (filter_entries f)))
+    ≡ Ok tt
 unfolding filter_entries
 fields_listed f name = only_listed name filter_fields (filter_entries f) refl
 
-filter_again : (name : List ℕ) (value : Data) (f : Filter) → IsKept value → filter_in name value ≡ Ok f → rows_in f ≤ 64 → filter_in name (filter_data f) ≡ Ok f
+filter_again : (name : List ℕ) (value : Data) (f : Filter) → IsKept value → filter_in name value ≡ Ok f → rows_in f ≤ 64
+    → filter_in name (filter_data f) ≡ Ok f
 unfolding filter_in
 filter_again name value f k h few =
     let one = step (only_fields name filter_fields value) (λ known. filter_of value) f h in
     ap (filter_in name) (filter_is f)
-    ∙ steps (only_fields name filter_fields (object (members_with (filter_entries f)))) (λ known. filter_of (object (members_with (filter_entries f)))) tt f (fields_listed f name) (filter_of_again value f k one.later few)
+    ∙ steps (only_fields name filter_fields (object (members_with (filter_entries f))))
+    (λ known. filter_of (object (members_with (filter_entries f)))) tt f (fields_listed f name)
+    (filter_of_again value f k one.later few)
 
 no_null : (f : Filter) → unless_null (Some (filter_data f)) ≡ Some (filter_data f)
 unfolding filter_data
 no_null f = refl
 
-filter_field : (parent : Data) (f : Filter) (es : List Entry) → IsKept parent → required_filter (codes "filter") parent ≡ Ok f → rows_in f ≤ 64
-    → are_apart es ≡ true → value_at (codes "filter") es ≡ Some (filter_data f) → required_filter (codes "filter") (object (members_with es)) ≡ Ok f
+filter_field : (parent : Data) (f : Filter) (es : List Entry) → IsKept parent → required_filter (codes "filter") parent
+    ≡ Ok f → rows_in f ≤ 64
+    → are_apart es ≡ true → value_at (codes "filter") es ≡ Some (filter_data f)
+    → required_filter (codes "filter") (object (members_with es)) ≡ Ok f
 unfolding required_filter
 filter_field parent f es k h few apart is =
     let s = step (required (codes "filter") parent) (filter_in (codes "filter")) f h in
     steps (required (codes "filter") (object (members_with es))) (filter_in (codes "filter")) (filter_data f) f
-    (required_at (codes "filter") es (filter_data f) apart is (no_null f)) (filter_again (codes "filter") s.value f (required_kept (codes "filter") parent s.value k s.first) s.later few)
+    (required_at (codes "filter") es (filter_data f) apart is (no_null f))
+    (filter_again (codes "filter") s.value f (required_kept (codes "filter") parent s.value k s.first) s.later few)
 
-pub register_again : (value : Data) (r : Request) → IsKept value → register_in value ≡ Ok r → HasFewRows r → register_in (request_data r) ≡ Ok r
+pub register_again : (value : Data) (r : Request) → IsKept value → register_in value ≡ Ok r → HasFewRows r
+    → register_in (request_data r) ≡ Ok r
 unfolding register_in request_data register_data
 register_again value r k h =
     let fields = codes "filter" ∷ codes "permission" ∷ [] in
@@ -251,9 +280,12 @@ register_again value r k h =
     let two = step (required_filter (codes "filter") value) _ r one.later in
     let three = step (optional_text Any 1024 (codes "permission") value) _ r two.later in
     let got = asks.Register two.value three.value in
-    let es : List Entry = (codes "permission", option_map string three.value) ∷ (codes "filter", Some (filter_data two.value)) ∷ [] in
+    let es : List Entry = (codes "permission", option_map string three.value)
+    ∷ (codes "filter", Some (filter_data two.value)) ∷ [] in
     let P : Request → Type 0 = λ r. HasFewRows r → register_in (request_data r) ≡ Ok r in
     subst P (same_ok got r three.later)
     (λ few. steps (fields_of fields (object (members_with es))) _ tt got (fields_known fields es refl)
-    (steps (required_filter (codes "filter") (object (members_with es))) _ two.value got (filter_field value two.value es k two.first few refl refl)
-    (steps (optional_text Any 1024 (codes "permission") (object (members_with es))) _ three.value got (text_field Any 1024 (codes "permission") value three.value es k three.first refl refl) refl)))
+    (steps (required_filter (codes "filter") (object (members_with es))) _ two.value got
+    (filter_field value two.value es k two.first few refl refl)
+    (steps (optional_text Any 1024 (codes "permission") (object (members_with es))) _ three.value got
+    (text_field Any 1024 (codes "permission") value three.value es k three.first refl refl) refl)))

@@ -36,22 +36,26 @@ AreKept = AllByRecursion IsKept
 
 module _ {A : Type 0} (read : Data → Result A WireFault) (write : A → Data) where
   -- entries that were read are read again
-  pub each_read : IsReread read write → (values : List Data) (xs : List A) → AreKept values → each read values ≡ Ok xs → AllByRecursion (IsRead read write) xs
+  pub each_read : IsReread read write → (values : List Data) (xs : List A) → AreKept values → each read values ≡ Ok xs
+      → AllByRecursion (IsRead read write) xs
   unfolding each
   each_read again [] xs k h = subst (AllByRecursion (IsRead read write)) (same_ok [] xs h) tt
   each_read again (v ∷ vs) xs k h =
       let one = step (read v) (λ first. each read vs >>= λ others. Ok (first ∷ others)) xs h in
       let two = step (each read vs) (λ others. Ok (one.value ∷ others)) xs one.later in
-      subst (AllByRecursion (IsRead read write)) (same_ok (one.value ∷ two.value) xs two.later) (again v one.value k.0 one.first, each_read again vs two.value k.1 two.first)
+      subst (AllByRecursion (IsRead read write)) (same_ok (one.value ∷ two.value) xs two.later)
+      (again v one.value k.0 one.first, each_read again vs two.value k.1 two.first)
 
   -- entries that are read are read in a list
   pub each_again : (xs : List A) → AllByRecursion (IsRead read write) xs → each read (map write xs) ≡ Ok xs
   unfolding each
   each_again [] h = refl
-  each_again (x ∷ xs) h = steps (read (write x)) (λ first. each read (map write xs) >>= λ others. Ok (first ∷ others)) x (x ∷ xs) h.0 (steps (each read (map write xs)) (λ others. Ok (x ∷ others)) xs (x ∷ xs) (each_again xs h.1) refl)
+  each_again (x ∷ xs) h = steps (read (write x)) (λ first. each read (map write xs) >>= λ others. Ok (first ∷ others)) x
+      (x ∷ xs) h.0 (steps (each read (map write xs)) (λ others. Ok (x ∷ others)) xs (x ∷ xs) (each_again xs h.1) refl)
 
 -- as many are read as there are values
-pub each_length : {A : Type 0} (read : Data → Result A WireFault) (values : List Data) (xs : List A) → each read values ≡ Ok xs → length xs ≡ length values
+pub each_length : {A : Type 0} (read : Data → Result A WireFault) (values : List Data) (xs : List A) → each read values
+    ≡ Ok xs → length xs ≡ length values
 unfolding each
 each_length read [] xs h = ap length (sym (same_ok [] xs h))
 each_length read (v ∷ vs) xs h =
@@ -70,7 +74,8 @@ items_kept no_items h = tt
 items_kept (item d ds) h = (h.0, items_kept ds h.1)
 
 -- a list that is not long
-few_at : (name : List ℕ) (b : Bool) (values got : List Data) → ◌≡◌ {A = Result (List Data) WireFault} (cond b (Err (TooLong name)) (Ok values)) (Ok got) → (b ≡ false) × (values ≡ got)
+few_at : (name : List ℕ) (b : Bool) (values got : List Data) → ◌≡◌ {A = Result (List Data) WireFault}
+    (cond b (Err (TooLong name)) (Ok values)) (Ok got) → (b ≡ false) × (values ≡ got)
 few_at name true values got h = absurd (cc)
 few_at name false values got h = (refl, same_ok values got h)
 
@@ -79,13 +84,19 @@ pub record WasListed (values : List Data) : Type 0 where
   pub kept : AreKept values
   pub within : nat_lt 64 (length values) ≡ false
 
-was_few : (name : List ℕ) (ds : Items) (values : List Data) → AreItemsKept ds → few name (values_of ds) ≡ Ok values → WasListed values
+was_few : (name : List ℕ) (ds : Items) (values : List Data) → AreItemsKept ds → few name (values_of ds) ≡ Ok values
+    → WasListed values
 unfolding few
 was_few name ds values k h =
     let both = few_at name (nat_lt 64 (length (values_of ds))) (values_of ds) values h in
-    record { kept = subst AreKept both.1 (items_kept ds k); within = ap (λ (vs : List Data). nat_lt 64 (length vs)) (sym both.1) ∙ both.0 }
+    record {
+      kept = subst AreKept both.1 (items_kept ds k);
+      within = ap (λ (vs : List Data). nat_lt 64 (length vs))
+          (sym both.1) ∙ both.0;
+    }
 
-was_list_of : (name : List ℕ) (o : Option Items) (values : List Data) → ForSome AreItemsKept o → list_of name o ≡ Ok values → WasListed values
+was_list_of : (name : List ℕ) (o : Option Items) (values : List Data) → ForSome AreItemsKept o → list_of name o
+    ≡ Ok values → WasListed values
 unfolding list_of
 was_list_of name None values k h = absurd (cc)
 was_list_of name (Some ds) values k h = was_few name ds values k h
@@ -94,25 +105,30 @@ array_kept : (value : Data) → IsKept value → ForSome AreItemsKept (as_array 
 array_kept (Data.array ds) h = h
 array_kept value h = tt
 
-pub was_list : (name : List ℕ) (value : Data) (values : List Data) → IsKept value → list_in name value ≡ Ok values → WasListed values
+pub was_list : (name : List ℕ) (value : Data) (values : List Data) → IsKept value → list_in name value ≡ Ok values
+    → WasListed values
 unfolding list_in
 was_list name value values k h = was_list_of name (as_array value) values (array_kept value k) h
 
-pub was_list_if : (name : List ℕ) (value : Option Data) (values : List Data) → ForSome IsKept value → list_if_said name value ≡ Ok values → WasListed values
+pub was_list_if : (name : List ℕ) (value : Option Data) (values : List Data) → ForSome IsKept value
+    → list_if_said name value ≡ Ok values → WasListed values
 unfolding list_if_said
 was_list_if name None values k h = subst WasListed (same_ok [] values h) (record { kept = tt; within = refl })
 was_list_if name (Some value) values k h = was_list name value values k h
 
-few_again : (b : Bool) (name : List ℕ) (values : List Data) → b ≡ false → ◌≡◌ {A = Result (List Data) WireFault} (cond b (Err (TooLong name)) (Ok values)) (Ok values)
+few_again : (b : Bool) (name : List ℕ) (values : List Data) → b ≡ false
+    → ◌≡◌ {A = Result (List Data) WireFault} (cond b (Err (TooLong name)) (Ok values)) (Ok values)
 few_again true name values h = absurd (true≢false h)
 few_again false name values h = refl
 
 -- a list that is not long is read of what is written for it
-pub list_again : (name : List ℕ) (values : List Data) → nat_lt 64 (length values) ≡ false → list_in name (listed values) ≡ Ok values
+pub list_again : (name : List ℕ) (values : List Data) → nat_lt 64 (length values) ≡ false → list_in name (listed values)
+    ≡ Ok values
 unfolding list_in list_of few
 list_again name values h = rw (values_again values) (few_again (nat_lt 64 (length values)) name values h)
 
-pub list_if_again : (name : List ℕ) (values : List Data) → nat_lt 64 (length values) ≡ false → list_if_said name (unless_null (some_listed values)) ≡ Ok values
+pub list_if_again : (name : List ℕ) (values : List Data) → nat_lt 64 (length values) ≡ false
+    → list_if_said name (unless_null (some_listed values)) ≡ Ok values
 unfolding list_if_said
 list_if_again name [] h = refl
 list_if_again name (v ∷ vs) h = list_again name (v ∷ vs) h
@@ -120,21 +136,25 @@ list_if_again name (v ∷ vs) h = list_again name (v ∷ vs) h
 -- ---- sorted texts
 
 -- what holds of all keys and of one more
-pub all_put : (P : List ℕ → Type 0) (k : List ℕ) (ks : List (List ℕ)) → AllByRecursion P ks → P k → AllByRecursion P (insert_key (slice_cmp nat_cmp) ks k)
+pub all_put : (P : List ℕ → Type 0) (k : List ℕ) (ks : List (List ℕ)) → AllByRecursion P ks → P k
+    → AllByRecursion P (insert_key (slice_cmp nat_cmp) ks k)
 all_put P k [] a p = (p, tt)
 all_put P k (x ∷ xs) a p = by (slice_cmp nat_cmp k x) (all_put P k xs a.1 p)
   where
-    by : (r : Ordering) → AllByRecursion P (insert_key (slice_cmp nat_cmp) xs k) → AllByRecursion P (match_ordering r (k ∷ x ∷ xs) (x ∷ xs) (x ∷ insert_key (slice_cmp nat_cmp) xs k))
+    by : (r : Ordering) → AllByRecursion P (insert_key (slice_cmp nat_cmp) xs k)
+        → AllByRecursion P (match_ordering r (k ∷ x ∷ xs) (x ∷ xs) (x ∷ insert_key (slice_cmp nat_cmp) xs k))
     by Less h = (p, a)
     by Equal h = a
     by Greater h = (a.0, h)
 
-all_sorted_behind : (P : List ℕ → Type 0) (front texts : List (List ℕ)) → AllByRecursion P front → AllByRecursion P texts → AllByRecursion P (fold with_text front texts)
+all_sorted_behind : (P : List ℕ → Type 0) (front texts : List (List ℕ)) → AllByRecursion P front
+    → AllByRecursion P texts → AllByRecursion P (fold with_text front texts)
 all_sorted_behind P front [] f t = f
 all_sorted_behind P front (x ∷ xs) f t = all_sorted_behind P (with_text front x) xs (all_put P x front f t.0) t.1
 
 -- what holds of texts holds of them sorted
-pub all_sorted : (P : List ℕ → Type 0) (texts : List (List ℕ)) → AllByRecursion P texts → AllByRecursion P (sorted_texts texts)
+pub all_sorted : (P : List ℕ → Type 0) (texts : List (List ℕ)) → AllByRecursion P texts
+    → AllByRecursion P (sorted_texts texts)
 all_sorted P texts t = all_sorted_behind P [] texts tt t
 
 -- texts in order, each once
@@ -147,44 +167,51 @@ none_sorted = tt
 
 sorted_behind : (front texts : List (List ℕ)) → AreSorted front → AreSorted (fold with_text front texts)
 sorted_behind front [] s = s
-sorted_behind front (x ∷ xs) s = sorted_behind (with_text front x) xs (sorted_put (slice_cmp nat_cmp) nat_list_cmp_total x front s)
+sorted_behind front (x ∷ xs) s = sorted_behind (with_text front x) xs
+    (sorted_put (slice_cmp nat_cmp) nat_list_cmp_total x front s)
 
 pub are_sorted : (texts : List (List ℕ)) → AreSorted (sorted_texts texts)
 are_sorted texts = sorted_behind [] texts none_sorted
 
 -- what holds of all holds of one among them
-pub all_front : (P : List ℕ → Type 0) (xs : List (List ℕ)) (y : List ℕ) (ys : List (List ℕ)) → AllByRecursion P (xs ++ y ∷ ys) → P y
+pub all_front : (P : List ℕ → Type 0) (xs : List (List ℕ)) (y : List ℕ) (ys : List (List ℕ))
+    → AllByRecursion P (xs ++ y ∷ ys) → P y
 all_front P [] y ys h = h.0
 all_front P (x ∷ xs) y ys h = all_front P xs y ys h.1
 
 -- a text above those before it goes last
-pub put_last : (front : List (List ℕ)) (x : List ℕ) (xs : List (List ℕ)) → AreSorted (front ++ x ∷ xs) → with_text front x ≡ front ++ x ∷ []
+pub put_last : (front : List (List ℕ)) (x : List ℕ) (xs : List (List ℕ)) → AreSorted (front ++ x ∷ xs)
+    → with_text front x ≡ front ++ x ∷ []
 unfolding IsStrictlySortedBy
 put_last [] x xs h = refl
 put_last (y ∷ ys) x xs h =
-    let above : slice_cmp nat_cmp x y ≡ Greater = nat_list_cmp_total.antisymm x y ∙ ap ordering_reverse (all_front (λ z. slice_cmp nat_cmp y z ≡ Less) ys x xs h.0) in
+    let above : slice_cmp nat_cmp x y ≡ Greater = nat_list_cmp_total.antisymm x y
+    ∙ ap ordering_reverse (all_front (λ z. slice_cmp nat_cmp y z ≡ Less) ys x xs h.0) in
     rw above (ap (λ (zs : List (List ℕ)). y ∷ zs) (put_last ys x xs h.1))
 
 sorted_onto : (front texts : List (List ℕ)) → AreSorted (front ++ texts) → fold with_text front texts ≡ front ++ texts
 sorted_onto front [] h = sym (append-nil front)
 sorted_onto front (x ∷ xs) h =
     let grouped : (front ++ x ∷ []) ++ xs ≡ front ++ x ∷ xs = simp append_assoc in
-    ap (λ (ys : List (List ℕ)). fold with_text ys xs) (put_last front x xs h) ∙ (sorted_onto (front ++ x ∷ []) xs (subst AreSorted (sym grouped) h) ∙ grouped)
+    ap (λ (ys : List (List ℕ)). fold with_text ys xs) (put_last front x xs h)
+    ∙ (sorted_onto (front ++ x ∷ []) xs (subst AreSorted (sym grouped) h) ∙ grouped)
 
 -- sorted texts stay as they are
 pub sorted_again : (texts : List (List ℕ)) → AreSorted texts → sorted_texts texts ≡ texts
 sorted_again texts h = sorted_onto [] texts h
 
--- sorting leaves no more texts
+-- sorting doesn't make texts more
 pub sorted_length : (texts : List (List ℕ)) → length (sorted_texts texts) ≤ length texts
 sorted_length texts = omega (arith, length_sorted [] texts)
 
 -- no longer than a short list
-pub within_again : {A B : Type 0} (xs : List A) (ys : List B) → length xs ≤ length ys → nat_lt 64 (length ys) ≡ false → nat_lt 64 (length xs) ≡ false
+pub within_again : {A B : Type 0} (xs : List A) (ys : List B) → length xs ≤ length ys → nat_lt 64 (length ys) ≡ false
+    → nat_lt 64 (length xs) ≡ false
 within_again xs ys le h = by (nat_lt 64 (length xs)) refl
   where
     by : (b : Bool) → nat_lt 64 (length xs) ≡ b → b ≡ false
-    by true e = let longer : 64 < length ys = omega (arith, (Decides-ltb 64 (length xs)).0 e) in absurd (true≢false (sym ((Decides-ltb 64 (length ys)).1 longer) ∙ h))
+    by true e = let longer : 64 < length ys = omega (arith, (Decides-ltb 64 (length xs)).0 e) in absurd
+        (true≢false (sym ((Decides-ltb 64 (length ys)).1 longer) ∙ h))
     by false e = refl
 
 -- as many are written as there are
@@ -193,5 +220,7 @@ mapped_length f [] = refl
 mapped_length f (x ∷ xs) = ap suc (mapped_length f xs)
 
 -- as many texts as a short list, sorted and written
-pub mapped_within : (texts : List (List ℕ)) (values : List Data) → length texts ≡ length values → nat_lt 64 (length values) ≡ false → nat_lt 64 (length (map string (sorted_texts texts))) ≡ false
-mapped_within texts values e h = within_again (map string (sorted_texts texts)) values (omega (arith, mapped_length string (sorted_texts texts), sorted_length texts)) h
+pub mapped_within : (texts : List (List ℕ)) (values : List Data) → length texts ≡ length values
+    → nat_lt 64 (length values) ≡ false → nat_lt 64 (length (map string (sorted_texts texts))) ≡ false
+mapped_within texts values e h = within_again (map string (sorted_texts texts)) values
+    (omega (arith, mapped_length string (sorted_texts texts), sorted_length texts)) h

@@ -23,31 +23,40 @@ use Rattle.am_wire_read_back.proofs.Steps.{step, steps, same_ok}
 
 -- ---- reading row by row
 
-each_onto : {A : Type 0} (read : Data → Result A WireFault) (vs ws : List Data) (xs ys : List A) → each read vs ≡ Ok xs → each read ws ≡ Ok ys → each read (vs ++ ws) ≡ Ok (xs ++ ys)
+each_onto : {A : Type 0} (read : Data → Result A WireFault) (vs ws : List Data) (xs ys : List A) → each read vs ≡ Ok xs
+    → each read ws ≡ Ok ys → each read (vs ++ ws) ≡ Ok (xs ++ ys)
 unfolding each
-each_onto read [] ws xs ys h k = let P : List _ → Type 0 = λ zs. each read ws ≡ Ok (zs ++ ys) in subst P (same_ok [] xs h) k
+each_onto read [] ws xs ys h k = let P : List _ → Type 0 = λ zs. each read ws
+    ≡ Ok (zs ++ ys) in subst P (same_ok [] xs h) k
 each_onto read (v ∷ vs) ws xs ys h k =
     let one = step (read v) (λ first. each read vs >>= λ others. Ok (first ∷ others)) xs h in
     let two = step (each read vs) (λ others. Ok (one.value ∷ others)) xs one.later in
     let P : List _ → Type 0 = λ zs. each read (v ∷ (vs ++ ws)) ≡ Ok (zs ++ ys) in
     subst P (same_ok (one.value ∷ two.value) xs two.later)
-    (steps (read v) (λ first. each read (vs ++ ws) >>= λ others. Ok (first ∷ others)) one.value ((one.value ∷ two.value) ++ ys) one.first
-    (steps (each read (vs ++ ws)) (λ others. Ok (one.value ∷ others)) (two.value ++ ys) ((one.value ∷ two.value) ++ ys) (each_onto read vs ws two.value ys two.first k) refl))
+    (steps (read v) (λ first. each read (vs ++ ws) >>= λ others. Ok (first ∷ others)) one.value
+    ((one.value ∷ two.value) ++ ys) one.first
+    (steps (each read (vs ++ ws)) (λ others. Ok (one.value ∷ others)) (two.value ++ ys) ((one.value ∷ two.value) ++ ys)
+    (each_onto read vs ws two.value ys two.first k) refl))
 
-each_mapped : {A B : Type 0} (read : Data → Result B WireFault) (write : A → Data) (got : A → B) (xs : List A) → AllByRecursion (λ x. read (write x) ≡ Ok (got x)) xs → each read (map write xs) ≡ Ok (map got xs)
+each_mapped : {A B : Type 0} (read : Data → Result B WireFault) (write : A → Data) (got : A → B) (xs : List A)
+    → AllByRecursion (λ x. read (write x) ≡ Ok (got x)) xs → each read (map write xs) ≡ Ok (map got xs)
 unfolding each
 each_mapped read write got [] h = refl
 each_mapped read write got (x ∷ xs) h =
-    steps (read (write x)) (λ first. each read (map write xs) >>= λ others. Ok (first ∷ others)) (got x) (got x ∷ map got xs) h.0
-    (steps (each read (map write xs)) (λ others. Ok (got x ∷ others)) (map got xs) (got x ∷ map got xs) (each_mapped read write got xs h.1) refl)
+    steps (read (write x)) (λ first. each read (map write xs) >>= λ others. Ok (first ∷ others)) (got x)
+    (got x ∷ map got xs) h.0
+    (steps (each read (map write xs)) (λ others. Ok (got x ∷ others)) (map got xs) (got x ∷ map got xs)
+    (each_mapped read write got xs h.1) refl)
 
 -- what is read of the rows of a filter
 abbrev pub rows_said : Filter → List DataRow
-rows_said f = ((map row_with_scheme f.schemes ++ map row_with_authority f.authorities) ++ map row_with_path f.paths) ++ map row_with_type f.types
+rows_said f = ((map row_with_scheme f.schemes ++ map row_with_authority f.authorities) ++ map row_with_path f.paths)
+    ++ map row_with_type f.types
 
 -- ---- merging
 
-fold_onto : (rows : DataRows) (xs ys : List DataRow) → fold with_row rows (xs ++ ys) ≡ fold with_row (fold with_row rows xs) ys
+fold_onto : (rows : DataRows) (xs ys : List DataRow) → fold with_row rows (xs ++ ys)
+    ≡ fold with_row (fold with_row rows xs) ys
 fold_onto rows [] ys = refl
 fold_onto rows (x ∷ xs) ys = fold_onto (with_row rows x) xs ys
 
@@ -60,47 +69,167 @@ one_path rules (Prefix text) = simp append-nil
 one_path rules (Suffix text) = simp append-nil
 one_path rules (Pattern text) = simp append-nil
 
-one_scheme : (rows : DataRows) (text : List ℕ) → with_row rows (row_with_scheme text) ≡ record { schemes = with_text rows.schemes text; authorities = rows.authorities; paths = rows.paths; types = rows.types }
-one_scheme rows text = λ i. record { schemes = with_text rows.schemes text; authorities = append-nil rows.authorities i; paths = four_nils rows.paths i; types = append-nil rows.types i }
+one_scheme : (rows : DataRows) (text : List ℕ) → with_row rows (row_with_scheme text)
+    ≡ record {
+      schemes = with_text rows.schemes text;
+      authorities = rows.authorities;
+      paths = rows.paths;
+      types =
+          rows.types;
+    }
+one_scheme rows text = λ i. record {
+  schemes = with_text rows.schemes text;
+  authorities = append-nil rows.authorities i;
+  paths = four_nils rows.paths i;
+  types = append-nil rows.types i;
+}
 
-one_authority : (rows : DataRows) (a : Authority) → with_row rows (row_with_authority a) ≡ record { schemes = rows.schemes; authorities = rows.authorities ++ a ∷ []; paths = rows.paths; types = rows.types }
-one_authority rows a = λ i. record { schemes = rows.schemes; authorities = rows.authorities ++ a ∷ []; paths = four_nils rows.paths i; types = append-nil rows.types i }
+one_authority : (rows : DataRows) (a : Authority) → with_row rows (row_with_authority a)
+    ≡ record {
+      schemes = rows.schemes;
+      authorities = rows.authorities ++ a
+          ∷ [];
+      paths = rows.paths;
+      types = rows.types;
+    }
+one_authority rows a = λ i. record {
+  schemes = rows.schemes;
+  authorities = rows.authorities ++ a
+      ∷ [];
+  paths = four_nils rows.paths i;
+  types = append-nil rows.types i;
+}
 
-one_rule : (rows : DataRows) (rule : PathRule) → with_row rows (row_with_path rule) ≡ record { schemes = rows.schemes; authorities = rows.authorities; paths = rows.paths ++ rule ∷ []; types = rows.types }
-one_rule rows rule = λ i. record { schemes = rows.schemes; authorities = append-nil rows.authorities i; paths = one_path rows.paths rule i; types = append-nil rows.types i }
+one_rule : (rows : DataRows) (rule : PathRule) → with_row rows (row_with_path rule)
+    ≡ record {
+      schemes = rows.schemes;
+      authorities = rows.authorities;
+      paths = rows.paths ++ rule
+          ∷ [];
+      types = rows.types;
+    }
+one_rule rows rule = λ i. record {
+  schemes = rows.schemes;
+  authorities = append-nil rows.authorities i;
+  paths = one_path
+      rows.paths rule i;
+  types = append-nil rows.types i;
+}
 
-one_type : (rows : DataRows) (mime : Mime) → with_row rows (row_with_type mime) ≡ record { schemes = rows.schemes; authorities = rows.authorities; paths = rows.paths; types = rows.types ++ mime ∷ [] }
-one_type rows mime = λ i. record { schemes = rows.schemes; authorities = append-nil rows.authorities i; paths = four_nils rows.paths i; types = rows.types ++ mime ∷ [] }
+one_type : (rows : DataRows) (mime : Mime) → with_row rows (row_with_type mime)
+    ≡ record {
+      schemes = rows.schemes;
+      authorities = rows.authorities;
+      paths = rows.paths;
+      types = rows.types ++ mime
+          ∷ [];
+    }
+one_type rows mime = λ i. record {
+  schemes = rows.schemes;
+  authorities = append-nil rows.authorities i;
+  paths =
+      four_nils rows.paths i;
+  types = rows.types ++ mime ∷ [];
+}
 
 grouped : {A : Type 0} (xs : List A) (y : A) (ys : List A) → (xs ++ y ∷ []) ++ ys ≡ xs ++ y ∷ ys
 grouped xs y ys = simp append_assoc
 
-merge_schemes : (texts : List (List ℕ)) (rows : DataRows) → fold with_row rows (map row_with_scheme texts) ≡ record { schemes = fold with_text rows.schemes texts; authorities = rows.authorities; paths = rows.paths; types = rows.types }
+merge_schemes : (texts : List (List ℕ)) (rows : DataRows) → fold with_row rows (map row_with_scheme texts)
+    ≡ record {
+      schemes = fold with_text rows.schemes texts;
+      authorities = rows.authorities;
+      paths = rows.paths;
+      types =
+          rows.types;
+    }
 merge_schemes [] rows = refl
 merge_schemes (text ∷ texts) rows =
     ap (λ (r : DataRows). fold with_row r (map row_with_scheme texts)) (one_scheme rows text)
-    ∙ merge_schemes texts (record { schemes = with_text rows.schemes text; authorities = rows.authorities; paths = rows.paths; types = rows.types })
+    ∙ merge_schemes texts (record {
+      schemes = with_text rows.schemes text;
+      authorities = rows.authorities;
+      paths =
+          rows.paths;
+      types = rows.types;
+    })
 
-merge_authorities : (all : List Authority) (rows : DataRows) → fold with_row rows (map row_with_authority all) ≡ record { schemes = rows.schemes; authorities = rows.authorities ++ all; paths = rows.paths; types = rows.types }
-merge_authorities [] rows = ap (λ (all : List Authority). record { schemes = rows.schemes; authorities = all; paths = rows.paths; types = rows.types }) (sym (append-nil rows.authorities))
+merge_authorities : (all : List Authority) (rows : DataRows) → fold with_row rows (map row_with_authority all)
+    ≡ record { schemes = rows.schemes; authorities = rows.authorities ++ all; paths = rows.paths; types = rows.types }
+merge_authorities [] rows = ap (λ (all : List Authority). record {
+  schemes = rows.schemes;
+  authorities = all;
+  paths =
+      rows.paths;
+  types = rows.types;
+}) (sym (append-nil rows.authorities))
 merge_authorities (a ∷ all) rows =
     ap (λ (r : DataRows). fold with_row r (map row_with_authority all)) (one_authority rows a)
-    ∙ (merge_authorities all (record { schemes = rows.schemes; authorities = rows.authorities ++ a ∷ []; paths = rows.paths; types = rows.types })
-    ∙ λ i. record { schemes = rows.schemes; authorities = grouped rows.authorities a all i; paths = rows.paths; types = rows.types })
+    ∙ (merge_authorities all (record {
+      schemes = rows.schemes;
+      authorities = rows.authorities ++ a
+          ∷ [];
+      paths = rows.paths;
+      types = rows.types;
+    })
+    ∙ λ i. record {
+      schemes = rows.schemes;
+      authorities = grouped rows.authorities a all i;
+      paths = rows.paths;
+      types =
+          rows.types;
+    })
 
-merge_paths : (rules : List PathRule) (rows : DataRows) → fold with_row rows (map row_with_path rules) ≡ record { schemes = rows.schemes; authorities = rows.authorities; paths = rows.paths ++ rules; types = rows.types }
-merge_paths [] rows = ap (λ (ps : List PathRule). record { schemes = rows.schemes; authorities = rows.authorities; paths = ps; types = rows.types }) (sym (append-nil rows.paths))
+merge_paths : (rules : List PathRule) (rows : DataRows) → fold with_row rows (map row_with_path rules)
+    ≡ record { schemes = rows.schemes; authorities = rows.authorities; paths = rows.paths ++ rules; types = rows.types }
+merge_paths [] rows = ap (λ (ps : List PathRule). record {
+  schemes = rows.schemes;
+  authorities = rows.authorities;
+  paths
+      = ps;
+  types = rows.types;
+}) (sym (append-nil rows.paths))
 merge_paths (rule ∷ rules) rows =
     ap (λ (r : DataRows). fold with_row r (map row_with_path rules)) (one_rule rows rule)
-    ∙ (merge_paths rules (record { schemes = rows.schemes; authorities = rows.authorities; paths = rows.paths ++ rule ∷ []; types = rows.types })
-    ∙ λ i. record { schemes = rows.schemes; authorities = rows.authorities; paths = grouped rows.paths rule rules i; types = rows.types })
+    ∙ (merge_paths rules (record {
+      schemes = rows.schemes;
+      authorities = rows.authorities;
+      paths = rows.paths ++ rule
+          ∷ [];
+      types = rows.types;
+    })
+    ∙ λ i. record {
+      schemes = rows.schemes;
+      authorities = rows.authorities;
+      paths = grouped rows.paths rule rules i;
+      types = rows.types;
+    })
 
-merge_types : (mimes : List Mime) (rows : DataRows) → fold with_row rows (map row_with_type mimes) ≡ record { schemes = rows.schemes; authorities = rows.authorities; paths = rows.paths; types = rows.types ++ mimes }
-merge_types [] rows = ap (λ (ms : List Mime). record { schemes = rows.schemes; authorities = rows.authorities; paths = rows.paths; types = ms }) (sym (append-nil rows.types))
+merge_types : (mimes : List Mime) (rows : DataRows) → fold with_row rows (map row_with_type mimes)
+    ≡ record { schemes = rows.schemes; authorities = rows.authorities; paths = rows.paths; types = rows.types ++ mimes }
+merge_types [] rows = ap (λ (ms : List Mime). record {
+  schemes = rows.schemes;
+  authorities = rows.authorities;
+  paths =
+      rows.paths;
+  types = ms;
+}) (sym (append-nil rows.types))
 merge_types (mime ∷ mimes) rows =
     ap (λ (r : DataRows). fold with_row r (map row_with_type mimes)) (one_type rows mime)
-    ∙ (merge_types mimes (record { schemes = rows.schemes; authorities = rows.authorities; paths = rows.paths; types = rows.types ++ mime ∷ [] })
-    ∙ λ i. record { schemes = rows.schemes; authorities = rows.authorities; paths = rows.paths; types = grouped rows.types mime mimes i })
+    ∙ (merge_types mimes (record {
+      schemes = rows.schemes;
+      authorities = rows.authorities;
+      paths = rows.paths;
+      types =
+          rows.types ++ mime ∷ [];
+    })
+    ∙ λ i. record {
+      schemes = rows.schemes;
+      authorities = rows.authorities;
+      paths = rows.paths;
+      types = grouped
+          rows.types mime mimes i;
+    })
 
 -- what a filter lists, as merged rows
 abbrev pub listed_by : Filter → DataRows
@@ -113,18 +242,30 @@ merged_again f r =
     let ps = map row_with_path f.paths in
     let ts = map row_with_type f.types in
     let one : fold with_row no_rows ss ≡ record { schemes = f.schemes; authorities = []; paths = []; types = [] } =
-    merge_schemes f.schemes no_rows ∙ ap (λ (texts : List (List ℕ)). record { schemes = texts; authorities = []; paths = []; types = [] }) (sorted_again f.schemes r.sorted) in
-    let two : fold with_row no_rows (ss ++ auths) ≡ record { schemes = f.schemes; authorities = f.authorities; paths = []; types = [] } =
-    fold_onto no_rows ss auths ∙ (ap (λ (rows : DataRows). fold with_row rows auths) one ∙ merge_authorities f.authorities _) in
-    let three : fold with_row no_rows ((ss ++ auths) ++ ps) ≡ record { schemes = f.schemes; authorities = f.authorities; paths = f.paths; types = [] } =
-    fold_onto no_rows (ss ++ auths) ps ∙ (ap (λ (rows : DataRows). fold with_row rows ps) two ∙ merge_paths f.paths _) in
-    fold_onto no_rows ((ss ++ auths) ++ ps) ts ∙ (ap (λ (rows : DataRows). fold with_row rows ts) three ∙ merge_types f.types _)
+    merge_schemes f.schemes no_rows ∙ ap (λ (texts : List (List ℕ)). record
+    { schemes = texts; authorities = []; paths = []; types = [] }) (sorted_again f.schemes r.sorted) in
+    let two : fold with_row no_rows (ss ++ auths) ≡ record {
+      schemes = f.schemes;
+      authorities = f.authorities;
+      paths =
+          [];
+      types = [];
+    } =
+    fold_onto no_rows ss auths ∙ (ap (λ (rows : DataRows). fold with_row rows auths) one
+    ∙ merge_authorities f.authorities _) in
+    let three : fold with_row no_rows ((ss ++ auths) ++ ps) ≡ record
+    { schemes = f.schemes; authorities = f.authorities; paths = f.paths; types = [] } =
+    fold_onto no_rows (ss ++ auths) ps ∙ (ap (λ (rows : DataRows). fold with_row rows ps) two ∙ merge_paths f.paths _)
+    in
+    fold_onto no_rows ((ss ++ auths) ++ ps) ts ∙ (ap (λ (rows : DataRows). fold with_row rows ts) three
+    ∙ merge_types f.types _)
 
 pub each_row_again : (f : Filter) → ReadRows (listed_by f) → each row_in (rows_of f) ≡ Ok (rows_said f)
 unfolding rows_of
 each_row_again f r =
     each_onto row_in ((map scheme_row f.schemes ++ map authority_row f.authorities) ++ map path_row f.paths) _ _ _
     (each_onto row_in (map scheme_row f.schemes ++ map authority_row f.authorities) _ _ _
-    (each_onto row_in (map scheme_row f.schemes) _ _ _ (each_mapped row_in scheme_row row_with_scheme f.schemes r.schemes) (each_mapped row_in authority_row row_with_authority f.authorities r.authorities))
+    (each_onto row_in (map scheme_row f.schemes) _ _ _ (each_mapped row_in scheme_row row_with_scheme f.schemes
+    r.schemes) (each_mapped row_in authority_row row_with_authority f.authorities r.authorities))
     (each_mapped row_in path_row row_with_path f.paths r.paths))
     (each_mapped row_in type_row row_with_type f.types r.types)

@@ -35,10 +35,12 @@ signed_again (unsigned n) z k h =
     let P : ℤ → Type 0 = λ z. as_i64 (of_integer z) ≡ Some z in
     subst P both.1 (ap (λ b. cond b (Some (pos n)) None) both.0)
 signed_again (negative (pos n)) z k h = absurd k
-signed_again (negative (negsuc n)) z k h = let P : ℤ → Type 0 = λ z. as_i64 (of_integer z) ≡ Some z in subst P (same_some (negsuc n) z h) refl
+signed_again (negative (negsuc n)) z k h = let P : ℤ → Type 0 = λ z. as_i64 (of_integer z)
+    ≡ Some z in subst P (same_some (negsuc n) z h) refl
 signed_again (float x) z k h = absurd (cc)
 
-pub signed_of : (o : Option Num) (z : ℤ) → ForSome IsPlainNumber o → option_and_then as_i64 o ≡ Some z → as_i64 (of_integer z) ≡ Some z
+pub signed_of : (o : Option Num) (z : ℤ) → ForSome IsPlainNumber o → option_and_then as_i64 o ≡ Some z
+    → as_i64 (of_integer z) ≡ Some z
 signed_of None z k h = absurd (cc)
 signed_of (Some m) z k h = signed_again m z k h
 
@@ -50,32 +52,45 @@ number_kept value h = tt
 pub whole_again : (name : List ℕ) → IsReread (whole_in name) whole
 unfolding whole_in of_kind
 whole_again name value z k h =
-    ap (of_kind name) (signed_of (as_number value) z (number_kept value k) (number_is name (option_and_then as_i64 (as_number value)) z h))
+    ap (of_kind name) (signed_of (as_number value) z (number_kept value k)
+    (number_is name (option_and_then as_i64 (as_number value)) z h))
 
-pub required_natural_again : (name : List ℕ) (parent : Data) (n : ℕ) (es : List Entry) → IsKept parent → required_natural name parent ≡ Ok n
-    → are_apart es ≡ true → value_at name es ≡ Some (natural n) → required_natural name (object (members_with es)) ≡ Ok n
+pub required_natural_again : (name : List ℕ) (parent : Data) (n : ℕ) (es : List Entry) → IsKept parent
+    → required_natural name parent ≡ Ok n
+    → are_apart es ≡ true → value_at name es ≡ Some (natural n) → required_natural name (object (members_with es))
+    ≡ Ok n
 unfolding required_natural
-required_natural_again name parent n es k h apart is = field_again (natural_in name) natural (natural_again name) name parent n es k h apart is refl
+required_natural_again name parent n es k h apart is = field_again (natural_in name) natural (natural_again name) name
+    parent n es k h apart is refl
 
 -- and so is one with a bound
-pub required_up_to_again : (greatest : ℕ) (name : List ℕ) (parent : Data) (n : ℕ) (es : List Entry) → IsKept parent → required_up_to greatest name parent ≡ Ok n
-    → are_apart es ≡ true → value_at name es ≡ Some (natural n) → required_up_to greatest name (object (members_with es)) ≡ Ok n
+pub required_up_to_again : (greatest : ℕ) (name : List ℕ) (parent : Data) (n : ℕ) (es : List Entry) → IsKept parent
+    → required_up_to greatest name parent ≡ Ok n
+    → are_apart es ≡ true → value_at name es ≡ Some (natural n) → required_up_to greatest name
+    (object (members_with es)) ≡ Ok n
 unfolding required_up_to
 required_up_to_again greatest name parent n es k h apart is =
     let one = step (required_natural name parent) (up_to greatest name) n h in
-    let same : one.value ≡ n = same_ok one.value n (else_read (nat_lt greatest one.value) (WrongKind name) (Ok one.value) n one.later).1 in
+    let same : one.value ≡ n = same_ok one.value n (else_read (nat_lt greatest one.value) (WrongKind name)
+    (Ok one.value) n one.later).1 in
     let P : ℕ → Type 0 = λ m. up_to greatest name m ≡ Ok n in
-    steps (required_natural name (object (members_with es))) (up_to greatest name) n n (required_natural_again name parent n es k (one.first ∙ ap Ok same) apart is) (subst P same one.later)
+    steps (required_natural name (object (members_with es))) (up_to greatest name) n n
+    (required_natural_again name parent n es k (one.first ∙ ap Ok same) apart is) (subst P same one.later)
 
-pub required_whole_again : (name : List ℕ) (parent : Data) (z : ℤ) (es : List Entry) → IsKept parent → required_whole name parent ≡ Ok z
+pub required_whole_again : (name : List ℕ) (parent : Data) (z : ℤ) (es : List Entry) → IsKept parent
+    → required_whole name parent ≡ Ok z
     → are_apart es ≡ true → value_at name es ≡ Some (whole z) → required_whole name (object (members_with es)) ≡ Ok z
 unfolding required_whole
-required_whole_again name parent z es k h apart is = field_again (whole_in name) whole (whole_again name) name parent z es k h apart is refl
+required_whole_again name parent z es k h apart is = field_again (whole_in name) whole (whole_again name) name parent z
+    es k h apart is refl
 
-pub natural_field : (name : List ℕ) (value : Data) (o : Option ℕ) (es : List Entry) → IsKept value → optional_natural name value ≡ Ok o
-    → are_apart es ≡ true → value_at name es ≡ option_map natural o → optional_natural name (object (members_with es)) ≡ Ok o
+pub natural_field : (name : List ℕ) (value : Data) (o : Option ℕ) (es : List Entry) → IsKept value
+    → optional_natural name value ≡ Ok o
+    → are_apart es ≡ true → value_at name es ≡ option_map natural o → optional_natural name (object (members_with es))
+    ≡ Ok o
 unfolding optional_natural
-natural_field name value o es k h apart is = option_field (natural_in name) natural (natural_again name) (λ n. refl) name value o es k h apart is
+natural_field name value o es k h apart is = option_field (natural_in name) natural (natural_again name) (λ n. refl)
+    name value o es k h apart is
 
 -- a number that is written if it isn't 0
 pub is_zero : (z : ℤ) → (unsigned_abs z == 0) ≡ true → pos 0 ≡ z
@@ -87,16 +102,19 @@ is_zero (negsuc n) h = let e : suc n ≡ 0 = (Decides-eqb (suc n) 0).0 h in absu
 abbrev pub IsSigned : ℤ → Type 0
 IsSigned z = as_i64 (of_integer z) ≡ Some z
 
-if_is_signed : (name : List ℕ) (value : Option Data) (o : Option ℤ) → ForSome IsKept value → if_said (whole_in name) value ≡ Ok o → IsSigned (or_zero o)
+if_is_signed : (name : List ℕ) (value : Option Data) (o : Option ℤ) → ForSome IsKept value
+    → if_said (whole_in name) value ≡ Ok o → IsSigned (or_zero o)
 unfolding whole_in
 if_is_signed name None o k h = let P : Option ℤ → Type 0 = λ o. IsSigned (or_zero o) in subst P (same_ok None o h) refl
 if_is_signed name (Some value) o k h =
     let s = step (whole_in name value) (λ z. Ok (Some z)) o h in
     let P : Option ℤ → Type 0 = λ o. IsSigned (or_zero o) in
-    subst P (same_ok (Some s.value) o s.later) (signed_of (as_number value) s.value (number_kept value k) (number_is name (option_and_then as_i64 (as_number value)) s.value s.first))
+    subst P (same_ok (Some s.value) o s.later) (signed_of (as_number value) s.value (number_kept value k)
+    (number_is name (option_and_then as_i64 (as_number value)) s.value s.first))
 
 -- what was read of an optional number, or 0, is that of 64 bits
-pub was_signed : (name : List ℕ) (parent : Data) (o : Option ℤ) → IsKept parent → optional_whole name parent ≡ Ok o → IsSigned (or_zero o)
+pub was_signed : (name : List ℕ) (parent : Data) (o : Option ℤ) → IsKept parent → optional_whole name parent ≡ Ok o
+    → IsSigned (or_zero o)
 unfolding optional_whole
 was_signed name parent o k h = if_is_signed name (field name parent) o (field_kept name parent k) h
 
@@ -106,16 +124,24 @@ pub record ReadsWhole (name : List ℕ) (value : Data) (z : ℤ) : Type 0 where
   pub read : optional_whole name value ≡ Ok said
   pub is : or_zero said ≡ z
 
-pub some_whole_field : (name : List ℕ) (z : ℤ) (es : List Entry) → IsSigned z → are_apart es ≡ true → value_at name es ≡ some_whole z → ReadsWhole name (object (members_with es)) z
+pub some_whole_field : (name : List ℕ) (z : ℤ) (es : List Entry) → IsSigned z → are_apart es ≡ true → value_at name es
+    ≡ some_whole z → ReadsWhole name (object (members_with es)) z
 unfolding optional_whole whole_in of_kind
 some_whole_field name z es signed apart is = by (unsigned_abs z == 0) refl
   where
     by : (b : Bool) → (unsigned_abs z == 0) ≡ b → ReadsWhole name (object (members_with es)) z
     by true e =
-        record { said = None; read = ap (if_said (whole_in name)) (field_at name es apart ∙ ap unless_null (is ∙ ap (λ b. cond b None (Some (whole z))) e)); is = is_zero z e }
+        record {
+          said = None;
+          read = ap (if_said (whole_in name)) (field_at name es apart
+              ∙ ap unless_null (is ∙ ap (λ b. cond b None (Some (whole z))) e));
+          is = is_zero z e;
+        }
     by false e =
         record {
           said = Some z;
-          read = ap (if_said (whole_in name)) (field_at name es apart ∙ ap unless_null (is ∙ ap (λ b. cond b None (Some (whole z))) e)) ∙ steps (whole_in name (whole z)) (λ z. Ok (Some z)) z (Some z) (ap (of_kind name) signed) refl;
+          read = ap (if_said (whole_in name)) (field_at name es apart
+              ∙ ap unless_null (is ∙ ap (λ b. cond b None (Some (whole z))) e))
+              ∙ steps (whole_in name (whole z)) (λ z. Ok (Some z)) z (Some z) (ap (of_kind name) signed) refl;
           is = refl;
         }

@@ -35,14 +35,16 @@ abbrev pub are_apart : List Entry → Bool
 are_apart [] = true
 are_apart (first ∷ others) = not (has_entry first.0 others) && are_apart others
 
-no_value_at : (b : Bool) (value later : Option Data) (has : Bool) → (has ≡ false → later ≡ None) → cond b true has ≡ false → cond b value later ≡ None
+no_value_at : (b : Bool) (value later : Option Data) (has : Bool) → (has ≡ false → later ≡ None) → cond b true has
+    ≡ false → cond b value later ≡ None
 no_value_at true value later has none h = absurd (true≢false h)
 no_value_at false value later has none h = none h
 
 -- a name that no entry has has no value
 no_value : (name : List ℕ) (es : List Entry) → has_entry name es ≡ false → value_at name es ≡ None
 no_value name [] h = refl
-no_value name (e ∷ es) h = no_value_at (bytes_eq name e.0) e.1 (value_at name es) (has_entry name es) (no_value name es) h
+no_value name (e ∷ es) h = no_value_at (bytes_eq name e.0) e.1 (value_at name es) (has_entry name es) (no_value name es)
+    h
 
 -- what holds of both
 pub both_hold : (a b : Bool) → (a && b) ≡ true → (a ≡ true) × (b ≡ true)
@@ -53,18 +55,21 @@ pub is_not : (a : Bool) → not a ≡ true → a ≡ false
 is_not true h = absurd (true≢false (sym h))
 is_not false h = refl
 
--- a value that is there
-given_here : (name : List ℕ) (value : Option Data) (ms : Members) → get_member name ms ≡ None → get_member name (put_given name value ms) ≡ value
+-- a value that is present
+given_here : (name : List ℕ) (value : Option Data) (ms : Members) → get_member name ms ≡ None
+    → get_member name (put_given name value ms) ≡ value
 given_here name None ms none = none
 given_here name (Some d) ms none = get_member-put name d ms
 
 -- a value under another name changes nothing
-given_other : (name other : List ℕ) (value : Option Data) (ms : Members) → (name ≡ other → ⊥) → get_member name (put_given other value ms) ≡ get_member name ms
+given_other : (name other : List ℕ) (value : Option Data) (ms : Members) → (name ≡ other → ⊥)
+    → get_member name (put_given other value ms) ≡ get_member name ms
 given_other name other None ms apart = refl
 given_other name other (Some d) ms apart = get_member-put_other name other d ms apart
 
 found_by : (name : List ℕ) (e : Entry) (ms : Members) (later : Option Data) (b : Bool) → bytes_eq name e.0 ≡ b
-    → get_member name ms ≡ later → (name ≡ e.0 → later ≡ None) → get_member name (put_given e.0 e.1 ms) ≡ cond b e.1 later
+    → get_member name ms ≡ later → (name ≡ e.0 → later ≡ None) → get_member name (put_given e.0 e.1 ms)
+    ≡ cond b e.1 later
 found_by name e ms later true is here none =
     let same : name ≡ e.0 = (bytes_eq-Decides name e.0).0 is in
     let P : List ℕ → Type 0 = λ n. get_member n (put_given e.0 e.1 ms) ≡ e.1 in
@@ -73,7 +78,8 @@ found_by name e ms later false is here none =
     given_other name e.0 e.1 ms (λ same. true≢false (sym ((bytes_eq-Decides name e.0).1 same) ∙ is)) ∙ here
 
 -- each value is found under its name
-pub found_at : (name : List ℕ) (es : List Entry) → are_apart es ≡ true → get_member name (members_with es) ≡ value_at name es
+pub found_at : (name : List ℕ) (es : List Entry) → are_apart es ≡ true → get_member name (members_with es)
+    ≡ value_at name es
 found_at name [] h = refl
 found_at name (e ∷ es) h =
     let both = both_hold (not (has_entry e.0 es)) (are_apart es) h in
@@ -82,7 +88,8 @@ found_at name (e ∷ es) h =
     (λ same. ap (λ n. value_at n es) same ∙ lacks)
 
 -- and so each field is
-pub field_at : (name : List ℕ) (es : List Entry) → are_apart es ≡ true → field name (object (members_with es)) ≡ unless_null (value_at name es)
+pub field_at : (name : List ℕ) (es : List Entry) → are_apart es ≡ true → field name (object (members_with es))
+    ≡ unless_null (value_at name es)
 unfolding field
 field_at name es h = ap unless_null (found_at name es h)
 
@@ -91,41 +98,50 @@ abbrev pub are_listed : List (List ℕ) → List Entry → Bool
 are_listed fields [] = true
 are_listed fields (first ∷ others) = lists fields first.0 && are_listed fields others
 
-none_of : (o : Ordering) (test : List ℕ → Bool) (a b c : Members) → find test (keys_in a) ≡ None → find test (keys_in b) ≡ None → find test (keys_in c) ≡ None
+none_of : (o : Ordering) (test : List ℕ → Bool) (a b c : Members) → find test (keys_in a) ≡ None → find test (keys_in b)
+    ≡ None → find test (keys_in c) ≡ None
     → find test (keys_in (match_ordering o a b c)) ≡ None
 none_of Less test a b c p q r = p
 none_of Equal test a b c p q r = q
 none_of Greater test a b c p q r = r
 
-passed_over : (b : Bool) (key : List ℕ) (later : Option (List ℕ)) → b ≡ false → later ≡ None → cond b (Some key) later ≡ None
+passed_over : (b : Bool) (key : List ℕ) (later : Option (List ℕ)) → b ≡ false → later ≡ None → cond b (Some key) later
+    ≡ None
 passed_over true key later h n = absurd (true≢false h)
 passed_over false key later h n = n
 
-found_none : (b : Bool) (key : List ℕ) (later : Option (List ℕ)) → cond b (Some key) later ≡ None → (b ≡ false) × (later ≡ None)
+found_none : (b : Bool) (key : List ℕ) (later : Option (List ℕ)) → cond b (Some key) later ≡ None → (b ≡ false)
+    × (later ≡ None)
 found_none true key later h = absurd (cc)
 found_none false key later h = (refl, h)
 
 -- a key that passes is no find
-find_put : (test : List ℕ → Bool) (k : List ℕ) (d : Data) (ms : Members) → test k ≡ false → find test (keys_in ms) ≡ None → find test (keys_in (put k d ms)) ≡ None
+find_put : (test : List ℕ → Bool) (k : List ℕ) (d : Data) (ms : Members) → test k ≡ false → find test (keys_in ms)
+    ≡ None → find test (keys_in (put k d ms)) ≡ None
 find_put test k d no_members h n = passed_over (test k) k None h refl
 find_put test k d (member l e ms) h n =
     let both = found_none (test l) l (find test (keys_in ms)) n in
     none_of (slice_cmp nat_cmp k l) test (member k d (member l e ms)) (member l d ms) (member l e (put k d ms))
-    (passed_over (test k) k _ h n) (passed_over (test l) l _ both.0 both.1) (passed_over (test l) l _ both.0 (find_put test k d ms h both.1))
+    (passed_over (test k) k _ h n) (passed_over (test l) l _ both.0 both.1)
+    (passed_over (test l) l _ both.0 (find_put test k d ms h both.1))
 
-find_given : (test : List ℕ → Bool) (k : List ℕ) (o : Option Data) (ms : Members) → test k ≡ false → find test (keys_in ms) ≡ None → find test (keys_in (put_given k o ms)) ≡ None
+find_given : (test : List ℕ → Bool) (k : List ℕ) (o : Option Data) (ms : Members) → test k ≡ false
+    → find test (keys_in ms) ≡ None → find test (keys_in (put_given k o ms)) ≡ None
 find_given test k None ms h n = n
 find_given test k (Some d) ms h n = find_put test k d ms h n
 
 -- entries of these fields leave no other key
-none_unlisted : (fields : List (List ℕ)) (es : List Entry) → are_listed fields es ≡ true → unlisted fields (members_with es) ≡ None
+none_unlisted : (fields : List (List ℕ)) (es : List Entry) → are_listed fields es ≡ true
+    → unlisted fields (members_with es) ≡ None
 none_unlisted fields [] h = refl
 none_unlisted fields (e ∷ es) h =
     let both = both_hold (lists fields e.0) (are_listed fields es) h in
-    find_given (λ key. not (lists fields key)) e.0 e.1 (members_with es) (ap not both.0) (none_unlisted fields es both.1)
+    find_given (λ key. not (lists fields key)) e.0 e.1 (members_with es) (ap not both.0)
+    (none_unlisted fields es both.1)
 
 -- an object of these fields has no others
-pub only_listed : (name : List ℕ) (fields : List (List ℕ)) (es : List Entry) → are_listed fields es ≡ true → only_fields name fields (object (members_with es)) ≡ Ok tt
+pub only_listed : (name : List ℕ) (fields : List (List ℕ)) (es : List Entry) → are_listed fields es ≡ true
+    → only_fields name fields (object (members_with es)) ≡ Ok tt
 unfolding only_fields only_fields_in none_unknown
 only_listed name fields es h = ap none_unknown (none_unlisted fields es h)
 
@@ -138,17 +154,21 @@ abbrev pub AreWithin : ℕ → List Entry → Type 0
 AreWithin n [] = Unit {0}
 AreWithin n (first ∷ others) = IsWithin n first.1 × AreWithin n others
 
-depth_of : (o : Ordering) (a b c : Members) (n : ℕ) → members_depth a ≤ n → members_depth b ≤ n → members_depth c ≤ n → members_depth (match_ordering o a b c) ≤ n
+depth_of : (o : Ordering) (a b c : Members) (n : ℕ) → members_depth a ≤ n → members_depth b ≤ n → members_depth c ≤ n
+    → members_depth (match_ordering o a b c) ≤ n
 depth_of Less a b c n p q r = p
 depth_of Equal a b c n p q r = q
 depth_of Greater a b c n p q r = r
 
-pub depth_put : (k : List ℕ) (d : Data) (ms : Members) (n : ℕ) → depth d ≤ n → members_depth ms ≤ n → members_depth (put k d ms) ≤ n
+pub depth_put : (k : List ℕ) (d : Data) (ms : Members) (n : ℕ) → depth d ≤ n → members_depth ms ≤ n
+    → members_depth (put k d ms) ≤ n
 depth_put k d no_members n p q = omega arith
 depth_put k d (member l e ms) n p q =
-    depth_of _ (member k d (member l e ms)) (member l d ms) (member l e (put k d ms)) n (omega arith) (omega arith) (omega (arith, depth_put k d ms n p (omega arith)))
+    depth_of _ (member k d (member l e ms)) (member l d ms) (member l e (put k d ms)) n (omega arith) (omega arith)
+    (omega (arith, depth_put k d ms n p (omega arith)))
 
-depth_given : (k : List ℕ) (o : Option Data) (ms : Members) (n : ℕ) → IsWithin n o → members_depth ms ≤ n → members_depth (put_given k o ms) ≤ n
+depth_given : (k : List ℕ) (o : Option Data) (ms : Members) (n : ℕ) → IsWithin n o → members_depth ms ≤ n
+    → members_depth (put_given k o ms) ≤ n
 depth_given k None ms n p q = q
 depth_given k (Some d) ms n p q = depth_put k d ms n p q
 

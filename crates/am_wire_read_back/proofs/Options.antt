@@ -1,4 +1,4 @@
--- A field that need not be there: what was read of it is read again where it is written.
+-- An optional field: what was read from it is read again if it is written.
 use Rattle.std.proofs.Common.{◌≡◌, ℕ, true, List, Option, Some, None, option_map, Result, Ok, refl, sym, ap, ◌∙◌}
 use Rattle.serde_json.specs.Data.{Data, object}
 use Rattle.am_wire_fields.specs.declared.fault.WireFault.{WireFault}
@@ -15,24 +15,32 @@ IsReread {A} read write = (value : Data) (x : A) → IsKept value → read value
 abbrev pub WritesNoNull : {A : Type 0} → (A → Data) → Type 0
 WritesNoNull {A} write = (x : A) → unless_null (Some (write x)) ≡ Some (write x)
 
-module _ {A : Type 0} (read : Data → Result A WireFault) (write : A → Data) (again : IsReread read write) (said : WritesNoNull write) where
+module _ {A : Type 0} (read : Data → Result A WireFault) (write : A → Data) (again : IsReread read write)
+    (said : WritesNoNull write) where
   pub written_or_not : (o : Option A) → unless_null (option_map write o) ≡ option_map write o
   written_or_not None = refl
   written_or_not (Some x) = said x
 
-  said_again : (value : Option Data) (o : Option A) → ForSome IsKept value → if_said read value ≡ Ok o → if_said read (option_map write o) ≡ Ok o
-  said_again None o k h = let e : None ≡ o = same_ok None o h in ap (λ p. if_said read (option_map write p)) (sym e) ∙ ap Ok e
+  said_again : (value : Option Data) (o : Option A) → ForSome IsKept value → if_said read value ≡ Ok o
+      → if_said read (option_map write o) ≡ Ok o
+  said_again None o k h = let e : None ≡ o = same_ok None o h in ap (λ p. if_said read (option_map write p)) (sym e)
+      ∙ ap Ok e
   said_again (Some value) o k h =
       let s = step (read value) (λ x. Ok (Some x)) o h in
       let e : Some s.value ≡ o = same_ok (Some s.value) o s.later in
-      ap (λ p. if_said read (option_map write p)) (sym e) ∙ (steps (read (write s.value)) (λ x. Ok (Some x)) s.value (Some s.value) (again value s.value k s.first) refl ∙ ap Ok e)
+      ap (λ p. if_said read (option_map write p)) (sym e) ∙ (steps (read (write s.value)) (λ x. Ok (Some x)) s.value
+      (Some s.value) (again value s.value k s.first) refl ∙ ap Ok e)
 
-  -- where the option was read, it is read of what is written for it
-  option_again : (value : Option Data) (o : Option A) (written : Option Data) → ForSome IsKept value → if_said read value ≡ Ok o
+  -- if the option was read, it is read from what is written for it
+  option_again : (value : Option Data) (o : Option A) (written : Option Data) → ForSome IsKept value
+      → if_said read value ≡ Ok o
       → written ≡ unless_null (option_map write o) → if_said read written ≡ Ok o
   option_again value o written k h e = ap (if_said read) (e ∙ written_or_not o) ∙ said_again value o k h
 
   -- and so is a field of the object that is written
-  pub option_field : (name : List ℕ) (parent : Data) (o : Option A) (es : List Entry) → IsKept parent → if_said read (field name parent) ≡ Ok o
-      → are_apart es ≡ true → value_at name es ≡ option_map write o → if_said read (field name (object (members_with es))) ≡ Ok o
-  option_field name parent o es k h apart is = option_again (field name parent) o _ (field_kept name parent k) h (field_at name es apart ∙ ap unless_null is)
+  pub option_field : (name : List ℕ) (parent : Data) (o : Option A) (es : List Entry) → IsKept parent
+      → if_said read (field name parent) ≡ Ok o
+      → are_apart es ≡ true → value_at name es ≡ option_map write o
+      → if_said read (field name (object (members_with es))) ≡ Ok o
+  option_field name parent o es k h apart is = option_again (field name parent) o _ (field_kept name parent k) h
+      (field_at name es apart ∙ ap unless_null is)

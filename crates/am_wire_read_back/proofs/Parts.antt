@@ -1,4 +1,4 @@
--- Bodies of one field, of two or of three: where each field is read of what is written for it, the request is.
+-- Bodies with one field, two or three: if each field is read from what is written for it, the request is.
 use Rattle.std.proofs.Common.{◌≡◌, ℕ, Bool, true, List, [], ◌∷◌, Option, Some, option_map, Result, Ok, refl, sym, subst}
 use Rattle.std.specs.Prelude.{codes}
 use Rattle.serde_json.specs.Data.{Data, boolean, string, object}
@@ -26,7 +26,8 @@ use Rattle.am_wire_read_back.proofs.Steps.{step, steps, same_ok}
 use Rattle.am_wire_read_back.proofs.Texts.{required_text_again, required_truth_at, truth_field}
 
 -- a body of these fields has no others
-pub fields_known : (fields : List (List ℕ)) (es : List Entry) → are_listed fields es ≡ true → fields_of fields (object (members_with es)) ≡ Ok tt
+pub fields_known : (fields : List (List ℕ)) (es : List Entry) → are_listed fields es ≡ true
+    → fields_of fields (object (members_with es)) ≡ Ok tt
 unfolding fields_of
 fields_known fields es h = only_listed (codes "body") fields es h
 
@@ -37,35 +38,89 @@ pub record Part (A : Type 0) : Type 0 where
   pub name : List ℕ
   pub read : Data → Result A WireFault
   pub write : A → Option Data
-  pub again : (value : Data) (x : A) (es : List Entry) → IsKept value → read value ≡ Ok x → are_apart es ≡ true → value_at name es ≡ write x
+  pub again : (value : Data) (x : A) (es : List Entry) → IsKept value → read value ≡ Ok x → are_apart es ≡ true
+      → value_at name es ≡ write x
       → read (object (members_with es)) ≡ Ok x
 
 abbrev pub number : List ℕ → Part ℕ
-number name = record { name = name; read = required_natural name; write = λ n. Some (natural n); again = required_natural_again name }
+number name = record {
+  name = name;
+  read = required_natural name;
+  write = λ n. Some (natural n);
+  again =
+      required_natural_again name;
+}
 
 abbrev pub number_up_to : ℕ → List ℕ → Part ℕ
-number_up_to greatest name = record { name = name; read = required_up_to greatest name; write = λ n. Some (natural n); again = required_up_to_again greatest name }
+number_up_to greatest name = record {
+  name = name;
+  read = required_up_to greatest name;
+  write = λ n. Some (natural n);
+  again = required_up_to_again greatest name;
+}
 
 abbrev pub number_if : List ℕ → Part (Option ℕ)
-number_if name = record { name = name; read = optional_natural name; write = option_map natural; again = natural_field name }
+number_if name = record {
+  name = name;
+  read = optional_natural name;
+  write = option_map natural;
+  again = natural_field
+      name;
+}
 
 abbrev pub text : ℕ → List ℕ → Part (List ℕ)
-text limit name = record { name = name; read = required_text Any limit name; write = λ t. Some (string t); again = required_text_again Any limit name }
+text limit name = record {
+  name = name;
+  read = required_text Any limit name;
+  write = λ t. Some (string t);
+  again =
+      required_text_again Any limit name;
+}
 
 abbrev pub truth : List ℕ → Part Bool
-truth name = record { name = name; read = required_truth name; write = λ b. Some (boolean b); again = λ value b es k h apart is. required_truth_at name b es apart is }
+truth name = record {
+  name = name;
+  read = required_truth name;
+  write = λ b. Some (boolean b);
+  again = λ value b es k h
+      apart is. required_truth_at name b es apart is;
+}
 
 abbrev pub truth_or_false : List ℕ → Part Bool
-truth_or_false name = record { name = name; read = optional_truth name; write = some_truth; again = λ value b es k h apart is. truth_field name b es apart is }
+truth_or_false name = record {
+  name = name;
+  read = optional_truth name;
+  write = some_truth;
+  again = λ value b es k h
+      apart is. truth_field name b es apart is;
+}
 
 abbrev pub component : List ℕ → Part Component
-component name = record { name = name; read = required_by component_in name; write = λ c. Some (component_data c); again = required_component_again name }
+component name = record {
+  name = name;
+  read = required_by component_in name;
+  write = λ c. Some (component_data c);
+  again
+      = required_component_again name;
+}
 
 abbrev pub intent : List ℕ → Part Intent
-intent name = record { name = name; read = required_intent name; write = λ i. Some (intent_data i); again = required_intent_again name }
+intent name = record {
+  name = name;
+  read = required_intent name;
+  write = λ i. Some (intent_data i);
+  again =
+      required_intent_again name;
+}
 
 abbrev pub intent_if : List ℕ → Part (Option Intent)
-intent_if name = record { name = name; read = optional_intent name; write = option_map intent_data; again = intent_field name }
+intent_if name = record {
+  name = name;
+  read = optional_intent name;
+  write = option_map intent_data;
+  again = intent_field
+      name;
+}
 
 -- ---- requests
 
@@ -103,12 +158,14 @@ module _ {A : Type 0} (p : Part A) (make : A → Request) where
 -- two parts
 module _ {A B : Type 0} (p : Part A) (q : Part B) (make : A → B → Request) where
   abbrev pub read_two : Data → Result Request WireFault
-  read_two value = fields_of (p.name ∷ q.name ∷ []) value >>= λ known. p.read value >>= λ x. q.read value >>= λ y. Ok (make x y)
+  read_two value = fields_of (p.name ∷ q.name ∷ []) value >>= λ known. p.read value >>= λ x. q.read value >>= λ y. Ok
+      (make x y)
 
   abbrev pub two_entries : A → B → List Entry
   two_entries x y = (q.name, q.write y) ∷ (p.name, p.write x) ∷ []
 
-  pub two_again : ((x : A) (y : B) → AreOf (p.name ∷ q.name ∷ []) (two_entries x y) (make x y) × IsAt p x (two_entries x y) × IsAt q y (two_entries x y))
+  pub two_again : ((x : A) (y : B) → AreOf (p.name ∷ q.name ∷ []) (two_entries x y) (make x y)
+      × IsAt p x (two_entries x y) × IsAt q y (two_entries x y))
       → (value : Data) (r : Request) → IsKept value → read_two value ≡ Ok r → read_two (request_data r) ≡ Ok r
   two_again are value r k h =
       let fields = p.name ∷ q.name ∷ [] in
@@ -124,13 +181,15 @@ module _ {A B : Type 0} (p : Part A) (q : Part B) (make : A → B → Request) w
       (subst Q (sym e.0.2)
       (steps (fields_of fields (object (members_with es))) _ tt got (fields_known fields es e.0.0)
       (steps (p.read (object (members_with es))) _ two.value got (p.again value two.value es k two.first e.0.1 e.1)
-      (steps (q.read (object (members_with es))) _ three.value got (q.again value three.value es k three.first e.0.1 e.2) refl))))
+      (steps (q.read (object (members_with es))) _ three.value got
+      (q.again value three.value es k three.first e.0.1 e.2) refl))))
 
 -- three parts
 module _ {A B C : Type 0} (p : Part A) (q : Part B) (s : Part C) (make : A → B → C → Request) where
   abbrev pub read_three : Data → Result Request WireFault
   read_three value =
-      fields_of (p.name ∷ q.name ∷ s.name ∷ []) value >>= λ known. p.read value >>= λ x. q.read value >>= λ y. s.read value >>= λ z. Ok (make x y z)
+      fields_of (p.name ∷ q.name ∷ s.name ∷ []) value >>= λ known. p.read value >>= λ x. q.read value >>= λ y. s.read
+      value >>= λ z. Ok (make x y z)
 
   abbrev pub three_entries : A → B → C → List Entry
   three_entries x y z = (s.name, s.write z) ∷ (q.name, q.write y) ∷ (p.name, p.write x) ∷ []
@@ -151,7 +210,8 @@ module _ {A B C : Type 0} (p : Part A) (q : Part B) (s : Part C) (make : A → B
       let Q : Data → Type 0 = λ d. read_three d ≡ Ok got in
       subst P (same_ok got r four.later)
       (subst Q (sym e.0.2)
-      (steps (fields_of (p.name ∷ q.name ∷ s.name ∷ []) d) _ tt got (fields_known (p.name ∷ q.name ∷ s.name ∷ []) es e.0.0)
+      (steps (fields_of (p.name ∷ q.name ∷ s.name ∷ []) d) _ tt got
+      (fields_known (p.name ∷ q.name ∷ s.name ∷ []) es e.0.0)
       (steps (p.read d) _ two.value got (p.again value two.value es k two.first e.0.1 e.1)
       (steps (q.read d) _ three.value got (q.again value three.value es k three.first e.0.1 e.2)
       (steps (s.read d) _ four.value got (s.again value four.value es k four.first e.0.1 e.3) refl)))))

@@ -1,21 +1,23 @@
--- The steps of a reader: what was read at each, and what is read where each reads.
+-- The steps of a reader: what was read at each, and what is read if each reads.
 use Rattle.std.proofs.Common.{◌≡◌, Result, Ok, Err, Option, Some, None, refl, ap, ◌∙◌}
 use Rattle.am_wire_fields.specs.declared.fault.WireFault.{WireFault}
 use Rattle.am_types.specs.Reading.{◌>>=◌}
 
--- a step that was read, and what was read behind it
+-- a step that was read, and what was read after it
 pub record Step {A B : Type 0} (read : Result A WireFault) (more : A → Result B WireFault) (got : B) : Type 0 where
   pub value : A
   pub first : read ≡ Ok value
   pub later : more value ≡ Ok got
 
--- where something was read, each step was
-pub step : {A B : Type 0} (read : Result A WireFault) (more : A → Result B WireFault) (got : B) → (read >>= more) ≡ Ok got → Step read more got
+-- if something was read, each step was
+pub step : {A B : Type 0} (read : Result A WireFault) (more : A → Result B WireFault) (got : B) → (read >>= more)
+    ≡ Ok got → Step read more got
 step (Ok x) more got h = record { value = x; first = refl; later = h }
 step (Err f) more got h = absurd (cc)
 
--- what reads at the first step and behind it
-pub steps : {A B : Type 0} (read : Result A WireFault) (more : A → Result B WireFault) (x : A) (got : B) → read ≡ Ok x → more x ≡ Ok got → (read >>= more) ≡ Ok got
+-- what reads at the first step and after it
+pub steps : {A B : Type 0} (read : Result A WireFault) (more : A → Result B WireFault) (x : A) (got : B) → read ≡ Ok x
+    → more x ≡ Ok got → (read >>= more) ≡ Ok got
 steps read more x got first later = ap (λ r. r >>= more) first ∙ later
 
 -- what was read is one thing

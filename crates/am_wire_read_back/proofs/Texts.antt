@@ -20,82 +20,101 @@ use Rattle.am_wire_read_back.proofs.Objects.{Entry, members_with, value_at, are_
 use Rattle.am_wire_read_back.proofs.Options.{IsReread, option_field}
 use Rattle.am_wire_read_back.proofs.Steps.{step, steps, same_ok}
 
--- where a test holds, what is read behind it
-pub if_read : {A E : Type 0} (b : Bool) (read : Result A E) (fault : E) (x : A) → cond b read (Err fault) ≡ Ok x → (b ≡ true) × (read ≡ Ok x)
+-- if a test holds, what is read after it
+pub if_read : {A E : Type 0} (b : Bool) (read : Result A E) (fault : E) (x : A) → cond b read (Err fault) ≡ Ok x
+    → (b ≡ true) × (read ≡ Ok x)
 if_read true read fault x h = (refl, h)
 if_read false read fault x h = absurd (cc)
 
--- where a test fails, what is read behind it
-pub else_read : {A E : Type 0} (b : Bool) (fault : E) (read : Result A E) (x : A) → cond b (Err fault) read ≡ Ok x → (b ≡ false) × (read ≡ Ok x)
+-- if a test fails, what is read after it
+pub else_read : {A E : Type 0} (b : Bool) (fault : E) (read : Result A E) (x : A) → cond b (Err fault) read ≡ Ok x
+    → (b ≡ false) × (read ≡ Ok x)
 else_read true fault read x h = absurd (cc)
 else_read false fault read x h = (refl, h)
 
 -- and the other way round
-pub read_if : {A E : Type 0} (b : Bool) (read : Result A E) (fault : E) (x : A) → b ≡ true → read ≡ Ok x → cond b read (Err fault) ≡ Ok x
+pub read_if : {A E : Type 0} (b : Bool) (read : Result A E) (fault : E) (x : A) → b ≡ true → read ≡ Ok x
+    → cond b read (Err fault) ≡ Ok x
 read_if true read fault x h r = r
 read_if false read fault x h r = absurd (true≢false (sym h))
 
-pub read_else : {A E : Type 0} (b : Bool) (fault : E) (read : Result A E) (x : A) → b ≡ false → read ≡ Ok x → cond b (Err fault) read ≡ Ok x
+pub read_else : {A E : Type 0} (b : Bool) (fault : E) (read : Result A E) (x : A) → b ≡ false → read ≡ Ok x
+    → cond b (Err fault) read ≡ Ok x
 read_else true fault read x h r = absurd (true≢false h)
 read_else false fault read x h r = r
 
 -- ---- texts
 
-text_of_again : (form : Form) (limit : ℕ) (name : List ℕ) (o : Option (List ℕ)) (text : List ℕ) → text_of form limit name o ≡ Ok text → text_of form limit name (Some text) ≡ Ok text
+text_of_again : (form : Form) (limit : ℕ) (name : List ℕ) (o : Option (List ℕ)) (text : List ℕ)
+    → text_of form limit name o ≡ Ok text → text_of form limit name (Some text) ≡ Ok text
 unfolding text_of
 text_of_again form limit name None text h = absurd (cc)
 text_of_again form limit name (Some said) text h =
-    let fit = if_read (fits form said) (cond (nat_lt limit (length said)) (Err (TooLong name)) (Ok said)) (WrongKind name) text h in
+    let fit = if_read (fits form said) (cond (nat_lt limit (length said)) (Err (TooLong name)) (Ok said))
+    (WrongKind name) text h in
     let short = else_read (nat_lt limit (length said)) (TooLong name) (Ok said) text fit.1 in
     let same : said ≡ text = same_ok said text short.1 in
-    let P : List ℕ → Type 0 = λ t. cond (fits form t) (cond (nat_lt limit (length t)) (Err (TooLong name)) (Ok t)) (Err (WrongKind name)) ≡ Ok text in
+    let P : List ℕ → Type 0 = λ t. cond (fits form t) (cond (nat_lt limit (length t)) (Err (TooLong name)) (Ok t))
+    (Err (WrongKind name)) ≡ Ok text in
     subst P same h
 
 pub text_again : (form : Form) (limit : ℕ) (name : List ℕ) → IsReread (text_in form limit name) string
 unfolding text_in
 text_again form limit name value text k h = text_of_again form limit name (as_str value) text h
 
--- a text that need not be there
-pub text_field : (form : Form) (limit : ℕ) (name : List ℕ) (value : Data) (o : Option (List ℕ)) (es : List Entry) → IsKept value → optional_text form limit name value ≡ Ok o
-    → are_apart es ≡ true → value_at name es ≡ option_map string o → optional_text form limit name (object (members_with es)) ≡ Ok o
+-- an optional text
+pub text_field : (form : Form) (limit : ℕ) (name : List ℕ) (value : Data) (o : Option (List ℕ)) (es : List Entry)
+    → IsKept value → optional_text form limit name value ≡ Ok o
+    → are_apart es ≡ true → value_at name es ≡ option_map string o
+    → optional_text form limit name (object (members_with es)) ≡ Ok o
 unfolding optional_text
 text_field form limit name value o es k h apart is =
     option_field (text_in form limit name) string (text_again form limit name) (λ t. refl) name value o es k h apart is
 
--- ---- fields that must be there
+-- ---- required fields
 
--- the value of a field that must be there is that field
+-- the value of a required field is that field
 pub present_is : (name : List ℕ) (o : Option Data) (value : Data) → present name o ≡ Ok value → o ≡ Some value
 unfolding present
 present_is name None value h = absurd (cc)
 present_is name (Some said) value h = ap Some (same_ok said value h)
 
-pub required_kept : (name : List ℕ) (parent value : Data) → IsKept parent → required name parent ≡ Ok value → IsKept value
+pub required_kept : (name : List ℕ) (parent value : Data) → IsKept parent → required name parent ≡ Ok value
+    → IsKept value
 unfolding required
-required_kept name parent value k h = let P : Option Data → Type 0 = ForSome IsKept in subst P (present_is name (field name parent) value h) (field_kept name parent k)
+required_kept name parent value k h = let P : Option Data → Type 0 = ForSome IsKept in subst P
+    (present_is name (field name parent) value h) (field_kept name parent k)
 
--- a field that is written is there
-pub required_at : (name : List ℕ) (es : List Entry) (value : Data) → are_apart es ≡ true → value_at name es ≡ Some value → unless_null (Some value) ≡ Some value
+-- a field that is written is present
+pub required_at : (name : List ℕ) (es : List Entry) (value : Data) → are_apart es ≡ true → value_at name es ≡ Some value
+    → unless_null (Some value) ≡ Some value
     → required name (object (members_with es)) ≡ Ok value
 unfolding required present
 required_at name es value apart is there = ap (present name) (field_at name es apart ∙ (ap unless_null is ∙ there))
 
--- what was read of a field that must be there is read again
-pub field_again : {A : Type 0} (read : Data → Result A WireFault) (write : A → Data) → IsReread read write → (name : List ℕ) (parent : Data) (x : A) (es : List Entry) → IsKept parent
-    → (required name parent >>= read) ≡ Ok x → are_apart es ≡ true → value_at name es ≡ Some (write x) → unless_null (Some (write x)) ≡ Some (write x)
+-- what was read from a required field is read again
+pub field_again : {A : Type 0} (read : Data → Result A WireFault) (write : A → Data) → IsReread read write
+    → (name : List ℕ) (parent : Data) (x : A) (es : List Entry) → IsKept parent
+    → (required name parent >>= read) ≡ Ok x → are_apart es ≡ true → value_at name es ≡ Some (write x)
+    → unless_null (Some (write x)) ≡ Some (write x)
     → (required name (object (members_with es)) >>= read) ≡ Ok x
 field_again read write again name parent x es k h apart is there =
     let s = step (required name parent) read x h in
-    steps (required name (object (members_with es))) read (write x) x (required_at name es (write x) apart is there) (again s.value x (required_kept name parent s.value k s.first) s.later)
+    steps (required name (object (members_with es))) read (write x) x (required_at name es (write x) apart is there)
+    (again s.value x (required_kept name parent s.value k s.first) s.later)
 
-pub required_text_again : (form : Form) (limit : ℕ) (name : List ℕ) (parent : Data) (text : List ℕ) (es : List Entry) → IsKept parent → required_text form limit name parent ≡ Ok text
-    → are_apart es ≡ true → value_at name es ≡ Some (string text) → required_text form limit name (object (members_with es)) ≡ Ok text
+pub required_text_again : (form : Form) (limit : ℕ) (name : List ℕ) (parent : Data) (text : List ℕ) (es : List Entry)
+    → IsKept parent → required_text form limit name parent ≡ Ok text
+    → are_apart es ≡ true → value_at name es ≡ Some (string text) → required_text form limit name
+    (object (members_with es)) ≡ Ok text
 unfolding required_text
-required_text_again form limit name parent text es k h apart is = field_again (text_in form limit name) string (text_again form limit name) name parent text es k h apart is refl
+required_text_again form limit name parent text es k h apart is = field_again (text_in form limit name) string
+    (text_again form limit name) name parent text es k h apart is refl
 
 -- ---- truths
 
-pub truth_field : (name : List ℕ) (b : Bool) (es : List Entry) → are_apart es ≡ true → value_at name es ≡ some_truth b → optional_truth name (object (members_with es)) ≡ Ok b
+pub truth_field : (name : List ℕ) (b : Bool) (es : List Entry) → are_apart es ≡ true → value_at name es ≡ some_truth b
+    → optional_truth name (object (members_with es)) ≡ Ok b
 unfolding optional_truth truth_or_false truth_in of_kind
 truth_field name b es apart is = ap (truth_or_false name) (field_at name es apart ∙ ap unless_null is) ∙ by b
   where
@@ -103,20 +122,25 @@ truth_field name b es apart is = ap (truth_or_false name) (field_at name es apar
     by true = refl
     by false = refl
 
-pub required_truth_at : (name : List ℕ) (b : Bool) (es : List Entry) → are_apart es ≡ true → value_at name es ≡ Some (boolean b) → required_truth name (object (members_with es)) ≡ Ok b
+pub required_truth_at : (name : List ℕ) (b : Bool) (es : List Entry) → are_apart es ≡ true → value_at name es
+    ≡ Some (boolean b) → required_truth name (object (members_with es)) ≡ Ok b
 unfolding required_truth truth_in of_kind
-required_truth_at name b es apart is = steps (required name (object (members_with es))) (truth_in name) (boolean b) b (required_at name es (boolean b) apart is refl) refl
+required_truth_at name b es apart is = steps (required name (object (members_with es))) (truth_in name) (boolean b) b
+    (required_at name es (boolean b) apart is refl) refl
 
 -- ---- words
 
-pub word_again : (words : List (List ℕ)) (name text : List ℕ) → lists words text ≡ true → word_in words name (string text) ≡ Ok text
+pub word_again : (words : List (List ℕ)) (name text : List ℕ) → lists words text ≡ true
+    → word_in words name (string text) ≡ Ok text
 unfolding word_in word_of
 word_again words name text h = read_if (lists words text) (Ok text) (WrongKind name) text h refl
 
-words_are : (words : List (List ℕ)) (name : List ℕ) (texts : List (List ℕ)) → AllByRecursion (λ text. lists words text ≡ true) texts → AllByRecursion (IsRead (word_in words name) string) texts
+words_are : (words : List (List ℕ)) (name : List ℕ) (texts : List (List ℕ))
+    → AllByRecursion (λ text. lists words text ≡ true) texts → AllByRecursion (IsRead (word_in words name) string) texts
 words_are words name [] h = tt
 words_are words name (t ∷ ts) h = (word_again words name t h.0, words_are words name ts h.1)
 
-pub words_again : (words : List (List ℕ)) (name : List ℕ) (texts : List (List ℕ)) → AllByRecursion (λ text. lists words text ≡ true) texts → words_in words name (map string texts) ≡ Ok texts
+pub words_again : (words : List (List ℕ)) (name : List ℕ) (texts : List (List ℕ))
+    → AllByRecursion (λ text. lists words text ≡ true) texts → words_in words name (map string texts) ≡ Ok texts
 unfolding words_in
 words_again words name texts h = each_again (word_in words name) string texts (words_are words name texts h)

@@ -10,7 +10,7 @@ use am_types::{NoMemory, Request};
 use am_wire_values::request_value;
 use std::alloc::Global;
 
-/// The text of the request's body: its value as compact JSON, `{}` where the endpoint looks at no body. The request's
+/// The text of the request's body: its value as compact JSON, `{}` if the endpoint looks at no body. The request's
 /// endpoint reads it back as the request, if it reads any body as that request; a filter to be registered must list at
 /// most 64 schemes, authorities, paths and types together, since each is written as a row of its own.
 #[tactic(auto, using(am_wire_values::proofs::Floats::request_none))]

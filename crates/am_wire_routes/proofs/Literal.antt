@@ -25,7 +25,9 @@ lookup-step b path [] = refl
 lookup-step b path (([], key) ∷ rest) = lookup-step b path rest
 lookup-step b path ((x ∷ t, key) ∷ rest) = by (x == b) (lookup-step b path rest)
   where
-    by : (v : Bool) → lookup (b ∷ path) rest ≡ lookup path (step b rest) → cond (v && same_text t path) (Some key) (lookup (b ∷ path) rest) ≡ lookup path (cond v ((t, key) ∷ step b rest) (step b rest))
+    by : (v : Bool) → lookup (b ∷ path) rest ≡ lookup path (step b rest)
+        → cond (v && same_text t path) (Some key) (lookup (b ∷ path) rest)
+        ≡ lookup path (cond v ((t, key) ∷ step b rest) (step b rest))
     by true ih = ap (λ z. cond (same_text t path) (Some key) z) ih
     by false ih = ih
 
@@ -38,7 +40,7 @@ step-literal b ((x ∷ t, key) ∷ rest) h = by (x == b) (step-literal b rest h.
     by true ih = (h.0.1, ih)
     by false ih = ih
 
--- no literal route goes on with a token that is no byte
+-- no literal route goes on with a token that isn't a byte
 step-none : (y : ℕ) (rows : Requests) → 256 ≤ y → AreLiteral rows → step y rows ≡ []
 step-none y [] l h = refl
 step-none y (([], key) ∷ rest) l h = step-none y rest l h.1
@@ -60,7 +62,12 @@ unfolding seek
 seek-empty skip [] = refl
 seek-empty (suc skip) (b ∷ path) = seek-empty skip path
 seek-empty zero (b ∷ path) =
-    simp (seek-empty 0 path, param_step-empty (b ∷ path), seek-empty (((param_step {K = Route} [] (b ∷ path)).0) - 1) path)
+    simp (
+      seek-empty 0 path,
+      param_step-empty (b ∷ path),
+      seek-empty (((param_step {K = Route} [] (b ∷ path)).0) - 1)
+          path,
+    )
 
 or_else-none : (a : Option Route) → or_else a None ≡ a
 or_else-none None = refl
@@ -79,11 +86,14 @@ first-lookup (b ∷ path) rows h =
       or_else-none,
     ) (first-lookup path (step b rows) (step-literal b rows h) ∙ sym (lookup-step b path rows))
 
-pub placed-literal : (pattern : List ℕ) (route : Route) (rows : Requests) → IsText pattern → AreLiteral rows → AreLiteral (placed (pattern, route) rows)
+pub placed-literal : (pattern : List ℕ) (route : Route) (rows : Requests) → IsText pattern → AreLiteral rows
+    → AreLiteral (placed (pattern, route) rows)
 placed-literal pattern route [] t h = (t, tt)
-placed-literal pattern route ((other, key) ∷ rest) t h = by (comes_before pattern other) (placed-literal pattern route rest t h.1)
+placed-literal pattern route ((other, key) ∷ rest) t h = by (comes_before pattern other)
+    (placed-literal pattern route rest t h.1)
   where
-    by : (v : Bool) → AreLiteral (placed (pattern, route) rest) → AreLiteral (cond v ((pattern, route) ∷ ((other, key) ∷ rest)) ((other, key) ∷ placed (pattern, route) rest))
+    by : (v : Bool) → AreLiteral (placed (pattern, route) rest) → AreLiteral
+        (cond v ((pattern, route) ∷ ((other, key) ∷ rest)) ((other, key) ∷ placed (pattern, route) rest))
     by true ih = (t, h)
     by false ih = (h.0, ih)
 
@@ -91,14 +101,16 @@ same_text-self : (p : List ℕ) → same_text p p ≡ true
 same_text-self p = (bytes_decides p p).1 refl
 
 -- a new route is found at its text, and the others are found as before
-pub lookup-placed : (path pattern : List ℕ) (route : Route) (rows : Requests) → lookup pattern rows ≡ None → lookup path (placed (pattern, route) rows) ≡ cond (same_text pattern path) (Some route) (lookup path rows)
+pub lookup-placed : (path pattern : List ℕ) (route : Route) (rows : Requests) → lookup pattern rows ≡ None
+    → lookup path (placed (pattern, route) rows) ≡ cond (same_text pattern path) (Some route) (lookup path rows)
 lookup-placed path pattern route [] n = refl
 lookup-placed path pattern route ((other, key) ∷ rest) n =
     by (comes_before pattern other) (same_text other pattern) refl n (lookup-placed path pattern route rest)
   where
     last : (u v : Bool) → same_text other path ≡ u → same_text pattern path ≡ v → same_text other pattern ≡ false
         → lookup path (placed (pattern, route) rest) ≡ cond v (Some route) (lookup path rest)
-        → cond u (Some key) (lookup path (placed (pattern, route) rest)) ≡ cond v (Some route) (cond u (Some key) (lookup path rest))
+        → cond u (Some key) (lookup path (placed (pattern, route) rest))
+        ≡ cond v (Some route) (cond u (Some key) (lookup path rest))
     last false v eu ev d ih = ih
     last true false eu ev d ih = refl
     last true true eu ev d ih =
@@ -108,8 +120,11 @@ lookup-placed path pattern route ((other, key) ∷ rest) n =
         cc
 
     by : (before same : Bool) → same_text other pattern ≡ same → cond same (Some key) (lookup pattern rest) ≡ None
-        → (lookup pattern rest ≡ None → lookup path (placed (pattern, route) rest) ≡ cond (same_text pattern path) (Some route) (lookup path rest))
-        → lookup path (cond before ((pattern, route) ∷ ((other, key) ∷ rest)) ((other, key) ∷ placed (pattern, route) rest)) ≡ cond (same_text pattern path) (Some route) (cond (same_text other path) (Some key) (lookup path rest))
+        → (lookup pattern rest ≡ None → lookup path (placed (pattern, route) rest)
+        ≡ cond (same_text pattern path) (Some route) (lookup path rest))
+        → lookup path (cond before ((pattern, route) ∷ ((other, key) ∷ rest))
+        ((other, key) ∷ placed (pattern, route) rest)) ≡ cond (same_text pattern path) (Some route)
+        (cond (same_text other path) (Some key) (lookup path rest))
     by true same e n2 ih = refl
     by false true e n2 ih = cc
     by false false e n2 ih = last (same_text other path) (same_text pattern path) refl refl e (ih n2)
@@ -136,7 +151,7 @@ text-at n [] h = omega arith
 text-at zero (x ∷ a) h = h.0
 text-at (suc n) (x ∷ a) h = text-at n a h.1
 
--- two literal routes conflict only where they are the same
+-- two literal routes conflict only if they are the same
 conflicts-none : (a b : List ℕ) → IsText a → IsText b → same_text b a ≡ false → conflicts a b ≡ false
 conflicts-none a b ha hb d =
     let n = common_len a b in
@@ -148,7 +163,8 @@ conflicts-none a b ha hb d =
     let pb : param_place (drop s b) ≡ None = param_place-none (drop s b) (text-drop s b hb) in
     rw (pa, w) (by (n == length a) (n == length b) refl refl)
   where
-    by : (u v : Bool) → (common_len a b == length a) ≡ u → (common_len a b == length b) ≡ v → (((u && v) || false) || false) ≡ false
+    by : (u v : Bool) → (common_len a b == length a) ≡ u → (common_len a b == length b) ≡ v
+        → (((u && v) || false) || false) ≡ false
     by false v eu ev = refl
     by true false eu ev = refl
     by true true eu ev =
@@ -159,11 +175,14 @@ conflicts-none a b ha hb d =
         cc
 
 -- a new literal route conflicts with no other
-pub nearest-none : (pattern : List ℕ) (rows : Requests) → IsText pattern → AreLiteral rows → lookup pattern rows ≡ None → nearest pattern rows ≡ None
+pub nearest-none : (pattern : List ℕ) (rows : Requests) → IsText pattern → AreLiteral rows → lookup pattern rows ≡ None
+    → nearest pattern rows ≡ None
 nearest-none pattern [] t h n = refl
 nearest-none pattern ((other, key) ∷ rest) t h n = by (same_text other pattern) refl n (nearest-none pattern rest t h.1)
   where
-    by : (v : Bool) → same_text other pattern ≡ v → cond v (Some key) (lookup pattern rest) ≡ None → (lookup pattern rest ≡ None → nearest pattern rest ≡ None)
-        → nearest_from pattern (cond (conflicts pattern other) (nearer (None, 0) (common_len pattern other) key) (None, 0)) rest ≡ None
+    by : (v : Bool) → same_text other pattern ≡ v → cond v (Some key) (lookup pattern rest) ≡ None
+        → (lookup pattern rest ≡ None → nearest pattern rest ≡ None)
+        → nearest_from pattern (cond (conflicts pattern other) (nearer (None, 0) (common_len pattern other) key)
+        (None, 0)) rest ≡ None
     by true e n2 ih = cc
     by false e n2 ih = rw (conflicts-none pattern other t h.0 e) (ih n2)

@@ -20,7 +20,8 @@ ascii-at : (bytes : List ℕ) → are_ascii bytes ≡ true → IsAscii bytes
 ascii-at [] h i = omega arith
 ascii-at (b ∷ rest) h i = by (ltb b 128) refl h i (ascii-at rest)
   where
-    by : (v : Bool) → ltb b 128 ≡ v → (v && are_ascii rest) ≡ true → (i : ℕ) → (are_ascii rest ≡ true → IsAscii rest) → get_or (b ∷ rest) i 0 < 128
+    by : (v : Bool) → ltb b 128 ≡ v → (v && are_ascii rest) ≡ true → (i : ℕ) → (are_ascii rest ≡ true → IsAscii rest)
+        → get_or (b ∷ rest) i 0 < 128
     by true e h2 zero ih = grind (arith, nat_tests)
     by true e h2 (suc i) ih = ih h2 i
     by false e h2 i ih = cc
@@ -56,14 +57,15 @@ found-path : (those : List Endpoint) (path : List ℕ) (e : Endpoint) → found_
 found-path [] path e f = cc
 found-path (x ∷ rest) path e f = by (is_at path x) refl f (found-path rest path e)
   where
-    by : (v : Bool) → is_at path x ≡ v → cond v (Some x) (found_at rest path) ≡ Some e → (found_at rest path ≡ Some e → path_of e ≡ path) → path_of e ≡ path
+    by : (v : Bool) → is_at path x ≡ v → cond v (Some x) (found_at rest path) ≡ Some e
+        → (found_at rest path ≡ Some e → path_of e ≡ path) → path_of e ≡ path
     by true t f2 ih =
         let same : x ≡ e = cc in
         let at : path_of x ≡ path = (bytes_decides (path_of x) path).0 t in
         ap path_of (sym same) ∙ at
     by false t f2 ih = ih f2
 
--- what is no text is no request's path
+-- bytes that aren't text are no request's path
 pub none_unless_text : (path : List ℕ) → (IsUtf8 path → ⊥) → endpoint_at path ≡ None
 unfolding endpoint_at
 none_unless_text path n = by (found_at endpoints path) refl
@@ -84,20 +86,24 @@ none-from : (o : Option Endpoint) → is_none o ≡ true → o ≡ None
 none-from None h = refl
 none-from (Some e) h = cc
 
-new-among : (before rest : List Endpoint) (i : ℕ) (d : Endpoint) → differ_after before rest ≡ true → i < length rest → found_at (before ++ take i rest) (path_of (get_or rest i d)) ≡ None
+new-among : (before rest : List Endpoint) (i : ℕ) (d : Endpoint) → differ_after before rest ≡ true → i < length rest
+    → found_at (before ++ take i rest) (path_of (get_or rest i d)) ≡ None
 new-among before [] i d h l = absurd (omega arith)
 new-among before (e ∷ rest) i d h l =
     by (is_none (found_at before (path_of e))) refl h i l (λ j. new-among (before ++ e ∷ []) rest j d)
   where
-    by : (v : Bool) → is_none (found_at before (path_of e)) ≡ v → (v && differ_after (before ++ e ∷ []) rest) ≡ true → (i : ℕ) → i < suc (length rest)
-        → ((j : ℕ) → differ_after (before ++ e ∷ []) rest ≡ true → j < length rest → found_at ((before ++ e ∷ []) ++ take j rest) (path_of (get_or rest j d)) ≡ None)
+    by : (v : Bool) → is_none (found_at before (path_of e)) ≡ v → (v && differ_after (before ++ e ∷ []) rest) ≡ true
+        → (i : ℕ) → i < suc (length rest)
+        → ((j : ℕ) → differ_after (before ++ e ∷ []) rest ≡ true → j < length rest
+        → found_at ((before ++ e ∷ []) ++ take j rest) (path_of (get_or rest j d)) ≡ None)
         → found_at (before ++ take i (e ∷ rest)) (path_of (get_or (e ∷ rest) i d)) ≡ None
     by false n h2 i l2 ih = cc
     by true n h2 zero l2 ih = rw (append-nil before) (none-from (found_at before (path_of e)) n)
     by true n h2 (suc j) l2 ih = rw (← append_assoc before (e ∷ []) (take j rest)) (ih j h2 (omega arith))
 
 -- each request's path is that of none before it
-pub new-path : (i : ℕ) (d : Endpoint) → i < length endpoints → found_at (take i endpoints) (path_of (get_or endpoints i d)) ≡ None
+pub new-path : (i : ℕ) (d : Endpoint) → i < length endpoints → found_at (take i endpoints)
+    (path_of (get_or endpoints i d)) ≡ None
 new-path i d l = new-among [] endpoints i d refl l
 
 -- the request of a request's path is that one, in each case

@@ -17,7 +17,7 @@ Requests = RowsOf (RouteOf Endpoint)
 abbrev pub matched : Requests → List ℕ → Option Endpoint
 matched rows path = option_map (λ route. route.value) (first rows path)
 
--- at each path the router finds the request that the table has there
+-- at each path the router finds the same request as the table
 abbrev pub AnswersTable : Requests → Type 0
 AnswersTable rows = (path : List ℕ) → matched rows path ≡ endpoint_at path
 
@@ -31,7 +31,7 @@ abbrev pub AreLiteral : Requests → Type 0
 AreLiteral [] = Unit {0}
 AreLiteral ((pattern, route) ∷ rest) = IsText pattern × AreLiteral rest
 
--- the routes are literal, and each path finds the request that it has in the list, or none
+-- the routes are literal, and each path finds the request that the list has for it, or none
 pub record Holds (those : List Endpoint) (rows : Requests) : Type 0 where
   pub literal : AreLiteral rows
   pub found : (path : List ℕ) → option_map (λ route. route.value) (lookup path rows) ≡ found_at those path

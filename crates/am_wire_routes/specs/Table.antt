@@ -1,5 +1,5 @@
--- The endpoints of the interface: the path and the method of each, which of them a method and a target ask for, and at which
--- of them a request is asked.
+-- The endpoints of the interface: the path and the method of each, which endpoint a method and a target ask for, and
+-- the endpoint of each request.
 use Rattle.std.specs.Prelude.{ℕ, List, [], ◌∷◌, Bool, Option, None, Some, Result, Ok, Err, codes, bytes_eq, ◌==◌, if◌then◌else◌}
 use Rattle.std.specs.List.{before_first, find}
 use Rattle.am_types.specs.declared.request.Request.{Request}
@@ -14,11 +14,11 @@ pub record Line : Type 0 where
   pub method : List ℕ
   pub path : List ℕ
 
--- a request by GET
+-- a request with GET
 abbrev pub get : List ℕ → Line
 get path = record { method = codes "GET"; path = path }
 
--- a request by POST
+-- a request with POST
 abbrev pub post : List ℕ → Line
 post path = record { method = codes "POST"; path = path }
 
@@ -84,11 +84,11 @@ endpoint_at path = found_at endpoints path
 abbrev pub question_mark : ℕ
 question_mark = 63
 
--- the path of a target: all before the first question mark
+-- the path of a target: everything before the first question mark
 abbrev pub path_in : List ℕ → List ℕ
 path_in target = before_first (λ b. b == question_mark) target
 
--- a request at its path is asked for by its own method alone
+-- a request at its path is asked for only with its own method
 abbrev pub asked : List ℕ → Option Endpoint → Result Endpoint RouteFault
 asked method None = Err NoRoute
 asked method (Some endpoint) = if bytes_eq method (method_of endpoint) then Ok endpoint else Err (NoMethod endpoint)
@@ -97,7 +97,7 @@ asked method (Some endpoint) = if bytes_eq method (method_of endpoint) then Ok e
 abbrev pub endpoint_of : List ℕ → List ℕ → Result Endpoint RouteFault
 endpoint_of method target = asked method (endpoint_at (path_in target))
 
--- the endpoint at which a request is asked
+-- the endpoint for a request
 abbrev pub endpoint_for : Request → Endpoint
 endpoint_for (asks.Query kind intent default_only) = at.Query
 endpoint_for (asks.Explain kind intent caller permission shown) = at.Explain

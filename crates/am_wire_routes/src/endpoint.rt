@@ -150,7 +150,7 @@ impl Endpoint {
     }
 }
 
-/// The endpoint at which the request is asked. Takes no memory.
+/// The endpoint for this request. Takes no memory.
 pub fn endpoint_of(request: &Request) -> Endpoint
     ensures { result ≡ endpoint_for request.now }
 {

@@ -1,4 +1,4 @@
-//! The routes of the HTTP interface: which request a method and a target ask for, and under which path a request is asked.
+//! The routes of the HTTP interface: which request a method and a target ask for, and which path each request has.
 #![tactic(auto)]
 
 mod endpoint;

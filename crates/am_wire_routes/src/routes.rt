@@ -10,16 +10,16 @@ use std::alloc::{AllocError, Global};
 use std::marker::Model;
 use std::str;
 
-/// Why no request is asked for.
+/// Why a method and a target ask for no request.
 #[derive(Clone, Copy, Debug, PartialEq, Eq)]
 pub enum RouteFault {
     /// No request has the path.
     NoRoute,
-    /// This request has the path, and another method.
+    /// This request has the path, but another method.
     NoMethod(Endpoint),
 }
 
-/// The routes of every request. Contracts see no difference between two of them.
+/// The routes of every request. For contracts any two values are equal.
 #[derive(Drop)]
 pub struct Routes {
     router: Router<Endpoint>,
@@ -36,7 +36,7 @@ impl Model for Routes {
 }
 
 impl Routes {
-    /// The routes of every request. Fails for want of memory alone.
+    /// The routes of every request. Fails only if memory runs out.
     pub fn new(alloc: Global) -> Result<Routes, AllocError> {
         let mut router = Router::new(alloc);
         for endpoint in Endpoint::ALL {
@@ -50,7 +50,7 @@ impl Routes {
     ///
     /// # Errors
     ///
-    /// `NoRoute` where no request has the path, and `NoMethod` where the one that has it has another method.
+    /// `NoRoute` if no request has the path, and `NoMethod` if the request that has it has another method.
     pub fn route(&self, method: &[u8], target: &[u8]) -> Result<Endpoint, RouteFault>
         ensures { result ≡ endpoint_of method.now target.now }
     {
@@ -75,7 +75,7 @@ impl Routes {
     }
 }
 
-// What a target has before its query.
+// The part of a target before its query.
 fn path_in(target: &[u8]) -> &[u8]
     ensures { result.now ≡ path_in target.now }
 {
@@ -85,7 +85,7 @@ fn path_in(target: &[u8]) -> &[u8]
     }
 }
 
-// Where the first question mark of a target stands.
+// The position of the first question mark of a target.
 fn query_at(target: &[u8]) -> Option<usize>
     ensures { result ≡ position (λ b. b == question_mark) target.now }
 {
@@ -103,7 +103,7 @@ fn add(router: &mut Router<Endpoint>, endpoint: Endpoint) -> Result<(), AllocErr
     }
 }
 
-// The one reason for which a new literal route is refused.
+// The only reason for which a new literal route is refused.
 fn want_of_memory(error: InsertError) -> AllocError
     requires { error ≡ InsertError.OutOfMemory }
 {

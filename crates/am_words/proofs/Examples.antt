@@ -9,7 +9,8 @@ use Rattle.am_words.specs.declared.command.Command.TheVariants.{Session, Serve, 
 use Rattle.am_words.specs.declared.command.StepWords.{StepWords}
 
 unfoldable on_literals : ⊤
-unfolding options_in options_of number_of number_in optional_number_in path_of optional_path_of moment_of clock_of drill_of named read_command serve_of session_of visible_of
+unfolding options_in options_of number_of number_in optional_number_in path_of optional_path_of moment_of clock_of
+    drill_of named read_command serve_of session_of visible_of
 on_literals = tt
 
 abbrev no_command : List Text → Type 0
@@ -20,41 +21,57 @@ session device store clock = Session (record { device = device; store = store; c
 
 -- ---- a command with its options in both forms and in any order
 
-session_plain : read_command (codes "session" ∷ codes "--device" ∷ codes "d.toml" ∷ []) ≡ Some (session (codes "d.toml") None None)
+session_plain : read_command (codes "session" ∷ codes "--device" ∷ codes "d.toml" ∷ [])
+    ≡ Some (session (codes "d.toml") None None)
 unfolding on_literals
 session_plain = refl
 
-session_whole : read_command (codes "session" ∷ codes "--step=10" ∷ codes "--store" ∷ codes "rows" ∷ codes "--at" ∷ codes "0" ∷ codes "--device=d.toml" ∷ [])
+session_whole : read_command (codes "session" ∷ codes "--step=10" ∷ codes "--store" ∷ codes "rows" ∷ codes "--at"
+    ∷ codes "0" ∷ codes "--device=d.toml" ∷ [])
     ≡ Some (session (codes "d.toml") (Some (codes "rows")) (Some (record { at = 0; step = 10 })))
 unfolding on_literals
 session_whole = refl
 
-serve_plain : read_command (codes "serve" ∷ codes "--device" ∷ codes "d" ∷ codes "--port" ∷ codes "1" ∷ codes "--workers=64" ∷ [])
+serve_plain : read_command (codes "serve" ∷ codes "--device" ∷ codes "d" ∷ codes "--port" ∷ codes "1"
+    ∷ codes "--workers=64" ∷ [])
     ≡ Some (Serve (record { device = codes "d"; port = 1; workers = 64; store = None; connections = None; at = None }))
 unfolding on_literals
 serve_plain = refl
 
-serve_whole : read_command (codes "serve" ∷ codes "--connections=1000000" ∷ codes "--at" ∷ codes "7" ∷ codes "--workers=1" ∷ codes "--port=65535" ∷ codes "--store=s" ∷ codes "--device=d" ∷ [])
-    ≡ Some (Serve (record { device = codes "d"; port = 65535; workers = 1; store = Some (codes "s"); connections = Some 1000000; at = Some 7 }))
+serve_whole : read_command (codes "serve" ∷ codes "--connections=1000000" ∷ codes "--at" ∷ codes "7"
+    ∷ codes "--workers=1" ∷ codes "--port=65535" ∷ codes "--store=s" ∷ codes "--device=d" ∷ [])
+    ≡ Some (Serve (record {
+      device = codes "d";
+      port = 65535;
+      workers = 1;
+      store = Some (codes "s");
+      connections = Some
+          1000000;
+      at = Some 7;
+    }))
 unfolding on_literals
 serve_whole = refl
 
-drill_whole : read_command (codes "drill" ∷ codes "--from" ∷ codes "18446744073709551615" ∷ codes "--packages=256" ∷ codes "--requests=0" ∷ [])
+drill_whole : read_command (codes "drill" ∷ codes "--from" ∷ codes "18446744073709551615" ∷ codes "--packages=256"
+    ∷ codes "--requests=0" ∷ [])
     ≡ Some (Drill (record { from = 18446744073709551615; packages = 256; requests = 0 }))
 unfolding on_literals
 drill_whole = refl
 
-visible_whole : read_command (codes "visible" ∷ codes "--as" ∷ codes "com.a" ∷ codes "--device" ∷ codes "d" ∷ []) ≡ Some (Visible (record { device = codes "d"; «package» = codes "com.a" }))
+visible_whole : read_command (codes "visible" ∷ codes "--as" ∷ codes "com.a" ∷ codes "--device" ∷ codes "d" ∷ [])
+    ≡ Some (Visible (record { device = codes "d"; «package» = codes "com.a" }))
 unfolding on_literals
 visible_whole = refl
 
 -- ---- values
 
-empty_package : read_command (codes "visible" ∷ codes "--as=" ∷ codes "--device" ∷ codes "d" ∷ []) ≡ Some (Visible (record { device = codes "d"; «package» = [] }))
+empty_package : read_command (codes "visible" ∷ codes "--as=" ∷ codes "--device" ∷ codes "d" ∷ [])
+    ≡ Some (Visible (record { device = codes "d"; «package» = [] }))
 unfolding on_literals
 empty_package = refl
 
-empty_word : read_command (codes "visible" ∷ codes "--as" ∷ [] ∷ codes "--device" ∷ codes "d" ∷ []) ≡ Some (Visible (record { device = codes "d"; «package» = [] }))
+empty_word : read_command (codes "visible" ∷ codes "--as" ∷ [] ∷ codes "--device" ∷ codes "d" ∷ [])
+    ≡ Some (Visible (record { device = codes "d"; «package» = [] }))
 unfolding on_literals
 empty_word = refl
 
@@ -134,20 +151,32 @@ greatest_workers : no_command (codes "serve" ∷ codes "--device=d" ∷ codes "-
 unfolding on_literals
 greatest_workers = refl
 
-greatest_moment : read_command (codes "serve" ∷ codes "--device=d" ∷ codes "--port=1" ∷ codes "--workers=1" ∷ codes "--at=18446744073709551615" ∷ [])
-    ≡ Some (Serve (record { device = codes "d"; port = 1; workers = 1; store = None; connections = None; at = Some 18446744073709551615 }))
+greatest_moment : read_command (codes "serve" ∷ codes "--device=d" ∷ codes "--port=1" ∷ codes "--workers=1"
+    ∷ codes "--at=18446744073709551615" ∷ [])
+    ≡ Some (Serve (record {
+      device = codes "d";
+      port = 1;
+      workers = 1;
+      store = None;
+      connections = None;
+      at = Some
+          18446744073709551615;
+    }))
 unfolding on_literals
 greatest_moment = refl
 
-moment_too_great : no_command (codes "serve" ∷ codes "--device=d" ∷ codes "--port=1" ∷ codes "--workers=1" ∷ codes "--at=18446744073709551616" ∷ [])
+moment_too_great : no_command (codes "serve" ∷ codes "--device=d" ∷ codes "--port=1" ∷ codes "--workers=1"
+    ∷ codes "--at=18446744073709551616" ∷ [])
 unfolding on_literals
 moment_too_great = refl
 
-no_moment : no_command (codes "serve" ∷ codes "--device=d" ∷ codes "--port=1" ∷ codes "--workers=1" ∷ codes "--at=" ∷ [])
+no_moment : no_command (codes "serve" ∷ codes "--device=d" ∷ codes "--port=1" ∷ codes "--workers=1" ∷ codes "--at="
+    ∷ [])
 unfolding on_literals
 no_moment = refl
 
-step_of_a_serving : no_command (codes "serve" ∷ codes "--device=d" ∷ codes "--port=1" ∷ codes "--workers=1" ∷ codes "--at=1" ∷ codes "--step=0" ∷ [])
+step_of_a_serving : no_command (codes "serve" ∷ codes "--device=d" ∷ codes "--port=1" ∷ codes "--workers=1"
+    ∷ codes "--at=1" ∷ codes "--step=0" ∷ [])
 unfolding on_literals
 step_of_a_serving = refl
 

@@ -1,4 +1,4 @@
--- What a function that reads words answers.
+-- The results of functions that read words.
 use Rattle.std.specs.Prelude.{◌≡◌, Option, Some, None, IsSome, Result, Ok, Err}
 use Rattle.clap.specs.Words.{first_value, found_of}
 use Rattle.clap.specs.declared.error.kind.ErrorKind.{ErrorKind}
@@ -13,24 +13,24 @@ abbrev pub Fails : {X : Type 0} → WordsFault → Option X → Type 0
 Fails fault.NoMemory read = Unit {0}
 Fails fault.Usage read = read ≡ None
 
--- a function answers with what is read, unless memory ran out
+-- a function returns what is read, unless memory ran out
 abbrev pub Reads : {X : Type 0} → Result X WordsFault → Option X → Type 0
 Reads (Ok x) read = read ≡ Some x
 Reads (Err met) read = Fails met read
 
--- a function that reads in place answers with what is read, and takes no memory
+-- a function that reads in place returns what is read, and takes no memory
 abbrev pub ReadsInPlace : {X : Type 0} → Result X WordsFault → Option X → Type 0
 ReadsInPlace (Ok x) read = read ≡ Some x
 ReadsInPlace (Err fault.Usage) read = read ≡ None
 ReadsInPlace (Err fault.NoMemory) read = ⊥
 
--- a function that copies what is read answers with the copy, unless there is something to copy and memory ran out
+-- a function that copies what is read returns the copy, unless there is something to copy and memory ran out
 abbrev pub ReadsCopy : {X : Type 0} → Result X WordsFault → Option X → Type 0
 ReadsCopy (Ok x) read = read ≡ Some x
 ReadsCopy (Err fault.Usage) read = read ≡ None
 ReadsCopy (Err fault.NoMemory) read = IsSome read
 
--- the fault that an error of `clap` of this kind is: memory ran out, or else the words aren't in the grammar
+-- the fault for an error of `clap` of this kind: memory ran out, or otherwise the words aren't in the grammar
 abbrev pub fault_of : ErrorKind → WordsFault
 fault_of OutOfMemory = fault.NoMemory
 fault_of _ = fault.Usage

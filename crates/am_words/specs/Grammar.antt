@@ -1,4 +1,4 @@
--- The words behind the program's name: a command, then its options in any order.
+-- The words after the program's name: a command, then its options in any order.
 use Rattle.std.specs.Prelude.{Bool, false, ◌||◌, if◌then◌else◌, List, [], ◌∷◌, Option, Some, None, option_and_then, bytes_eq, codes}
 use Rattle.am_words.specs.Options.{Text, options_of, value_of}
 use Rattle.am_words.specs.Values.{◌>>=◌, number_in, optional_number_in, path_of, optional_path_of, moment_of, clock_of}
@@ -60,7 +60,7 @@ visible_of value = do
 
 -- ---- the words
 
--- the command whose options have these names, and which these values make
+-- the command whose options have these names, and which `made` makes from their values
 abbrev pub command_of : List Text → ((Text → Option Text) → Option Command) → List Text → Option Command
 command_of names made words = option_and_then (λ options. made (value_of options)) (options_of names words)
 
@@ -77,9 +77,10 @@ named name words =
 abbrev pub begins_with_command : List Text → Bool
 begins_with_command [] = false
 begins_with_command (name ∷ words) =
-    bytes_eq name (codes "session") || (bytes_eq name (codes "serve") || (bytes_eq name (codes "drill") || bytes_eq name (codes "visible")))
+    bytes_eq name (codes "session") || (bytes_eq name (codes "serve") ||
+    (bytes_eq name (codes "drill") || bytes_eq name (codes "visible")))
 
--- the command that the words say, if they say one
+-- the command that the words name, if they name one
 unfoldable pub read_command : List Text → Option Command
 read_command [] = None
 read_command (name ∷ words) = named name words

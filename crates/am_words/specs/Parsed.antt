@@ -1,4 +1,4 @@
--- The command of options alone, as `clap` sees it.
+-- The command made only of options, as `clap` sees it.
 use Rattle.std.specs.Prelude.{Bool, true, not, ◌||◌, List, [], map, Some, is_some, codes}
 use Rattle.clap.specs.Words.{App, Rule, new_rule}
 use Rattle.clap.specs.Simple.{new_shape}

@@ -18,14 +18,14 @@ is_number text = nat_le 1 (length text) && (nat_le (length text) 20
 unfoldable pub number_of : Text → Option ℕ
 number_of text = if is_number text then Some (digits_value 10 text) else None
 
--- the number that a value says, which must be given and lie between these two
+-- the number in a value, which is required and is between these two
 unfoldable pub number_in : ℕ → ℕ → Option Text → Option ℕ
 number_in least most value = do
   text ← value
   number ← number_of text
   if nat_le least number && nat_le number most then Some number else None
 
--- a number that need not be given
+-- an optional number
 unfoldable pub optional_number_in : ℕ → ℕ → Option Text → Option (Option ℕ)
 optional_number_in least most None = Some None
 optional_number_in least most (Some text) = option_map (λ number. Some number) (number_in least most (Some text))
@@ -34,16 +34,16 @@ abbrev pub nonempty : Text → Option Text
 nonempty [] = None
 nonempty (first ∷ others) = Some (first ∷ others)
 
--- the name of a file, which must be given and isn't empty
+-- the name of a file, which is required and isn't empty
 unfoldable pub path_of : Option Text → Option Text
 path_of value = option_and_then nonempty value
 
--- the name of a file that need not be given
+-- the optional name of a file
 unfoldable pub optional_path_of : Option Text → Option (Option Text)
 optional_path_of None = Some None
 optional_path_of (Some text) = option_map (λ path. Some path) (nonempty text)
 
--- the moment at which a clock stands, which need not be given
+-- the optional moment at which a clock stays
 unfoldable pub moment_of : Option Text → Option (Option ℕ)
 moment_of None = Some None
 moment_of (Some text) = option_map (λ moment. Some moment) (number_of text)

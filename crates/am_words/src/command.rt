@@ -40,7 +40,7 @@ pub struct ServingWords {
     pub store: Option<Text>,
     /// How many links each worker serves before it ends, from 1 to 1,000,000.
     pub connections: Option<u32>,
-    /// The moment at which the clock of each worker stands, in milliseconds, if it isn't the machine's.
+    /// The moment at which the clock of each worker stays, in milliseconds, if it isn't the machine's.
     pub at: Option<u64>,
 }
 
@@ -64,14 +64,14 @@ pub struct QuestionWords {
     pub package: Text,
 }
 
-/// A clock that begins at a moment and goes on by a step at each call, in milliseconds.
+/// A clock that begins at a moment and moves on by a step at each call, in milliseconds.
 #[derive(Drop)]
 pub struct StepWords {
     pub at: u64,
     pub step: u64,
 }
 
-/// Why words are no command.
+/// Why words aren't a command.
 #[derive(Drop)]
 pub enum WordsFault {
     /// They aren't in the grammar.

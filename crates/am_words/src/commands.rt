@@ -23,7 +23,7 @@ static DRILL: [&str; 3] = ["from", "packages", "requests"];
 
 static VISIBLE: [&str; 2] = ["device", "as"];
 
-/// The session that its options make.
+/// The session that the values of its options make.
 #[tactic(auto, unfolding(crate::specs::Grammar::session_of))]
 fn session_of(alloc: Global, matches: &ArgMatches<'_>) -> Result<Command, WordsFault>
     ensures read { ReadsCommand result (session_of (first_value (found_of matches.now))) }
@@ -40,7 +40,7 @@ fn session_of(alloc: Global, matches: &ArgMatches<'_>) -> Result<Command, WordsF
     }))
 }
 
-/// The service that its options make.
+/// The service that the values of its options make.
 #[tactic(auto, unfolding(crate::specs::Grammar::serve_of))]
 fn serve_of(alloc: Global, matches: &ArgMatches<'_>) -> Result<Command, WordsFault>
     ensures read { ReadsCommand result (serve_of (first_value (found_of matches.now))) }
@@ -63,7 +63,7 @@ fn serve_of(alloc: Global, matches: &ArgMatches<'_>) -> Result<Command, WordsFau
     }))
 }
 
-/// The drill that its options make.
+/// The drill that the values of its options make.
 #[tactic(auto, unfolding(crate::specs::Grammar::drill_of))]
 fn drill_of(matches: &ArgMatches<'_>) -> Result<Command, WordsFault>
     ensures read { ReadsInPlace result (drill_of (first_value (found_of matches.now))) }
@@ -79,7 +79,7 @@ fn drill_of(matches: &ArgMatches<'_>) -> Result<Command, WordsFault>
     }))
 }
 
-/// The question that its options make.
+/// The question that the values of its options make.
 #[tactic(auto, unfolding(crate::specs::Grammar::visible_of))]
 fn visible_of(alloc: Global, matches: &ArgMatches<'_>) -> Result<Command, WordsFault>
     ensures read { ReadsCommand result (visible_of (first_value (found_of matches.now))) }
@@ -94,7 +94,7 @@ fn visible_of(alloc: Global, matches: &ArgMatches<'_>) -> Result<Command, WordsF
     Ok(Command::Visible(QuestionWords { device, package }))
 }
 
-/// The session that the words say.
+/// The session that the words ask for.
 fn session(alloc: Global, words: &[Text]) -> Result<Command, WordsFault>
     ensures { ReadsCommand result (command_of session_names session_of words.now) }
 {
@@ -103,7 +103,7 @@ fn session(alloc: Global, words: &[Text]) -> Result<Command, WordsFault>
     session_of(alloc, &matches)
 }
 
-/// The service that the words say.
+/// The service that the words ask for.
 fn serve(alloc: Global, words: &[Text]) -> Result<Command, WordsFault>
     ensures { ReadsCommand result (command_of serve_names serve_of words.now) }
 {
@@ -112,7 +112,7 @@ fn serve(alloc: Global, words: &[Text]) -> Result<Command, WordsFault>
     serve_of(alloc, &matches)
 }
 
-/// The drill that the words say.
+/// The drill that the words ask for.
 fn drill(alloc: Global, words: &[Text]) -> Result<Command, WordsFault>
     ensures { ReadsCommand result (command_of drill_names drill_of words.now) }
 {
@@ -121,7 +121,7 @@ fn drill(alloc: Global, words: &[Text]) -> Result<Command, WordsFault>
     drill_of(&matches)
 }
 
-/// The question that the words say.
+/// The question that the words ask.
 fn visible(alloc: Global, words: &[Text]) -> Result<Command, WordsFault>
     ensures { ReadsCommand result (command_of visible_names visible_of words.now) }
 {
@@ -130,11 +130,12 @@ fn visible(alloc: Global, words: &[Text]) -> Result<Command, WordsFault>
     visible_of(alloc, &matches)
 }
 
-/// The command that the words behind the program's name say.
+/// The command that the words after the program's name ask for.
 ///
 /// # Errors
 ///
-/// `Usage` if the grammar has no such words, `NoMemory` if memory runs out, as it can only behind a command's name.
+/// `Usage` if the words aren't in the grammar, `NoMemory` if memory runs out, which can only happen after a command's
+/// name.
 #[tactic(auto, unfolding(crate::specs::Grammar::read_command, crate::specs::Grammar::named))]
 pub fn read_command(alloc: Global, words: &[Text]) -> Result<Command, WordsFault>
     ensures read { Reads result (read_command words.now) }

@@ -1,4 +1,4 @@
-//! From the words behind the program's name to a command.
+//! Turns the words after the program's name into a command.
 #![tactic(auto)]
 
 mod command;

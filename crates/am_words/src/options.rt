@@ -49,7 +49,7 @@ fn option<'a>(alloc: Global, name: &'a str) -> Arg<'a>
     Arg::new(alloc, name).long(name).action(ArgAction::Set)
 }
 
-/// A command of options with these names and nothing else.
+/// A command made of options with these names and nothing else.
 fn command<'a>(alloc: Global, names: &'a [&'a str]) -> Result<Command<'a>, AllocError>
     ensures { IfOk result (λ command. app_of command ≡ app_named (map (λ name. name.now) names.entry.now)) }
 {
@@ -62,7 +62,7 @@ fn command<'a>(alloc: Global, names: &'a [&'a str]) -> Result<Command<'a>, Alloc
     Ok(command)
 }
 
-/// The fault of words with which `clap` met an error of this kind.
+/// The fault of words for which `clap` gave an error of this kind.
 fn fault_of(kind: ErrorKind) -> WordsFault
     ensures { result ≡ fault_of kind }
 {
@@ -72,7 +72,7 @@ fn fault_of(kind: ErrorKind) -> WordsFault
     }
 }
 
-/// What the words say of the options with these names.
+/// The values that the words give to the options with these names.
 pub(crate) fn read_options<'a>(
     alloc: Global,
     names: &'a [&'a str],

@@ -9,14 +9,14 @@ use crate::{StepWords, WordsFault};
 use am_types::Text;
 use std::alloc::Global;
 
-/// Whether the text has digits alone.
+/// Whether the text has only digits.
 fn are_digits(text: &str) -> bool
     ensures { result ≡ list_all is_ascii_digit text.now }
 {
     text.as_bytes().iter().all(|byte| byte.is_ascii_digit())
 }
 
-/// The number that a text of 1 to 20 digits says.
+/// The number written as a text of 1 to 20 digits.
 fn number_of(text: &str) -> Option<u64>
     ensures { result ≡ number_of text.now }
 {
@@ -26,7 +26,7 @@ fn number_of(text: &str) -> Option<u64>
     text.parse::<u64>().ok()
 }
 
-/// The number between `least` and `most` that a value says, which must be given.
+/// The number between `least` and `most` in a required value.
 #[tactic(auto, unfolding(crate::specs::Values::number_in))]
 pub(crate) fn number_in(least: u64, most: u64, value: Option<&str>) -> Result<u64, WordsFault>
     ensures read { ReadsInPlace result (number_in least most (option_map (λ text. text.now) value.entry)) }
@@ -46,7 +46,7 @@ pub(crate) fn number_in(least: u64, most: u64, value: Option<&str>) -> Result<u6
     }
 }
 
-/// The number between `least` and `most` that a value says, if it is given.
+/// The number between `least` and `most` in a value, if it is given.
 #[tactic(auto, unfolding(crate::specs::Values::optional_number_in))]
 pub(crate) fn optional_number_in(
     least: u32,
@@ -63,7 +63,7 @@ pub(crate) fn optional_number_in(
     Ok(Some(number as u32))
 }
 
-/// The name of a file that a value is, which must be given.
+/// The name of a file in a required value.
 #[tactic(auto, unfolding(crate::specs::Values::path_of))]
 pub(crate) fn path_of(alloc: Global, value: Option<&str>) -> Result<Text, WordsFault>
     ensures { ReadsCopy result (path_of (option_map (λ text. text.now) value.entry)) }
@@ -75,7 +75,7 @@ pub(crate) fn path_of(alloc: Global, value: Option<&str>) -> Result<Text, WordsF
     }
 }
 
-/// The name of a file that a value is, if it is given.
+/// The name of a file in a value, if it is given.
 #[tactic(auto, unfolding(crate::specs::Values::optional_path_of, crate::specs::Values::path_of))]
 pub(crate) fn optional_path_of(
     alloc: Global,
@@ -90,7 +90,7 @@ pub(crate) fn optional_path_of(
     Ok(Some(path))
 }
 
-/// The moment at which a clock stands, if it is given.
+/// The moment at which a clock stays, if it is given.
 #[tactic(auto, unfolding(crate::specs::Values::moment_of))]
 pub(crate) fn moment_of(value: Option<&str>) -> Result<Option<u64>, WordsFault>
     ensures { ReadsInPlace result (moment_of (option_map (λ text. text.now) value.entry)) }
@@ -104,7 +104,7 @@ pub(crate) fn moment_of(value: Option<&str>) -> Result<Option<u64>, WordsFault>
     Ok(Some(moment))
 }
 
-/// The clock that begins at one value and goes on by the other, both given or neither.
+/// The clock that begins at one value and moves on by the other, both given or neither.
 #[tactic(auto, unfolding(crate::specs::Values::clock_of))]
 pub(crate) fn clock_of(
     at: Option<&str>,

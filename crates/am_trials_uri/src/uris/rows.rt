@@ -1,6 +1,6 @@
 //! Tables of rows: a text, and what is read from it.
 
-/// A URI without a host, and its parts. Its path counts in no filter, since a filter's paths count beside a host alone.
+/// A URI without a host, and its parts. Its path counts in no filter, since a filter's paths count only with a host.
 pub const URIS: &str = "\
 mailto:a@b.org -> mailto path=
 mailto:John.Doe@example.com -> mailto path=

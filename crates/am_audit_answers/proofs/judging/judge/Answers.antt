@@ -13,5 +13,9 @@ returns-in-Ok-Err c =
 pub judge_request-requires : goal.judge_request-requires
 judge_request-requires c = record {
   stands = record { made = c.requires.record; first = c.requires.first };
-  makes = record { key = c.requires.key; body = c.requires.body; asks = rw c.in-Ok-Ok.field-0-is at c.in-Ok-Ok.ensures };
+  makes = record {
+    key = c.requires.key;
+    body = c.requires.body;
+    asks = rw c.in-Ok-Ok.field-0-is at c.in-Ok-Ok.ensures;
+  };
 }

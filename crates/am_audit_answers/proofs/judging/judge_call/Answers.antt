@@ -9,9 +9,11 @@ returns-in-Ok-Some c =
     let frame = frame_held c.args.frame.now in
     let short : length c.args.history.now < 2 ^ 64 = omega arith in
     let few : length c.args.left.now < 2 ^ 64 = omega arith in
-    let making : IsMakingOf c.args.history.now c.args.bench frame c.args.request c.args.stored (Some c.in-Ok-Some.making) =
+    let making : IsMakingOf c.args.history.now c.args.bench frame c.args.request c.args.stored
+    (Some c.in-Ok-Some.making) =
     rw c.in-Ok-Some.field-0-is at c.in-Ok-Some.ensures in
-    made_judged_if c.args.history.now c.args.bench frame c.args.left.now c.args.request c.args.stored c.in-Ok-Some.making c.judge_made.result
+    made_judged_if c.args.history.now c.args.bench frame c.args.left.now c.args.request c.args.stored
+    c.in-Ok-Some.making c.judge_made.result
     c.requires.stands c.requires.makes.asks c.requires.says short few making c.judge_made.ensures
 
 pub returns-in-Ok-None : goal.returns-in-Ok-None

@@ -12,7 +12,8 @@ use Rattle.am_audit_answers.proofs.judging.judge_request.Goals as goal
 
 -- the mark that is read is the only one
 says_only : (left : List ℕ) (mark : Mark)
-    → ((at : ℕ) (stored : Bool) → HasMark left at stored → ◌≡◌ {A = Option Mark} (Some mark) (Some (record { at = at; stored = stored })))
+    → ((at : ℕ) (stored : Bool) → HasMark left at stored → ◌≡◌ {A = Option Mark} (Some mark)
+    (Some (record { at = at; stored = stored })))
     → (HasNoMark left → ◌≡◌ {A = Option Mark} (Some mark) None) → SaysOnly left mark.at mark.stored
 says_only left mark marked unmarked = record {
   place = λ other others has.
@@ -27,7 +28,8 @@ returns-in-None c =
     let few : length c.args.left.now < 2 ^ 64 = omega arith in
     let here = case_of c.args.history.now c.args.bench (frame_held c.args.frame.now) c.args.left.now in
     c.judge_want.ensures c.args.history.now (frame_held c.args.frame.now) c.requires.stands.first
-    (unmarked_wants here c.args.request c.requires.makes.asks (λ at stored has. none-some _ (c.in-None.ensures.marked at stored has)) short few)
+    (unmarked_wants here c.args.request c.requires.makes.asks (λ at stored has. none-some _
+    (c.in-None.ensures.marked at stored has)) short few)
 
 pub judge_call-requires-clause-stands : goal.judge_call-requires-clause-stands
 judge_call-requires-clause-stands c =
@@ -36,7 +38,8 @@ judge_call-requires-clause-stands c =
 
 pub judge_call-requires-clause-says : goal.judge_call-requires-clause-says
 judge_call-requires-clause-says c =
-    let goes : GoesTo (ground_of c.args.history.now c.args.bench) c.args.bench.replayed c.in-Some.mark.at (Some c.in-Ok-Some.replayed) =
+    let goes : GoesTo (ground_of c.args.history.now c.args.bench) c.args.bench.replayed c.in-Some.mark.at
+    (Some c.in-Ok-Some.replayed) =
     rw c.in-Ok-Some.field-0-is at c.in-Ok-Some.ensures in
     subst (λ (at : ℕ). SaysOnly c.args.left.now at c.in-Some.mark.stored) (sym goes.1)
     (says_only c.args.left.now c.in-Some.mark c.in-Some.ensures.marked c.in-Some.ensures.unmarked)
@@ -45,11 +48,14 @@ pub returns-in-Ok-Some : goal.returns-in-Ok-Some
 returns-in-Ok-Some c =
     let short : length c.args.history.now < 2 ^ 64 = omega arith in
     let few : length c.args.left.now < 2 ^ 64 = omega arith in
-    let goes : GoesTo (ground_of c.args.history.now c.args.bench) c.args.bench.replayed c.in-Some.mark.at (Some c.in-Ok-Some.replayed) =
+    let goes : GoesTo (ground_of c.args.history.now c.args.bench) c.args.bench.replayed c.in-Some.mark.at
+    (Some c.in-Ok-Some.replayed) =
     rw c.in-Ok-Some.field-0-is at c.in-Ok-Some.ensures in
-    raised_if c.args.history.now c.args.bench (frame_held c.args.frame.now) c.args.left.now c.args.request c.in-Some.mark.at c.in-Some.mark.stored
+    raised_if c.args.history.now c.args.bench (frame_held c.args.frame.now) c.args.left.now c.args.request
+    c.in-Some.mark.at c.in-Some.mark.stored
     c.in-Ok-Some.replayed c.judge_call.result c.requires.makes.asks
-    (says_only c.args.left.now c.in-Some.mark c.in-Some.ensures.marked c.in-Some.ensures.unmarked) short few goes c.judge_call.ensures
+    (says_only c.args.left.now c.in-Some.mark c.in-Some.ensures.marked c.in-Some.ensures.unmarked) short few goes
+    c.judge_call.ensures
 
 pub returns-in-Ok-None : goal.returns-in-Ok-None
 returns-in-Ok-None c =
@@ -57,5 +63,7 @@ returns-in-Ok-None c =
     let few : length c.args.left.now < 2 ^ 64 = omega arith in
     let goes : GoesTo (ground_of c.args.history.now c.args.bench) c.args.bench.replayed c.in-Some.mark.at None =
     rw c.in-Ok-None.field-0-is at c.in-Ok-None.ensures in
-    unreached c.args.history.now c.args.bench (frame_held c.args.frame.now) c.args.left.now c.args.request c.in-Some.mark.at c.in-Some.mark.stored
-    c.requires.makes.asks (says_only c.args.left.now c.in-Some.mark c.in-Some.ensures.marked c.in-Some.ensures.unmarked) short few goes
+    unreached c.args.history.now c.args.bench (frame_held c.args.frame.now) c.args.left.now c.args.request
+    c.in-Some.mark.at c.in-Some.mark.stored
+    c.requires.makes.asks (says_only c.args.left.now c.in-Some.mark c.in-Some.ensures.marked c.in-Some.ensures.unmarked)
+    short few goes

@@ -10,5 +10,6 @@ returns-then-begins c = λ history frame first only.
 
 pub returns-else-begins : goal.returns-else-begins
 returns-else-begins c = λ history frame first only.
-    refuses_want history c.args.bench frame c.args.left.now c.want_before-want.result.now only c.want_before-want.ensures
+    refuses_want history c.args.bench frame c.args.left.now c.want_before-want.result.now only
+    c.want_before-want.ensures
     (λ rest is. not_both c.begins.result (c.begins.ensures.none rest is) c.if-begins.false)

@@ -31,7 +31,8 @@ returns-in-None c = λ next is. none-some next (c.in-None.ensures ∙ is.there)
 
 pub is_its_call-requires-clause-again : goal.is_its_call-requires-clause-again
 is_its_call-requires-clause-again c =
-    (next_is_whole c.args.history.now (length c.args.bench.now.replayed.history) c.in-Some.next.now c.requires.stands.made.whole
+    (next_is_whole c.args.history.now (length c.args.bench.now.replayed.history) c.in-Some.next.now
+    c.requires.stands.made.whole
     (sym c.in-Some.ensures)).request
 
 pub returns-in-Ok-true : goal.returns-in-Ok-true
@@ -41,5 +42,6 @@ returns-in-Ok-true c =
 
 pub returns-in-Ok-false : goal.returns-in-Ok-false
 returns-in-Ok-false c =
-    none_is c.args.history.now c.args.bench.now (frame_held c.args.frame.now) c.args.request.now c.in-Some.next.now (sym c.in-Some.ensures)
+    none_is c.args.history.now c.args.bench.now (frame_held c.args.frame.now) c.args.request.now c.in-Some.next.now
+    (sym c.in-Some.ensures)
     (λ both. not_both c.in-Ok-false.field-0 (c.in-Ok-false.ensures.1 both) c.in-Ok-false.field-0-test)

@@ -8,7 +8,9 @@ use Rattle.am_audit_answers.proofs.marks.number_of.Goals as goal
 pub returns-in-Ok : goal.returns-in-Ok
 returns-in-Ok c = λ n fits is.
     c.ok.ensures.value
-    ∙ ap result_ok (parse-decimal 64 n c.in-Ok.text.now c.parse.result fits fits (c.in-Ok.ensures.cases.0 ∙ is) c.parse.ensures.value.0)
+    ∙ ap result_ok (parse-decimal 64 n c.in-Ok.text.now c.parse.result fits fits (c.in-Ok.ensures.cases.0 ∙ is)
+    c.parse.ensures.value.0)
 
 pub returns-in-Err : goal.returns-in-Err
-returns-in-Err c = λ n fits is. absurd (c.in-Err.ensures.cases.0 (subst IsUtf8 (sym is) (IsUtf8-from_ascii _ (IsAscii-decimal n fits))))
+returns-in-Err c = λ n fits is. absurd (c.in-Err.ensures.cases.0 (subst IsUtf8 (sym is)
+    (IsUtf8-from_ascii _ (IsAscii-decimal n fits))))

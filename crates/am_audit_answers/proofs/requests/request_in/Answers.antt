@@ -10,6 +10,7 @@ pub returns-in_ok-bad_request-in-Err-Fault : goal.returns-in_ok-bad_request-in-E
 returns-in_ok-bad_request-in-Err-Fault c =
     let fails = rw c.in-Err-Fault.field-0-is at c.in-Err-Fault.ensures in (
       BadRequest c.in-Err-Fault.fault,
-      ap (λ (found : Result Endpoint RouteFault). asked_at found c.args.frame.now.body.now) (sym c.in-Ok.ensures) ∙ ap request_or fails,
+      ap (λ (found : Result Endpoint RouteFault). asked_at found c.args.frame.now.body.now) (sym c.in-Ok.ensures)
+          ∙ ap request_or fails,
       c.in_ok-bad_request-in-Err-Fault.ensures,
     )

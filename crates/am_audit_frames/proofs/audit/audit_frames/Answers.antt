@@ -15,7 +15,8 @@ use Rattle.am_audit_frames.proofs.Steps.{settles_at_limit}
 use Rattle.am_audit_frames.proofs.audit.audit_frames.Goals as goal
 
 -- what a step promises from the start of its own replay holds from the start of the walk
-goes_from : (start : State) (history : List Entry) (t : Transcript) (walk : Walk) (next : Result Walk Verdict) {found : Result Walk Verdict}
+goes_from : (start : State) (history : List Entry) (t : Transcript) (walk : Walk) (next : Result Walk Verdict)
+    {found : Result Walk Verdict}
     → Walked (record { start = start; history = history }) t walk
     → ((u : Transcript) → Walked (ground_at history walk) u walk → GoesOn (ground_at history walk) u walk next)
     → next ≡ found → GoesOn (record { start = start; history = history }) t walk found
@@ -50,20 +51,32 @@ loop-walk-init c =
 pub loop-walk-smaller : goal.loop-walk-smaller
 loop-walk-smaller c =
     let after =
-    goes_from (opening c.args.device) c.args.history.now (record { frames = c.args.frames.now; responses = c.args.responses.now })
+    goes_from (opening c.args.device) c.args.history.now (record {
+      frames = c.args.frames.now;
+      responses =
+          c.args.responses.now;
+    })
     c.loop-walk.walk c.in_ok-after.field-0 c.loop-walk.invariant.walked c.in_ok-after.ensures c.in-Ok.is in
     omega (arith, after.1, c.loop-walk-test.true)
 
 pub loop-walk-preserved : goal.loop-walk-preserved
 loop-walk-preserved c =
     let after =
-    goes_from (opening c.args.device) c.args.history.now (record { frames = c.args.frames.now; responses = c.args.responses.now })
+    goes_from (opening c.args.device) c.args.history.now (record {
+      frames = c.args.frames.now;
+      responses =
+          c.args.responses.now;
+    })
     c.loop-walk.walk c.in_ok-after.field-0 c.loop-walk.invariant.walked c.in_ok-after.ensures c.in-Ok.is in
     record { walked = after.0; few = omega (arith, after.1, c.loop-walk-test.true) }
 
 pub returns-in-Err : goal.returns-in-Err
 returns-in-Err c =
-    goes_from (opening c.args.device) c.args.history.now (record { frames = c.args.frames.now; responses = c.args.responses.now })
+    goes_from (opening c.args.device) c.args.history.now (record {
+      frames = c.args.frames.now;
+      responses =
+          c.args.responses.now;
+    })
     c.loop-walk.walk c.in_ok-after.field-0 c.loop-walk.invariant.walked c.in_ok-after.ensures c.in-Err.is
 
 pub returns : goal.returns
@@ -74,7 +87,8 @@ returns c =
     let w = c.loop-walk.invariant.walked in
     let left = walk.left.now in
     subst (IsVerdict ground t) (sym c.ended.ensures)
-    (settles_at_limit ground t (record { frames = w.frames; standing = standing_of walk.bench; left = left }) walk.input.now
+    (settles_at_limit ground t (record { frames = w.frames; standing = standing_of walk.bench; left = left })
+    walk.input.now
     walk.count c.is_empty.result (record { counted = w.counted; passes = w.passes; reaches = w.reaches })
     (omega (arith, c.loop-walk.invariant.few, c.loop-walk-test.false))
     (λ holds. nil_from_length left (eqb-true (length left) 0 (sym c.is_empty.ensures ∙ holds)))

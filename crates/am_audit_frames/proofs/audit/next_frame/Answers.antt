@@ -38,7 +38,8 @@ empty_from : (xs : List ℕ) (at : ℕ) (b : Bool) → b ≡ (length (take (leng
     → drop at xs ≡ []
 empty_from xs at b tested holds =
     sym (take_rest xs at)
-    ∙ nil_from_length (take (length xs - at) (drop at xs)) (eqb-true (length (take (length xs - at) (drop at xs))) 0 (sym tested ∙ holds))
+    ∙ nil_from_length (take (length xs - at) (drop at xs)) (eqb-true (length (take (length xs - at) (drop at xs))) 0
+    (sym tested ∙ holds))
 
 to_empty : (xs : List ℕ) (at : ℕ) (b : Bool) → b ≡ (length (take (length xs - at) (drop at xs)) == 0) → drop at xs ≡ []
     → b ≡ true
@@ -74,7 +75,8 @@ returns-in_default-2 c = λ t w.
     let ground = ground_at c.args.history.now c.args.walk in
     let place = place_of ground t c.args.walk w in
     let f = frame_held c.in-Whole.frame in
-    settles_refused ground t place c.args.walk.input.now c.args.walk.count f w.reaches w.counted w.passes c.requires.room
+    settles_refused ground t place c.args.walk.input.now c.args.walk.count f w.reaches w.counted w.passes
+    c.requires.room
     c.in-Whole.ensures.framing (subst (Judges (case_behind ground place f)) c.in_default-2.is c.in_ok-accepted.ensures)
 
 pub returns-then-frame : goal.returns-then-frame
@@ -110,7 +112,8 @@ returns c = λ t w.
         frames = w.frames ++ f ∷ [];
         counted = at.counted;
         passes =
-            subst (Passes most_frames t.frames (w.frames ++ f ∷ [])) (sym (take_rest walk.input.now f.length)) at.passes;
+            subst (Passes most_frames t.frames (w.frames ++ f ∷ [])) (sym (take_rest walk.input.now f.length))
+            at.passes;
         reaches =
             subst
             (λ (x : List ℕ). Reaches ground t

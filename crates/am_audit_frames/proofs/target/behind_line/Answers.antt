@@ -13,5 +13,7 @@ returns-in-Some c =
 pub returns-in-None : goal.returns-in-None
 returns-in-None c =
     let text = c.args.text.now in
-    line_or_none text c.strip_prefix-in-None.result (strip_prefix_is Decides-eqb text crlf_bytes None c.in-None.ensures.cases)
-    (strip_prefix_is Decides-eqb text (line_feed ∷ []) c.strip_prefix-in-None.result c.strip_prefix-in-None.ensures.cases)
+    line_or_none text c.strip_prefix-in-None.result (strip_prefix_is Decides-eqb text crlf_bytes None
+    c.in-None.ensures.cases)
+    (strip_prefix_is Decides-eqb text (line_feed ∷ []) c.strip_prefix-in-None.result
+    c.strip_prefix-in-None.ensures.cases)

@@ -12,7 +12,8 @@ returns-then-is_token c =
     let found = c.in-Some.ensures in
     let rest = take_rest line (at + 1) in
     let token : is_token (take at line) ≡ true = sym c.is_token.ensures ∙ c.if-is_token.true in (
-      λ pass. open_line_from line at found.0 found.1 token (subst (AllPass is_uri_byte) rest (c.all_target.ensures.0 pass)),
+      λ pass. open_line_from line at found.0 found.1 token (subst (AllPass is_uri_byte) rest
+          (c.all_target.ensures.0 pass)),
       λ x.
           c.all_target.ensures.1
           (subst (AllPass is_uri_byte) (sym rest) (open_line_target line at found.2 found.0 found.1 x)),

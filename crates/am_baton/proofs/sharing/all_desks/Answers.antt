@@ -7,7 +7,8 @@ pub another-next-requires-clause-rule : goal.another-next-requires-clause-rule
 another-next-requires-clause-rule g c =
     let turn = c.loop-number.invariant.turn in
     let number : (view c.loop-number.pass).mark.number ≡ c.loop-number.number = ap (λ v. v.mark.number) turn in
-    let many : (view c.loop-number.pass).mark.start.desks ≡ (view c.args.pass).mark.start.desks = ap (λ v. v.mark.start.desks) turn in
+    let many : (view c.loop-number.pass).mark.start.desks ≡ (view c.args.pass).mark.start.desks = ap
+    (λ v. v.mark.start.desks) turn in
     let asked : c.args.desks ≡ (view c.args.pass).mark.start.desks = c.requires.desks in
     let below = c.loop-number-test.true in
     forks _ _ (ap (λ v. v.live) turn) (ap (λ v. v.holds) turn) (ap (λ v. v.makes) turn) (omega arith)

@@ -12,7 +12,8 @@ use Rattle.am_drill.proofs.calls.call.Goals as goal
 pub make-requires : goal.make-requires
 make-requires g c = record {
   alone = c.requires.alone;
-  plain = subst IsPlain (sym c.in_ok-request.ensures.made) (generated_is_plain c.below-case.result c.below-case.new.self);
+  plain = subst IsPlain (sym c.in_ok-request.ensures.made) (generated_is_plain c.below-case.result
+      c.below-case.new.self);
 }
 
 pub returns : goal.returns
@@ -23,9 +24,11 @@ returns g c =
     c.below-number.ensures.drawn c.in_ok-key.ensures (ap (λ n. 1000 * n) c.from.ensures) c.in_ok-request.ensures.made in
     let first = g.D.Desk.view c.args.desk.now in
     record {
-      status = subst (λ (call : Call). IfOk c.make.result (λ status. status ≡ status_of (answer (start_of first) first.seen call)))
+      status = subst (λ (call : Call). IfOk c.make.result (λ status. status
+          ≡ status_of (answer (start_of first) first.seen call)))
           made c.make.ensures.status;
-      seen = subst (λ (call : Call). OnOk c.make.result ((g.D.Desk.view c.make.new.desk).seen ≡ history_after (start_of first) first.seen call))
+      seen = subst (λ (call : Call). OnOk c.make.result ((g.D.Desk.view c.make.new.desk).seen
+          ≡ history_after (start_of first) first.seen call))
           made c.make.ensures.seen;
       same = c.make.ensures.same;
       drawn = anyway c.make.result

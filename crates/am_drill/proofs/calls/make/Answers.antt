@@ -10,12 +10,14 @@ pub returns-clause-status : goal.returns-clause-status
 returns-clause-status g c =
     c.reply_status-status.ensures
     ∙ ap status_of
-    (plain_shows (g.D.Desk.view c.args.desk.now) (g.D.Desk.view c.call.new.self) c.args.key.now c.args.now c.in-Ok.weight
+    (plain_shows (g.D.Desk.view c.args.desk.now) (g.D.Desk.view c.call.new.self) c.args.key.now c.args.now
+    c.in-Ok.weight
     c.args.request c.in_ok-shown.shown c.requires.alone c.requires.plain c.in-Ok.ensures
     c.in_ok-shown.ensures.legal c.in_ok-shown.ensures.same c.in_ok-shown.ensures.shown).0
 
 pub returns-clause-seen : goal.returns-clause-seen
 returns-clause-seen g c =
-    (plain_shows (g.D.Desk.view c.args.desk.now) (g.D.Desk.view c.call.new.self) c.args.key.now c.args.now c.in-Ok.weight
+    (plain_shows (g.D.Desk.view c.args.desk.now) (g.D.Desk.view c.call.new.self) c.args.key.now c.args.now
+    c.in-Ok.weight
     c.args.request c.in_ok-shown.shown c.requires.alone c.requires.plain c.in-Ok.ensures
     c.in_ok-shown.ensures.legal c.in_ok-shown.ensures.same c.in_ok-shown.ensures.shown).1

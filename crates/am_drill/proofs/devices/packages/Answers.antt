@@ -13,7 +13,8 @@ loop-i-preserved c =
     record {
       made = c.in_ok-push.ensures.items
           ∙ ap (λ items. items ++ c.in_ok-package.package ∷ []) so_far.made
-          ∙ ap (λ (p : Package). packages_of i state ++ p ∷ []) (c.in_ok-package.ensures.made ∙ ap (package_of i) so_far.drawn)
+          ∙ ap (λ (p : Package). packages_of i state ++ p ∷ []) (c.in_ok-package.ensures.made
+          ∙ ap (package_of i) so_far.drawn)
           ∙ one_package_more i state;
       drawn = c.in_ok-package.ensures.drawn ∙ ap (after 4) so_far.drawn ∙ four_more i state;
     }

@@ -22,9 +22,11 @@ returns-in-Ok c = record {
       ∙ drilled_so c.args.from c.args.packages c.args.requests c.in_ok-device.device
       (opening_of c.new-desk.result.managed.origin) c.new-desk.result.managed.history c.run.new.desk.managed.history
       c.device.new.draws c.in-Ok.statuses.items
-      (ap (λ (served : Served InMemory). opening_of served.managed.origin) c.new-desk.ensures.made ∙ c.in_ok-manager.ensures.start)
+      (ap (λ (served : Served InMemory). opening_of served.managed.origin) c.new-desk.ensures.made
+      ∙ c.in_ok-manager.ensures.start)
       (c.in_ok-device.ensures.made ∙ ap (device_of c.args.packages) c.new-draws.ensures)
-      (ap (λ (served : Served InMemory). served.managed.history) c.new-desk.ensures.made ∙ c.in_ok-manager.ensures.history)
+      (ap (λ (served : Served InMemory). served.managed.history) c.new-desk.ensures.made
+      ∙ c.in_ok-manager.ensures.history)
       (c.in_ok-device.ensures.drawn ∙ ap (after (4 * c.args.packages)) c.new-draws.ensures)
       c.in-Ok.ensures.statuses c.in-Ok.ensures.seen;
 }

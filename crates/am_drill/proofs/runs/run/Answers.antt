@@ -8,7 +8,8 @@ use Rattle.am_drill.proofs.runs.run.Goals as goal
 pub call-requires : goal.call-requires
 call-requires g c = record {
   some = c.requires.some;
-  alone = alone_still (g.D.Desk.view c.args.desk.now) (g.D.Desk.view c.loop-j.desk) c.loop-j.invariant.same c.requires.alone;
+  alone = alone_still (g.D.Desk.view c.args.desk.now) (g.D.Desk.view c.loop-j.desk) c.loop-j.invariant.same
+      c.requires.alone;
 }
 
 pub loop-j-init : goal.loop-j-init
@@ -17,7 +18,8 @@ loop-j-init g c =
     let left = calls_left c.args.packages c.args.requests 0 c.args.draws.now in
     let all = all_left c.args.packages c.args.requests c.args.draws.now in
     record {
-      statuses = ap (λ (items : List ℕ). items ++ statuses_of (start_of first) first.seen left) c.new-statuses.ensures.items
+      statuses = ap (λ (items : List ℕ). items ++ statuses_of (start_of first) first.seen left)
+          c.new-statuses.ensures.items
           ∙ ap (statuses_of (start_of first) first.seen) all;
       seen = ap (history_of (start_of first) first.seen) all;
       drawn = refl;
@@ -34,12 +36,16 @@ loop-j-preserved g c =
     let state = c.args.draws.now in
     let j = c.loop-j.j in
     let so_far = c.loop-j.invariant in
-    let one_more = history_at first desk packages j state c.loop-j.draws so_far.same so_far.drawn next.seen c.in_ok-status.ensures.seen in
+    let one_more = history_at first desk packages j state c.loop-j.draws so_far.same so_far.drawn next.seen
+    c.in_ok-status.ensures.seen in
     record {
-      statuses = ap (λ (items : List ℕ). items ++ statuses_of (start_of first) next.seen (calls_left packages requests (j + 1) state)) c.in_ok-push.ensures.items
+      statuses = ap (λ (items : List ℕ). items ++ statuses_of (start_of first) next.seen
+          (calls_left packages requests (j + 1) state)) c.in_ok-push.ensures.items
           ∙ statuses_go_on (start_of first) desk.seen next.seen packages requests j state c.loop-j-test.true one_more
-          c.loop-j.statuses.items (statuses_of (start_of first) first.seen (calls_of packages requests state)) c.in_ok-status.status
-          (status_at first desk packages j state c.loop-j.draws so_far.same so_far.drawn c.in_ok-status.status c.in_ok-status.ensures.status)
+          c.loop-j.statuses.items (statuses_of (start_of first) first.seen (calls_of packages requests state))
+          c.in_ok-status.status
+          (status_at first desk packages j state c.loop-j.draws so_far.same so_far.drawn c.in_ok-status.status
+          c.in_ok-status.ensures.status)
           so_far.statuses;
       seen = history_goes_on (start_of first) desk.seen next.seen packages requests j state c.loop-j-test.true one_more
           (history_of (start_of first) first.seen (calls_of packages requests state)) so_far.seen;
@@ -59,7 +65,8 @@ returns g c =
     let ended : c.loop-j.j ≡ requests = omega arith in
     record {
       statuses = statuses_end (start_of first) desk.seen packages requests state c.loop-j.statuses.items statuses
-          (subst (λ (j : ℕ). c.loop-j.statuses.items ++ statuses_of (start_of first) desk.seen (calls_left packages requests j state) ≡ statuses)
+          (subst (λ (j : ℕ). c.loop-j.statuses.items ++ statuses_of (start_of first) desk.seen
+          (calls_left packages requests j state) ≡ statuses)
           ended c.loop-j.invariant.statuses);
       seen = history_ends (start_of first) desk.seen packages requests state history
           (subst (λ (j : ℕ). history_of (start_of first) desk.seen (calls_left packages requests j state) ≡ history)

@@ -13,7 +13,8 @@ invariant-loop-j g l =
     let left = calls_left l.packages l.requests l.j l.initial.draws in
     let all = calls_of l.packages l.requests l.initial.draws in
     record {
-      statuses : l.statuses.items ++ statuses_of (start_of first) desk.seen left ≡ statuses_of (start_of first) first.seen all;
+      statuses : l.statuses.items ++ statuses_of (start_of first) desk.seen left
+          ≡ statuses_of (start_of first) first.seen all;
       seen : history_of (start_of first) desk.seen left ≡ history_of (start_of first) first.seen all;
       drawn : l.draws ≡ before l.j l.initial.draws;
       same : IsSameDesk first desk;

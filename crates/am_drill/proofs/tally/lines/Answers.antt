@@ -13,6 +13,8 @@ pub loop-status-preserved : goal.loop-status-preserved
 loop-status-preserved c =
     let statuses = c.args.statuses.now in
     let status = c.loop-status.status in
-    ap (λ bytes. bytes ++ lines_of statuses (range_with_len (status + 1) (600 - (status + 1)))) c.in_ok-push_str.ensures.bytes
-    ∙ lines_go_on (string_bytes c.loop-status.lines) c.as_str.result.now statuses (lines_of statuses all_statuses) status
+    ap (λ bytes. bytes ++ lines_of statuses (range_with_len (status + 1) (600 - (status + 1))))
+    c.in_ok-push_str.ensures.bytes
+    ∙ lines_go_on (string_bytes c.loop-status.lines) c.as_str.result.now statuses (lines_of statuses all_statuses)
+    status
     c.loop-status-test.true (c.as_str.ensures.value ∙ c.in_ok-line.ensures) c.loop-status.invariant

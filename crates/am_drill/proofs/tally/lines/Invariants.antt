@@ -6,4 +6,5 @@ use Rattle.am_drill.proofs.tally.lines.Given as goal
 -- with the lines that are left these are all lines
 abbrev pub invariant-loop-status : goal.invariant-loop-status
 invariant-loop-status l =
-    string_bytes l.lines ++ lines_of l.statuses (range_with_len l.status (600 - l.status)) ≡ lines_of l.statuses all_statuses
+    string_bytes l.lines ++ lines_of l.statuses (range_with_len l.status (600 - l.status))
+    ≡ lines_of l.statuses all_statuses

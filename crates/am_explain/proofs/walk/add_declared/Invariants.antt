@@ -7,5 +7,7 @@ use Rattle.am_explain.proofs.walk.add_declared.Given as goal
 
 abbrev pub invariant-loop-owner : goal.invariant-loop-owner
 invariant-loop-owner g l =
-    AddsAlong (declared_accounts l.grounds.installed.now (question_of l.grounds.question) l.shown) (filters_in l.grounds.question.kind)
-    l.owner-items l.owner-index l.initial.told.items l.told.items l.initial.steps l.steps (IsSome l.grounds.question.intent.now.component)
+    AddsAlong (declared_accounts l.grounds.installed.now (question_of l.grounds.question) l.shown)
+    (filters_in l.grounds.question.kind)
+    l.owner-items l.owner-index l.initial.told.items l.told.items l.initial.steps l.steps
+    (IsSome l.grounds.question.intent.now.component)

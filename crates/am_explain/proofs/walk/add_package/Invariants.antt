@@ -7,5 +7,7 @@ use Rattle.am_explain.proofs.walk.add_package.Given as goal
 
 abbrev pub invariant-loop-decl : goal.invariant-loop-decl
 invariant-loop-decl g l =
-    AddsAlong (accounts_from l.grounds.installed.now (question_of l.grounds.question) l.owner) (filters_from l.grounds.question.kind)
-    l.decl-items l.decl-index l.initial.told.items l.told.items l.initial.steps l.steps (IsSome l.grounds.question.intent.now.component)
+    AddsAlong (accounts_from l.grounds.installed.now (question_of l.grounds.question) l.owner)
+    (filters_from l.grounds.question.kind)
+    l.decl-items l.decl-index l.initial.told.items l.told.items l.initial.steps l.steps
+    (IsSome l.grounds.question.intent.now.component)

@@ -21,16 +21,20 @@ returns-in_ok-push-in-Some-clause-noted c =
 
 pub returns-in_ok-push-in-Some-clause-others : goal.returns-in_ok-push-in-Some-clause-others
 returns-in_ok-push-in-Some-clause-others c =
-    λ k. ap (λ l. spots_without l c.args.spot.uid) (returns-in_ok-push-in-Some-clause-noted c k) ∙ noted_keeps _ c.args.spot _
+    λ k. ap (λ l. spots_without l c.args.spot.uid) (returns-in_ok-push-in-Some-clause-noted c k)
+    ∙ noted_keeps _ c.args.spot _
 
 pub returns-in_ok-insert-in-None-clause-noted : goal.returns-in_ok-insert-in-None-clause-noted
 returns-in_ok-insert-in-None-clause-noted c =
     let w = c.push-in-None.new.self in
     noted_written c.args.lists.now c.insert.new.self c.args.key w
-    (λ q. c.in_ok-insert-in-None.ensures.updates.0 q ∙ ap (λ m. cond (same_key c.args.key q) (Some w) (get same_key m q)) c.get_mut.follows.holds-at-none)
+    (λ q. c.in_ok-insert-in-None.ensures.updates.0 q ∙ ap (λ m. cond (same_key c.args.key q) (Some w)
+    (get same_key m q)) c.get_mut.follows.holds-at-none)
     c.args.spot
-    (c.in_ok-push-in-None.ensures.items ∙ ap (λ l. l ++ c.args.spot ∷ []) (c.new-spots.ensures.items ∙ ap spots_in c.in-None.ensures.value))
+    (c.in_ok-push-in-None.ensures.items ∙ ap (λ l. l ++ c.args.spot ∷ [])
+    (c.new-spots.ensures.items ∙ ap spots_in c.in-None.ensures.value))
 
 pub returns-in_ok-insert-in-None-clause-others : goal.returns-in_ok-insert-in-None-clause-others
 returns-in_ok-insert-in-None-clause-others c =
-    λ k. ap (λ l. spots_without l c.args.spot.uid) (returns-in_ok-insert-in-None-clause-noted c k) ∙ noted_keeps _ c.args.spot _
+    λ k. ap (λ l. spots_without l c.args.spot.uid) (returns-in_ok-insert-in-None-clause-noted c k)
+    ∙ noted_keeps _ c.args.spot _

@@ -21,17 +21,20 @@ loop-i-preserved c =
         noted = λ key.
             let base = spots_at c.args.lists.now key in
             ap (λ m. spots_at m key) w.lists-is
-            ∙ noted_more kind owner front group key spot base (spots_at c.loop-i.lists key) (c.loop-i.invariant.noted key) (spots_at w.note_group.new.lists key)
+            ∙ noted_more kind owner front group key spot base (spots_at c.loop-i.lists key)
+            (c.loop-i.invariant.noted key) (spots_at w.note_group.new.lists key)
             (sym c.contains.ensures.value ∙ w.if-not-contains.true) (w.in_ok-note_group.ensures.noted key)
             ∙ ap (λ t. noted (asks_for kind owner t key) spot base) (sym more);
         others = λ key.
-            ap (λ m. spots_without (spots_at m key) spot.uid) w.lists-is ∙ w.in_ok-note_group.ensures.others key ∙ c.loop-i.invariant.others key;
+            ap (λ m. spots_without (spots_at m key) spot.uid) w.lists-is ∙ w.in_ok-note_group.ensures.others key
+            ∙ c.loop-i.invariant.others key;
       }
       | else-not-contains w ↦ record {
         noted = λ key.
             let base = spots_at c.args.lists.now key in
             ap (λ m. spots_at m key) w.lists-is
-            ∙ noted_before kind owner front group key spot base (spots_at c.loop-i.lists key) (c.loop-i.invariant.noted key)
+            ∙ noted_before kind owner front group key spot base (spots_at c.loop-i.lists key)
+            (c.loop-i.invariant.noted key)
             (sym c.contains.ensures.value ∙ w.if-not-contains.false)
             ∙ ap (λ t. noted (asks_for kind owner t key) spot base) (sym more);
         others = λ key. ap (λ m. spots_without (spots_at m key) spot.uid) w.lists-is ∙ c.loop-i.invariant.others key;
@@ -41,4 +44,5 @@ loop-i-preserved c =
 pub returns-clause-noted : goal.returns-clause-noted
 returns-clause-noted c = λ key.
     c.loop-i.invariant.noted key
-    ∙ ap (λ t. noted (asks_for c.args.kind c.args.owner.now t key) c.args.spot (spots_at c.args.lists.now key)) (take_all c.loop-i.i c.args.groups.now (omega arith))
+    ∙ ap (λ t. noted (asks_for c.args.kind c.args.owner.now t key) c.args.spot (spots_at c.args.lists.now key))
+    (take_all c.loop-i.i c.args.groups.now (omega arith))

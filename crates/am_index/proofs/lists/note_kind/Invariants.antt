@@ -10,8 +10,10 @@ use Rattle.am_index.proofs.lists.note_kind.Given as goal
 abbrev pub invariant-loop-position : goal.invariant-loop-position
 invariant-loop-position l = record {
   noted : (key : Key) →
-      spots_at l.lists key ++ cond (is_kind key.kind l.kind) (spots_where (λ m. is_under key m.owner m.decl) (members_from l.kind l.owner l.position l.place (drop l.position l.decls))) []
-      ≡ spots_at l.initial.lists key ++ cond (is_kind key.kind l.kind) (spots_where (λ m. is_under key m.owner m.decl) (members_from l.kind l.owner 0 0 l.decls)) [];
+      spots_at l.lists key ++ cond (is_kind key.kind l.kind) (spots_where (λ m. is_under key m.owner m.decl)
+      (members_from l.kind l.owner l.position l.place (drop l.position l.decls))) []
+      ≡ spots_at l.initial.lists key ++ cond (is_kind key.kind l.kind)
+      (spots_where (λ m. is_under key m.owner m.decl) (members_from l.kind l.owner 0 0 l.decls)) [];
   others : KeepsOthers l.owner.uid l.initial.lists l.lists;
   place : l.place ≤ l.position;
 }

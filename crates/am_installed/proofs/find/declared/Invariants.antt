@@ -4,4 +4,5 @@ use Rattle.am_installed.proofs.find.declared.Given as goal
 
 -- the packages that are left give what all of them give
 abbrev pub invariant-loop-package : goal.invariant-loop-package
-invariant-loop-package l = declared (drop l.package-index l.packages) l.kind l.component ≡ declared l.packages l.kind l.component
+invariant-loop-package l = declared (drop l.package-index l.packages) l.kind l.component
+    ≡ declared l.packages l.kind l.component

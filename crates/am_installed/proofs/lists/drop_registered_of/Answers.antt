@@ -4,4 +4,5 @@ use Rattle.am_types.specs.declared.resolve.Registration.{Registration}
 use Rattle.am_installed.proofs.lists.drop_registered_of.Goals as goal
 
 pub returns : goal.returns
-returns c = filter_same _ (λ (x : Registration). not (eqb x.uid c.args.uid)) _ (λ x b f k. search rules) _ _ c.retain.ensures.filtered
+returns c = filter_same _ (λ (x : Registration). not (eqb x.uid c.args.uid)) _ (λ x b f k. search rules) _ _
+    c.retain.ensures.filtered

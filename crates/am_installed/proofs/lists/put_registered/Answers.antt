@@ -6,7 +6,11 @@ use Rattle.am_installed.proofs.lists.put_registered.Goals as goal
 pub insert-requires : goal.insert-requires
 insert-requires c =
     rw (c.place_of-place.ensures, c.deref.ensures.value)
-    (omega (arith, place_within before_registered c.args.registration c.args.registered.now.items, c.args.registered.now.ok.0))
+    (omega (
+      arith,
+      place_within before_registered c.args.registration c.args.registered.now.items,
+      c.args.registered.now.ok.0,
+    ))
 
 pub returns-clause-put : goal.returns-clause-put
 returns-clause-put c =

@@ -8,4 +8,5 @@ pub loop-place-preserved : goal.loop-place-preserved
 loop-place-preserved c =
     rw c.stop_if.ensures
     (map_over_more (λ (p : Package). cond (eqb p.uid c.args.uid) (record p { stopped = c.args.stopped }) p)
-    c.args.packages.now.items c.loop-place.packages.items c.loop-place.place c.index_mut-package.result.now (grind (arith, common_steps)) c.loop-place.invariant c.index_mut-package.ensures.value)
+    c.args.packages.now.items c.loop-place.packages.items c.loop-place.place c.index_mut-package.result.now
+    (grind (arith, common_steps)) c.loop-place.invariant c.index_mut-package.ensures.value)

@@ -10,19 +10,35 @@ use Rattle.am_live_pendings.proofs.pendings.get.Goals as goal
 pub returns-in-Ok-clause-done : goal.returns-in-Ok-clause-done
 unfolding pending_get
 returns-in-Ok-clause-done g c = λ (state : State).
-    let asked : ℤ → Asked = λ code. record { creator = c.args.caller; kind = c.args.kind; code = code; intent = c.args.intent; flags = c.args.flags } in
+    let asked : ℤ → Asked = λ code. record {
+      creator = c.args.caller;
+      kind = c.args.kind;
+      code = code;
+      intent =
+          c.args.intent;
+      flags = c.args.flags;
+    } in
     ap (after_get (record state { pendings = c.args.pending.now }))
-    (ap (λ (code : ℤ). get c.args.pending.now (asked code)) (sym (to_z-of_z w64 c.args.code c.ranges.code)) ∙ c.in-Ok.ensures.answer)
+    (ap (λ (code : ℤ). get c.args.pending.now (asked code)) (sym (to_z-of_z w64 c.args.code c.ranges.code))
+    ∙ c.in-Ok.ensures.answer)
 
 pub returns-in-Err-clause-done : goal.returns-in-Err-clause-done
 unfolding pending_get
 returns-in-Err-clause-done g c =
-    let asked : ℤ → Asked = λ code. record { creator = c.args.caller; kind = c.args.kind; code = code; intent = c.args.intent; flags = c.args.flags } in
+    let asked : ℤ → Asked = λ code. record {
+      creator = c.args.caller;
+      kind = c.args.kind;
+      code = code;
+      intent =
+          c.args.intent;
+      flags = c.args.flags;
+    } in
     refused_is (λ (state : State). after_get (record state { pendings = c.args.pending.now }))
     (λ (state : State) (left : Pendings). record state { pendings = left })
     (get c.args.pending.now (asked c.args.code)) c.in-Err.fault c.args.pending.now c.get.new.self c.refused.result
     (λ (state : State). refl) (
-      subst (λ (code : ℤ). IsRefusal c.in-Err.fault (get c.args.pending.now (asked code))) (to_z-of_z w64 c.args.code c.ranges.code) c.in-Err.ensures.answer.0,
+      subst (λ (code : ℤ). IsRefusal c.in-Err.fault (get c.args.pending.now (asked code)))
+          (to_z-of_z w64 c.args.code c.ranges.code) c.in-Err.ensures.answer.0,
       c.in-Err.ensures.answer.1,
     )
     c.refused.ensures.rule c.refused.ensures.known

@@ -10,7 +10,8 @@ use Rattle.am_live_pendings.proofs.pendings.give.Goals as goal
 
 pub returns-in_default-clause-done : goal.returns-in_default-clause-done
 returns-in_default-clause-done g c = λ (state : State).
-    given_to (record state { board = c.args.board.now; pendings = c.args.pending.now }) c.args.caller c.args.token c.args.name.now
+    given_to (record state { board = c.args.board.now; pendings = c.args.pending.now }) c.args.caller c.args.token
+    c.args.name.now
     None (sym c.package_named.ensures ∙ ap option_copied c.in_default.is)
 
 pub returns-in-Ok-clause-done : goal.returns-in-Ok-clause-done
@@ -30,5 +31,6 @@ returns-in-Err-clause-done g c =
     ∙ is state)
     (refused_is (λ (state : State). after_change (before state))
     (λ (state : State) (left : Pendings). record state { board = c.args.board.now; pendings = left })
-    (give c.args.pending.now c.args.token c.args.caller c.in-Some.to.now.uid) c.in-Err.fault c.args.pending.now c.give.new.self c.refused.result
+    (give c.args.pending.now c.args.token c.args.caller c.in-Some.to.now.uid) c.in-Err.fault c.args.pending.now
+    c.give.new.self c.refused.result
     (λ (state : State). refl) c.in-Err.ensures.answer c.refused.ensures.rule c.refused.ensures.known)

@@ -12,11 +12,15 @@ loop-i-preserved c =
     let keys = c.loop-i.later.keys in
     let d = get_or decls (i - 1) c.index-decls-i.result in
     let is : d ≡ get_or decls (i - 1) d = ap (get_or decls (i - 1)) c.index-decls-i.is in
-    let added = λ (text : List ℕ). c.in_ok-insert.ensures.updates.0 text ∙ ap (λ (k : List ℕ). cond (is_eq (slice_cmp nat_cmp k text)) true (is_among text keys)) c.in_ok-clone.ensures.cases in
+    let added = λ (text : List ℕ). c.in_ok-insert.ensures.updates.0 text
+    ∙ ap (λ (k : List ℕ). cond (is_eq (slice_cmp nat_cmp k text)) true (is_among text keys))
+    c.in_ok-clone.ensures.cases in
     let stands : c.contains.result ≡ is_among d.class keys = c.contains.ensures in
-    let chosen = repeated_more decls i d c.loop-i-test.true c.loop-i.invariant.within is keys c.loop-i.repeated c.loop-i.invariant.later c.loop-i.invariant.repeated in
+    let chosen = repeated_more decls i d c.loop-i-test.true c.loop-i.invariant.within is keys c.loop-i.repeated
+    c.loop-i.invariant.later c.loop-i.invariant.repeated in
     record {
       within = omega arith;
-      later = later_more decls i d c.loop-i-test.true c.loop-i.invariant.within is keys c.insert.new.self.keys added c.loop-i.invariant.later;
+      later = later_more decls i d c.loop-i-test.true c.loop-i.invariant.within is keys c.insert.new.self.keys added
+          c.loop-i.invariant.later;
       repeated = rw (c.in_ok-repeated.ensures, stands) chosen;
     }

@@ -14,8 +14,11 @@ loop-i-preserved c =
     let is : p ≡ get_or packages (i - 1) p = ap (get_or packages (i - 1)) c.index-packages-i.is in
     let key = string_bytes c.in_ok-name.name in
     let named : key ≡ p.name = c.in_ok-name.ensures.ok ∙ c.as_str.ensures in
-    let added = λ (name : List ℕ). btree_map_updates_text key c.loop-i.places c.insert.new.self (Some (i - 1)) c.in_ok-insert.ensures.updates name ∙ ap (λ (bytes : List ℕ). cond (bytes_eq bytes name) (Some (i - 1)) (place_in c.loop-i.places name)) named in
+    let added = λ (name : List ℕ). btree_map_updates_text key c.loop-i.places c.insert.new.self (Some (i - 1))
+    c.in_ok-insert.ensures.updates name ∙ ap (λ (bytes : List ℕ). cond (bytes_eq bytes name) (Some (i - 1))
+    (place_in c.loop-i.places name)) named in
     record {
       within = omega arith;
-      found = place_more packages i p c.loop-i-test.true c.loop-i.invariant.within is (place_in c.loop-i.places) (place_in c.insert.new.self) added c.loop-i.invariant.found;
+      found = place_more packages i p c.loop-i-test.true c.loop-i.invariant.within is (place_in c.loop-i.places)
+          (place_in c.insert.new.self) added c.loop-i.invariant.found;
     }

@@ -9,14 +9,18 @@ returns-in_err-texts c =
     let items = c.args.held.items in
     let old = c.replace-texts.result in
     let within : c.args.right.holder < length items = omega (arith, c.args.held.ok.0) in
-    let is : old ≡ get_or items c.args.right.holder old = c.replace-texts.ensures.value ∙ c.index_mut.ensures.value ∙ ap (get_or items c.args.right.holder) (sym c.replace-texts.ensures.value) in
+    let is : old ≡ get_or items c.args.right.holder old = c.replace-texts.ensures.value ∙ c.index_mut.ensures.value
+    ∙ ap (get_or items c.args.right.holder) (sym c.replace-texts.ensures.value) in
     let p = err_from_is_err_and c.from_residual.result c.from_residual.ensures.1 in
-    rw (p.1, p.2) (put_fails c.in_err-texts.field-0.0 c.args.kind items c.args.right old within is c.in_err-texts.ensures)
+    rw (p.1, p.2) (put_fails c.in_err-texts.field-0.0 c.args.kind items c.args.right old within is
+    c.in_err-texts.ensures)
 
 pub returns : goal.returns
 returns c =
     let items = c.args.held.items in
     let old = c.replace-texts.result in
     let within : c.args.right.holder < length items = omega (arith, c.args.held.ok.0) in
-    let is : old ≡ get_or items c.args.right.holder old = c.replace-texts.ensures.value ∙ c.index_mut.ensures.value ∙ ap (get_or items c.args.right.holder) (sym c.replace-texts.ensures.value) in
-    put_back c.args.kind items c.args.right old c.replace-texts.new.dest c.in_ok-texts.texts within is c.in_ok-texts.ensures
+    let is : old ≡ get_or items c.args.right.holder old = c.replace-texts.ensures.value ∙ c.index_mut.ensures.value
+    ∙ ap (get_or items c.args.right.holder) (sym c.replace-texts.ensures.value) in
+    put_back c.args.kind items c.args.right old c.replace-texts.new.dest c.in_ok-texts.texts within is
+    c.in_ok-texts.ensures

@@ -7,4 +7,6 @@ use Rattle.am_manifest_filters.proofs.tables.unlisted.Goals as goal
 pub loop-key-init : goal.loop-key-init
 loop-key-init g c = λ known tells.
     let test = λ (key : List ℕ). not (known key) in
-    ap (λ (keys : List (String Global)). find test (map string_bytes keys)) (c.into_iter-key-iterator.ensures.into_iter_gives ∙ c.keys-key-items.ensures.rest) ∙ ap (find test) (keys_in_view c.args.table.now.entries)
+    ap (λ (keys : List (String Global)). find test (map string_bytes keys))
+    (c.into_iter-key-iterator.ensures.into_iter_gives ∙ c.keys-key-items.ensures.rest)
+    ∙ ap (find test) (keys_in_view c.args.table.now.entries)

@@ -9,5 +9,7 @@ use Rattle.am_pending.proofs.pendings.lent.Goals as goal
 pub returns-in-Some-clause-wanting : goal.returns-in-Some-clause-wanting
 returns-in-Some-clause-wanting c want =
     subst IsOk
-    (sym (lent_mutable (pending_of 0 c.args.kept.now) (option_copied c.args.fill) c.in-Some.fill.now (ap option_copied c.in-Some.is) (ap (λ key. key.mutable) (sym c.key-key.ensures) ∙ c.if-key.true)))
-    (subst (λ key. IsOk (fill_in key.intent c.in-Some.fill.now)) c.key-key.ensures (wanting_fill c.key-key.result.now.intent c.in-Some.fill.now c.fill_in.result want c.fill_in.ensures.full.1))
+    (sym (lent_mutable (pending_of 0 c.args.kept.now) (option_copied c.args.fill) c.in-Some.fill.now
+    (ap option_copied c.in-Some.is) (ap (λ key. key.mutable) (sym c.key-key.ensures) ∙ c.if-key.true)))
+    (subst (λ key. IsOk (fill_in key.intent c.in-Some.fill.now)) c.key-key.ensures
+    (wanting_fill c.key-key.result.now.intent c.in-Some.fill.now c.fill_in.result want c.fill_in.ensures.full.1))

@@ -9,6 +9,8 @@ loop-item-preserved c =
     let taken = c.loop-item.invariant.0 in
     let item = c.in-Some.item in (
       item ∷ taken,
-      c.loop-item.invariant.1 ∙ ap (λ l. l ++ taken) c.in-Some.ensures.items ∙ append_assoc c.pop.new.self.items (item ∷ []) taken,
-      c.in_ok-place_item.ensures ∙ ap (λ l. take 64 (place_item item l)) c.loop-item.invariant.2 ∙ first_placed 64 item (by_number taken),
+      c.loop-item.invariant.1 ∙ ap (λ l. l ++ taken) c.in-Some.ensures.items
+          ∙ append_assoc c.pop.new.self.items (item ∷ []) taken,
+      c.in_ok-place_item.ensures ∙ ap (λ l. take 64 (place_item item l)) c.loop-item.invariant.2
+          ∙ first_placed 64 item (by_number taken),
     )

@@ -4,7 +4,12 @@ use Rattle.am_queue.proofs.inbox.place_item.Goals as goal
 
 pub insert-requires : goal.insert-requires
 insert-requires c =
-    rw (c.place_of-place.ensures, c.deref.ensures.value) (omega (arith, place_within c.args.item.delivery c.args.items.now.items, c.args.items.now.ok.0))
+    rw (c.place_of-place.ensures, c.deref.ensures.value) (omega (
+      arith,
+      place_within c.args.item.delivery
+          c.args.items.now.items,
+      c.args.items.now.ok.0,
+    ))
 
 pub returns : goal.returns
 returns c =

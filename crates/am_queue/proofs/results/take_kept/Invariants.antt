@@ -8,7 +8,9 @@ use Rattle.am_queue.proofs.results.take_kept.Given as goal
 -- those up to here stay, and of the rest those that aren't taken
 abbrev pub invariant-loop-place : goal.invariant-loop-place
 invariant-loop-place l = record {
-  left : take l.place l.results.items ++ filter (λ (kept : broadcasts.Result). not (is_taken l.taken kept)) (drop l.place l.results.items) ≡ filter (λ (kept : broadcasts.Result). not (is_taken l.taken kept)) l.initial.results.items;
+  left : take l.place l.results.items ++ filter (λ (kept : broadcasts.Result). not (is_taken l.taken kept))
+      (drop l.place l.results.items) ≡ filter (λ (kept : broadcasts.Result). not (is_taken l.taken kept))
+      l.initial.results.items;
   within : l.place ≤ vec_len l.results;
   capacity : vec_capacity l.results ≡ vec_capacity l.initial.results;
   fewer : vec_len l.results ≤ vec_len l.initial.results;

@@ -7,10 +7,12 @@ returns-in-None c = single_none c.args.start.now c.args.tasks.now (sym c.task_wi
 
 pub returns-in-None-topmost_in : goal.returns-in-None-topmost_in
 returns-in-None-topmost_in c =
-    single_lost c.args.start.now c.args.tasks.now c.in-Some.place c.index-tasks-place.result (sym c.task_with.ensures ∙ c.in-Some.is) c.index-tasks-place.is c.in-None-topmost_in.ensures.found
+    single_lost c.args.start.now c.args.tasks.now c.in-Some.place c.index-tasks-place.result
+    (sym c.task_with.ensures ∙ c.in-Some.is) c.index-tasks-place.is c.in-None-topmost_in.ensures.found
 
 pub returns-in-Some-topmost_in : goal.returns-in-Some-topmost_in
 returns-in-Some-topmost_in c =
-    single_at c.args.start.now c.args.tasks.now c.in-Some.place c.in-Some-topmost_in.instance c.index-tasks-place.result (sym c.task_with.ensures ∙ c.in-Some.is) c.index-tasks-place.is
+    single_at c.args.start.now c.args.tasks.now c.in-Some.place c.in-Some-topmost_in.instance c.index-tasks-place.result
+    (sym c.task_with.ensures ∙ c.in-Some.is) c.index-tasks-place.is
     c.in-Some-topmost_in.ensures.found
     c.in-Some-topmost_in.ensures.within

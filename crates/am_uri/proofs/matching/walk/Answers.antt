@@ -15,7 +15,8 @@ loop-c-init c =
       text = rw (whole, c.chars-c-items.ensures.rest) c.utf8.path;
       repeated_written = rw c.requires.repeated at c.write_where.ensures;
       allowed_written = rw c.requires.allowed at c.write_where-2.ensures;
-      reached_so_far = rw (whole, c.chars-c-items.ensures.rest) (started_at 62 (map element_of c.args.elements.now) c.args.reached.now (chars c.args.path.now) c.requires.start (omega arith));
+      reached_so_far = rw (whole, c.chars-c-items.ensures.rest) (started_at 62 (map element_of c.args.elements.now)
+          c.args.reached.now (chars c.args.path.now) c.requires.start (omega arith));
     }
 
 pub skip-requires-clause-spare : goal.skip-requires-clause-spare
@@ -31,7 +32,8 @@ pub loop-c-preserved : goal.loop-c-preserved
 loop-c-preserved c =
     let held = c.loop-c.invariant in
     let split = c.in-Some.ensures.steps.0 in
-    let few : length (map element_of c.args.elements.now) < 63 * length c.args.reached.now = simp length-map c.requires.room in
+    let few : length (map element_of c.args.elements.now) < 63 * length c.args.reached.now = simp length-map
+    c.requires.room in
     let count : length c.loop-c.allowed ≡ length c.args.reached.now = omega arith in
     let written = rw count at c.write_allowed.ensures in
     record {
@@ -39,23 +41,32 @@ loop-c-preserved c =
       text = IsUtf8-past_char _ _ c.in-Some.c held.text split;
       repeated_written = held.repeated_written;
       allowed_written = written;
-      reached_so_far = walked 63 _ _ _ _ _ _ _ c.in-Some.c _ _ _ held.same_length few held.repeated_written written c.skip.ensures c.advance.ensures held.text split held.reached_so_far;
+      reached_so_far = walked 63 _ _ _ _ _ _ _ c.in-Some.c _ _ _ held.same_length few held.repeated_written written
+          c.skip.ensures c.advance.ensures held.text split held.reached_so_far;
     }
 
 pub returns-then-is_empty : goal.returns-then-is_empty
 returns-then-is_empty c =
     let held = c.loop-c.invariant in
     let split = c.in-Some.ensures.steps.0 in
-    let few : length (map element_of c.args.elements.now) < 63 * length c.args.reached.now = simp length-map c.requires.room in
+    let few : length (map element_of c.args.elements.now) < 63 * length c.args.reached.now = simp length-map
+    c.requires.room in
     let count : length c.loop-c.allowed ≡ length c.args.reached.now = omega arith in
     let written = rw count at c.write_allowed.ensures in
-    let on = walked 63 _ _ _ _ _ _ _ c.in-Some.c _ _ _ held.same_length few held.repeated_written written c.skip.ensures c.advance.ensures held.text split held.reached_so_far in
-    sym (emptied 63 (map element_of c.args.elements.now) c.advance.new.reached (chars c.next.new.self.rest.now) (c.if-is_empty.ensures refl)) ∙ on
+    let on = walked 63 _ _ _ _ _ _ _ c.in-Some.c _ _ _ held.same_length few held.repeated_written written c.skip.ensures
+    c.advance.ensures held.text split held.reached_so_far in
+    sym (emptied 63 (map element_of c.args.elements.now) c.advance.new.reached (chars c.next.new.self.rest.now)
+    (c.if-is_empty.ensures refl)) ∙ on
 
 pub returns : goal.returns
 returns c =
     let held = c.loop-c.invariant in
-    let few : length (map element_of c.args.elements.now) < 63 * length c.args.reached.now = simp length-map c.requires.room in
-    let place : length (map element_of c.args.elements.now) ≡ 63 * (length c.args.elements.now / 63) + length c.args.elements.now % 63 = simp length-map (omega arith) in
-    let last = ended 63 (map element_of c.args.elements.now) c.loop-c.reached c.write_where.new.words (length c.args.reached.now) (length c.args.elements.now / 63) (length c.args.elements.now % 63) held.same_length few held.repeated_written place (omega arith) in
-    c.is_reached.ensures ∙ rw c.skip-2.ensures last ∙ rw (chars_at_end _ c.in-None.ensures.steps.0.0) at held.reached_so_far
+    let few : length (map element_of c.args.elements.now) < 63 * length c.args.reached.now = simp length-map
+    c.requires.room in
+    let place : length (map element_of c.args.elements.now) ≡ 63 * (length c.args.elements.now / 63) + length
+    c.args.elements.now % 63 = simp length-map (omega arith) in
+    let last = ended 63 (map element_of c.args.elements.now) c.loop-c.reached c.write_where.new.words
+    (length c.args.reached.now) (length c.args.elements.now / 63) (length c.args.elements.now % 63) held.same_length
+    few held.repeated_written place (omega arith) in
+    c.is_reached.ensures ∙ rw c.skip-2.ensures last ∙ rw (chars_at_end _ c.in-None.ensures.steps.0.0) at
+    held.reached_so_far

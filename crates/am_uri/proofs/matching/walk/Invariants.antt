@@ -13,5 +13,6 @@ invariant-loop-c l = record {
   text : IsUtf8 (chars_rest l.c-iterator);
   repeated_written : l.repeated ≡ words_where 63 is_repeated (length l.fn.reached) (map element_of l.elements);
   allowed_written : l.allowed ≡ words_where 63 (allowed_at l.last) (length l.fn.reached) (map element_of l.elements);
-  reached_so_far : some_matches (map element_of l.elements) (flags 63 l.reached) (chars (chars_rest l.c-iterator)) ≡ matches (map element_of l.elements) (chars l.fn.path);
+  reached_so_far : some_matches (map element_of l.elements) (flags 63 l.reached) (chars (chars_rest l.c-iterator))
+      ≡ matches (map element_of l.elements) (chars l.fn.path);
 }

@@ -3,4 +3,5 @@ use Rattle.am_uri.proofs.Cuts.{split_first, split_first_is}
 use Rattle.am_uri.proofs.mime.split.Goals as goal
 
 pub returns : goal.returns
-returns c = split_first_is 47 c.args.text.now c.split_once.result (split_first 47 c.args.text.now c.split_once.result c.split_once.ensures.cases (omega arith))
+returns c = split_first_is 47 c.args.text.now c.split_once.result (split_first 47 c.args.text.now c.split_once.result
+    c.split_once.ensures.cases (omega arith))

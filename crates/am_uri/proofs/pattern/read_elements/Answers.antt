@@ -6,11 +6,14 @@ use Rattle.am_uri.proofs.PathReading.{room, one_more}
 use Rattle.am_uri.proofs.pattern.read_elements.Goals as goal
 use Rattle.am_uri.proofs.pattern.read_elements.Goals.{In-Some}
 
-held : (c : In-Some) → map element_of (take c.loop-element.count c.loop-element.elements) ++ (element_of c.in-Some.element ∷ elements_left c.next_element.new.rest) ≡ elements_of (marks_of (chars c.args.pattern.now))
+held : (c : In-Some) → map element_of (take c.loop-element.count c.loop-element.elements)
+    ++ (element_of c.in-Some.element ∷ elements_left c.next_element.new.rest)
+    ≡ elements_of (marks_of (chars c.args.pattern.now))
 held c = rw (sym c.in-Some.ensures.element) c.loop-element.invariant.read_so_far
 
 below : (c : In-Some) → c.loop-element.count < length c.loop-element.elements
-below c = room c.loop-element.elements c.loop-element.count _ _ c.args.pattern.now c.utf8.pattern (held c) (omega arith) c.loop-element.invariant.within
+below c = room c.loop-element.elements c.loop-element.count _ _ c.args.pattern.now c.utf8.pattern (held c) (omega arith)
+    c.loop-element.invariant.within
 
 pub bounds-elements-count : goal.bounds-elements-count
 bounds-elements-count c = below (goal.at.bounds-elements-count c).In-Some

@@ -9,7 +9,8 @@ invariant-loop-element l = record {
   same_length : length l.elements ≡ length l.initial.elements;
   within : l.count ≤ length l.elements;
   text : IsUtf8 (chars_rest l.rest);
-  read_so_far : map element_of (take l.count l.elements) ++ elements_left l.rest ≡ elements_of (marks_of (chars l.fn.pattern));
+  read_so_far : map element_of (take l.count l.elements) ++ elements_left l.rest
+      ≡ elements_of (marks_of (chars l.fn.pattern));
 }
 
 abbrev pub decreases-loop-element : goal.decreases-loop-element

@@ -6,5 +6,6 @@ abbrev pub invariant-loop-i : goal.invariant-loop-i
 invariant-loop-i l = record {
   same_length : length l.reached ≡ length l.initial.reached;
   carries : l.carry < 2;
-  so_far : take l.i l.reached ++ skipped 63 l.carry (drop l.i l.repeated) (drop l.i l.reached) ≡ skipped 63 0 l.repeated l.initial.reached;
+  so_far : take l.i l.reached ++ skipped 63 l.carry (drop l.i l.repeated) (drop l.i l.reached)
+      ≡ skipped 63 0 l.repeated l.initial.reached;
 }

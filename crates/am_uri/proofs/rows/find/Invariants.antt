@@ -9,7 +9,8 @@ abbrev pub invariant-loop-b : goal.invariant-loop-b
 invariant-loop-b l = record {
   within : l.b ≤ 21;
   same_length : length l.words ≡ length l.fn.words;
-  so_far : (elements : List Element) → AreRows elements l.rows → l.words ≡ words_where 63 (is_above l.b l.code) (length l.fn.words) elements;
+  so_far : (elements : List Element) → AreRows elements l.rows → l.words
+      ≡ words_where 63 (is_above l.b l.code) (length l.fn.words) elements;
 }
 
 abbrev pub decreases-loop-b : goal.decreases-loop-b

@@ -6,4 +6,5 @@ use Rattle.am_uri.proofs.Ends.{ends_path-ascii}
 use Rattle.am_uri.proofs.uri.before_query.Goals as goal
 
 pub range-requires-clause-end_boundary : goal.range-requires-clause-end_boundary
-range-requires-clause-end_boundary c = subst (IsCharBoundary c.args.text.now) (sym c.path_len.ensures) (IsCharBoundary-position ends_path c.args.text.now ends_path-ascii)
+range-requires-clause-end_boundary c = subst (IsCharBoundary c.args.text.now) (sym c.path_len.ensures)
+    (IsCharBoundary-position ends_path c.args.text.now ends_path-ascii)

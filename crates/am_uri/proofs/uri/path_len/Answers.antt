@@ -7,5 +7,7 @@ use Rattle.am_uri.proofs.uri.path_len.Goals as goal
 
 pub returns : goal.returns
 returns c =
-    let at = position_from_yields_List ends_path _ _ c.position.result c.position.ensures.ran (YieldsList-from_bytes c.args.text.now c.bytes.ensures.rest) (λ x b q k. search (rules, tests)) in
-    c.unwrap_or.ensures ∙ ap (λ o. unwrap_or o (length c.args.text.now)) at ∙ position-unwrapped ends_path c.args.text.now
+    let at = position_from_yields_List ends_path _ _ c.position.result c.position.ensures.ran
+    (YieldsList-from_bytes c.args.text.now c.bytes.ensures.rest) (λ x b q k. search (rules, tests)) in
+    c.unwrap_or.ensures ∙ ap (λ o. unwrap_or o (length c.args.text.now)) at
+    ∙ position-unwrapped ends_path c.args.text.now

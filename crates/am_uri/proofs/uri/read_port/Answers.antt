@@ -6,5 +6,6 @@ use Rattle.am_uri.proofs.uri.read_port.Goals as goal
 pub returns-then-is_port : goal.returns-then-is_port
 returns-then-is_port c =
     let port : is_port c.args.digits.now ≡ true = sym c.if-is_port.ensures in
-    let number : c.ok.result ≡ port_of c.args.digits.now = c.ok.ensures.value ∙ port_of-parse c.args.digits.now c.parse.result c.parse.ensures.value.0 port in
+    let number : c.ok.result ≡ port_of c.args.digits.now = c.ok.ensures.value
+    ∙ port_of-parse c.args.digits.now c.parse.result c.parse.ensures.value.0 port in
     rw (port, number)

@@ -6,4 +6,5 @@ use Rattle.am_uri.proofs.Ends.{ends_authority-ascii}
 use Rattle.am_uri.proofs.uri.split_authority.Goals as goal
 
 pub split_at-requires : goal.split_at-requires
-split_at-requires c = subst (IsCharBoundary c.in_ok-behind.behind.now) (sym c.authority_len.ensures) (IsCharBoundary-position ends_authority c.in_ok-behind.behind.now ends_authority-ascii)
+split_at-requires c = subst (IsCharBoundary c.in_ok-behind.behind.now) (sym c.authority_len.ensures)
+    (IsCharBoundary-position ends_authority c.in_ok-behind.behind.now ends_authority-ascii)

@@ -16,6 +16,7 @@ pub returns-in_default : goal.returns-in_default
 returns-in_default c =
     let none : has_port c.args.server.now ≡ false = elim c.in_default.branch [
       | in_default-via-in-Some+else-has_port w ↦ sym w.has_port.ensures ∙ w.if-has_port.false
-      | in_default-via-in_default w ↦ list_any-drop is_colon _ c.args.server.now (split_last 58 c.args.server.now None w.in_default.ensures.cases (omega arith)).0
+      | in_default-via-in_default w ↦ list_any-drop is_colon _ c.args.server.now
+          (split_last 58 c.args.server.now None w.in_default.ensures.cases (omega arith)).0
     ] in
     rw none

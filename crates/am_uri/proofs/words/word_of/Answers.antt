@@ -8,11 +8,13 @@ use Rattle.am_uri.proofs.words.word_of.Goals as goal
 pub overflow_mul-word : goal.overflow_mul-word
 overflow_mul-word c =
     let l = c.loop-i in
-    let few : length (map element_of (drop l.i c.args.elements.now)) ≤ 62 = simp (length-map, length-drop) (omega arith) in
+    let few : length (map element_of (drop l.i c.args.elements.now)) ≤ 62 = simp (length-map, length-drop) (omega arith)
+    in
     omega (arith, word_below (passes c.args.test) 62 (map element_of (drop l.i c.args.elements.now)) few)
 
 pub overflow_add-word : goal.overflow_add-word
 overflow_add-word c =
     let l = c.loop-i in
-    let few : length (map element_of (drop l.i c.args.elements.now)) ≤ 62 = simp (length-map, length-drop) (omega arith) in
+    let few : length (map element_of (drop l.i c.args.elements.now)) ≤ 62 = simp (length-map, length-drop) (omega arith)
+    in
     grind (arith, word_below (passes c.args.test) 62 (map element_of (drop l.i c.args.elements.now)) few)

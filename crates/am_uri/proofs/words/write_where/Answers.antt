@@ -9,5 +9,7 @@ loop-i-preserved c =
     let l = c.loop-i in
     record {
       same_length = simp length-set l.invariant.same_length;
-      so_far = simp length-set (write_on 63 (passes c.args.test) l.i c.min.result c.word_of.result l.words _ l.left.now c.split_at.result.0.now c.split_at.result.1.now (omega arith) l.invariant.so_far c.min.ensures c.split_at.ensures.front c.split_at.ensures.back c.word_of.ensures);
+      so_far = simp length-set (write_on 63 (passes c.args.test) l.i c.min.result c.word_of.result l.words _ l.left.now
+          c.split_at.result.0.now c.split_at.result.1.now (omega arith) l.invariant.so_far c.min.ensures
+          c.split_at.ensures.front c.split_at.ensures.back c.word_of.ensures);
     }

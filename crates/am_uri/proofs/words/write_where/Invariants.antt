@@ -6,5 +6,6 @@ use Rattle.am_uri.proofs.words.write_where.Given as goal
 abbrev pub invariant-loop-i : goal.invariant-loop-i
 invariant-loop-i l = record {
   same_length : length l.words ≡ length l.initial.words;
-  so_far : take l.i l.words ++ words_where 63 (passes l.test) (length l.words - l.i) (map element_of l.left) ≡ words_where 63 (passes l.test) (length l.words) (map element_of l.elements);
+  so_far : take l.i l.words ++ words_where 63 (passes l.test) (length l.words - l.i) (map element_of l.left)
+      ≡ words_where 63 (passes l.test) (length l.words) (map element_of l.elements);
 }

@@ -9,5 +9,6 @@ loop-i-preserved c =
     let packages = c.as_slice-package-items.result.now in
     let queries = c.as_slice-queries.result.now in
     let other = ne_eqb c.package-item.result.uid c.args.uid c.if-package-uid.false in
-    goes_on packages queries c.loop-i.i c.args.uid c.package-item.result c.loop-i-test.true c.package-item.is (omega (arith, c.if-i-queries.false)) other
+    goes_on packages queries c.loop-i.i c.args.uid c.package-item.result c.loop-i-test.true c.package-item.is
+    (omega (arith, c.if-i-queries.false)) other
     ∙ c.loop-i.invariant

@@ -8,4 +8,5 @@ use Rattle.am_wire_fields.proofs.fields.unlisted.Given as goal
 abbrev pub invariant-loop-key : goal.invariant-loop-key
 invariant-loop-key l =
     let fields = map (λ listed. listed.now) l.fields in
-    find (λ key. not (lists fields key)) (map string_bytes l.key-iterator) ≡ unlisted fields (members_view l.members.entries)
+    find (λ key. not (lists fields key)) (map string_bytes l.key-iterator)
+    ≡ unlisted fields (members_view l.members.entries)

@@ -7,4 +7,5 @@ use Rattle.am_wire_fields.proofs.lists.words_in.Given as goal
 abbrev pub invariant-loop-value : goal.invariant-loop-value
 invariant-loop-value l =
     let read = word_in (map (λ listed. listed.now) l.words) l.name in
-    front_then (map (λ word. word.now) l.said.items) (each read (map view (drop l.value-index l.values))) ≡ each read (map view l.values)
+    front_then (map (λ word. word.now) l.said.items) (each read (map view (drop l.value-index l.values)))
+    ≡ each read (map view l.values)

@@ -5,4 +5,5 @@ use Rattle.am_wire_read_back.proofs.bodies.request_text.Goals as goal
 
 pub returns-clause-read_back : goal.returns-clause-read_back
 returns-clause-read_back c =
-    text_read_back c.in_ok-to_string.field-0 (view c.in_ok-request_value.field-0) c.args.request.now c.in_ok-request_value.ensures c.in_ok-to_string.ensures.reads_back
+    text_read_back c.in_ok-to_string.field-0 (view c.in_ok-request_value.field-0) c.args.request.now
+    c.in_ok-request_value.ensures c.in_ok-to_string.ensures.reads_back

@@ -11,4 +11,5 @@ returns-then-text-lt1 c = elim c.then-text-lt1.branch [
 ]
 
 pub returns : goal.returns
-returns c = c.ok.ensures.value ∙ some_parsed c.args.text.now c.parse.result c.parse.ensures.value.0 (omega arith) (omega arith) (search rules)
+returns c = c.ok.ensures.value ∙ some_parsed c.args.text.now c.parse.result c.parse.ensures.value.0 (omega arith)
+    (omega arith) (search rules)

@@ -12,7 +12,9 @@ invariant_of-self c =
       links = c.self.invariant.links;
       registered =
           subst AreByNumber (sym c.new.ensures)
-          (whatever AreByNumber c.put_registered-put.result c.take-registered.result.items c.put_registered-put.new.registered.items
-          (place_registered c.args.registration c.take-registered.result.items) c.put_registered-put.ensures.put c.put_registered-put.ensures.same before
+          (whatever AreByNumber c.put_registered-put.result c.take-registered.result.items
+          c.put_registered-put.new.registered.items
+          (place_registered c.args.registration c.take-registered.result.items) c.put_registered-put.ensures.put
+          c.put_registered-put.ensures.same before
           (registered_in_order c.args.registration c.take-registered.result.items before));
     }

@@ -11,7 +11,8 @@ invariant_of-self c =
       grants =
           subst AreGrantsInOrder (sym c.new.ensures)
           (whatever AreGrantsInOrder c.set_right-set.result c.take-grants.result.items c.set_right-set.new.rights.items
-          (with_grant c.take-grants.result.items c.args.uid c.args.permission.now c.args.held) c.set_right-set.ensures.set c.set_right-set.ensures.same before
+          (with_grant c.take-grants.result.items c.args.uid c.args.permission.now c.args.held)
+          c.set_right-set.ensures.set c.set_right-set.ensures.same before
           (grants_in_order c.take-grants.result.items c.args.uid c.args.permission.now c.args.held before));
       packages = c.self.invariant.packages;
       links = c.self.invariant.links;

@@ -11,7 +11,8 @@ invariant_of-self c =
       links =
           subst AreLinksInOrder (sym c.new.ensures)
           (whatever AreLinksInOrder c.set_right-set.result c.take-links.result.items c.set_right-set.new.rights.items
-          (with_link c.take-links.result.items c.args.uid c.args.host.now c.args.approved) c.set_right-set.ensures.set c.set_right-set.ensures.same before
+          (with_link c.take-links.result.items c.args.uid c.args.host.now c.args.approved) c.set_right-set.ensures.set
+          c.set_right-set.ensures.same before
           (links_in_order c.take-links.result.items c.args.uid c.args.host.now c.args.approved before));
       packages = c.self.invariant.packages;
       grants = c.self.invariant.grants;

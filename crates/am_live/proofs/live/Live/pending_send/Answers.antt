@@ -17,7 +17,8 @@ returns-in-Ok-clause-done g c =
     let fill = option_copied c.args.fill in
     let state : State = at_moment c.args.self.now c.args.by.moment in
     let is : use_token c.args.self.now.pendings c.args.token c.args.by.uid fill ≡ Ok c.in-Ok.used =
-    ap (λ (s : State). use_token s.pendings c.args.token c.args.by.uid fill) (sym c.self.view_is) ∙ c.in-Ok.ensures.answer in
+    ap (λ (s : State). use_token s.pendings c.args.token c.args.by.uid fill) (sym c.self.view_is)
+    ∙ c.in-Ok.ensures.answer in
     IfOk-weaker c.after_use.result
     (λ (reply : Reply). after_use state c.args.token (Ok c.in-Ok.used) ≡ (reply, c.after_use.new.self))
     (λ (reply : Reply). pending_send state c.args.by.uid c.args.token fill ≡ (reply, c.after_use.new.self))

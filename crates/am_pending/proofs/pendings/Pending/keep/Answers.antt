@@ -6,6 +6,8 @@ use Rattle.am_pending.proofs.pendings.Pending.keep.Goals as goal
 
 pub invariant_of-self : goal.invariant_of-self
 invariant_of-self g c =
-    subst (λ (all : List Pending). IsIndexed all (token_at c.self.inside.tokens.entries) (count_at c.self.inside.counts.entries) c.self.inside.next) (sym c.set_extras.ensures.changed)
-    (mapped (updated c.args.token c.into_extras.result) (updated-leaves c.args.token c.into_extras.result) c.self.inside.records
+    subst (λ (all : List Pending). IsIndexed all (token_at c.self.inside.tokens.entries)
+    (count_at c.self.inside.counts.entries) c.self.inside.next) (sym c.set_extras.ensures.changed)
+    (mapped (updated c.args.token c.into_extras.result) (updated-leaves c.args.token c.into_extras.result)
+    c.self.inside.records
     (token_at c.self.inside.tokens.entries) (count_at c.self.inside.counts.entries) c.self.inside.next c.self.invariant)

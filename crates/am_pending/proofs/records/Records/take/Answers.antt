@@ -16,5 +16,6 @@ returns-clause-found g c =
 pub returns-clause-others : goal.returns-clause-others
 returns-clause-others g c =
     ap pendings_of c.remove.ensures.entries
-    ∙ removed c.args.token c.self.inside.by_token.entries (ap (lookup (is_at (nat_cmp c.args.token))) (sym c.remove.ensures.entries) ∙ c.remove.ensures.updates.1)
+    ∙ removed c.args.token c.self.inside.by_token.entries (ap (lookup (is_at (nat_cmp c.args.token)))
+    (sym c.remove.ensures.entries) ∙ c.remove.ensures.updates.1)
     ∙ ap (λ (all : List Pending). without_token all c.args.token) c.self.view_is

@@ -9,7 +9,9 @@ returns-clause-earliest g c =
     let q = c.self.inside in
     let heads : List ℕ = head_deadline q.foreground ++ head_deadline q.background in
     let normal : List ℕ = normal_deadlines q.normals.normal in
-    let joined : earliest (heads ++ normal) ≡ sooner (sooner (earliest (head_deadline q.foreground)) (earliest (head_deadline q.background))) (earliest normal) =
+    let joined : earliest (heads ++ normal) ≡ sooner (sooner (earliest (head_deadline q.foreground))
+    (earliest (head_deadline q.background))) (earliest normal) =
     joined_earliest heads normal
-    ∙ ap (λ (m : Option ℕ). sooner m (earliest normal)) (joined_earliest (head_deadline q.foreground) (head_deadline q.background)) in
+    ∙ ap (λ (m : Option ℕ). sooner m (earliest normal)) (joined_earliest (head_deadline q.foreground)
+    (head_deadline q.background)) in
     rw (← c.self.view_is) cc

@@ -7,4 +7,8 @@ pub returns-else-is_some : goal.returns-else-is_some
 returns-else-is_some c =
     let q = c.self.inside in
     let none : is_some c.holder.result ≡ false = sym c.is_some.ensures ∙ c.if-is_some.false in
-    rw (← c.self.view_is, unheld c.args.number q.normals.normal (no_holder c.holder.result _ c.holder.ensures.held none) c.holder.ensures.live) refl
+    rw (
+      ← c.self.view_is,
+      unheld c.args.number q.normals.normal (no_holder c.holder.result _ c.holder.ensures.held none)
+          c.holder.ensures.live,
+    ) refl

@@ -11,4 +11,8 @@ pub returns-else-is_some : goal.returns-else-is_some
 returns-else-is_some c =
     let q = c.self.inside in
     let none : is_some c.holder.result ≡ false = sym c.is_some.ensures ∙ c.if-is_some.false in
-    rw (← c.self.view_is, unheld_result c.args.number q.results.list (no_holder c.holder.result _ c.holder.ensures none)) refl
+    rw (
+      ← c.self.view_is,
+      unheld_result c.args.number q.results.list
+          (no_holder c.holder.result _ c.holder.ensures none),
+    ) refl

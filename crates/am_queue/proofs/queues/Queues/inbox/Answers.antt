@@ -8,5 +8,17 @@ pub returns : goal.returns
 returns c =
     let q = c.self.inside in
     let uid = c.args.uid in
-    rw (c.new.ensures, c.in_ok-first_by_number.ensures, c.in_ok-push_items.ensures, c.in_ok-push_item-2.ensures, c.in_ok-item-2.ensures, c.in_ok-push_item.ensures, c.in_ok-item.ensures, c.in_ok-items.ensures.first, ← c.self.view_is)
-    (shown_of_first 64 (items_of uid q.normals.normal) (flat_map (turn_items uid) q.foreground) (flat_map (turn_items uid) q.background) (result_items uid q.results.list) c.in_ok-items.ensures.rise)
+    rw (
+      c.new.ensures,
+      c.in_ok-first_by_number.ensures,
+      c.in_ok-push_items.ensures,
+      c.in_ok-push_item-2.ensures,
+      c.in_ok-item-2.ensures,
+      c.in_ok-push_item.ensures,
+      c.in_ok-item.ensures,
+      c.in_ok-items.ensures.first,
+      ←
+          c.self.view_is,
+    )
+    (shown_of_first 64 (items_of uid q.normals.normal) (flat_map (turn_items uid) q.foreground)
+    (flat_map (turn_items uid) q.background) (result_items uid q.results.list) c.in_ok-items.ensures.rise)

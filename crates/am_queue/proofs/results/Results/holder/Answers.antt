@@ -14,4 +14,5 @@ returns-in-Some c =
     let kept = c.self.inside.kept.items in
     let there : IsOnly c.args.number kept c.in-Some.place = rw c.deref.ensures.value at c.in-Some.ensures in
     let found = c.index.result.now in
-    rw (c.sender.ensures, ← c.self.view_is) (held_by_first c.args.number kept found (rw (sym c.index.ensures) at (there.1 found)))
+    rw (c.sender.ensures, ← c.self.view_is) (held_by_first c.args.number kept found
+    (rw (sym c.index.ensures) at (there.1 found)))

@@ -11,7 +11,8 @@ returns c =
     let es = c.self.inside.by_number.entries in
     rw (← c.self.view_is)
     (none_that test c.args.from es
-    (ap (first_that test) (sym (c.into_iter-number-iterator.ensures.into_iter_gives ∙ c.range-number-items.ensures.between tt))
+    (ap (first_that test) (sym (c.into_iter-number-iterator.ensures.into_iter_gives
+    ∙ c.range-number-items.ensures.between tt))
     ∙ sym c.loop-number.invariant.2 ∙ ap (first_that test) c.in-None.ensures.steps.0))
 
 pub returns-then-strikes : goal.returns-then-strikes
@@ -19,8 +20,10 @@ returns-then-strikes c =
     let test = λ (p : Posted). strikes c.args.struck.now p.spot in
     let es = c.self.inside.by_number.entries in
     let is : strikes c.args.struck.now c.delivery.inside.spot ≡ true = sym c.strikes.ensures ∙ c.if-strikes.true in
-    let here : first_that test ((c.in-Some.number.now, c.in-Some.delivery.now) ∷ c.next.new.self) ≡ Some c.in-Some.number.now = rw (← c.delivery.view_is, is) refl in
+    let here : first_that test ((c.in-Some.number.now, c.in-Some.delivery.now) ∷ c.next.new.self)
+    ≡ Some c.in-Some.number.now = rw (← c.delivery.view_is, is) refl in
     rw (← c.self.view_is)
     (next_that test c.args.from es c.in-Some.number.now (ascending es c.range-number-items.ensures.ordered)
-    (ap (first_that test) (sym (c.into_iter-number-iterator.ensures.into_iter_gives ∙ c.range-number-items.ensures.between tt))
+    (ap (first_that test) (sym (c.into_iter-number-iterator.ensures.into_iter_gives
+    ∙ c.range-number-items.ensures.between tt))
     ∙ sym c.loop-number.invariant.2 ∙ ap (first_that test) c.in-Some.ensures.steps ∙ here))

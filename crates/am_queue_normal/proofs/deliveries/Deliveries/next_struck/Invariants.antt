@@ -9,4 +9,5 @@ abbrev pub invariant-loop-number : goal.invariant-loop-number
 invariant-loop-number l =
     (goal.iterator-loop-number).can_next l.number-iterator ×
     (goal.iterator-loop-number).is_finite l.number-iterator ×
-    (first_that (λ (p : Posted). strikes l.struck p.spot) l.number-iterator ≡ first_that (λ (p : Posted). strikes l.struck p.spot) l.initial.number-iterator)
+    (first_that (λ (p : Posted). strikes l.struck p.spot) l.number-iterator
+    ≡ first_that (λ (p : Posted). strikes l.struck p.spot) l.initial.number-iterator)

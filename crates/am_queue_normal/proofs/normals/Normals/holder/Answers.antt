@@ -8,7 +8,8 @@ use Rattle.am_queue_normal.proofs.normals.Normals.holder.Goals as goal
 
 pub returns-in-None-clause-held : goal.returns-in-None-clause-held
 returns-in-None-clause-held c =
-    rw (← c.self.view_is) (held_grouped c.args.number c.self.inside.deliveries ∙ ap (option_map (λ (p : Posted). at_once_by p.spot.uid)) (sym c.in-None.ensures))
+    rw (← c.self.view_is) (held_grouped c.args.number c.self.inside.deliveries
+    ∙ ap (option_map (λ (p : Posted). at_once_by p.spot.uid)) (sym c.in-None.ensures))
 
 pub returns-in-None-clause-live : goal.returns-in-None-clause-live
 returns-in-None-clause-live c = rw (← c.self.view_is) (all_live c.self.inside.deliveries)
@@ -16,7 +17,8 @@ returns-in-None-clause-live c = rw (← c.self.view_is) (all_live c.self.inside.
 pub returns-in-Some-clause-held : goal.returns-in-Some-clause-held
 returns-in-Some-clause-held c =
     rw (← c.self.view_is)
-    (held_grouped c.args.number c.self.inside.deliveries ∙ ap (option_map (λ (p : Posted). at_once_by p.spot.uid)) (sym c.in-Some.ensures)
+    (held_grouped c.args.number c.self.inside.deliveries ∙ ap (option_map (λ (p : Posted). at_once_by p.spot.uid))
+    (sym c.in-Some.ensures)
     ∙ ap (λ (p : Posted). Some (at_once_by p.spot.uid)) (sym c.delivery.view_is))
 
 pub returns-in-Some-clause-live : goal.returns-in-Some-clause-live

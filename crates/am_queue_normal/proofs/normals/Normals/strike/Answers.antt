@@ -7,7 +7,8 @@ use Rattle.am_queue_normal.proofs.normals.Normals.strike.Goals as goal
 pub loop-number-preserved : goal.loop-number-preserved
 loop-number-preserved c =
     let keeps = λ (d : Delivery). not (strikes c.args.struck.now d.spot) in
-    let left : c.finish.new.self.normal ≡ normals_keeping (is_other c.in-Some.number) c.loop-number.self.normal = ap (λ (k : Kept). k.normal) c.finish.ensures.normal in record {
+    let left : c.finish.new.self.normal ≡ normals_keeping (is_other c.in-Some.number) c.loop-number.self.normal = ap
+    (λ (k : Kept). k.normal) c.finish.ensures.normal in record {
       others = ap (normals_keeping keeps) left ∙ c.in-Some.ensures.all.1 ∙ c.loop-number.invariant.others;
       end = ap (λ (k : Kept). k.end) c.finish.ensures.normal ∙ c.loop-number.invariant.end;
       below = subst (PassBelow keeps c.in-Some.number) (sym left) c.in-Some.ensures.below;

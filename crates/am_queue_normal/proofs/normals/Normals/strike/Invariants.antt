@@ -8,7 +8,8 @@ use Rattle.am_queue_normal.proofs.normals.Normals.strike.Given as goal
 -- what isn't struck is the same, and nothing with a lower number is
 abbrev pub invariant-loop-number : goal.invariant-loop-number
 invariant-loop-number l = record {
-  others : normals_keeping (λ (d : Delivery). not (strikes l.struck d.spot)) l.self.normal ≡ normals_keeping (λ (d : Delivery). not (strikes l.struck d.spot)) l.initial.self.normal;
+  others : normals_keeping (λ (d : Delivery). not (strikes l.struck d.spot)) l.self.normal
+      ≡ normals_keeping (λ (d : Delivery). not (strikes l.struck d.spot)) l.initial.self.normal;
   end : l.self.end ≡ l.initial.self.end;
   below : PassBelow (λ (d : Delivery). not (strikes l.struck d.spot)) l.from l.self.normal;
   counted : Covers l.live (normals_of l.self.normal);

@@ -6,4 +6,6 @@ use Rattle.am_queue_normal.proofs.pairs.Pairs.add.Goals as goal
 
 pub returns-clause-ok : goal.returns-clause-ok
 returns-clause-ok c = λ key' number'.
-    rw (← c.self.view_is, ← same_key c.args.key c.args.number key' number') (c.in_ok-insert.ensures.updates.0 (key', number') ∙ added (is_at (by_both (c.args.key, c.args.number)) (key', number')) (has c.self.inside.keys.keys key' number'))
+    rw (← c.self.view_is, ← same_key c.args.key c.args.number key' number')
+    (c.in_ok-insert.ensures.updates.0 (key', number') ∙ added (is_at (by_both (c.args.key, c.args.number))
+    (key', number')) (has c.self.inside.keys.keys key' number'))

@@ -6,4 +6,6 @@ use Rattle.am_queue_normal.proofs.pairs.Pairs.remove.Goals as goal
 
 pub returns : goal.returns
 returns c = λ key' number'.
-    rw (← c.self.view_is, ← same_key c.args.key c.args.number key' number') (c.remove.ensures.updates.0 (key', number') ∙ removed (is_at (by_both (c.args.key, c.args.number)) (key', number')) (has c.self.inside.keys.keys key' number'))
+    rw (← c.self.view_is, ← same_key c.args.key c.args.number key' number')
+    (c.remove.ensures.updates.0 (key', number') ∙ removed (is_at (by_both (c.args.key, c.args.number))
+    (key', number')) (has c.self.inside.keys.keys key' number'))

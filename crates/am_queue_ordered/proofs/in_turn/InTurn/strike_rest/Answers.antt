@@ -7,6 +7,8 @@ use Rattle.am_queue_ordered.proofs.in_turn.InTurn.strike_rest.Goals as goal
 
 pub returns : goal.returns
 returns c =
-    let left : c.retain.new.self.items ≡ filter (λ (spot : Spot). not (strikes c.args.struck.now spot)) c.self.inside.rest.items =
-    filter_same _ (λ (spot : Spot). not (strikes c.args.struck.now spot)) _ (λ x b f' k. search rules) _ _ c.retain.ensures.filtered in
+    let left : c.retain.new.self.items ≡ filter (λ (spot : Spot). not (strikes c.args.struck.now spot))
+    c.self.inside.rest.items =
+    filter_same _ (λ (spot : Spot). not (strikes c.args.struck.now spot)) _ (λ x b f' k. search rules) _ _
+    c.retain.ensures.filtered in
     rw (left, ← c.self.view_is) refl

@@ -9,9 +9,12 @@ use Rattle.am_queue_ordered.proofs.queue.Queue.strike.Goals as goal
 
 pub invariant_of-self : goal.invariant_of-self
 invariant_of-self c =
-    let all : c.loop-place.self-inside.turns.items ≡ map (strike (strikes c.args.struck.now)) c.self.inside.turns.items = grind (arith, common_steps) in
+    let all : c.loop-place.self-inside.turns.items ≡ map (strike (strikes c.args.struck.now)) c.self.inside.turns.items
+    = grind (arith, common_steps) in
     subst AllWait (sym all) (waiting_struck (strikes c.args.struck.now) c.self.inside.turns.items c.self.invariant)
 
 pub loop-place-preserved : goal.loop-place-preserved
 loop-place-preserved c =
-    rw c.strike.ensures (map_over_more (strike (strikes c.args.struck.now)) c.self.inside.turns.items c.loop-place.self-inside.turns.items c.loop-place.place c.index_mut-turn.result.now (grind (arith, common_steps)) c.loop-place.invariant c.index_mut-turn.ensures.value)
+    rw c.strike.ensures (map_over_more (strike (strikes c.args.struck.now)) c.self.inside.turns.items
+    c.loop-place.self-inside.turns.items c.loop-place.place c.index_mut-turn.result.now
+    (grind (arith, common_steps)) c.loop-place.invariant c.index_mut-turn.ensures.value)

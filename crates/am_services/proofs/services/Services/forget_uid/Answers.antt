@@ -10,10 +10,12 @@ use Rattle.am_services.proofs.services.Services.forget_uid.Goals as goal
 pub invariant_of-self : goal.invariant_of-self
 invariant_of-self c =
     subst (λ (l : List Service). are_apart l ≡ true)
-    (sym (filter_same _ (λ (service : Service). not (service.owner == c.args.uid)) _ (λ x b f k. search rules) _ _ c.retain.ensures.filtered))
+    (sym (filter_same _ (λ (service : Service). not (service.owner == c.args.uid)) _ (λ x b f k. search rules) _ _
+    c.retain.ensures.filtered))
     (left_apart (λ (service : Service). not (service.owner == c.args.uid)) c.self.inside.running.items c.self.invariant)
 
 pub returns : goal.returns
 returns c =
-    filter_same _ (λ (service : Service). not (service.owner == c.args.uid)) _ (λ x b f k. search rules) _ _ c.retain.ensures.filtered
+    filter_same _ (λ (service : Service). not (service.owner == c.args.uid)) _ (λ x b f k. search rules) _ _
+    c.retain.ensures.filtered
     ∙ ap (λ (l : List Service). filter (λ (service : Service). not (service.owner == c.args.uid)) l) c.self.view_is

@@ -5,11 +5,18 @@ use Rattle.am_tasks.proofs.tasks.Tasks.back.Goals as goal
 
 pub returns-in_err-seen-clause-none : goal.returns-in_err-seen-clause-none
 returns-in_err-seen-clause-none c =
-    let all : Tasks = record { tasks = c.self.inside.tasks.items; next_task = c.self.inside.next_task; next_instance = c.self.inside.next_instance } in
+    let all : Tasks = record {
+      tasks = c.self.inside.tasks.items;
+      next_task = c.self.inside.next_task;
+      next_instance =
+          c.self.inside.next_instance;
+    } in
     let none : None ≡ seen_number (seen all.tasks) = rw c.deref.ensures.value at c.in_err-seen.ensures in
     (λ _. rw (← c.self.view_is) (nothing_seen all c.self.invariant none), λ _. rw c.from_residual.ensures refl)
 
 pub returns-clause-ended : goal.returns-clause-ended
 returns-clause-ended c =
-    let some : Some c.in_ok-seen.seen ≡ seen_number (seen c.self.inside.tasks.items) = rw c.deref.ensures.value at c.in_ok-seen.ensures in
-    ends_seen c.args.self.now c.end.new.self c.in_ok-seen.seen (subst (λ (t : Tasks). Some c.in_ok-seen.seen ≡ seen_number (seen t.tasks)) c.self.view_is some) c.end.ensures.ended
+    let some : Some c.in_ok-seen.seen ≡ seen_number (seen c.self.inside.tasks.items) = rw c.deref.ensures.value at
+    c.in_ok-seen.ensures in
+    ends_seen c.args.self.now c.end.new.self c.in_ok-seen.seen (subst
+    (λ (t : Tasks). Some c.in_ok-seen.seen ≡ seen_number (seen t.tasks)) c.self.view_is some) c.end.ensures.ended

@@ -8,17 +8,30 @@ use Rattle.am_tasks.proofs.tasks.Tasks.bring_to_front.Goals as goal
 
 pub invariant_of-self : goal.invariant_of-self
 invariant_of-self c =
-    let all : Tasks = record { tasks = c.self.inside.tasks.items; next_task = c.self.inside.next_task; next_instance = c.self.inside.next_instance } in
-    let low : c.args.place < length all.tasks = subst (λ (t : Tasks). c.args.place < length t.tasks) (sym c.self.view_is) c.requires.within in
+    let all : Tasks = record {
+      tasks = c.self.inside.tasks.items;
+      next_task = c.self.inside.next_task;
+      next_instance =
+          c.self.inside.next_instance;
+    } in
+    let low : c.args.place < length all.tasks = subst (λ (t : Tasks). c.args.place < length t.tasks)
+    (sym c.self.view_is) c.requires.within in
     rw (c.to_front.ensures c.index.result.now) (sound_fronted all c.args.place c.index.result.now c.self.invariant low)
 
 pub returns : goal.returns
 returns c =
     λ start d.
-    let all : Tasks = record { tasks = c.self.inside.tasks.items; next_task = c.self.inside.next_task; next_instance = c.self.inside.next_instance } in
-    let low : c.args.place < length all.tasks = subst (λ (t : Tasks). c.args.place < length t.tasks) (sym c.self.view_is) c.requires.within in
+    let all : Tasks = record {
+      tasks = c.self.inside.tasks.items;
+      next_task = c.self.inside.next_task;
+      next_instance =
+          c.self.inside.next_instance;
+    } in
+    let low : c.args.place < length all.tasks = subst (λ (t : Tasks). c.args.place < length t.tasks)
+    (sym c.self.view_is) c.requires.within in
     let task : Task = get_or all.tasks c.args.place d in
     let is : c.index.result.now ≡ task = same_at all.tasks c.args.place c.index.result.now d low c.index.ensures in
-    let landed = c.fronted-landed.ensures ∙ ap (λ (t : Task). let l : Landed = record { how = Fronted; task = t.number; instance = number_of (top_of t) } in l) is in
+    let landed = c.fronted-landed.ensures ∙ ap (λ (t : Task). let l : Landed = record
+    { how = Fronted; task = t.number; instance = number_of (top_of t) } in l) is in
     let tasks = c.to_front.ensures d ∙ brought all c.args.place d task.instances c.self.invariant low in
     rw (← c.self.view_is) (pair_of _ _ _ _ landed (ap (λ l. let t : Tasks = record all { tasks = l } in t) tasks))

@@ -8,11 +8,22 @@ use Rattle.am_tasks.proofs.tasks.Tasks.end.Goals as goal
 
 pub invariant_of-self : goal.invariant_of-self
 invariant_of-self c =
-    let all : Tasks = record { tasks = c.self.inside.tasks.items; next_task = c.self.inside.next_task; next_instance = c.self.inside.next_instance } in
+    let all : Tasks = record {
+      tasks = c.self.inside.tasks.items;
+      next_task = c.self.inside.next_task;
+      next_instance =
+          c.self.inside.next_instance;
+    } in
     rw c.leave.ensures (sound_left (stays c.args.leaving) all c.self.invariant)
 
 pub returns-clause-roots : goal.returns-clause-roots
 returns-clause-roots c =
     λ component roots.
-    let all : Tasks = record { tasks = c.self.inside.tasks.items; next_task = c.self.inside.next_task; next_instance = c.self.inside.next_instance } in
-    rw c.leave.ensures (end_keeps component (stays c.args.leaving) all (subst (AreRoots component) (sym c.self.view_is) roots))
+    let all : Tasks = record {
+      tasks = c.self.inside.tasks.items;
+      next_task = c.self.inside.next_task;
+      next_instance =
+          c.self.inside.next_instance;
+    } in
+    rw c.leave.ensures (end_keeps component (stays c.args.leaving) all
+    (subst (AreRoots component) (sym c.self.view_is) roots))

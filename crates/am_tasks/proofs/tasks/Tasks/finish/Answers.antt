@@ -8,8 +8,10 @@ returns-in-None-clause-refused c = rw (sym c.owner.ensures ∙ c.in-None.is) ref
 
 pub returns-in-Some-clause-ended : goal.returns-in-Some-clause-ended
 unfolding finish
-returns-in-Some-clause-ended c = rw (sym c.owner.ensures ∙ c.in-Some.is, sym c.may_end.ensures ∙ c.if-may_end.true) (ap Ok (sym c.end.ensures.ended))
+returns-in-Some-clause-ended c = rw (sym c.owner.ensures ∙ c.in-Some.is, sym c.may_end.ensures ∙ c.if-may_end.true)
+    (ap Ok (sym c.end.ensures.ended))
 
 pub returns-in-Some-2-clause-refused : goal.returns-in-Some-2-clause-refused
 unfolding finish
-returns-in-Some-2-clause-refused c = rw (sym c.owner.ensures ∙ c.in-Some.is, sym c.may_end.ensures ∙ c.if-may_end.false) refl
+returns-in-Some-2-clause-refused c = rw (sym c.owner.ensures ∙ c.in-Some.is, sym c.may_end.ensures ∙ c.if-may_end.false)
+    refl
