@@ -292,7 +292,7 @@ def words() -> argparse.Namespace:
     parser.add_argument("program", nargs="?", help="the built am")
     parser.add_argument("--seconds", type=int, default=3, help="how long a run of wrk takes (3)")
     parser.add_argument("--rounds", type=int, default=3, help="of how many rounds a figure is the median (3)")
-    parser.add_argument("--workers", type=int, default=64, help="the workers of am (64)")
+    parser.add_argument("--workers", type=int, default=os.cpu_count(), help="the workers of am (one for each processor)")
     parser.add_argument("--idle", type=int, default=0, help="connections that ask nothing meanwhile (0)")
     return parser.parse_args()
 
