@@ -221,6 +221,11 @@ def worst_patterns(server: Server) -> str:
     return explain_patterns(server, "/.*" + "ab" * PATTERN_BYTES, "/" + "ab" * PATH_BYTES)
 
 
+def worst_letters(server: Server) -> str:
+    """Letters of two bytes, which have no row of their own among those that the server makes of a pattern."""
+    return explain_patterns(server, "/.*" + "ab" * PATTERN_BYTES, "/" + ("éê" * PATH_BYTES)[: PATH_BYTES // 2 - 1])
+
+
 # Descriptors: more clients at once than the server has descriptors for.
 
 CROWD = 200
@@ -436,6 +441,7 @@ REFUSED_FILTER: Json = {
 ATTACKS = [
     Attack(f"literal patterns of {RECEIVERS} receivers", 4, literal_patterns),
     Attack(f"worst patterns of {RECEIVERS} receivers", 4, worst_patterns),
+    Attack(f"worst letters of {RECEIVERS} receivers", 4, worst_letters),
     Attack("64 workers with 130 descriptors", 64, crowd, 130),
     Attack("8 workers with 20 descriptors", 8, crowd, 20),
     Attack("slow bytes on all workers", 2, slow_bytes),

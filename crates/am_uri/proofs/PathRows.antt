@@ -3,7 +3,7 @@ use Rattle.std.proofs.Common.{◌≡◌, ℕ, zero, suc, ◌<◌, ◌+◌, ◌*�
 use Rattle.std.proofs.Math.Nat.{div-eq_of_lt}
 use Rattle.std.proofs.lemmas.Nat.{shr-shr}
 use Rattle.am_model.specs.Paths.{Element}
-use Rattle.am_uri.specs.declared.words.Test.TheVariants.{Wild, Bit, Below}
+use Rattle.am_uri.specs.declared.words.Test.TheVariants.{Allows, Wild, Bit, Below}
 use Rattle.am_uri.specs.PathElements.{allowed_at}
 use Rattle.am_uri.specs.PathRows.{test_of, both, without, either}
 use Rattle.am_uri.specs.PathWords.{word_where, words_where, passes}
@@ -137,6 +137,10 @@ bool_turn a w d e = grind arith
 -- the row of a bit
 bit_row : (b : ℕ) → b < 21 → test_of b ≡ Bit b
 bit_row b below = grind (arith, mod_small)
+
+-- the row of an ASCII character
+pub letter_row : (k c : ℕ) → k ≡ 24 + c → test_of k ≡ Allows c
+letter_row k c at = grind arith
 
 pub found_set : (count b c : ℕ) (elements : List Element) (row words made : List ℕ) → b < 21 → c / 2 ^ b % 2 ≡ 1
     → row ≡ words_where 63 (passes (test_of b)) count elements → words

@@ -1,17 +1,18 @@
 -- Rows of a pattern: the words of the tests that find the elements for a character.
-use Rattle.std.specs.Prelude.{ℕ, ◌<◌, ◌≤◌, ◌==◌, ◌%◌, ◌≡◌, if◌then◌else◌, List, [], ◌∷◌, take, length, slice_index_or, bit_and, bit_or, bit_xor}
+use Rattle.std.specs.Prelude.{ℕ, ◌<◌, ◌≤◌, ◌==◌, nat_lt, ◌-◌, ◌%◌, ◌≡◌, if◌then◌else◌, List, [], ◌∷◌, take, length, slice_index_or, bit_and, bit_or, bit_xor}
 use Rattle.am_model.specs.Paths.{Element}
 use Rattle.am_uri.specs.declared.words.Test.{Test}
-use Rattle.am_uri.specs.declared.words.Test.TheVariants.{Wild, Bit, Below}
+use Rattle.am_uri.specs.declared.words.Test.TheVariants.{Allows, Wild, Bit, Below}
 use Rattle.am_uri.specs.PathWords.{passes, words_where}
 
--- the test of a row: that the character has a certain bit, that it has no bit from the 7th or from the 21st on, or that
--- every character is allowed
+-- the test of a row: that the character has a certain bit, that it has no bit from the 7th or from the 21st on, that
+-- every character is allowed, or that a certain ASCII character is
 abbrev pub test_of : ℕ → Test
 test_of k =
     if k == 21 then Below 7
     else if k == 22 then Below 21
     else if k == 23 then Wild
+    else if nat_lt 23 k then Allows (k - 24)
     else Bit (k % 32)
 
 -- the first words of each row are those of the elements that pass its test

@@ -8,7 +8,7 @@ ghost use Rattle.am_uri.specs.PathRows.{AreRows};
 
 use crate::pattern::Element;
 use crate::places::{advance, is_empty, is_reached, skip};
-use crate::rows::{ROWS, Row, write_allowed, write_rows};
+use crate::rows::{ASKED, ROWS, Row, write_allowed, write_rows};
 use crate::words::{Test, WIDTH, WORDS, write_where};
 
 /// Whether all the characters of the path are matched by the elements, one after the other.
@@ -53,13 +53,13 @@ fn matches_by(elements: &[Element], rows: &[Row], path: &str) -> bool
     )
 }
 
-/// Whether the character changes more often than there are rows.
+/// Whether the character changes more often than elements are asked for the rows.
 fn changes_often(path: &str) -> bool {
     let mut last = ' ';
     let mut changes = 0;
     for c in path.chars() {
         if c != last {
-            if changes == ROWS {
+            if changes == ASKED {
                 return true;
             }
             last = c;

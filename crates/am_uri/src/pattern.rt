@@ -56,7 +56,8 @@ impl Element {
 fn next_mark(rest: &mut Chars<'_>) -> Option<Mark>
     requires { IsUtf8 (chars_rest rest.old) }
     ensures text { IsUtf8 (chars_rest rest.new) }
-    ensures mark { MatchOption result (marks_left rest.old ≡ []) (λ mark. marks_left rest.old ≡ mark_of mark ∷ marks_left rest.new) }
+    ensures mark { MatchOption result (marks_left rest.old ≡ [])
+        (λ mark. marks_left rest.old ≡ mark_of mark ∷ marks_left rest.new) }
     ensures shorter { IfSome result (λ mark. length (chars_rest rest.new) < length (chars_rest rest.old)) }
 {
     let character = rest.next()?;
@@ -82,7 +83,8 @@ fn next_mark(rest: &mut Chars<'_>) -> Option<Mark>
 pub(crate) fn next_element(rest: &mut Chars<'_>) -> Option<Element>
     requires { IsUtf8 (chars_rest rest.old) }
     ensures text { IsUtf8 (chars_rest rest.new) }
-    ensures element { MatchOption result (elements_left rest.old ≡ []) (λ element. elements_left rest.old ≡ element_of element ∷ elements_left rest.new) }
+    ensures element { MatchOption result (elements_left rest.old ≡ [])
+        (λ element. elements_left rest.old ≡ element_of element ∷ elements_left rest.new) }
     ensures shorter { IfSome result (λ element. length (chars_rest rest.new) < length (chars_rest rest.old)) }
 {
     let mark = next_mark(rest)?;

@@ -1,5 +1,5 @@
 //! Rows of a pattern: with them the elements that allow a character are found without asking each element.
-ghost use Rattle.std.specs.Prelude.{◌≡◌, ◌≤◌, ℕ, map, take, length, List as Items};
+ghost use Rattle.std.specs.Prelude.{◌≡◌, ◌<◌, ◌≤◌, ℕ, map, take, length, List as Items};
 ghost use Rattle.am_model.specs.Paths.{Element as ReadElement};
 ghost use Rattle.am_uri.specs.PathElements.{element_of, allowed_at};
 ghost use Rattle.am_uri.specs.PathWords.{IsShift, passes, words_where};
@@ -11,8 +11,11 @@ use crate::words::{Test, WIDTH, WORDS, write_where};
 /// The words of the elements that pass a test.
 pub(crate) type Row = [u64; WORDS];
 
-/// The rows of a pattern: one for each of the 21 bits of a character, then three more.
-pub(crate) const ROWS: usize = 24;
+/// The rows that are made by asking each element: one for each of the 21 bits of a character, then three more.
+pub(crate) const ASKED: usize = 24;
+
+/// The rows of a pattern: those, then one for each ASCII character.
+pub(crate) const ROWS: usize = 152;
 
 /// The row of the elements whose character is below 2^7.
 const ASCII: usize = 21;
@@ -23,8 +26,9 @@ const WHOLE: usize = 22;
 /// The row of the elements that allow every character.
 const WILD: usize = 23;
 
-/// The test of a row.
+/// The test of a row that is made by asking each element.
 fn test_of(k: usize) -> Test
+    requires { k < 24 }
     ensures test { result ≡ test_of k }
     ensures shift { IsShift result }
 {
@@ -36,23 +40,31 @@ fn test_of(k: usize) -> Test
     }
 }
 
-/// The row of a test.
-fn row_of(elements: &[Element], test: Test) -> Row
-    requires { IsShift test }
-    ensures { (m : ℕ) → m ≤ 17 → take m result ≡ words_where 63 (passes test) m (map element_of elements.now) }
+/// The row at this place. The row of an ASCII character is found with the rows before it.
+fn row_at(elements: &[Element], before: &[Row], k: usize) -> Row
+    requires before { length before.now ≡ k }
+    requires most { k < 152 }
+    requires rows { AreRows (map element_of elements.now) before.now }
+    ensures { (m : ℕ) → m ≤ 17 → take m result ≡ words_where 63 (passes (test_of k)) m (map element_of elements.now) }
 {
     let mut row = [0; WORDS];
-    write_where(elements, test, &mut row);
+    if k < ASKED {
+        write_where(elements, test_of(k), &mut row);
+    } else {
+        find(before, (k - ASKED) as u8 as char, &mut row);
+    }
     row
 }
 
 /// Writes each row.
 pub(crate) fn write_rows(elements: &[Element], rows: &mut [Row])
+    requires { length rows.old ≤ 152 }
     ensures rows { AreRows (map element_of elements.now) rows.new }
     ensures same_length { length rows.new ≡ length rows.old }
 {
     for k in 0..rows.len() {
-        rows[k] = row_of(elements, test_of(k));
+        let row = row_at(elements, &rows[..k], k);
+        rows[k] = row;
     }
 }
 
@@ -73,18 +85,35 @@ pub(crate) fn write_allowed(
         return;
     }
     if rows.len() == ROWS && words.len() <= WORDS {
-        find(rows, c, words);
+        look_up(rows, c, words);
     } else {
         write_where(elements, Test::Allows(c), words);
     }
 }
 
-/// Writes the words of the elements that allow the character: elements whose character has the same bits, and wild
+/// Writes the words of the elements that allow the character. An ASCII character has a row of its own.
+fn look_up(rows: &[Row], c: char, words: &mut [u64])
+    requires rows { length rows.now ≡ 152 }
+    requires words { length words.old ≤ 17 }
+    ensures { (elements : Items ReadElement) → AreRows elements rows.now → words.new
+        ≡ words_where 63 (allowed_at c) (length words.old) elements }
+{
+    let code = c as usize;
+    if code < 128 {
+        let count = words.len();
+        words.copy_from_slice(&rows[ASKED + code][..count]);
+    } else {
+        find(rows, c, words);
+    }
+}
+
+/// The same with the rows that are made first: elements whose character has the same bits, and wild
 /// ones.
 fn find(rows: &[Row], c: char, words: &mut [u64])
-    requires rows { length rows.now ≡ 24 }
+    requires rows { 24 ≤ length rows.now }
     requires words { length words.old ≤ 17 }
-    ensures { (elements : Items ReadElement) → AreRows elements rows.now → words.new ≡ words_where 63 (allowed_at c) (length words.old) elements }
+    ensures { (elements : Items ReadElement) → AreRows elements rows.now
+        → words.new ≡ words_where 63 (allowed_at c) (length words.old) elements }
 {
     let code = c as u32;
     let count = words.len();
