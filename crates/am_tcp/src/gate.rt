@@ -1,5 +1,6 @@
 //! A gate at a port.
-ghost use Rattle.std.specs.Prelude.{◌≡◌, None};
+ghost use Rattle.std.specs.Prelude.{◌≡◌, ◌≤◌, None};
+ghost use Rattle.am_outside.specs.Memory.{one_more};
 
 use crate::link::{TcpReader, TcpWriter};
 use crate::port::Port;
@@ -42,6 +43,15 @@ impl<R: Time + Wait + Copy + Drop> TcpGate<R> {
         self.faults
     }
 
+    // Counts a call that failed.
+    fn failed(&mut self) -> Failed
+        ensures counted { self.new.faults ≡ one_more self.old.faults }
+        ensures never_falls { self.old.faults ≤ self.new.faults }
+    {
+        self.faults = self.faults.saturating_add(1);
+        Failed
+    }
+
     // Waits for the peers that were told the end.
     pub(crate) fn finish_all(&self) {
         // Where no time can be told, they have none.
@@ -62,14 +72,8 @@ impl<R: Time + Wait + Copy + Drop + Send> Acceptor for TcpGate<R> {
 
     fn accept(&mut self) -> Result<Option<(TcpReader<R>, TcpWriter<R>)>, Failed> {
         match self.port.next_new(self.rt) {
-            Ok(link) => {
-                let Link { reader, writer, .. } = link;
-                Ok(Some((reader, writer)))
-            }
-            Err(_) => {
-                self.faults = self.faults.saturating_add(1);
-                Err(Failed)
-            }
+            Ok(Link { reader, writer, .. }) => Ok(Some((reader, writer))),
+            Err(_) => Err(self.failed()),
         }
     }
 
@@ -79,19 +83,15 @@ impl<R: Time + Wait + Copy + Drop + Send> Acceptor for TcpGate<R> {
 
     fn next_link(&mut self) -> Result<Option<(TcpReader<R>, TcpWriter<R>, u32)>, Failed> {
         match self.port.next(self.rt) {
-            Ok(link) => {
-                let Link {
+            Ok(
+                Link {
                     reader,
                     writer,
                     answered,
                     ..
-                } = link;
-                Ok(Some((reader, writer, answered)))
-            }
-            Err(_) => {
-                self.faults = self.faults.saturating_add(1);
-                Err(Failed)
-            }
+                },
+            ) => Ok(Some((reader, writer, answered))),
+            Err(_) => Err(self.failed()),
         }
     }
 

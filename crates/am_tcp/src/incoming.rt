@@ -4,9 +4,10 @@ ghost use Rattle.std.specs.Prelude.{◌≡◌, ◌+◌, ◌≤◌, IfOk, length,
 use crate::requests::{Length, request_length};
 use std::alloc::{AllocError, Global};
 use std::io::{self, Read};
+use std::mem::replace;
 
 /// The bytes that a request takes first, and those that a connection keeps between requests.
-const FIRST: usize = 512;
+const FIRST: usize = 1_024;
 
 /// The most bytes that are kept: a head and a body of the greatest length.
 const MOST: usize = 73_728;
@@ -25,6 +26,8 @@ pub(crate) struct Incoming {
     end: usize,
     // How long the request is that isn't open, once that is known.
     length: Option<usize>,
+    // How many requests were opened since that was last asked.
+    opened: u32,
     ghost start_fits: { start ≤ ready },
     ghost ready_fits: { ready ≤ end },
     ghost end_fits: { end ≤ vec_len bytes },
@@ -40,6 +43,7 @@ impl Incoming {
             ready: 0,
             end: 0,
             length: None,
+            opened: 0,
         }
     }
 
@@ -69,8 +73,7 @@ impl Incoming {
         };
         match found {
             Length::Known(length) if length <= self.end - self.ready => {
-                self.ready += length;
-                self.length = None;
+                self.open_to(self.ready + length);
                 true
             }
             Length::Known(length) => {
@@ -79,10 +82,24 @@ impl Incoming {
             }
             Length::Unknown => false,
             Length::Refused => {
-                self.ready = self.end;
+                self.open_to(self.end);
                 false
             }
         }
+    }
+
+    // Opens the bytes up to a place, which are one more request.
+    fn open_to(&mut self, place: usize)
+        requires { (self.old.ready ≤ place) × (place ≤ self.old.end) }
+    {
+        self.ready = place;
+        self.length = None;
+        self.opened = self.opened.saturating_add(1);
+    }
+
+    /// How many requests were opened since this was last asked.
+    pub(crate) fn take_opened(&mut self) -> u32 {
+        replace(&mut self.opened, 0)
     }
 
     /// Moves open bytes into the front of a slice, or if none is open, any, and answers how many.
@@ -108,14 +125,20 @@ impl Incoming {
         Ok(count)
     }
 
-    // Moves the bytes to the front, and makes more room where none is left.
+    /// Whether there is room behind the bytes. After a read there is some only if all that had come was read.
+    pub(crate) fn has_room(&self) -> bool {
+        self.end < self.bytes.len()
+    }
+
+    // Moves the bytes to the front, and makes more room if the last read left none.
     fn make_room(&mut self) -> Result<(), AllocError> {
+        let length = self.bytes.len();
+        let has_room = self.has_room();
         to_front(self.bytes.as_mut_slice(), self.start, self.end);
         self.ready -= self.start;
         self.end -= self.start;
         self.start = 0;
-        let length = self.bytes.len();
-        if self.end == length {
+        if !has_room {
             let wanted = length.saturating_mul(2).max(FIRST).min(MOST).max(length);
             self.bytes.reserve_exact(wanted - length)?;
             self.bytes.resize(wanted, 0)?;

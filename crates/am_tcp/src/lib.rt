@@ -11,6 +11,7 @@ mod incoming;
 mod limits;
 mod link;
 mod network;
+mod outgoing;
 mod port;
 mod requests;
 mod table;

@@ -24,7 +24,7 @@ pub struct Limits {
     /// A request is there whole that long after its first byte, and the first one of a connection that long after the
     /// connection was accepted.
     pub request: Duration,
-    /// A response is taken whole that long after its first byte was to be written.
+    /// A response, or those that are sent together, is taken whole that long after the first byte was to be sent.
     pub response: Duration,
     /// What the peer still sends at the connection's end is waited for that long in all.
     pub end: Duration,

@@ -1,19 +1,20 @@
 //! The two ends of a connection.
 ghost use Rattle.std.specs.Prelude.{◌≡◌, ◌≤◌, IfOk};
-ghost use Rattle.std.specs.Io.{ReadsAtMost, WritesAtMost};
+ghost use Rattle.std.specs.Io.{ReadsAtMost};
 
 use crate::incoming::Incoming;
 use crate::limits::{Limits, Term};
+use crate::outgoing::{Outgoing, Way};
 use am_host::Counted;
 use am_outside::{Failed, Source};
 use std::alloc::Global;
 use std::io::{self, ErrorKind, Read, Write};
 use std::marker::Copy;
+use std::mem::replace;
 use std::net::{Shutdown, TcpStream};
 use std::os::fd::{AsRawFd, RawFd};
 use std::rt::Clock as Time;
-use std::sync::Arc;
-use std::sync::atomic::{AtomicBool, Ordering};
+use std::sync::{Arc, Mutex, Wait};
 use std::time::{Duration, Instant};
 
 /// How many pieces are read at once of what still comes at a connection's end.
@@ -22,14 +23,6 @@ const MOST_PIECES: u32 = 64;
 /// What goes over a connection. A limit that has passed is a fault, and so is a write that takes nothing. A write to a
 /// peer that is gone fails, and raises no signal.
 pub type TcpWriter<R> = Counted<Responses<R>>;
-
-// A connection, for whose two ends one descriptor is enough. Its calls don't wait.
-#[derive(Drop)]
-struct Connection {
-    stream: TcpStream,
-    // Whether something was written since the last read.
-    is_answered: AtomicBool,
-}
 
 // What is known of the peer.
 #[derive(Clone, Copy)]
@@ -46,12 +39,16 @@ enum Peer {
 // The requests of a connection.
 #[derive(Drop)]
 struct Requests<R> {
-    rt: R,
-    connection: Arc<Connection>,
+    way: Way<R>,
+    outgoing: Arc<Mutex<Outgoing>>,
     incoming: Incoming,
     // What is left for the request that is to come, or is coming.
     term: Term,
     peer: Peer,
+    // Whether all that had come was received. What comes later is reported.
+    has_all: bool,
+    // Whether the system reported the peer's end or a fault, after which it reports no more.
+    is_ending: bool,
 }
 
 /// What comes over a connection. A limit that has passed is a fault. It is ready once the next request is there whole,
@@ -64,13 +61,13 @@ pub struct TcpReader<R> {
     waits: u64,
 }
 
-/// The responses of a connection, to be written.
+/// The responses of a connection, to be written. A byte that is kept was taken, as one is that the system holds for
+/// the peer. What is kept is sent by the next write that keeps nothing, by a flush, before a read that would wait, and
+/// at the connection's end. If that fails, the write fails, or the next read.
 #[derive(Drop)]
 pub struct Responses<R> {
-    rt: R,
-    connection: Arc<Connection>,
-    // What is left for the response that is being taken.
-    term: Term,
+    way: Way<R>,
+    outgoing: Arc<Mutex<Outgoing>>,
 }
 
 // Reads what is there, or waits for it for so long.
@@ -88,31 +85,30 @@ fn read_within(mut stream: &TcpStream, into: &mut [u8], left: Duration) -> io::R
     done
 }
 
-// Waits for so long until there is room, and writes.
-fn write_within(mut stream: &TcpStream, from: &[u8], left: Duration) -> io::Result<usize>
-    ensures { WritesAtMost result from.now }
-{
-    stream.set_nonblocking(false)?;
-    stream.set_write_timeout(Some(left))?;
-    let done = stream.write(from);
-    stream.set_nonblocking(true)?;
-    done
-}
-
-impl<R: Time> Requests<R> {
-    // Lets the next request have its whole time, if a response was written since the last read.
-    fn turn(&mut self) {
-        if self.connection.is_answered.swap(false, Ordering::SeqCst) {
+impl<R: Time + Wait> Requests<R> {
+    // Lets the next request have its whole time, if a response was written since the last read. Unless a request is
+    // there whole, the responses that are kept are sent.
+    fn turn(&mut self) -> io::Result<()> {
+        let is_open = self.incoming.is_open();
+        let mut outgoing = self.outgoing.lock(&self.way.rt);
+        if outgoing.expect(self.incoming.take_opened()) {
             self.term.stop();
         }
+        if is_open {
+            return Ok(());
+        }
+        outgoing.send(&mut self.way)
     }
 
     // Receives what is there, and answers whether something was, or the end.
     fn receive(&mut self) -> io::Result<bool> {
-        let mut stream = &self.connection.stream;
+        let mut stream = &*self.way.stream;
         match self.incoming.receive(&mut stream) {
             Ok(0) => self.peer = Peer::Gone,
-            Ok(_) => self.term.begin(&self.rt)?,
+            Ok(_) => {
+                self.has_all = self.incoming.has_room() && !self.is_ending;
+                self.term.begin(&self.way.rt)?;
+            }
             Err(error) if error.kind() == ErrorKind::WouldBlock => return Ok(false),
             Err(error) if error.kind() == ErrorKind::Interrupted => {}
             Err(error) => return Err(error),
@@ -120,14 +116,18 @@ impl<R: Time> Requests<R> {
         Ok(true)
     }
 
-    // Whether the reads of the next request need not wait, once what is there was received.
+    // Whether the reads of the next request need not wait, once what is there was received. If all was received
+    // already, the system isn't asked the first time.
     fn is_ready(&mut self) -> bool {
-        self.turn();
+        if self.turn().is_err() {
+            self.peer = Peer::Lost;
+        }
         for _ in 0..u64::MAX {
             if self.incoming.is_open() {
                 return true;
             }
             match self.peer {
+                Peer::Here if replace(&mut self.has_all, false) => return false,
                 Peer::Here => {}
                 Peer::Gone | Peer::Rested | Peer::Lost => return true,
             }
@@ -144,7 +144,7 @@ impl<R: Time> Requests<R> {
     fn read(&mut self, into: &mut [u8]) -> io::Result<usize>
         ensures { ReadsAtMost result into.new }
     {
-        self.turn();
+        self.turn()?;
         if !self.incoming.is_empty() {
             return Ok(self.incoming.give(into));
         }
@@ -153,12 +153,12 @@ impl<R: Time> Requests<R> {
             Peer::Gone | Peer::Rested => return Ok(0),
             Peer::Lost => return Err(io::Error::from(ErrorKind::TimedOut)),
         }
-        let left = self.term.left(&self.rt)?;
+        let left = self.term.left(&self.way.rt)?;
         if left.is_zero() {
             return Err(io::Error::from(ErrorKind::TimedOut));
         }
-        let count = read_within(&self.connection.stream, into, left)?;
-        self.term.begin(&self.rt)?;
+        let count = read_within(&self.way.stream, into, left)?;
+        self.term.begin(&self.way.rt)?;
         Ok(count)
     }
 
@@ -175,7 +175,7 @@ impl<R: Time> Requests<R> {
     }
 }
 
-impl<R: Time> Source for TcpReader<R> {
+impl<R: Time + Wait> Source for TcpReader<R> {
     ghost use Rattle.std.specs.Prelude.{None};
 
     ghost given = { λ r. None };
@@ -207,17 +207,30 @@ impl<R: Time> Source for TcpReader<R> {
     }
 }
 
-impl<R: Time> TcpReader<R> {
+impl<R: Time + Wait> TcpReader<R> {
     /// Whether the next request is there whole, or no more of it is to come.
     pub(crate) fn is_whole(&mut self) -> bool {
         self.requests.is_ready()
+    }
+
+    /// Sends the responses that are kept, tells the peer the end, and answers whether it may still send something. A
+    /// connection that is closed while bytes lie unread is reset, and then the peer may lose the last response.
+    pub(crate) fn leave(&mut self) -> bool {
+        let way = &mut self.requests.way;
+        if self.requests.outgoing.lock(&way.rt).send(way).is_err() {
+            return false;
+        }
+        match self.requests.peer {
+            Peer::Gone => false,
+            _ => way.stream.shutdown(Shutdown::Write).is_ok() && !self.is_drained(),
+        }
     }
 }
 
 impl<R> TcpReader<R> {
     /// The descriptor of the connection.
     pub(crate) fn descriptor(&self) -> RawFd {
-        self.requests.connection.stream.as_raw_fd()
+        self.requests.way.stream.as_raw_fd()
     }
 
     /// Since when a request is to come or is coming, if one is.
@@ -238,19 +251,14 @@ impl<R> TcpReader<R> {
         };
     }
 
-    /// Tells the peer the end, and answers whether it may still send something. A connection that is closed while bytes
-    /// lie unread is reset, and then the peer may lose the last response.
-    pub(crate) fn leave(&self) -> bool {
-        let stream = &self.requests.connection.stream;
-        match self.requests.peer {
-            Peer::Gone => false,
-            _ => stream.shutdown(Shutdown::Write).is_ok() && !self.is_drained(),
-        }
+    /// Heeds whether the system reported the peer's end or a fault.
+    pub(crate) fn heed(&mut self, is_ending: bool) {
+        self.requests.is_ending |= is_ending;
     }
 
     /// Reads what came behind the end, and drops it. Answers whether no more is to come.
     pub(crate) fn is_drained(&self) -> bool {
-        let mut stream = &self.requests.connection.stream;
+        let mut stream = &*self.requests.way.stream;
         let mut piece = [0u8; 4096];
         for _ in 0..MOST_PIECES {
             match stream.read(&mut piece) {
@@ -263,43 +271,19 @@ impl<R> TcpReader<R> {
     }
 }
 
-impl<R: Time> Responses<R> {
-    // Writes what there is room for, or waits for some.
-    fn write_some(&mut self, from: &[u8]) -> io::Result<usize>
-        ensures { WritesAtMost result from.now }
-    {
-        if self.term.left(&self.rt)?.is_zero() {
-            return Err(io::Error::from(ErrorKind::TimedOut));
-        }
-        let mut stream = &self.connection.stream;
-        match stream.write(from) {
-            Err(error) if error.kind() == ErrorKind::WouldBlock => {}
-            done => return done,
-        }
-        self.term.begin(&self.rt)?;
-        write_within(stream, from, self.term.left(&self.rt)?)
-    }
-}
-
-impl<R: Time> Write for Responses<R> {
-    // A write that takes all that it is given ends a response.
+impl<R: Time + Wait> Write for Responses<R> {
     fn write(&mut self, from: &[u8]) -> io::Result<usize> {
-        self.connection.is_answered.store(true, Ordering::SeqCst);
-        let count = self.write_some(from)?;
-        if count == from.len() {
-            self.term.stop();
-        } else {
-            self.term.begin(&self.rt)?;
-        }
-        Ok(count)
+        let mut outgoing = self.outgoing.lock(&self.way.rt);
+        outgoing.write(&mut self.way, from)
     }
 
     fn flush(&mut self) -> io::Result<()> {
-        Ok(())
+        let mut outgoing = self.outgoing.lock(&self.way.rt);
+        outgoing.send(&mut self.way)
     }
 }
 
-/// The two ends of a connection, which is accepted now. Each response is sent at once.
+/// The two ends of a connection, which is accepted now. A send isn't held back by the system.
 pub(crate) fn open<R: Time + Copy + Drop>(
     rt: R,
     alloc: Global,
@@ -312,25 +296,28 @@ pub(crate) fn open<R: Time + Copy + Drop>(
     stream.set_nonblocking(true)?;
     let mut term = Term::new(limits.request);
     term.begin(&rt)?;
-    let connection = Arc::new(
-        alloc,
-        Connection {
-            stream,
-            is_answered: AtomicBool::new(false),
-        },
-    )?;
-    let other = Arc::try_clone(&connection)?;
-    let requests = Requests {
+    let way = Way {
         rt,
-        connection,
+        stream: Arc::new(alloc, stream)?,
+        term: Term::new(limits.response),
+    };
+    let outgoing = Arc::new(alloc, Mutex::new(Outgoing::new(alloc)))?;
+    let responses = Responses {
+        way: Way {
+            rt,
+            stream: Arc::try_clone(&way.stream)?,
+            term: Term::new(limits.response),
+        },
+        outgoing: Arc::try_clone(&outgoing)?,
+    };
+    let requests = Requests {
+        way,
+        outgoing,
         incoming: Incoming::new(alloc),
         term,
         peer: Peer::Here,
-    };
-    let responses = Responses {
-        rt,
-        connection: other,
-        term: Term::new(limits.response),
+        has_all: false,
+        is_ending: false,
     };
     let reader = TcpReader {
         requests,

@@ -21,6 +21,9 @@ use std::time::Instant;
 /// How many connections a worker accepts one after the other.
 const MOST_ACCEPTED: u32 = 64;
 
+/// What the system reports if bytes came, and nothing else, which is its EPOLLIN.
+const BYTES_CAME: u32 = 1;
+
 /// A port, at which connections arrive, with those that no worker has. All its workers wait side by side for what the
 /// system reports, so that each report wakes one of them: that a request came over a connection, or the listener has a
 /// new one.
@@ -52,14 +55,16 @@ fn watch_again(poll: &Poll, descriptor: RawFd) -> io::Result<()> {
         .reregister(&mut SourceFd(&descriptor), token, Interest::READABLE)
 }
 
-// What the system reports next, if it does so in time. Unlike `Poll::poll`, many may wait so at once.
-fn next_report(poll: &Poll, millis: u64) -> Option<usize> {
+// Of which descriptor the system reports next, if it does so in time, and whether it reports more than that bytes came:
+// the peer's end, or a fault. Unlike `Poll::poll`, many may wait so at once.
+fn next_report(poll: &Poll, millis: u64) -> Option<(usize, bool)> {
     let mut events = [EpollEvent { events: 0, data: 0 }];
     let millis = i32::try_from(millis).unwrap_or(i32::MAX);
     if os::epoll_wait(poll.as_raw_fd(), &mut events, millis) == 0 {
         return None;
     }
-    usize::try_from(events[0].data).ok()
+    let key = usize::try_from(events[0].data).ok()?;
+    Some((key, events[0].events != BYTES_CAME))
 }
 
 impl<R: Time + Wait + Copy + Drop> Port<R> {
@@ -85,15 +90,7 @@ impl<R: Time + Wait + Copy + Drop> Port<R> {
         ensures { IfOk result (λ link. (link.reader.faults ≡ 0) × (link.writer.faults ≡ 0)) }
     {
         let (reader, writer) = open(rt, self.alloc, &self.limits, stream)?;
-        let link = Link {
-            reader,
-            writer,
-            answered: 0,
-            is_leaving: false,
-            is_reported: false,
-            since: Instant::now(&rt)?,
-            limit: self.limits.request,
-        };
+        let link = Link::new(reader, writer, Instant::now(&rt)?, self.limits.request);
         self.table.lock(&rt).admit(link.key())?;
         Ok(link)
     }
@@ -115,9 +112,9 @@ impl<R: Time + Wait + Copy + Drop> Port<R> {
         }
     }
 
-    // Accepts the next connection, if one is there. One that breaks before is left out: it is no fault of the port. A full
-    // table of open files is none either: then the link ends that waits longest, or connections wait with the system for
-    // a moment.
+    // Accepts the next connection, if one is there. One that breaks before is left out: it is no fault of the port. A
+    // full table of open files is none either: then the link ends that waits longest, or connections wait with the
+    // system for a moment.
     fn accept(&self, rt: R) -> io::Result<Option<Link<R>>>
         ensures { IfOk result (λ next. IfSome next (λ link. (link.reader.faults ≡ 0) × (link.writer.faults ≡ 0))) }
     {
@@ -150,17 +147,15 @@ impl<R: Time + Wait + Copy + Drop> Port<R> {
             let descriptor = link.reader.descriptor();
             self.keep(rt, link);
             if watch(&self.poll, descriptor).is_err() {
-                self.drop_at(rt, key_of(descriptor));
+                self.free(rt, descriptor);
             }
         }
         watch_again(&self.poll, self.listener.as_raw_fd())
     }
 
-    // Ends the link of that number.
-    fn drop_at(&self, rt: R, key: usize) {
-        let mut table = self.table.lock(&rt);
-        drop(table.take(key));
-        table.free(key);
+    // Frees the place of a link, which is to end.
+    fn free(&self, rt: R, descriptor: RawFd) {
+        self.table.lock(&rt).free(key_of(descriptor));
     }
 
     // Keeps a link. What was reported while a worker had it is reported again.
@@ -170,19 +165,6 @@ impl<R: Time + Wait + Copy + Drop> Port<R> {
         if table.keep(link) {
             let _ = watch_again(&self.poll, descriptor);
         }
-    }
-
-    // Ends a link, whose two ends these are.
-    fn close(&self, rt: R, reader: TcpReader<R>, writer: TcpWriter<R>) {
-        self.table.lock(&rt).free(key_of(reader.descriptor()));
-        drop(reader);
-        drop(writer);
-    }
-
-    // Ends a link.
-    fn drop_link(&self, rt: R, link: Link<R>) {
-        self.table.lock(&rt).free(link.key());
-        drop(link);
     }
 
     // Looks at a link, and hands it out if its request is there or its time is over.
@@ -207,7 +189,7 @@ impl<R: Time + Wait + Copy + Drop> Port<R> {
     // Ends a link whose peer was told the end, unless something may still come.
     fn look_at_leaving(&self, rt: R, link: Link<R>) -> io::Result<()> {
         if link.reader.is_drained() || link.is_over(Instant::now(&rt)?) {
-            self.drop_link(rt, link);
+            self.free(rt, link.reader.descriptor());
         } else {
             self.keep(rt, link);
         }
@@ -228,11 +210,17 @@ impl<R: Time + Wait + Copy + Drop> Port<R> {
         };
         match next_report(&self.poll, millis) {
             None => Ok(None),
-            Some(key) if key == key_of(self.listener.as_raw_fd()) => {
+            Some((key, _)) if key == key_of(self.listener.as_raw_fd()) => {
                 self.accept_all(rt)?;
                 Ok(None)
             }
-            Some(key) => Ok(self.table.lock(&rt).take(key)),
+            Some((key, is_ending)) => {
+                let mut next = self.table.lock(&rt).take(key);
+                if let Some(link) = &mut next {
+                    link.reader.heed(is_ending);
+                }
+                Ok(next)
+            }
         }
     }
 
@@ -271,7 +259,7 @@ impl<R: Time + Wait + Copy + Drop> Port<R> {
                     if watch(&self.poll, link.reader.descriptor()).is_ok() {
                         return Ok(link);
                     }
-                    self.drop_link(rt, link);
+                    self.free(rt, link.reader.descriptor());
                 }
                 None => self.settle(rt)?,
             }
@@ -288,40 +276,27 @@ impl<R: Time + Wait + Copy + Drop> Port<R> {
         answered: u32,
     ) -> bool {
         let Ok(now) = Instant::now(&rt) else {
-            self.close(rt, reader, writer);
+            self.free(rt, reader.descriptor());
             return false;
         };
         reader.shrink();
-        let mut link = Link {
-            reader,
-            writer,
-            answered,
-            is_leaving: false,
-            is_reported: false,
-            since: now,
-            limit: self.limits.idle,
-        };
+        let mut link = Link::new(reader, writer, now, self.limits.idle);
+        link.answered = answered;
         link.hurry(&self.limits);
         self.keep(rt, link);
         true
     }
 
     /// Ends a link. Its peer is told the end first, and has some time to end its own side.
-    pub(crate) fn finish(&self, rt: R, reader: TcpReader<R>, writer: TcpWriter<R>) {
+    pub(crate) fn finish(&self, rt: R, mut reader: TcpReader<R>, writer: TcpWriter<R>) {
+        let is_leaving = reader.leave();
         match Instant::now(&rt) {
-            Ok(now) if reader.leave() => self.keep(
-                rt,
-                Link {
-                    reader,
-                    writer,
-                    answered: 0,
-                    is_leaving: true,
-                    is_reported: false,
-                    since: now,
-                    limit: self.limits.end,
-                },
-            ),
-            _ => self.close(rt, reader, writer),
+            Ok(now) if is_leaving => {
+                let mut link = Link::new(reader, writer, now, self.limits.end);
+                link.is_leaving = true;
+                self.keep(rt, link);
+            }
+            _ => self.free(rt, reader.descriptor()),
         }
     }
 

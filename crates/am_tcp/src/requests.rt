@@ -43,41 +43,22 @@ fn decimal(digits: &[u8]) -> Option<usize> {
     }
 }
 
-// What a field tells of the body's length.
-#[derive(Clone, Copy)]
-enum Told {
-    Nothing,
-    Bytes(usize),
-    // The body has another form, or its length is none that is served.
-    Refused,
-}
-
-fn told_by(bytes: &[u8], header: &HeaderSpan) -> Told
-    requires { IsHeaderWithin (length bytes.now) header.now }
-{
-    let name = header.name.of(bytes);
-    if name.eq_ignore_ascii_case(b"Transfer-Encoding") {
-        return Told::Refused;
-    }
-    if !name.eq_ignore_ascii_case(b"Content-Length") {
-        return Told::Nothing;
-    }
-    match decimal(header.value.of(bytes)) {
-        Some(count) => Told::Bytes(count),
-        None => Told::Refused,
-    }
-}
-
-// How many bytes the body has, unless the head is refused.
+// How many bytes the body has, unless the head is refused: it has another form of body, or tells a length twice, or one
+// that isn't served.
 fn body_length(bytes: &[u8], headers: &[HeaderSpan]) -> Option<usize>
     requires { All (IsHeaderWithin (length bytes.now)) headers.now }
 {
     let mut length = None;
     for header in headers {
-        match told_by(bytes, header) {
-            Told::Nothing => {}
-            Told::Bytes(count) if length.is_none() => length = Some(count),
-            _ => return None,
+        let name = header.name.of(bytes);
+        if name.eq_ignore_ascii_case(b"Transfer-Encoding") {
+            return None;
+        }
+        if name.eq_ignore_ascii_case(b"Content-Length") {
+            if length.is_some() {
+                return None;
+            }
+            length = Some(decimal(header.value.of(bytes))?);
         }
     }
     Some(length.unwrap_or(0))

@@ -1,4 +1,6 @@
 //! The links of a port that no worker has.
+ghost use Rattle.std.specs.Prelude.{◌≡◌};
+
 use crate::limits::Limits;
 use crate::link::{TcpReader, TcpWriter};
 use std::alloc::{AllocError, Global};
@@ -29,24 +31,27 @@ pub(crate) struct Link<R> {
     pub(crate) limit: Duration,
 }
 
-/// How long a link waits. One that waits for no request comes before all that do.
-#[derive(Clone, Copy)]
-struct Rank {
-    is_idle: bool,
-    waited: Duration,
-}
-
-impl Rank {
-    fn is_above(self, other: Rank) -> bool {
-        if self.is_idle == other.is_idle {
-            self.waited > other.waited
-        } else {
-            self.is_idle
+impl<R> Link<R> {
+    /// A link of which no request was answered yet. It waits from now on, for so long.
+    pub(crate) fn new(
+        reader: TcpReader<R>,
+        writer: TcpWriter<R>,
+        since: Instant,
+        limit: Duration,
+    ) -> Link<R>
+        ensures { (result.reader ≡ reader) × (result.writer ≡ writer) }
+    {
+        Link {
+            reader,
+            writer,
+            answered: 0,
+            is_leaving: false,
+            is_reported: false,
+            since,
+            limit,
         }
     }
-}
 
-impl<R> Link<R> {
     /// The link's place in the table: the number of its descriptor.
     pub(crate) fn key(&self) -> usize {
         usize::try_from(self.reader.descriptor()).unwrap_or(usize::MAX)
@@ -65,13 +70,14 @@ impl<R> Link<R> {
         now.saturating_duration_since(self.since) >= self.limit
     }
 
-    // How long it waits, if it may be ended for the place of another one.
-    fn rank(&self, now: Instant) -> Option<Rank> {
+    // How long it waits, if it may be ended for the place of another one. One that waits for no request comes before
+    // all that do.
+    fn rank(&self, now: Instant) -> Option<(bool, Duration)> {
         let waited = now.saturating_duration_since(self.since);
         let is_idle = self.reader.since().is_none();
         let is_patient = is_idle || waited >= Duration::from_millis(PATIENCE_MILLIS);
         if is_patient && !self.is_leaving && !self.is_reported {
-            Some(Rank { is_idle, waited })
+            Some((is_idle, waited))
         } else {
             None
         }
@@ -88,25 +94,25 @@ enum Place<R> {
 }
 
 impl<R> Place<R> {
-    fn is_due(&self, now: Instant) -> bool {
+    // The link that waits there.
+    fn kept(&self) -> Option<&Link<R>> {
         match self {
-            Place::Kept(link) => link.is_reported || link.is_over(now),
-            Place::Free | Place::Out(_) => false,
+            Place::Kept(link) => Some(link),
+            Place::Free | Place::Out(_) => None,
         }
+    }
+
+    fn is_due(&self, now: Instant) -> bool {
+        self.kept()
+            .is_some_and(|link| link.is_reported || link.is_over(now))
     }
 
     fn is_leaving(&self) -> bool {
-        match self {
-            Place::Kept(link) => link.is_leaving,
-            Place::Free | Place::Out(_) => false,
-        }
+        self.kept().is_some_and(|link| link.is_leaving)
     }
 
-    fn rank(&self, now: Instant) -> Option<Rank> {
-        match self {
-            Place::Kept(link) => link.rank(now),
-            Place::Free | Place::Out(_) => None,
-        }
+    fn rank(&self, now: Instant) -> Option<(bool, Duration)> {
+        self.kept()?.rank(now)
     }
 }
 
@@ -194,22 +200,16 @@ impl<R: Drop> Table<R> {
 
     // The place of the link that waits longest.
     fn longest_place(&self, now: Instant) -> Option<usize> {
-        let mut longest: Option<(usize, Rank)> = None;
+        let mut longest = None;
+        let mut found = None;
         for at in 0..self.places.len() {
-            if let Some(rank) = self.places[at].rank(now) {
-                let is_longest = match longest {
-                    Some((_, other)) => rank.is_above(other),
-                    None => true,
-                };
-                if is_longest {
-                    longest = Some((at, rank));
-                }
+            let rank = self.places[at].rank(now);
+            if rank > longest {
+                longest = rank;
+                found = Some(at);
             }
         }
-        match longest {
-            Some((at, _)) => Some(at),
-            None => None,
-        }
+        found
     }
 
     // Takes the next link of the round out that is due.
@@ -217,16 +217,9 @@ impl<R: Drop> Table<R> {
         if !self.has_round(now) {
             return None;
         }
-        match self.due_place(now) {
-            Some(at) => {
-                self.at = at.saturating_add(1);
-                self.take(at)
-            }
-            None => {
-                self.at = self.places.len();
-                None
-            }
-        }
+        let due = self.due_place(now);
+        self.at = due.map_or(self.places.len(), |at| at.saturating_add(1));
+        self.take(due?)
     }
 
     /// What a worker that needs a link does next.
@@ -288,7 +281,7 @@ impl<R: Drop> Table<R> {
         }
     }
 
-    /// Frees the place of a link that a worker has.
+    /// Frees the place of a link, which ends if it is kept there.
     pub(crate) fn free(&mut self, key: usize) {
         if let Some(place) = self.places.get_mut(key) {
             *place = Place::Free;

@@ -33,7 +33,7 @@ fn accepted<R: Clock + Wait + Copy + Drop + Send>(gate: &mut TcpGate<R>) -> Resu
 }
 
 /// The text that comes next, of so many bytes, or as much as comes before the end.
-fn received<R: Clock>(
+fn received<R: Clock + Wait>(
     alloc: Global,
     reader: &mut TcpReader<R>,
     length: usize,
@@ -50,7 +50,7 @@ fn received<R: Clock>(
 }
 
 /// Writes all bytes, one after the other.
-fn send<R: Clock>(writer: &mut TcpWriter<R>, bytes: &[u8]) -> Result<(), Failed> {
+fn send<R: Clock + Wait>(writer: &mut TcpWriter<R>, bytes: &[u8]) -> Result<(), Failed> {
     for byte in bytes {
         writer.write(&[*byte])?;
     }
@@ -84,7 +84,7 @@ fn a_client_is_served(rt: HostRuntime) -> Result<(), Fail> {
 }
 
 /// Whether a write fails after some time.
-fn fails_at_last<R: Clock>(writer: &mut TcpWriter<R>) -> bool {
+fn fails_at_last<R: Clock + Wait>(writer: &mut TcpWriter<R>) -> bool {
     (0u32..1000).any(|_| writer.write(b"x").is_err())
 }
 
@@ -350,6 +350,111 @@ fn a_link_rests_for_its_time(rt: HostRuntime) -> Result<(), Fail> {
     assert_eq!(rt; answered, 1);
     assert_eq!(rt; link.reader.faults, 0);
     gate.finish(link.reader, link.writer);
+    Ok(())
+}
+
+#[test]
+fn a_peer_ends_behind_its_request(rt: HostRuntime) -> Result<(), Fail> {
+    let alloc = rt.alloc();
+    let mut network = TcpNetwork::new(rt, alloc);
+    let mut gate = network.listen(0, 1)?.pop().ok_or("a gate")?;
+    let mut client = client_of(&rt, network.local_addr())?;
+    client.write_all(b"GET / HTTP/1.1\r\n\r\n")?;
+    client.shutdown(Shutdown::Write)?;
+    wait(&rt, 100);
+    // Its end, which came with the request, isn't waited for.
+    let (mut link, _text, _answered) = asked(alloc, &mut gate, 18)?;
+    assert!(rt; link.reader.is_ready());
+    assert_eq!(rt; link.reader.read(&mut [0u8; 1]), Ok(0));
+    gate.finish(link.reader, link.writer);
+    // Nor is one that comes while a worker has the link.
+    let mut client = client_of(&rt, network.local_addr())?;
+    client.write_all(b"GET / HTTP/1.1\r\n\r\n")?;
+    let (mut link, _text, _answered) = asked(alloc, &mut gate, 18)?;
+    client.shutdown(Shutdown::Write)?;
+    wait(&rt, 100);
+    assert!(rt; !link.reader.is_ready());
+    assert!(rt; gate.park(link.reader, link.writer, 1));
+    let (mut link, _text, _answered) = asked(alloc, &mut gate, 0)?;
+    assert_eq!(rt; link.reader.read(&mut [0u8; 1]), Ok(0));
+    gate.finish(link.reader, link.writer);
+    Ok(())
+}
+
+/// Whether nothing that a client didn't read yet has come to it.
+fn is_silent(client: &mut TcpStream) -> io::Result<bool> {
+    client.set_nonblocking(true)?;
+    let is_silent = match client.read(&mut [0u8; 1]) {
+        Err(error) => error.kind() == ErrorKind::WouldBlock,
+        Ok(_) => false,
+    };
+    client.set_nonblocking(false)?;
+    Ok(is_silent)
+}
+
+/// The next bytes that a client receives, so many.
+fn answers_to(alloc: Global, client: &mut TcpStream, length: usize) -> Result<String, Fail> {
+    let mut bytes = vec![in alloc; 0u8; length]?;
+    client.read_exact(bytes.as_mut_slice())?;
+    Ok(String::from_utf8(bytes)?)
+}
+
+#[test]
+fn responses_to_requests_of_one_read_go_out_together(rt: HostRuntime) -> Result<(), Fail> {
+    let alloc = rt.alloc();
+    let mut network = TcpNetwork::new(rt, alloc);
+    let mut gate = network.listen(0, 1)?.pop().ok_or("a gate")?;
+    let mut client = client_of(&rt, network.local_addr())?;
+    client.write_all(
+        b"GET /a HTTP/1.1\r\n\r\nGET /b HTTP/1.1\r\n\r\nGET /c HTTP/1.1\r\n\r\nGET /d",
+    )?;
+    let (mut link, _text, _answered) = asked(alloc, &mut gate, 57)?;
+    for response in [b"one", b"two"] {
+        assert_eq!(rt; link.writer.write(response), Ok(3));
+        wait(&rt, 50);
+        assert!(rt; is_silent(&mut client)?);
+    }
+    // The last one doesn't wait for a request that isn't there whole.
+    assert_eq!(rt; link.writer.write(b"three"), Ok(5));
+    assert_eq!(rt; answers_to(alloc, &mut client, 11)?.as_str(), "onetwothree");
+    assert!(rt; !link.reader.is_ready());
+    client.write_all(b" HTTP/1.1\r\n\r\nGET /e HTTP/1.1\r\n\r\n")?;
+    assert!(rt; link.reader.is_ready());
+    assert_eq!(rt; received(alloc, &mut link.reader, 38)?.len(), 38);
+    // What is kept is sent before more is waited for, and before the end.
+    assert_eq!(rt; link.writer.write(b"four"), Ok(4));
+    assert!(rt; is_silent(&mut client)?);
+    assert!(rt; !link.reader.is_ready());
+    assert_eq!(rt; answers_to(alloc, &mut client, 4)?.as_str(), "four");
+    client.write_all(b"GET /f HTTP/1.1\r\n\r\nGET /g HTTP/1.1\r\n\r\n")?;
+    assert!(rt; link.reader.is_ready());
+    assert_eq!(rt; received(alloc, &mut link.reader, 38)?.len(), 38);
+    assert_eq!(rt; link.writer.write(b"last"), Ok(4));
+    gate.finish(link.reader, link.writer);
+    assert_eq!(rt; rest(alloc, &mut client)?.as_str(), "last");
+    Ok(())
+}
+
+#[test]
+fn many_responses_are_kept_up_to_a_limit(rt: HostRuntime) -> Result<(), Fail> {
+    let alloc = rt.alloc();
+    let mut network = TcpNetwork::new(rt, alloc);
+    let mut gate = network.listen(0, 1)?.pop().ok_or("a gate")?;
+    let mut client = client_of(&rt, network.local_addr())?;
+    client.write_all(b"GET /a HTTP/1.1\r\n\r\nGET /b HTTP/1.1\r\n\r\nGET /c HTTP/1.1\r\n\r\n")?;
+    let (mut link, _text, _answered) = asked(alloc, &mut gate, 57)?;
+    let large = vec![in alloc; b'l'; 40_000]?;
+    assert_eq!(rt; link.writer.write(large.as_slice()), Ok(40_000));
+    assert!(rt; is_silent(&mut client)?);
+    assert_eq!(rt; link.writer.write(large.as_slice()), Ok(40_000));
+    let text = answers_to(alloc, &mut client, 80_000)?;
+    assert!(rt; text.as_bytes().iter().all(|byte| *byte == b'l'));
+    assert_eq!(rt; link.writer.write(b"x"), Ok(1));
+    assert_eq!(rt; answers_to(alloc, &mut client, 1)?.as_str(), "x");
+    drop(client);
+    // Those that can't be sent are a fault.
+    assert!(rt; fails_at_last(&mut link.writer));
+    assert_eq!(rt; link.writer.faults, 1);
     Ok(())
 }
 
