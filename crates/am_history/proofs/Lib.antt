@@ -1,6 +1,7 @@
 pub mod Acts
 pub mod Callers
 pub mod KeptExamples
+pub mod OnlyReads
 pub mod OpeningExamples
 pub mod OpeningLaws
 pub mod Places

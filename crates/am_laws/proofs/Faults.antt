@@ -8,8 +8,9 @@ use Rattle.am_types.specs.declared.reply.Reply.TheVariants as replies
 use Rattle.am_types.specs.declared.rule.Rule.TheVariants as rules
 use Rattle.am_history.specs.State.{State}
 use Rattle.am_history.specs.Steps.{act}
+use Rattle.am_history.proofs.OnlyReads.{is_fault}
 use Rattle.am_laws.specs.Access.{Deed}
-use Rattle.am_laws.proofs.Outcomes.{is_fault, is_other, Comes, refuses, lands, tells, ActComes, acts, uses, act_comes}
+use Rattle.am_laws.proofs.Outcomes.{is_other, Comes, refuses, lands, tells, ActComes, acts, uses, act_comes}
 use Rattle.std.specs.Prelude.{Option}
 
 -- the reply is refused by that rule

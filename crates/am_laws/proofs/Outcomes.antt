@@ -42,8 +42,7 @@ use Rattle.am_types.specs.declared.rule.Rule.{Rule}
 use Rattle.am_types.specs.declared.rule.Rule.TheVariants as rules
 use Rattle.am_types.specs.declared.rule.Limit.{Limit}
 use Rattle.am_types.specs.declared.rule.Limit.TheVariants as limits
-use Rattle.am_model.specs.Accounts.{Question}
-use Rattle.am_model.specs.Boards.{caller_of, package_named, uid_named, with_stopped}
+use Rattle.am_model.specs.Boards.{package_named, with_stopped}
 use Rattle.am_model.specs.Candidates.{hits}
 use Rattle.am_model.specs.Gates.{Verdict, Admit, NotExported, NeedsPermission, verdict, is_privileged}
 use Rattle.am_model.specs.Receivers.{declared, rule_of, or_rule, receivers, is_protected}
@@ -65,16 +64,11 @@ use Rattle.am_history.specs.Services.{running, is_too_many, started, gate_rule, 
 use Rattle.am_history.specs.BroadcastCalls.{sending_of, send_rule, after_send, send, count_of, register, unregister_found, unregister, finish_rule, after_finish, finish}
 use Rattle.am_history.specs.PendingCalls.{pending_rule, after_get, pending_get, after_change, pending_cancel, pending_give, in_new_task, lend, after_use, used_up, pending_send}
 use Rattle.am_history.specs.Packages.{is_name_used, is_key_used, is_full, install_read, install, uninstall, force_stop, too_many_grants, grant, too_many_links, link}
-use Rattle.am_history.specs.Explaining.{told_at, told, told_as, explain}
 use Rattle.am_history.specs.Steps.{act, advance}
+use Rattle.am_history.proofs.OnlyReads.{is_fault, says_done, Read, says, act_reads}
 use Rattle.am_laws.specs.Access.{Deed, Starts, Serves, Sends, lent_deed, deed_of, used_deed}
 use Rattle.am_laws.specs.Refusals.{without_record, after_use_refused, after_refused}
 use Rattle.am_laws.proofs.Cases.{admitted_by, second_none}
-
--- the rule is that a row couldn't be kept
-abbrev pub is_fault : Rule → Bool
-is_fault rules.KeeperFault = true
-is_fault _ = false
 
 -- the reply neither refuses nor says where a start landed
 abbrev pub is_other : Reply → Bool
@@ -431,34 +425,14 @@ module _ (state : State) (deed : Option Deed) where
       (tells (replies.Advanced _ _) _ refl)
       (refuses (rules.OverLimit limits.Moment) refl)
 
-  -- the accounts of what has a uid, of what the package of a name has, and as a uid would ask for them
-  told_at_comes : (asked : Question) (uid : Option ℕ) → Comes state deed (told_at state.board asked uid, state)
-  told_at_comes asked None = refuses rules.NoPackage refl
-  told_at_comes asked (Some uid) = tells (replies.Accounts _) state refl
-
-  told_comes : (asked : Question) (shown : Option (List ℕ)) → Comes state deed (told state.board asked shown, state)
-  told_comes asked None = tells (replies.Accounts _) state refl
-  told_comes asked (Some name) = told_at_comes asked (uid_named state.board.packages name)
-
-  told_as_comes : (asked : Question) (shown : Option (List ℕ)) (uid : Option ℕ)
-      → Comes state deed (told_as state.board asked shown uid, state)
-  told_as_comes asked shown None = refuses rules.NoPackage refl
-  told_as_comes asked shown (Some uid) = told_comes (record asked { caller = uid }) shown
-
-  -- whom an intent reaches and why not the others
-  explain_comes : (asked : Question) (name shown : Option (List ℕ))
-      → Comes state deed (explain state.board asked name shown, state)
-  unfolding explain
-  explain_comes asked None shown = told_comes asked shown
-  explain_comes asked (Some name) shown = by (is_privileged asked.caller)
+  -- a request that only reads
+  read_comes : (next : Reply × State) → Read state next → Comes state deed next
+  read_comes next (says reply nothing) = by reply nothing
     where
-      by : (privileged : Bool) → Comes state deed (
-        cond privileged
-            (told_as state.board asked shown (caller_of state.board.packages name)) (replies.Refused rules.AdminOnly),
-        state,
-      )
-      by true = told_as_comes asked shown (caller_of state.board.packages name)
-      by false = refuses rules.AdminOnly refl
+      by : (reply : Reply) → says_done reply ≡ false → Comes state deed (reply, state)
+      by (replies.Refused rule) nothing = refuses rule nothing
+      by (replies.Placed landed) nothing = absurd cc
+      by reply nothing = tells reply state refl
 
 -- what comes of a request: what comes of its deed; and if a one-shot token does it, that one is used up
 pub data ActComes (state : State) (caller : ℕ) (request : Request) : Reply × State → Type 0 where
@@ -499,36 +473,24 @@ pending_send_comes state caller token fill = by (use_token state.pendings token 
         is) (refuses (pending_rule fault) (pending_other fault))
     by (Ok used) is = does used is used.one_shot refl
 
--- each request
+-- each request; the last row is for every one that only reads
 pub act_comes : (state : State) (before : List Entry) (caller : ℕ) (request : Request)
     → ActComes state caller request (act state before caller request)
 unfolding act
-act_comes state before caller (asks.Query kind intent default_only) = acts _ refl
-    (tells (replies.Components _) state refl)
-act_comes state before caller (asks.Explain kind intent name permission shown) =
-    acts _ refl (explain_comes state None (record {
-      caller = caller;
-      kind = kind;
-      intent = intent;
-      required = permission;
-    }) name shown)
 act_comes state before caller (asks.Start intent source) = acts _ refl
     (start_comes state (Some (Starts caller intent)) caller intent source refl)
 act_comes state before caller (asks.FinishActivity instance) = acts _ refl
     (finish_activity_comes state None caller instance)
 act_comes state before caller asks.Back = acts _ refl (by_admin state None caller (back state) (back_comes state None))
-act_comes state before caller asks.ListTasks = acts _ refl (tells (replies.Tasks _) state refl)
 act_comes state before caller (asks.StartService intent) = acts _ refl
     (service_comes state (Some (Serves caller intent)) caller intent)
 act_comes state before caller (asks.StopService component) = acts _ refl
     (stop_service_comes state None caller component)
-act_comes state before caller asks.Services = acts _ refl (tells (replies.Services _) state refl)
 act_comes state before caller (asks.Send intent permission ordered) =
     acts _ refl (send_comes state (Some (Sends caller intent permission ordered)) caller intent permission ordered)
 act_comes state before caller (asks.Register filter permission) = acts _ refl
     (register_comes state None caller filter permission)
 act_comes state before caller (asks.Unregister number) = acts _ refl (unregister_comes state None caller number)
-act_comes state before caller asks.Inbox = acts _ refl (tells (replies.Items _) state refl)
 act_comes state before caller (asks.Finish delivery answer) = acts _ refl
     (finish_comes state None caller delivery answer)
 act_comes state before caller (asks.PendingGet kind code intent flags) = acts _ refl
@@ -548,7 +510,5 @@ act_comes state before caller asks.Tick = acts _ refl (by_admin state None calle
     (tells replies.Plain state refl))
 act_comes state before caller (asks.Advance by) = acts _ refl (by_admin state None caller (advance state by)
     (advance_comes state None by))
-act_comes state before caller (asks.History from) = acts _ refl (by_admin state None caller _
-    (tells (replies.Entries from _) state refl))
-act_comes state before caller asks.Status = acts _ refl (by_admin state None caller _
-    (tells (replies.Status _ state.moment _) state refl))
+act_comes state before caller request = acts _ refl
+    (read_comes state (deed_of state caller request) _ (act_reads state before caller request refl))

@@ -45,6 +45,7 @@ use Rattle.am_history.specs.BroadcastCalls.{sending_of, with_registered, count_o
 use Rattle.am_history.specs.PendingCalls.{after_get, pending_get, after_change, pending_cancel, pending_give, in_new_task, lend, pending_send}
 use Rattle.am_history.specs.Packages.{forget, installed, is_name_used, is_key_used, is_full, install_read, install, without, uninstall, force_stop, too_many_grants, grant_to, grant, too_many_links, link_to, link}
 use Rattle.am_history.specs.Steps.{act, at_moment, after_due, advanced, advance, step}
+use Rattle.am_history.proofs.OnlyReads.{act_reads, reading_leaves}
 use Rattle.am_laws.specs.Access.{Starts, Serves, Sends, lent_deed, deed_of, used_deed}
 use Rattle.am_laws.proofs.Answered.{either_leaves, unless_leaves, admin_leaves, package_leaves}
 use Rattle.am_laws.proofs.Cases.{start_cases, service_cases, send_cases, use_cases, finish_cases}
@@ -243,13 +244,11 @@ module _ (P : State → Type 0) (state : State) (caller : ℕ) where
       fits true is = steps.advanced by (leb-true (state.moment + by) 4611686018427387904 is)
       fits false is = steps.here
 
-  -- each request
+  -- each request; the last row is for every one that only reads
   pub act_leaves : (before : List Entry) (request : Request) → Steps P state caller request
       → P (act state before caller request).1
   unfolding act finish_activity tasks.finish back stop_service register unregister pending_get pending_cancel
       pending_give install uninstall grant link force_stop
-  act_leaves before (asks.Query kind intent default_only) steps = steps.here
-  act_leaves before (asks.Explain kind intent name permission shown) steps = steps.here
   act_leaves before (asks.Start intent source) steps =
       start_cases P state caller intent steps.here source
       (λ component found landed is admits done. steps.started caller intent source component found landed refl is admits
@@ -258,7 +257,6 @@ module _ (P : State → Type 0) (state : State) (caller : ℕ) where
       steps
   act_leaves before asks.Back steps = admin_leaves P state caller (back state) steps.here
       (back_leaves _ (seen state.tasks.tasks) steps)
-  act_leaves before asks.ListTasks steps = steps.here
   act_leaves before (asks.StartService intent) steps =
       service_cases P state caller intent steps.here (λ component found is admits. steps.served caller intent component
       found refl is admits)
@@ -270,7 +268,6 @@ module _ (P : State → Type 0) (state : State) (caller : ℕ) where
           unless_leaves P state (stopped_rule (running state.services component)) _ steps.here
           (unless_leaves P state (gate_rule state caller found) _ steps.here
           (steps.unserved (λ (service : Service). not (is_service component service))))
-  act_leaves before asks.Services steps = steps.here
   act_leaves before (asks.Send intent permission ordered) steps =
       send_cases P state caller intent steps.here permission ordered (steps.sent caller intent permission ordered refl)
   act_leaves before (asks.Register filter permission) steps =
@@ -283,7 +280,6 @@ module _ (P : State → Type 0) (state : State) (caller : ℕ) where
       by None = steps.here
       by (Some found) = either_leaves P (found.uid == caller) (done (taken_back state found))
           (refused state rules.NotYours) (steps.taken_back found) steps.here
-  act_leaves before asks.Inbox steps = steps.here
   act_leaves before (asks.Finish delivery answer) steps = finish_leaves delivery answer steps
   act_leaves before (asks.PendingGet kind code intent flags) steps =
       got_leaves _ (pendings.get state.pendings asked) (get_gives_one state.pendings.next state.pendings asked
@@ -326,8 +322,7 @@ module _ (P : State → Type 0) (state : State) (caller : ℕ) where
   act_leaves before asks.Tick steps = admin_leaves P state caller (done state) steps.here steps.here
   act_leaves before (asks.Advance by) steps = admin_leaves P state caller (advance state by) steps.here
       (advance_leaves _ by steps)
-  act_leaves before (asks.History from) steps = admin_leaves P state caller _ steps.here steps.here
-  act_leaves before asks.Status steps = admin_leaves P state caller _ steps.here steps.here
+  act_leaves before request steps = reading_leaves P state _ (act_reads state before caller request refl) steps.here
 
 -- what holds at the moment of an entry, and after its request if it was kept, holds after the entry
 pub step_leaves : (P : State → Type 0) (state : State) (before : List Entry) (entry : Entry)

@@ -1,7 +1,7 @@
 -- What a request is answered and what it does to broadcasts: it finishes a delivery, strikes receivers or lets
 -- deadlines pass, and
 -- is answered that it is done; it sends a broadcast; or it leaves them as they are.
-use Rattle.std.proofs.Common.{◌≡◌, ℕ, ◌+◌, Bool, true, false, not, ◌&&◌, ◌||◌, cond, List, length, refl, sym, ap, subst}
+use Rattle.std.proofs.Common.{◌≡◌, ℕ, ◌+◌, Bool, true, false, not, ◌&&◌, ◌||◌, cond, List, refl, sym, ap, subst}
 use Rattle.std.specs.Prelude.{Option, Some, None, Result, Ok, Err, ◌==◌, nat_le}
 use Rattle.std.specs.List.{find}
 use Rattle.std.proofs.lemmas.Bool.{eqb-true}
@@ -44,8 +44,8 @@ use Rattle.am_history.specs.Services.{running, stopped_rule, gate_rule, stop_may
 use Rattle.am_history.specs.BroadcastCalls.{sending_of, count_of, register, taken_back, unregister_found, unregister, send, finish}
 use Rattle.am_history.specs.PendingCalls.{after_get, pending_get, after_change, pending_cancel, pending_give, in_new_task, lend, pending_send}
 use Rattle.am_history.specs.Packages.{is_name_used, is_key_used, is_full, install_read, install, without, uninstall, force_stop, too_many_grants, grant_to, grant, too_many_links, link_to, link}
-use Rattle.am_history.specs.Explaining.{explain}
-use Rattle.am_history.specs.Steps.{at_moment, advanced, advance, page, act}
+use Rattle.am_history.specs.Steps.{at_moment, advanced, advance, act}
+use Rattle.am_history.proofs.OnlyReads.{says_done, Read, says, act_reads}
 use Rattle.am_laws.specs.Access.{Sends, lent_deed, deed_of, used_deed}
 use Rattle.am_laws.proofs.Answered.{either_leaves, unless_leaves}
 use Rattle.am_laws.proofs.Requests.{stopped_of}
@@ -188,19 +188,20 @@ module _ (P : Bool → Broadcasts → Type 0) (state : State) (caller : ℕ) whe
       (refused state rules.Installed) _ here
       (either_leaves Any (is_full state) (refused state (rules.OverLimit limits.Packages)) _ here here)
 
-  -- each request
+  -- a request that only reads
+  read_does : (next : Reply × State) → Read state next → P false state.broadcasts → Does next
+  read_does next (says reply nothing) same = by reply nothing
+    where
+      by : (reply : Reply) → says_done reply ≡ false → P (is_done reply) state.broadcasts
+      by replies.Plain nothing = absurd cc
+      by (replies.Advanced due now) nothing = absurd cc
+      by reply nothing = same
+
+  -- each request; the last row is for every one that only reads
   pub acts_do : (before : List Entry) (request : Request) → Acts P state caller request
       → Does (act state before caller request)
   unfolding act finish_activity back stop_service register pending_get pending_cancel pending_give install uninstall
       grant link force_stop advance
-  acts_do before (asks.Query kind intent default_only) acts = acts.same
-  acts_do before (asks.Explain kind intent name permission shown) acts =
-      any_does (
-        explain state.board (record { caller = caller; kind = kind; intent = intent; required = permission })
-            name shown,
-        state,
-      )
-      (any_same (asks.Explain kind intent name permission shown) refl acts)
   acts_do before (asks.Start intent source) acts =
       let here = any_same (asks.Start intent source) refl acts in
       any_does (start state caller intent source) (start_cases Any state caller intent here source
@@ -210,7 +211,6 @@ module _ (P : Bool → Broadcasts → Type 0) (state : State) (caller : ℕ) whe
       (end_any (tasks.finish state.tasks instance caller) (any_same (asks.FinishActivity instance) refl acts))
   acts_do before asks.Back acts = admin_does (back state) acts.same
       (any_does (back state) (any_same asks.Back refl acts))
-  acts_do before asks.ListTasks acts = acts.same
   acts_do before (asks.StartService intent) acts =
       let here = any_same (asks.StartService intent) refl acts in
       any_does (start_service state caller intent) (service_cases Any state caller intent here
@@ -219,7 +219,6 @@ module _ (P : Bool → Broadcasts → Type 0) (state : State) (caller : ℕ) whe
       any_does (stop_maybe state caller component (declared state.board.packages kinds.Service component))
       (stop_any (declared state.board.packages kinds.Service component) component
       (any_same (asks.StopService component) refl acts))
-  acts_do before asks.Services acts = acts.same
   acts_do before (asks.Send intent permission ordered) acts =
       any_does (send state caller intent permission ordered)
       (send_cases Any state caller intent (any_same (asks.Send intent permission ordered) refl acts) permission ordered
@@ -228,7 +227,6 @@ module _ (P : Bool → Broadcasts → Type 0) (state : State) (caller : ℕ) whe
       either_does (nat_le 64 (count_of state.board.registered caller))
       (refused state (rules.OverLimit limits.Registered)) _ acts.same acts.same
   acts_do before (asks.Unregister number) acts = unregister_does number acts
-  acts_do before asks.Inbox acts = acts.same
   acts_do before (asks.Finish delivery answer) acts = finish_does delivery answer acts
   acts_do before (asks.PendingGet kind code intent flags) acts =
       any_does (after_get state (pendings.get state.pendings (record
@@ -279,10 +277,5 @@ module _ (P : Bool → Broadcasts → Type 0) (state : State) (caller : ℕ) whe
       admin_does (advance state more) acts.same
       (either_does (nat_le (state.moment + more) 4611686018427387904) (advanced (at_moment state (state.moment + more)))
       (refused state (rules.OverLimit limits.Moment)) (acts.advanced more refl) acts.same)
-  acts_do before (asks.History from) acts = admin_does (replies.Entries from (page before from), state) acts.same
-      acts.same
-  acts_do before asks.Status acts = admin_does (
-    replies.Status (length before) state.moment
-        (length state.board.packages),
-    state,
-  ) acts.same acts.same
+  acts_do before request acts = read_does (act state before caller request)
+      (act_reads state before caller request refl) acts.same

@@ -48,7 +48,8 @@ module _ {X Row : Type 0} (as_right : X → Right) (make : ℕ → List ℕ → 
     given_in_order : (x : X) (gives : Bool) (xs : List X) → AreSorted xs
         → AreSorted (given as_right (before_right as_right) x gives xs)
     given_in_order x gives xs up =
-        subst AreSorted (sym (given_is x gives xs)) (with_in_order as_right make is_right xs (as_right x).0 (as_right x).1
+        subst AreSorted (sym (given_is x gives xs))
+        (with_in_order as_right make is_right xs (as_right x).0 (as_right x).1
         gives up)
 
     -- and so do rows

@@ -32,6 +32,7 @@ use Rattle.am_history.specs.BroadcastCalls.{count_of, register, taken_back, unre
 use Rattle.am_history.specs.PendingCalls.{after_get, pending_get, after_change, pending_cancel, pending_give, in_new_task, lend}
 use Rattle.am_history.specs.Packages.{force_stop}
 use Rattle.am_history.specs.Steps.{act, at_moment, advanced, advance, keeps_row}
+use Rattle.am_history.proofs.OnlyReads.{act_reads, reading_leaves}
 use Rattle.am_laws.proofs.Answered.{either_leaves, unless_leaves, admin_leaves, package_leaves}
 use Rattle.am_laws.proofs.Cases.{start_cases, service_cases, send_cases, use_cases}
 use Rattle.am_laws_kept.specs.Found.{as_stopped, kept_of}
@@ -84,19 +85,16 @@ module _ (state : State) (caller : ℕ) where
       (λ component found is admits. stopped_stays found.0 false)
   lent_stays creator intent kinds.Receiver = send_cases Stays state creator intent refl None None (λ unprotected. refl)
 
-  -- each request that has no row kept
+  -- each request that has no row kept; the last row is for every one that only reads
   pub other_stays : (before : List Entry) (request : Request) → keeps_row request ≡ false
       → Stays (act state before caller request).1
   unfolding act finish_activity back stop_service register unregister finish pending_get pending_cancel pending_give
       force_stop advance
-  other_stays before (asks.Query kind intent default_only) keeps = refl
-  other_stays before (asks.Explain kind intent name permission shown) keeps = refl
   other_stays before (asks.Start intent source) keeps =
       start_cases Stays state caller intent refl source (λ component found landed is admits placed. stopped_stays
       found.0 false)
   other_stays before (asks.FinishActivity instance) keeps = end_stays (tasks.finish state.tasks instance caller)
   other_stays before asks.Back keeps = admin_leaves Stays state caller (back state) refl refl
-  other_stays before asks.ListTasks keeps = refl
   other_stays before (asks.StartService intent) keeps = service_cases Stays state caller intent refl
       (λ component found is admits. stopped_stays found.0 false)
   other_stays before (asks.StopService component) keeps = by (declared state.board.packages kinds.Service component)
@@ -110,7 +108,6 @@ module _ (state : State) (caller : ℕ) where
             services = filter (λ (service : Service). not (is_service component service))
                 state.services;
           })) refl refl)
-  other_stays before asks.Services keeps = refl
   other_stays before (asks.Send intent permission ordered) keeps = send_cases Stays state caller intent refl permission
       ordered (λ unprotected. refl)
   other_stays before (asks.Register filter permission) keeps =
@@ -123,7 +120,6 @@ module _ (state : State) (caller : ℕ) where
       by None = refl
       by (Some found) = either_leaves Stays (found.uid == caller) (done (taken_back state found))
           (refused state rules.NotYours) refl refl
-  other_stays before asks.Inbox keeps = refl
   other_stays before (asks.Finish delivery answer) keeps = finish_stays
       (sending.finish state.broadcasts delivery caller answer state.moment)
   other_stays before (asks.PendingGet kind code intent flags) keeps =
@@ -155,5 +151,4 @@ module _ (state : State) (caller : ℕ) where
       (either_leaves Stays (nat_le (state.moment + more) 4611686018427387904)
       (advanced (at_moment state (state.moment + more)))
       (refused state (rules.OverLimit limits.Moment)) refl refl)
-  other_stays before (asks.History from) keeps = admin_leaves Stays state caller _ refl refl
-  other_stays before asks.Status keeps = admin_leaves Stays state caller _ refl refl
+  other_stays before request keeps = reading_leaves Stays state _ (act_reads state before caller request refl) refl
