@@ -4,3 +4,4 @@ pub mod Kept
 pub mod FoundRows
 pub mod Shown
 pub mod Acting
+pub mod Calm

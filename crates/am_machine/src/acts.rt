@@ -8,22 +8,21 @@ ghost use Rattle.am_history.specs.Steps.{act, after_due, is_calm, keeps_row};
 
 use crate::reads::read_at;
 use am_live::{Caller, Live};
+use am_packed::Archive;
 use am_types::{Entry, NoMemory, Reply, Request, Rule, Steps};
-use std::alloc::Global;
 use std::sync::ledger::Ledger;
 
 /// The reply to a call at its moment, and what the call does to the state. After `NoMemory`
 /// the state is as before.
 pub(crate) fn act<L: Ledger>(
-    alloc: Global,
     live: &mut Live,
-    history: &[Entry],
+    history: &Archive,
     call: &Entry,
     steps: &mut Steps<L>,
 ) -> Result<Reply, NoMemory>
     requires rowless { keeps_row call.now.request ≡ false }
     requires numbers { HasNumbers live.old }
-    ensures done { IfOk result (λ reply. act (after_due live.old call.entry.now.now) history.now
+    ensures done { IfOk result (λ reply. act (after_due live.old call.entry.now.now) history.now.entries
         call.entry.now.uid call.entry.now.request ≡ (reply, live.new)) }
     ensures same { OnErr result (live.new ≡ live.old) }
     ensures calm { IsTrue (is_calm call.entry.now.request) → IsOk result }
@@ -68,7 +67,7 @@ pub(crate) fn act<L: Ledger>(
             Ok(tick(call.uid))
         }
         Request::Advance { by: more } => Ok(live.advance(by, *more, steps)),
-        _ => read_at(alloc, live, history, by, &call.request, steps),
+        _ => read_at(live, history, by, &call.request, steps),
     }
 }
 

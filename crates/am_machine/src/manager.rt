@@ -1,11 +1,13 @@
 //! The manager: the live state of a device, and the history of the calls that made it.
 ghost use Rattle.std.specs.Prelude.{◌≡◌, ◌≤◌, [], length, count_by, IfOk, IfErr, OnOk, Some, Ok};
+ghost use Rattle.std.specs.Option.{option_copied};
 ghost use Rattle.am_keeper.specs.declared.rows.Rows.{Rows as Told};
 ghost use Rattle.am_keeper.specs.Rows.{IsInOrder};
 ghost use Rattle.am_model.specs.Sound.{IsSound};
 ghost use Rattle.am_history.specs.Desks.{opening_of};
-ghost use Rattle.am_history.specs.History.{IsLegal};
+ghost use Rattle.am_history.specs.History.{IsLegal, replay};
 ghost use Rattle.am_history.specs.Opening.{opening_with};
+ghost use Rattle.am_history.specs.State.{key_of};
 ghost use Rattle.am_laws_kept.specs.Found.{rows_after};
 ghost use Rattle.am_opening.specs.Openings.{Refuses};
 ghost use Rattle.am_machine.specs.Managed.{is_unkept};
@@ -14,7 +16,8 @@ use crate::opened::Opened;
 use am_keeper::{Attached, Keeper, Rows};
 use am_live::Live;
 use am_opening::{BeginFault, open};
-use am_types::{Device, Entry, NoMemory, drop_parts};
+use am_packed::Archive;
+use am_types::{Device, NoMemory, Text, drop_parts};
 use std::alloc::Global;
 use std::hash::RandomState;
 use std::marker::Model;
@@ -22,39 +25,37 @@ use std::marker::Model;
 /// The activity manager of one device. Contracts see where it comes from, its history, how many more
 /// calls it has room for, and its keeper.
 pub struct Manager<K: Keeper> {
-    pub(crate) alloc: Global,
     opened: Opened,
     pub(crate) live: Live,
-    pub(crate) history: Vec<Entry>,
+    pub(crate) history: Archive,
     // What the entries weigh together, in bytes.
     pub(crate) weight: u64,
     pub(crate) keeper: K,
 }
 
 impl<K: Keeper> Model for Manager<K> {
-    ghost use Rattle.std.specs.Prelude.{vec_capacity, vec_len, ◌-◌};
     ghost use Rattle.am_machine.specs.Managed.{Managed, Holds, HoldsKept};
 
     ghost Value = { Managed K };
 
     ghost view = { λ m. record {
       origin = record { device = m.opened.device; rows = m.opened.rows; place = K.place m.keeper };
-      history = m.history.items;
-      spare = vec_capacity m.history - vec_len m.history;
+      history = m.history.entries;
+      spare = m.history.spare;
       keeper = m.keeper;
     } };
 
     // The live state is the one that the history leaves, and the keeper counted what it couldn't keep.
     ghost invariant = { λ m.
         Holds (record { device = m.opened.device; rows = m.opened.rows; place = K.place m.keeper })
-        m.live m.history.items m.weight
+        m.live m.history.entries m.weight
         × HoldsKept K.Keeper (record { device = m.opened.device; rows = m.opened.rows; place = K.place m.keeper })
-        m.history.items m.keeper };
+        m.history.entries m.keeper };
 }
 
 impl<K: Keeper> Drop for Manager<K> {
     fn drop(self) {
-        drop_parts!(self, Manager: alloc opened live history weight keeper);
+        drop_parts!(self, Manager: opened live history weight keeper);
     }
 }
 
@@ -109,10 +110,9 @@ pub fn begin_keyed<K: Keeper>(
     drop(rows);
     match live {
         Ok(live) => Ok(Manager {
-            alloc,
             opened,
             live,
-            history: Vec::new(alloc),
+            history: Archive::new(alloc),
             weight: 0,
             keeper,
         }),
@@ -152,8 +152,7 @@ impl<K: Keeper> Manager<K> {
         ensures same { (self.new.origin ≡ self.old.origin) × (self.new.history ≡ self.old.history)
             × (self.new.keeper ≡ self.old.keeper) }
     {
-        self.history.reserve(calls)?;
-        Ok(())
+        self.history.reserve(calls)
     }
 
     /// The entries of the history. Takes no memory.
@@ -162,6 +161,13 @@ impl<K: Keeper> Manager<K> {
         ensures legal { IsLegal (opening_of self.now.origin) self.now.history }
     {
         self.history.len() as u64
+    }
+
+    /// The key of the caller with the uid after its history, if there is one. Takes no memory.
+    pub fn key_of(&self, uid: u32) -> Option<&Text>
+        ensures { option_copied result ≡ key_of (replay (opening_of self.now.origin) self.now.history) uid }
+    {
+        self.live.key_of(uid)
     }
 
     /// Its keeper. Takes no memory.
@@ -184,7 +190,6 @@ impl<K: Keeper> Manager<K> {
             → told ≡ rows_after (opening_of self.origin) self.origin.rows self.history }
     {
         let Manager {
-            alloc: _,
             opened: _,
             live: _,
             history: _,

@@ -11,42 +11,40 @@ ghost use Rattle.am_history.specs.Steps.{act, at_moment, is_calm, is_changing, i
 use crate::history::page;
 use am_explain::Question;
 use am_live::{Caller, Live};
+use am_packed::Archive;
 use am_types::{Entry, Intent, Kind, NoMemory, Reply, Request, Rule, Steps, Text};
-use std::alloc::Global;
 use std::sync::ledger::Ledger;
 
 /// The answer to a request that changes nothing.
 pub(crate) fn read<L: Ledger>(
-    alloc: Global,
     live: &Live,
-    history: &[Entry],
+    history: &Archive,
     call: &Entry,
     steps: &mut Steps<L>,
 ) -> Result<Reply, NoMemory>
     requires reads { is_changing call.now.request ≡ false }
-    ensures { IfOk result (λ reply. act live.now history.now call.entry.now.uid call.entry.now.request
+    ensures { IfOk result (λ reply. act live.now history.now.entries call.entry.now.uid call.entry.now.request
         ≡ (reply, live.now)) }
 {
     match &call.request {
         Request::Inbox => live.inbox(call.uid),
         Request::Status => Ok(status(live, history, call.uid)),
-        _ => steady(alloc, live, history, call.uid, &call.request, steps),
+        _ => steady(live, history, call.uid, &call.request, steps),
     }
 }
 
 /// The answer to a request that changes nothing, except that time passes: what is due at the moment is handled.
 /// After `NoMemory` the state is as before.
 pub(crate) fn read_at<L: Ledger>(
-    alloc: Global,
     live: &mut Live,
-    history: &[Entry],
+    history: &Archive,
     by: Caller,
     request: &Request,
     steps: &mut Steps<L>,
 ) -> Result<Reply, NoMemory>
     requires { is_changing request.now ≡ false }
     ensures done { IfOk result (λ reply.
-        act (at_moment live.old by.moment) history.now by.uid request.now ≡ (reply, live.new)) }
+        act (at_moment live.old by.moment) history.now.entries by.uid request.now ≡ (reply, live.new)) }
     ensures same { OnErr result (live.new ≡ live.old) }
     ensures calm { IsTrue (is_calm request.now) → IsOk result }
 {
@@ -57,7 +55,7 @@ pub(crate) fn read_at<L: Ledger>(
             Ok(status(live, history, by.uid))
         }
         _ => {
-            let reply = steady(alloc, live, history, by.uid, request, steps)?;
+            let reply = steady(live, history, by.uid, request, steps)?;
             live.settle(by.moment, steps);
             Ok(reply)
         }
@@ -65,8 +63,8 @@ pub(crate) fn read_at<L: Ledger>(
 }
 
 /// The length of the history, the moment and the number of packages, for the system and the root.
-fn status(live: &Live, history: &[Entry], caller: u32) -> Reply
-    ensures { act live.now history.now caller asks.Status ≡ (result, live.now) }
+fn status(live: &Live, history: &Archive, caller: u32) -> Reply
+    ensures { act live.now history.now.entries caller asks.Status ≡ (result, live.now) }
 {
     if Live::is_privileged(caller) {
         Reply::Status {
@@ -82,16 +80,15 @@ fn status(live: &Live, history: &[Entry], caller: u32) -> Reply
 /// The answer to a request that changes nothing, and whose answer depends neither on broadcasts nor on
 /// the moment.
 fn steady<L: Ledger>(
-    alloc: Global,
     live: &Live,
-    history: &[Entry],
+    history: &Archive,
     caller: u32,
     request: &Request,
     steps: &mut Steps<L>,
 ) -> Result<Reply, NoMemory>
     requires { IsTrue (is_steady request.now) }
     ensures { IfOk result (λ reply. (broadcasts : Broadcasts) (moment : ℕ) →
-        act (record live.now { broadcasts = broadcasts; moment = moment }) history.now caller request.now
+        act (record live.now { broadcasts = broadcasts; moment = moment }) history.now.entries caller request.now
         ≡ (reply, record live.now { broadcasts = broadcasts; moment = moment })) }
 {
     match request {
@@ -109,7 +106,7 @@ fn steady<L: Ledger>(
         } => explained(live, caller, *kind, intent, name, permission, shown, steps),
         Request::ListTasks => live.tasks(caller),
         Request::Services => live.services(caller),
-        Request::History { from } => entries(alloc, history, caller, *from),
+        Request::History { from } => entries(history, caller, *from),
         _ => unreachable!(),
     }
 }
@@ -133,13 +130,13 @@ fn explained<L: Ledger>(
 }
 
 /// A page of the history, for the system and the root.
-fn entries(alloc: Global, history: &[Entry], caller: u32, from: u64) -> Result<Reply, NoMemory>
+fn entries(history: &Archive, caller: u32, from: u64) -> Result<Reply, NoMemory>
     ensures { IfOk result (λ reply. reply
-        ≡ (if is_privileged caller then Entries from (page history.now from) else Refused AdminOnly)) }
+        ≡ (if is_privileged caller then Entries from (page history.now.entries from) else Refused AdminOnly)) }
 {
     if !Live::is_privileged(caller) {
         return Ok(Reply::Refused(Rule::AdminOnly));
     }
-    let entries = page(alloc, history, from)?;
+    let entries = page(history, from)?;
     Ok(Reply::Entries { from, entries })
 }

@@ -18,8 +18,8 @@ use crate::manager::Manager;
 use crate::reads::read;
 use am_keeper::Keeper;
 use am_live::Live;
+use am_packed::Archive;
 use am_types::{Entry, NoMemory, Reply, Request, Rule, Shown, Steps, Text};
-use std::alloc::Global;
 use std::marker::Brand;
 use std::sync::ledger::{Blank, Ledger};
 
@@ -77,90 +77,79 @@ impl<K: Keeper> Manager<K> {
                 drop(request);
                 Ok(self.unstored(Reply::Refused(Rule::UnknownKey)))
             }
-            Some(uid) => self.counted::<Brand>(
-                Entry {
+            Some(uid) => {
+                let call = Entry {
                     desk,
                     uid,
                     now,
                     weight,
                     request,
                     kept: true,
-                },
-                Blank::new(1),
-            ),
+                };
+                let shown = self.counted::<Brand>(&call, Blank::new(1));
+                drop(call);
+                shown
+            }
         }
     }
 
     // A call of a known caller, by a counter that begins with the blank.
-    fn counted<L: Ledger>(&mut self, mut entry: Entry, blank: Blank) -> Result<Shown, NoMemory>
+    #[tactic(auto, using(crate::proofs::Calm::calm_is_short))]
+    fn counted<L: Ledger>(&mut self, call: &Entry, blank: Blank) -> Result<Shown, NoMemory>
         requires name { blank.name ≡ L.name }
         requires parts { blank.parts ≡ L.parts }
         requires some { 0 < blank.parts }
-        requires caller { IsTrue (has_uid (replay (opening_of self.old.origin) self.old.history) entry.uid) }
-        requires kept { entry.kept ≡ true }
-        ensures shown { IfOk result (λ shown. (call : Call) → entry ≡ entry_of call entry.uid true
-            → uid_of (replay (opening_of self.old.origin) self.old.history) call.key ≡ Some entry.uid
-            → ShowsAt (opening_of self.old.origin) self.old.history self.new.history call shown) }
+        requires caller { IsTrue (has_uid (replay (opening_of self.old.origin) self.old.history) call.now.uid) }
+        requires kept { call.now.kept ≡ true }
+        ensures shown { IfOk result (λ shown. (asked : Call) → call.entry.now ≡ entry_of asked call.entry.now.uid true
+            → uid_of (replay (opening_of self.old.origin) self.old.history) asked.key ≡ Some call.entry.now.uid
+            → ShowsAt (opening_of self.old.origin) self.old.history self.new.history asked shown) }
         ensures origin { self.new.origin ≡ self.old.origin }
         ensures legal { IsLegal (opening_of self.new.origin) self.new.history }
         ensures refused { OnErr result (self.new.history ≡ self.old.history) }
         ensures keeper { GoesOn K.Keeper self.old.keeper self.new.keeper }
-        ensures quiet { keeps_row entry.request ≡ false → self.new.keeper ≡ self.old.keeper }
+        ensures quiet { keeps_row call.entry.now.request ≡ false → self.new.keeper ≡ self.old.keeper }
         ensures put { IfOk result (λ shown. K.is_honest self.new.keeper → K.rows self.new.keeper
-            ≡ told_after (replay (opening_of self.old.origin) self.old.history) entry.request shown.reply
+            ≡ told_after (replay (opening_of self.old.origin) self.old.history) call.entry.now.request shown.reply
             (K.rows self.old.keeper)) }
         ensures refused_rows { OnErr result (TellsSame K.Keeper self.old.keeper self.new.keeper) }
         ensures unasked { IfOk result (λ shown. IsUnasked shown.reply self.old.keeper self.new.keeper) }
         ensures counts { IfOk result (λ shown. CountsNone K.Keeper shown.reply self.old.keeper self.new.keeper) }
         ensures uncounted { OnErr result (K.faults self.new.keeper ≡ K.faults self.old.keeper) }
         ensures asks { IfOk result
-            (λ shown. AsksOnce K.Keeper entry.request shown.reply self.old.keeper self.new.keeper) }
+            (λ shown. AsksOnce K.Keeper call.entry.now.request shown.reply self.old.keeper self.new.keeper) }
         ensures at_most { OnErr result (AsksAtMostOnce K.Keeper self.old.keeper self.new.keeper) }
         ensures fault { IfOk result (λ shown. shown.reply ≡ Refused KeeperFault → IsFault K.Keeper self.old self.new) }
         ensures spare { IfOk result (λ shown. self.old.spare ≤ self.new.spare + (if shown.stored then 1 else 0)) }
         ensures room { OnErr result (self.old.spare ≤ self.new.spare) }
-        ensures calm { IsTrue (is_calm entry.request) → 1 ≤ self.old.spare → IsOk result }
+        ensures calm { IsTrue (is_calm call.entry.now.request) → 1 ≤ self.old.spare → IsOk result }
     {
         let mut steps = Steps::<L>::new(blank);
-        if !self.may_change(&entry, &mut steps) {
-            let reply = read(self.alloc, &self.live, &self.history, &entry, &mut steps);
-            drop(entry);
-            return Ok(self.unstored(reply?));
+        if !self.may_change(call, &mut steps) {
+            let reply = read(&self.live, &self.history, call, &mut steps)?;
+            return Ok(self.unstored(reply));
         }
-        if !self.has_room(entry.weight) {
-            drop(entry);
+        if !self.has_room(call.weight) {
             return Ok(self.unstored(Reply::Refused(Rule::HistoryFull)));
         }
-        if let Err(error) = self.history.reserve(1) {
-            drop(entry);
-            return Err(NoMemory::from(error));
-        }
+        let mut stored = self.history.prepare(call)?;
         // Nothing between the last change and the push can fail.
         let answered = answer(
-            self.alloc,
             &mut self.live,
             &mut self.keeper,
             &self.history,
-            &entry,
+            call,
             &mut steps,
-        );
-        match answered {
-            Ok(answered) => {
-                let at = self.history.len() as u64;
-                self.weight += u64::from(entry.weight);
-                entry.kept = answered.kept;
-                self.history.push_reserved(entry);
-                Ok(Shown {
-                    at,
-                    stored: true,
-                    reply: answered.reply,
-                })
-            }
-            Err(error) => {
-                drop(entry);
-                Err(error)
-            }
-        }
+        )?;
+        let at = self.history.len() as u64;
+        self.weight += u64::from(call.weight);
+        stored.set_kept(answered.kept);
+        self.history.push_reserved(stored);
+        Ok(Shown {
+            at,
+            stored: true,
+            reply: answered.reply,
+        })
     }
 
     // Whether a call may change the state, or some deadline is due at its moment.
@@ -192,19 +181,19 @@ impl<K: Keeper> Manager<K> {
 
 // The answer to a stored call, and what it does to the state and the keeper.
 fn answer<K: Keeper, L: Ledger>(
-    alloc: Global,
     live: &mut Live,
     keeper: &mut K,
-    history: &[Entry],
+    history: &Archive,
     call: &Entry,
     steps: &mut Steps<L>,
 ) -> Result<Answered, NoMemory>
     requires numbers { HasNumbers live.old }
     requires sound { IsSoundState live.old }
     ensures done { IfOk result (λ answered.
-        step live.old history.now (with_kept call.entry.now answered.kept) ≡ (answered.reply, live.new)) }
+        step live.old history.now.entries (with_kept call.entry.now answered.kept) ≡ (answered.reply, live.new)) }
     ensures asked { IfOk result (λ answered. IsTrue (answered.kept
-        || asks_keeper (after_due live.old call.entry.now.now) history.now call.entry.now.uid call.entry.now.request)) }
+        || asks_keeper (after_due live.old call.entry.now.now) history.now.entries call.entry.now.uid
+        call.entry.now.request)) }
     ensures same { OnErr result (live.new ≡ live.old) }
     ensures keeper { GoesOn K.Keeper keeper.old keeper.new }
     ensures quiet { keeps_row call.entry.now.request ≡ false → keeper.new ≡ keeper.old }
@@ -224,6 +213,6 @@ fn answer<K: Keeper, L: Ledger>(
     if keeps_row(&call.request) {
         return keep(live, keeper, call, steps);
     }
-    let reply = act(alloc, live, history, call, steps)?;
+    let reply = act(live, history, call, steps)?;
     Ok(Answered { reply, kept: true })
 }

@@ -18,37 +18,38 @@ use Rattle.am_machine.proofs.acts.act.Goals as goal
 
 pub returns-in-Start-clause-done : goal.returns-in-Start-clause-done
 returns-in-Start-clause-done g c =
-    done_by c.start.result c.args.live.now c.start.new.self c.args.history.now c.args.call.now
+    done_by c.start.result c.args.live.now c.start.new.self c.args.history.now.entries c.args.call.now
     c.moment_after-moment.result _
     c.moment_after-moment.ensures.moment c.in-Start.is c.start.ensures.done
 
 pub returns-in-FinishActivity-clause-done : goal.returns-in-FinishActivity-clause-done
 returns-in-FinishActivity-clause-done g c =
-    done_by (Ok c.finish_activity.result) c.args.live.now c.finish_activity.new.self c.args.history.now c.args.call.now
+    done_by (Ok c.finish_activity.result) c.args.live.now c.finish_activity.new.self c.args.history.now.entries
+    c.args.call.now
     c.moment_after-moment.result _
     c.moment_after-moment.ensures.moment c.in-FinishActivity.is c.finish_activity.ensures
 
 pub returns-in-Back-clause-done : goal.returns-in-Back-clause-done
 returns-in-Back-clause-done g c =
-    done_by (Ok c.back.result) c.args.live.now c.back.new.self c.args.history.now c.args.call.now
+    done_by (Ok c.back.result) c.args.live.now c.back.new.self c.args.history.now.entries c.args.call.now
     c.moment_after-moment.result _
     c.moment_after-moment.ensures.moment c.in-Back.is c.back.ensures
 
 pub returns-in-StartService-clause-done : goal.returns-in-StartService-clause-done
 returns-in-StartService-clause-done g c =
-    done_by c.start_service.result c.args.live.now c.start_service.new.self c.args.history.now c.args.call.now
+    done_by c.start_service.result c.args.live.now c.start_service.new.self c.args.history.now.entries c.args.call.now
     c.moment_after-moment.result _
     c.moment_after-moment.ensures.moment c.in-StartService.is c.start_service.ensures.done
 
 pub returns-in-StopService-clause-done : goal.returns-in-StopService-clause-done
 returns-in-StopService-clause-done g c =
-    done_by c.stop_service.result c.args.live.now c.stop_service.new.self c.args.history.now c.args.call.now
+    done_by c.stop_service.result c.args.live.now c.stop_service.new.self c.args.history.now.entries c.args.call.now
     c.moment_after-moment.result _
     c.moment_after-moment.ensures.moment c.in-StopService.is c.stop_service.ensures.done
 
 pub returns-in-Send-clause-done : goal.returns-in-Send-clause-done
 returns-in-Send-clause-done g c =
-    done_by c.send.result c.args.live.now c.send.new.self c.args.history.now c.args.call.now
+    done_by c.send.result c.args.live.now c.send.new.self c.args.history.now.entries c.args.call.now
     c.moment_after-moment.result
     (asks.Send c.in-Send.intent (option_copied c.as_ref-permission.result) (option_copied c.as_ref-ordered.result))
     c.moment_after-moment.ensures.moment
@@ -61,7 +62,7 @@ returns-in-Send-clause-done g c =
 
 pub returns-in-Register-clause-done : goal.returns-in-Register-clause-done
 returns-in-Register-clause-done g c =
-    done_by c.register.result c.args.live.now c.register.new.self c.args.history.now c.args.call.now
+    done_by c.register.result c.args.live.now c.register.new.self c.args.history.now.entries c.args.call.now
     c.moment_after-moment.result
     (asks.Register c.in-Register.filter (option_copied c.as_ref.result)) c.moment_after-moment.ensures.moment
     (c.in-Register.is ∙ ap (λ (permission : Option (List ℕ)). asks.Register c.in-Register.filter permission)
@@ -70,13 +71,13 @@ returns-in-Register-clause-done g c =
 
 pub returns-in-Unregister-clause-done : goal.returns-in-Unregister-clause-done
 returns-in-Unregister-clause-done g c =
-    done_by (Ok c.unregister.result) c.args.live.now c.unregister.new.self c.args.history.now c.args.call.now
+    done_by (Ok c.unregister.result) c.args.live.now c.unregister.new.self c.args.history.now.entries c.args.call.now
     c.moment_after-moment.result _
     c.moment_after-moment.ensures.moment c.in-Unregister.is c.unregister.ensures
 
 pub returns-in-Finish-clause-done : goal.returns-in-Finish-clause-done
 returns-in-Finish-clause-done g c =
-    done_by c.finish.result c.args.live.now c.finish.new.self c.args.history.now c.args.call.now
+    done_by c.finish.result c.args.live.now c.finish.new.self c.args.history.now.entries c.args.call.now
     c.moment_after-moment.result _
     c.moment_after-moment.ensures.moment c.in-Finish.is c.finish.ensures.done
 
@@ -85,7 +86,7 @@ pub returns-in-PendingGet-clause-done : goal.returns-in-PendingGet-clause-done
 returns-in-PendingGet-clause-done g c =
     let caller = c.args.call.now.uid in
     let fits : SFits w64 c.in-PendingGet.code = search rules in
-    done_by c.pending_get.result c.args.live.now c.pending_get.new.self c.args.history.now c.args.call.now
+    done_by c.pending_get.result c.args.live.now c.pending_get.new.self c.args.history.now.entries c.args.call.now
     c.moment_after-moment.result _
     c.moment_after-moment.ensures.moment c.in-PendingGet.is
     (subst (λ (code : ℤ). IfOk c.pending_get.result (λ (reply : Reply). pending_get
@@ -95,7 +96,7 @@ returns-in-PendingGet-clause-done g c =
 
 pub returns-in-PendingSend-clause-done : goal.returns-in-PendingSend-clause-done
 returns-in-PendingSend-clause-done g c =
-    done_by c.pending_send.result c.args.live.now c.pending_send.new.self c.args.history.now c.args.call.now
+    done_by c.pending_send.result c.args.live.now c.pending_send.new.self c.args.history.now.entries c.args.call.now
     c.moment_after-moment.result
     (asks.PendingSend c.in-PendingSend.token (option_copied c.as_ref-in-PendingSend.result))
     c.moment_after-moment.ensures.moment
@@ -105,26 +106,27 @@ returns-in-PendingSend-clause-done g c =
 
 pub returns-in-PendingCancel-clause-done : goal.returns-in-PendingCancel-clause-done
 returns-in-PendingCancel-clause-done g c =
-    done_by (Ok c.pending_cancel.result) c.args.live.now c.pending_cancel.new.self c.args.history.now c.args.call.now
+    done_by (Ok c.pending_cancel.result) c.args.live.now c.pending_cancel.new.self c.args.history.now.entries
+    c.args.call.now
     c.moment_after-moment.result _
     c.moment_after-moment.ensures.moment c.in-PendingCancel.is c.pending_cancel.ensures
 
 pub returns-in-PendingGive-clause-done : goal.returns-in-PendingGive-clause-done
 returns-in-PendingGive-clause-done g c =
-    done_by c.pending_give.result c.args.live.now c.pending_give.new.self c.args.history.now c.args.call.now
+    done_by c.pending_give.result c.args.live.now c.pending_give.new.self c.args.history.now.entries c.args.call.now
     c.moment_after-moment.result _
     c.moment_after-moment.ensures.moment c.in-PendingGive.is c.pending_give.ensures.done
 
 pub returns-in-ForceStop-clause-done : goal.returns-in-ForceStop-clause-done
 returns-in-ForceStop-clause-done g c =
-    done_by (Ok c.force_stop.result) c.args.live.now c.force_stop.new.self c.args.history.now c.args.call.now
+    done_by (Ok c.force_stop.result) c.args.live.now c.force_stop.new.self c.args.history.now.entries c.args.call.now
     c.moment_after-moment.result _
     c.moment_after-moment.ensures.moment c.in-ForceStop.is c.force_stop.ensures
 
 pub returns-in-Tick-clause-done : goal.returns-in-Tick-clause-done
 returns-in-Tick-clause-done g c =
     let after : State = at_moment c.args.live.now c.moment_after-moment.result in
-    done_by (Ok c.tick.result) c.args.live.now c.settle.new.self c.args.history.now c.args.call.now
+    done_by (Ok c.tick.result) c.args.live.now c.settle.new.self c.args.history.now.entries c.args.call.now
     c.moment_after-moment.result _
     c.moment_after-moment.ensures.moment c.in-Tick.is
     (one_state (is_privileged c.args.call.now.uid) replies.Plain after
@@ -133,12 +135,12 @@ returns-in-Tick-clause-done g c =
 
 pub returns-in-Advance-clause-done : goal.returns-in-Advance-clause-done
 returns-in-Advance-clause-done g c =
-    done_by (Ok c.advance.result) c.args.live.now c.advance.new.self c.args.history.now c.args.call.now
+    done_by (Ok c.advance.result) c.args.live.now c.advance.new.self c.args.history.now.entries c.args.call.now
     c.moment_after-moment.result _
     c.moment_after-moment.ensures.moment c.in-Advance.is c.advance.ensures
 
 pub returns-in_default-clause-done : goal.returns-in_default-clause-done
 returns-in_default-clause-done g c =
-    done_at c.read_at.result c.args.live.now c.read_at.new.live c.args.history.now c.args.call.now
+    done_at c.read_at.result c.args.live.now c.read_at.new.live c.args.history.now.entries c.args.call.now
     c.moment_after-moment.result c.args.call.now.request
     c.moment_after-moment.ensures.moment refl c.read_at.ensures.done

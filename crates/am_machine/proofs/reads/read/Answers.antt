@@ -5,6 +5,6 @@ use Rattle.am_machine.proofs.reads.read.Goals as goal
 
 pub returns-in-Inbox : goal.returns-in-Inbox
 returns-in-Inbox g c =
-    read_now c.inbox.result c.args.live.now c.args.history.now c.args.call.now.uid c.args.call.now.request _ _
+    read_now c.inbox.result c.args.live.now c.args.history.now.entries c.args.call.now.uid c.args.call.now.request _ _
     c.in-Inbox.is
-    (act_is c.args.live.now c.args.history.now c.args.call.now.uid asks.Inbox) c.inbox.ensures
+    (act_is c.args.live.now c.args.history.now.entries c.args.call.now.uid asks.Inbox) c.inbox.ensures

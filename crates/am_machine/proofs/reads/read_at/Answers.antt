@@ -6,7 +6,8 @@ use Rattle.am_machine.proofs.reads.read_at.Goals as goal
 
 pub returns-in-Inbox-clause-done : goal.returns-in-Inbox-clause-done
 returns-in-Inbox-clause-done g c =
-    read_at c.inbox_at.result (at_moment c.args.live.now c.args.by.moment) c.inbox_at.new.self c.args.history.now
+    read_at c.inbox_at.result (at_moment c.args.live.now c.args.by.moment) c.inbox_at.new.self
+    c.args.history.now.entries
     c.args.by.uid c.args.request.now _ _ c.in-Inbox.is
-    (act_is c.inbox_at.new.self c.args.history.now c.args.by.uid asks.Inbox) c.inbox_at.ensures.state
+    (act_is c.inbox_at.new.self c.args.history.now.entries c.args.by.uid asks.Inbox) c.inbox_at.ensures.state
     c.inbox_at.ensures.items

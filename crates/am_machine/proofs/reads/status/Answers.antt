@@ -26,12 +26,14 @@ answered live history caller asked may is was =
 pub returns-then-is_privileged : goal.returns-then-is_privileged
 returns-then-is_privileged c =
     let live = c.args.live.now in
-    let history = c.args.history.now in
+    let history = c.args.history.now.entries in
     answered live history c.args.caller c.is_privileged.result true c.is_privileged.ensures c.if-is_privileged.true
     ∙ ap (λ (m : ℕ). (Status (length history) m (length live.board.packages), live)) (sym c.moment.ensures)
     ∙ ap (λ (n : ℕ). (Status (length history) c.moment.result n, live)) (sym c.package_count.ensures)
+    ∙ ap (λ (n : ℕ). (Status n c.moment.result c.package_count.result, live)) (sym c.len.ensures)
 
 pub returns-else-is_privileged : goal.returns-else-is_privileged
 returns-else-is_privileged c =
-    answered c.args.live.now c.args.history.now c.args.caller c.is_privileged.result false c.is_privileged.ensures
+    answered c.args.live.now c.args.history.now.entries c.args.caller c.is_privileged.result false
+    c.is_privileged.ensures
     c.if-is_privileged.false

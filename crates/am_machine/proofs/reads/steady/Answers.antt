@@ -35,37 +35,45 @@ answers live before caller request asked (Ok reply) said is same does = λ (broa
 
 pub returns-in-Query : goal.returns-in-Query
 returns-in-Query g c =
-    answers c.args.live.now c.args.history.now c.args.caller c.args.request.now _ c.query.result _ c.in-Query.is
+    answers c.args.live.now c.args.history.now.entries c.args.caller c.args.request.now _ c.query.result _ c.in-Query.is
     c.query.ensures
-    (λ (broadcasts : Broadcasts) (moment : ℕ). act_is (at_any c.args.live.now broadcasts moment) c.args.history.now
+    (λ (broadcasts : Broadcasts) (moment : ℕ). act_is (at_any c.args.live.now broadcasts moment)
+    c.args.history.now.entries
     c.args.caller (asks.Query _ _ _))
 
 pub returns-in-Explain : goal.returns-in-Explain
 returns-in-Explain g c =
-    answers c.args.live.now c.args.history.now c.args.caller c.args.request.now _ c.explained.result _ c.in-Explain.is
+    answers c.args.live.now c.args.history.now.entries c.args.caller c.args.request.now _ c.explained.result _
+    c.in-Explain.is
     c.explained.ensures
-    (λ (broadcasts : Broadcasts) (moment : ℕ). act_is (at_any c.args.live.now broadcasts moment) c.args.history.now
+    (λ (broadcasts : Broadcasts) (moment : ℕ). act_is (at_any c.args.live.now broadcasts moment)
+    c.args.history.now.entries
     c.args.caller (asks.Explain _ _ _ _ _))
 
 pub returns-in-ListTasks : goal.returns-in-ListTasks
 returns-in-ListTasks g c =
-    answers c.args.live.now c.args.history.now c.args.caller c.args.request.now _ c.tasks.result _ c.in-ListTasks.is
+    answers c.args.live.now c.args.history.now.entries c.args.caller c.args.request.now _ c.tasks.result _
+    c.in-ListTasks.is
     c.tasks.ensures
-    (λ (broadcasts : Broadcasts) (moment : ℕ). act_is (at_any c.args.live.now broadcasts moment) c.args.history.now
+    (λ (broadcasts : Broadcasts) (moment : ℕ). act_is (at_any c.args.live.now broadcasts moment)
+    c.args.history.now.entries
     c.args.caller asks.ListTasks)
 
 pub returns-in-Services : goal.returns-in-Services
 returns-in-Services g c =
-    answers c.args.live.now c.args.history.now c.args.caller c.args.request.now _ c.services.result _ c.in-Services.is
+    answers c.args.live.now c.args.history.now.entries c.args.caller c.args.request.now _ c.services.result _
+    c.in-Services.is
     c.services.ensures
-    (λ (broadcasts : Broadcasts) (moment : ℕ). act_is (at_any c.args.live.now broadcasts moment) c.args.history.now
+    (λ (broadcasts : Broadcasts) (moment : ℕ). act_is (at_any c.args.live.now broadcasts moment)
+    c.args.history.now.entries
     c.args.caller asks.Services)
 
 pub returns-in-History : goal.returns-in-History
 returns-in-History g c =
-    let shown : Reply = replies.Entries c.in-History.from (page c.args.history.now c.in-History.from) in
-    answers c.args.live.now c.args.history.now c.args.caller c.args.request.now _ c.entries.result
+    let shown : Reply = replies.Entries c.in-History.from (page c.args.history.now.entries c.in-History.from) in
+    answers c.args.live.now c.args.history.now.entries c.args.caller c.args.request.now _ c.entries.result
     (if is_privileged c.args.caller then shown else replies.Refused AdminOnly) c.in-History.is c.entries.ensures
     (λ (broadcasts : Broadcasts) (moment : ℕ).
-    act_is (at_any c.args.live.now broadcasts moment) c.args.history.now c.args.caller (asks.History c.in-History.from)
+    act_is (at_any c.args.live.now broadcasts moment) c.args.history.now.entries c.args.caller
+    (asks.History c.in-History.from)
     ∙ one_state (is_privileged c.args.caller) shown (at_any c.args.live.now broadcasts moment))

@@ -1,4 +1,4 @@
-use Rattle.std.proofs.Common.{◌≡◌, ◌∙◌, ℕ, ◌+◌, true, false, length, Some, List, [], ◌∷◌, ◌++◌, sym, ap, subst, IsTrue, arith}
+use Rattle.std.proofs.Common.{◌≡◌, ◌∙◌, ℕ, ◌+◌, true, false, length, Some, List, [], ◌∷◌, ◌++◌, sym, ap, subst, IsTrue}
 use Rattle.am_types.specs.declared.history.Entry.{Entry}
 use Rattle.am_types.specs.declared.history.Shown.{Shown}
 use Rattle.am_types.specs.declared.reply.Reply.{Reply}
@@ -14,9 +14,18 @@ use Rattle.am_laws.proofs.Faults.{act_never_faults}
 use Rattle.am_laws.proofs.Numbers.{enough_numbers}
 use Rattle.am_laws_state.specs.Sound.{IsSoundState}
 use Rattle.am_laws_state.proofs.Sound.{replay_is_sound}
-use Rattle.am_machine.specs.Keeping.{AsksAtMostOnce, AsksOnce, CountsNone, IsUnasked, is_asked, told_after, with_kept}
+use Rattle.am_machine.specs.Keeping.{AsksOnce, CountsNone, IsUnasked, is_asked, told_after, with_kept}
 use Rattle.am_machine.specs.Managed.{Holds, HoldsKept, Managed}
-use Rattle.am_machine.proofs.Kept.{asks_at_most, asks_none, has_no_row, keeps_none, only_reads, otherwise, reads_keep_nothing, told_as_before}
+use Rattle.am_machine.proofs.Kept.{
+  asks_at_most,
+  asks_none,
+  has_no_row,
+  keeps_none,
+  only_reads,
+  otherwise,
+  reads_keep_nothing,
+  told_as_before,
+}
 use Rattle.am_machine.proofs.Stored.{stored_more, fault_is_unkept}
 use Rattle.am_machine.proofs.Shown.{kept_shows}
 use Rattle.am_machine.proofs.manager.Manager.counted.Goals as goal
@@ -25,71 +34,74 @@ use Rattle.am_machine.proofs.manager.Manager.counted.Goals as goal
 pub returns-then-not-may_change-clause-put : goal.returns-then-not-may_change-clause-put
 returns-then-not-may_change-clause-put g c = λ (honest : g.K.Keeper.is_honest c.args.self.now.keeper).
     let state : State = replay (opening_of c.args.self.now.origin) c.args.self.now.history in
-    told_as_before state c.args.entry.request c.unstored.result.reply (g.K.Keeper.rows c.args.self.now.keeper)
-    (has_no_row state c.args.entry.request (reads_keep_nothing c.args.entry.request
-    (only_reads state c.args.entry.now c.args.entry.request (sym c.may_change.ensures ∙ c.if-not-may_change.true))))
+    told_as_before state c.args.call.now.request c.unstored.result.reply (g.K.Keeper.rows c.args.self.now.keeper)
+    (has_no_row state c.args.call.now.request (reads_keep_nothing c.args.call.now.request
+    (only_reads state c.args.call.now.now c.args.call.now.request (sym c.may_change.ensures
+    ∙ c.if-not-may_change.true))))
 
 pub returns-then-not-may_change-clause-asks : goal.returns-then-not-may_change-clause-asks
 returns-then-not-may_change-clause-asks g c =
     let state : State = replay (opening_of c.args.self.now.origin) c.args.self.now.history in
-    asks_none g.K.Keeper c.args.entry.request c.unstored.result.reply c.args.self.now.keeper
-    (keeps_none c.args.entry.request c.unstored.result.reply (reads_keep_nothing c.args.entry.request
-    (only_reads state c.args.entry.now c.args.entry.request (sym c.may_change.ensures ∙ c.if-not-may_change.true))))
+    asks_none g.K.Keeper c.args.call.now.request c.unstored.result.reply c.args.self.now.keeper
+    (keeps_none c.args.call.now.request c.unstored.result.reply (reads_keep_nothing c.args.call.now.request
+    (only_reads state c.args.call.now.now c.args.call.now.request (sym c.may_change.ensures
+    ∙ c.if-not-may_change.true))))
 
 pub returns-in_err-reply-clause-at_most : goal.returns-in_err-reply-clause-at_most
-returns-in_err-reply-clause-at_most g c = otherwise c.from_residual.result (asks_at_most g.K.Keeper c.args.self.now.keeper)
+returns-in_err-reply-clause-at_most g c =
+    otherwise c.from_residual.result (asks_at_most g.K.Keeper c.args.self.now.keeper)
 
 -- and isn't answered by a fault
 pub returns-then-not-may_change-clause-fault : goal.returns-then-not-may_change-clause-fault
 returns-then-not-may_change-clause-fault g c = λ (faults : c.unstored.result.reply ≡ Refused KeeperFault).
-    absurd (act_never_faults c.self.inside.live c.deref.result.now c.args.entry.uid c.args.entry.request
+    absurd (act_never_faults c.self.inside.live c.self.inside.history.entries c.args.call.now.uid
+    c.args.call.now.request
     (ap (λ (answer : Reply × State). answer.0) c.in_ok-reply.ensures
     ∙ sym (ap (λ (shown : Shown). shown.reply) c.unstored.ensures) ∙ faults))
 
--- a full history refuses before the keeper is asked, and so does memory
+-- a full history refuses before the keeper is asked
 pub returns-then-not-has_room-clause-asks : goal.returns-then-not-has_room-clause-asks
 returns-then-not-has_room-clause-asks g c =
-    asks_none g.K.Keeper c.args.entry.request c.unstored-then-not-has_room.result.reply c.args.self.now.keeper
-    (ap (λ (shown : Shown). is_asked c.args.entry.request shown.reply) c.unstored-then-not-has_room.ensures)
-
-pub returns-in-Err-clause-at_most : goal.returns-in-Err-clause-at_most
-returns-in-Err-clause-at_most g c =
-    subst (λ (m : Managed g.row.K.Denot). AsksAtMostOnce g.K.Keeper m.keeper c.self.inside.keeper) c.self.view_is
-    (asks_at_most g.K.Keeper c.self.inside.keeper)
+    asks_none g.K.Keeper c.args.call.now.request c.unstored-then-not-has_room.result.reply c.args.self.now.keeper
+    (ap (λ (shown : Shown). is_asked c.args.call.now.request shown.reply) c.unstored-then-not-has_room.ensures)
 
 -- the live state is the one that the history leaves, so it has numbers for the call, and it is sound
-pub answer-answered-requires-clause-numbers : goal.answer-answered-requires-clause-numbers
-answer-answered-requires-clause-numbers g c =
+pub answer-requires-clause-numbers : goal.answer-requires-clause-numbers
+answer-requires-clause-numbers g c =
     let origin : Origin = record {
       device = c.self.inside.opened.device;
       rows = c.self.inside.opened.rows;
       place =
           g.K.Keeper.place c.self.inside.keeper;
     } in
-    subst HasNumbers c.self.invariant.0.replayed (enough_numbers origin c.self.inside.history.items
+    subst HasNumbers c.self.invariant.0.replayed (enough_numbers origin c.self.inside.history.entries
     c.self.invariant.0.few)
 
-pub answer-answered-requires-clause-sound : goal.answer-answered-requires-clause-sound
-answer-answered-requires-clause-sound g c =
+pub answer-requires-clause-sound : goal.answer-requires-clause-sound
+answer-requires-clause-sound g c =
     let origin : Origin = record {
       device = c.self.inside.opened.device;
       rows = c.self.inside.opened.rows;
       place =
           g.K.Keeper.place c.self.inside.keeper;
     } in
-    subst IsSoundState c.self.invariant.0.replayed (replay_is_sound origin c.self.inside.history.items
+    subst IsSoundState c.self.invariant.0.replayed (replay_is_sound origin c.self.inside.history.entries
     c.self.invariant.0.sound)
 
 -- what the call left is held, and its entry stands behind the others
-pub invariant_of-self-in-Ok : goal.invariant_of-self-in-Ok
-invariant_of-self-in-Ok g c =
+pub invariant_of-self-2 : goal.invariant_of-self-2
+invariant_of-self-2 g c =
     let live = c.self.inside.live in
-    let before = c.self.inside.history.items in
-    let call : Entry = with_kept c.args.entry c.in-Ok.answered.kept in
-    let new = c.answer-answered.new.keeper in
-    let put : c.push_reserved.new.self.items ≡ before ++ call ∷ [] =
-    c.push_reserved.ensures.items ∙ ap (λ (l : List Entry). l ++ call ∷ []) c.reserve.ensures.items in
-    let read : c.deref-2.result.now ≡ before = c.deref-2.ensures.value ∙ c.reserve.ensures.items in
+    let before = c.self.inside.history.entries in
+    let call : Entry = with_kept c.args.call.now c.in_ok-answered.answered.kept in
+    -- what is stored is the call's entry
+    let is_call : c.set_kept.new.self ≡ call =
+    c.set_kept.ensures ∙ ap (λ (e : Entry). with_kept e c.in_ok-answered.answered.kept) c.in_ok-stored.ensures.packed in
+    let new = c.answer.new.keeper in
+    let put : c.push_reserved.new.self.entries ≡ before ++ call ∷ [] =
+    c.push_reserved.ensures.entries ∙ ap (λ (l : List Entry). l ++ c.set_kept.new.self ∷ []) c.prepare.ensures.entries
+    ∙ ap (λ (e : Entry). before ++ e ∷ []) is_call in
+    let read : c.prepare.new.self.entries ≡ before = c.prepare.ensures.entries in
     -- what is known of the state and the history as they are seen holds of them inside
     let known : (P : State → List Entry → Type 0) → P (replay (opening_of c.args.self.now.origin)
     c.args.self.now.history) c.args.self.now.history → P live before =
@@ -102,7 +114,7 @@ invariant_of-self-in-Ok g c =
       device = c.self.inside.opened.device;
       rows = c.self.inside.opened.rows;
       place = g.K.Keeper.place new;
-    }) c.answer-answered.new.live l (c.self.inside.weight + c.from-in-Ok.result)
+    }) c.answer.new.live l (c.self.inside.weight + c.from.result)
     × HoldsKept g.K.Keeper (record {
       device = c.self.inside.opened.device;
       rows = c.self.inside.opened.rows;
@@ -114,116 +126,117 @@ invariant_of-self-in-Ok g c =
       rows = c.self.inside.opened.rows;
       place =
           g.K.Keeper.place new;
-    }) c.answer-answered.new.live (before ++ call ∷ []) (c.self.inside.weight + n)
+    }) c.answer.new.live (before ++ call ∷ []) (c.self.inside.weight + n)
     × HoldsKept g.K.Keeper (record {
       device = c.self.inside.opened.device;
       rows = c.self.inside.opened.rows;
       place =
           g.K.Keeper.place new;
-    }) (before ++ call ∷ []) new) (sym c.from-in-Ok.ensures)
-    (stored_more g.K.Keeper c.self.inside.opened.device c.self.inside.opened.rows live c.answer-answered.new.live before
-    c.self.inside.weight call c.in-Ok.answered.reply c.self.inside.keeper new
+    }) (before ++ call ∷ []) new) (sym c.from.ensures)
+    (stored_more g.K.Keeper c.self.inside.opened.device c.self.inside.opened.rows live c.answer.new.live before
+    c.self.inside.weight call c.in_ok-answered.answered.reply c.self.inside.keeper new
     c.self.invariant
-    (known (λ (s : State) (h : List Entry). IsTrue (has_uid s c.args.entry.uid)) c.requires.caller)
-    (known (λ (s : State) (h : List Entry). IsTrue (may_change s c.args.entry.now c.args.entry.request))
+    (known (λ (s : State) (h : List Entry). IsTrue (has_uid s c.args.call.now.uid)) c.requires.caller)
+    (known (λ (s : State) (h : List Entry). IsTrue (may_change s c.args.call.now.now c.args.call.now.request))
     (sym c.may_change.ensures ∙ c.if-not-may_change.false))
-    (known (λ (s : State) (h : List Entry). IsTrue (has_room h c.args.entry.weight))
+    (known (λ (s : State) (h : List Entry). IsTrue (has_room h c.args.call.now.weight))
     (sym c.has_room.ensures ∙ c.if-not-has_room.false))
-    (rw read at c.in-Ok.ensures.asked)
-    (ap (λ (l : List Entry). step live l call) (sym read) ∙ c.in-Ok.ensures.done)
-    c.answer-answered.ensures.keeper
-    c.in-Ok.ensures.put
-    c.in-Ok.ensures.fault))
+    (rw read at c.in_ok-answered.ensures.asked)
+    (ap (λ (l : List Entry). step live l call) (sym read) ∙ c.in_ok-answered.ensures.done)
+    c.answer.ensures.keeper
+    c.in_ok-answered.ensures.put
+    c.in_ok-answered.ensures.fault))
 
 -- so the history could have been made
-pub returns-in-Ok-clause-legal : goal.returns-in-Ok-clause-legal
-returns-in-Ok-clause-legal g c = (invariant_of-self-in-Ok g c).0.legal
+pub returns-clause-legal : goal.returns-clause-legal
+returns-clause-legal g c = (invariant_of-self-2 g c).0.legal
 
 -- the keeper's rows follow the state that the history left
-pub returns-in-Ok-clause-put : goal.returns-in-Ok-clause-put
-returns-in-Ok-clause-put g c =
-    let new = c.answer-answered.new.keeper in
-    let reply = c.in-Ok.answered.reply in
+pub returns-clause-put : goal.returns-clause-put
+returns-clause-put g c =
+    let new = c.answer.new.keeper in
+    let reply = c.in_ok-answered.answered.reply in
     subst (λ (m : Managed g.row.K.Denot). g.K.Keeper.is_honest new
-    → g.K.Keeper.rows new ≡ told_after (replay (opening_of m.origin) m.history) c.args.entry.request reply
+    → g.K.Keeper.rows new ≡ told_after (replay (opening_of m.origin) m.history) c.args.call.now.request reply
     (g.K.Keeper.rows m.keeper)) c.self.view_is
     (λ (honest : g.K.Keeper.is_honest new).
-    subst (λ (s : State). g.K.Keeper.rows new ≡ told_after s c.args.entry.request reply
+    subst (λ (s : State). g.K.Keeper.rows new ≡ told_after s c.args.call.now.request reply
     (g.K.Keeper.rows c.self.inside.keeper)) (sym c.self.invariant.0.replayed)
-    (c.in-Ok.ensures.put honest))
+    (c.in_ok-answered.ensures.put honest))
 
 -- the keeper is the one that the call left
-pub returns-in-Ok-clause-unasked : goal.returns-in-Ok-clause-unasked
-returns-in-Ok-clause-unasked g c =
-    subst (λ (m : Managed g.row.K.Denot). IsUnasked c.in-Ok.answered.reply m.keeper c.answer-answered.new.keeper)
-    c.self.view_is c.in-Ok.ensures.unasked
+pub returns-clause-unasked : goal.returns-clause-unasked
+returns-clause-unasked g c =
+    subst (λ (m : Managed g.row.K.Denot). IsUnasked c.in_ok-answered.answered.reply m.keeper c.answer.new.keeper)
+    c.self.view_is c.in_ok-answered.ensures.unasked
 
-pub returns-in-Ok-clause-counts : goal.returns-in-Ok-clause-counts
-returns-in-Ok-clause-counts g c =
-    subst (λ (m : Managed g.row.K.Denot). CountsNone g.K.Keeper c.in-Ok.answered.reply m.keeper
-    c.answer-answered.new.keeper) c.self.view_is c.in-Ok.ensures.counts
+pub returns-clause-counts : goal.returns-clause-counts
+returns-clause-counts g c =
+    subst (λ (m : Managed g.row.K.Denot). CountsNone g.K.Keeper c.in_ok-answered.answered.reply m.keeper
+    c.answer.new.keeper) c.self.view_is c.in_ok-answered.ensures.counts
 
-pub returns-in-Ok-clause-asks : goal.returns-in-Ok-clause-asks
-returns-in-Ok-clause-asks g c =
-    subst (λ (m : Managed g.row.K.Denot). AsksOnce g.K.Keeper c.args.entry.request c.in-Ok.answered.reply m.keeper
-    c.answer-answered.new.keeper) c.self.view_is c.in-Ok.ensures.asks
-
-pub returns-clause-at_most : goal.returns-clause-at_most
-returns-clause-at_most g c =
-    subst (λ (m : Managed g.row.K.Denot). AsksAtMostOnce g.K.Keeper m.keeper c.answer-answered.new.keeper)
-    c.self.view_is c.in-Err-answered.ensures.at_most
+pub returns-clause-asks : goal.returns-clause-asks
+returns-clause-asks g c =
+    subst (λ (m : Managed g.row.K.Denot). AsksOnce g.K.Keeper c.args.call.now.request c.in_ok-answered.answered.reply
+    m.keeper
+    c.answer.new.keeper) c.self.view_is c.in_ok-answered.ensures.asks
 
 -- no request is itself answered by a fault, so the row wasn't kept
-pub returns-in-Ok-clause-fault : goal.returns-in-Ok-clause-fault
-returns-in-Ok-clause-fault g c = λ (faults : c.in-Ok.answered.reply ≡ Refused KeeperFault).
-    let call : Entry = with_kept c.args.entry c.in-Ok.answered.kept in
-    let unkept : c.in-Ok.answered.kept ≡ false =
-    fault_is_unkept c.self.inside.live c.deref-2.result.now call (ap (λ (answer : Reply × State). answer.0)
-    c.in-Ok.ensures.done ∙ faults) in
-    let history : c.self.inside.history.items ≡ c.args.self.now.history = ap (λ (m : Managed g.row.K.Denot). m.history)
+pub returns-clause-fault : goal.returns-clause-fault
+returns-clause-fault g c = λ (faults : c.in_ok-answered.answered.reply ≡ Refused KeeperFault).
+    let call : Entry = with_kept c.args.call.now c.in_ok-answered.answered.kept in
+    -- what is stored is the call's entry
+    let is_call : c.set_kept.new.self ≡ call =
+    c.set_kept.ensures ∙ ap (λ (e : Entry). with_kept e c.in_ok-answered.answered.kept) c.in_ok-stored.ensures.packed in
+    let unkept : c.in_ok-answered.answered.kept ≡ false =
+    fault_is_unkept c.self.inside.live c.prepare.new.self.entries call (ap (λ (answer : Reply × State). answer.0)
+    c.in_ok-answered.ensures.done ∙ faults) in
+    let history : c.self.inside.history.entries ≡ c.args.self.now.history = ap
+    (λ (m : Managed g.row.K.Denot). m.history)
     c.self.view_is in (
       subst (λ (m : Managed g.row.K.Denot). HasRisen (g.K.Keeper.faults m.keeper)
-          (g.K.Keeper.faults c.answer-answered.new.keeper)) c.self.view_is (c.in-Ok.ensures.fault unkept),
+          (g.K.Keeper.faults c.answer.new.keeper)) c.self.view_is (c.in_ok-answered.ensures.fault unkept),
       (
         call,
         unkept,
-        c.push_reserved.ensures.items ∙ ap (λ (l : List Entry). l ++ call ∷ [])
-            (c.reserve.ensures.items ∙ history),
+        c.push_reserved.ensures.entries
+            ∙ ap (λ (l : List Entry). l ++ c.set_kept.new.self ∷ []) (c.prepare.ensures.entries ∙ history)
+            ∙ ap (λ (e : Entry). c.args.self.now.history ++ e ∷ []) is_call,
       ),
     )
 
 -- what is shown is the reply at the end of the history, whether the row was kept or not
-pub returns-in-Ok-clause-shown : goal.returns-in-Ok-clause-shown
-returns-in-Ok-clause-shown g c = λ (asked : Call) (is : c.args.entry ≡ entry_of asked c.args.entry.uid true)
+pub returns-clause-shown : goal.returns-clause-shown
+returns-clause-shown g c = λ (asked : Call) (is : c.args.call.now ≡ entry_of asked c.args.call.now.uid true)
     (known : uid_of (replay (opening_of c.args.self.now.origin) c.args.self.now.history) asked.key
-    ≡ Some c.args.entry.uid).
+    ≡ Some c.args.call.now.uid).
     let start : State = opening_of c.args.self.now.origin in
     let before = c.args.self.now.history in
-    let call : Entry = with_kept c.args.entry c.in-Ok.answered.kept in
-    let inside : c.self.inside.history.items ≡ before = ap (λ (m : Managed g.row.K.Denot). m.history) c.self.view_is in
-    let read : c.deref-2.result.now ≡ before = c.deref-2.ensures.value ∙ c.reserve.ensures.items ∙ inside in
-    let put : c.push_reserved.new.self.items ≡ before ++ call ∷ [] =
-    c.push_reserved.ensures.items ∙ ap (λ (l : List Entry). l ++ call ∷ []) (c.reserve.ensures.items ∙ inside) in
+    let call : Entry = with_kept c.args.call.now c.in_ok-answered.answered.kept in
+    -- what is stored is the call's entry
+    let is_call : c.set_kept.new.self ≡ call =
+    c.set_kept.ensures ∙ ap (λ (e : Entry). with_kept e c.in_ok-answered.answered.kept) c.in_ok-stored.ensures.packed in
+    let inside : c.self.inside.history.entries ≡ before = ap (λ (m : Managed g.row.K.Denot). m.history) c.self.view_is
+    in
+    let read : c.prepare.new.self.entries ≡ before = c.prepare.ensures.entries ∙ inside in
+    let put : c.push_reserved.new.self.entries ≡ before ++ call ∷ [] =
+    c.push_reserved.ensures.entries
+    ∙ ap (λ (l : List Entry). l ++ c.set_kept.new.self ∷ []) (c.prepare.ensures.entries ∙ inside)
+    ∙ ap (λ (e : Entry). before ++ e ∷ []) is_call in
     let live : replay start before ≡ c.self.inside.live =
     subst (λ (m : Managed g.row.K.Denot). replay (opening_of m.origin) m.history ≡ c.self.inside.live) c.self.view_is
     c.self.invariant.0.replayed in
-    let says : c.in-Ok.answered.reply ≡ (step (replay start before) before call).0 =
+    let says : c.in_ok-answered.answered.reply ≡ (step (replay start before) before call).0 =
     sym (ap (λ (s : State). (step s before call).0) live
     ∙ ap (λ (l : List Entry). (step c.self.inside.live l call).0) (sym read)
-    ∙ ap (λ (answer : Reply × State). answer.0) c.in-Ok.ensures.done) in
+    ∙ ap (λ (answer : Reply × State). answer.0) c.in_ok-answered.ensures.done) in
     let at : c.len-at.result ≡ length before =
-    omega (
-      arith,
-      c.len-at.ensures,
-      c.reserve.new.self.ok.0,
-      ap (λ (l : List Entry). length l)
-          (c.reserve.ensures.items ∙ inside),
-    ) in
+    c.len-at.ensures ∙ ap (λ (l : List Entry). length l) (c.prepare.ensures.entries ∙ inside) in
     subst (λ (l : List Entry). ShowsAt start before l asked (record
-    { at = c.len-at.result; stored = true; reply = c.in-Ok.answered.reply })) (sym put)
+    { at = c.len-at.result; stored = true; reply = c.in_ok-answered.answered.reply })) (sym put)
     (subst (λ (n : ℕ). ShowsAt start before (before ++ call ∷ []) asked
-    (record { at = n; stored = true; reply = c.in-Ok.answered.reply })) (sym at)
+    (record { at = n; stored = true; reply = c.in_ok-answered.answered.reply })) (sym at)
     (subst (λ (r : Reply). ShowsAt start before (before ++ call ∷ []) asked
     (record { at = length before; stored = true; reply = r })) (sym says)
-    (kept_shows start before asked c.args.entry c.in-Ok.answered.kept is known
+    (kept_shows start before asked c.args.call.now c.in_ok-answered.answered.kept is known
     (sym c.may_change.ensures ∙ c.if-not-may_change.false) (sym c.has_room.ensures ∙ c.if-not-has_room.false))))

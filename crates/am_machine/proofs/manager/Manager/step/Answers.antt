@@ -11,8 +11,8 @@ use Rattle.am_machine.proofs.Kept.{asks_none}
 use Rattle.am_machine.proofs.manager.Manager.step.Goals as goal
 
 -- who has the key is a caller
-pub counted-requires-clause-caller : goal.counted-requires-clause-caller
-counted-requires-clause-caller g c =
+pub counted-shown-requires-clause-caller : goal.counted-shown-requires-clause-caller
+counted-shown-requires-clause-caller g c =
     let state : State = replay (opening_of c.args.self.now.origin) c.args.self.now.history in
     let held : state ≡ c.self.inside.live =
     from_inside (λ (o : Origin) (h : List Entry). replay (opening_of o) h ≡ c.self.inside.live) _ _ c.self.view_is

@@ -1,0 +1,190 @@
+-- Intents as bytes.
+use Rattle.std.specs.Prelude.{◌≡◌, ℕ, zero, suc, false, List, [], ◌∷◌, ◌++◌, if◌then◌else◌, nat_eq, refl}
+use Rattle.am_types.specs.declared.manifest.Kind.{Kind}
+use Rattle.am_types.specs.declared.manifest.Kind.TheVariants as kinds
+use Rattle.am_types.specs.declared.intent.Component.{Component}
+use Rattle.am_types.specs.declared.intent.Extra.{Extra}
+use Rattle.am_types.specs.declared.intent.Extra.TheVariants as extras
+use Rattle.am_types.specs.declared.intent.Named.{Named}
+use Rattle.am_types.specs.declared.intent.Flags.{Flags}
+use Rattle.am_types.specs.declared.intent.Intent.{Intent}
+use Rattle.am_types.specs.declared.uri.Uri.{Uri}
+use Rattle.am_types.specs.declared.uri.Mime.{Mime}
+use Rattle.am_types.specs.declared.pending.PendingFlags.{PendingFlags}
+use Rattle.am_packed.specs.Forms.{Form, both, made_of}
+use Rattle.am_packed.specs.Numbers.{number, flag, whole}
+use Rattle.am_packed.specs.Texts.{text}
+use Rattle.am_packed.specs.Lists.{option_of, list_of}
+
+-- the number of a kind
+abbrev pub kind_number : Kind → ℕ
+kind_number kinds.Activity = 0
+kind_number kinds.Service = 1
+kind_number kinds.Receiver = 2
+
+-- the kind of a number
+abbrev pub kind_of : ℕ → Kind
+kind_of n = if nat_eq n 0 then kinds.Activity else (if nat_eq n 1 then kinds.Service else kinds.Receiver)
+
+pub kind_back : (kind : Kind) → kind_of (kind_number kind) ≡ kind
+kind_back kinds.Activity = refl
+kind_back kinds.Service = refl
+kind_back kinds.Receiver = refl
+
+-- a kind of component
+unfoldable pub kind_form : Form Kind
+kind_form = made_of number kind_number kind_of kind_back
+
+-- the name of a component
+unfoldable pub component_form : Form Component
+component_form =
+    made_of (both text text)
+    (λ x. (x.package, x.class))
+    (λ p. record { «package» = p.0; class = p.1 })
+    (λ x. refl)
+
+-- a URI with its parts
+unfoldable pub uri_form : Form Uri
+uri_form =
+    made_of (both text (both text (both (option_of text) (both (option_of number) text))))
+    (λ x. (x.text, (x.scheme, (x.host, (x.port, x.path)))))
+    (λ p. record { text = p.0; scheme = p.1.0; host = p.1.1.0; port = p.1.1.1.0; path = p.1.1.1.1 })
+    (λ x. refl)
+
+-- a MIME type
+unfoldable pub mime_form : Form Mime
+mime_form =
+    made_of (both text text)
+    (λ x. (x.main, x.sub))
+    (λ p. record { main = p.0; sub = p.1 })
+    (λ x. refl)
+
+-- the bytes of an extra's value: a byte that says which it is, then the value
+abbrev pub extra_bytes : Extra → List ℕ
+extra_bytes (extras.Word words) = 0 ∷ text.bytes words
+extra_bytes (extras.Whole x) = 1 ∷ whole.bytes x
+extra_bytes (extras.Truth so) = 2 ∷ flag.bytes so
+
+-- the extra's value that bytes begin with, and what follows it
+abbrev pub extra_at : List ℕ → Extra × List ℕ
+extra_at [] = (extras.Truth false, [])
+extra_at (zero ∷ others) = (extras.Word (text.read others).0, (text.read others).1)
+extra_at (suc zero ∷ others) = (extras.Whole (whole.read others).0, (whole.read others).1)
+extra_at (suc (suc n) ∷ others) = (extras.Truth (flag.read others).0, (flag.read others).1)
+
+pub extra_again : (x : Extra) (rest : List ℕ) → extra_at (extra_bytes x ++ rest) ≡ (x, rest)
+extra_again (extras.Word words) rest = rw (text.again words rest) refl
+extra_again (extras.Whole x) rest = rw (whole.again x rest) refl
+extra_again (extras.Truth so) rest = rw (flag.again so rest) refl
+
+-- the value of an extra
+unfoldable pub extra_form : Form Extra
+extra_form = record { bytes = extra_bytes; read = extra_at; again = extra_again }
+
+-- an extra under its key
+unfoldable pub named_form : Form Named
+named_form =
+    made_of (both text extra_form)
+    (λ x. (x.key, x.value))
+    (λ p. record { key = p.0; value = p.1 })
+    (λ x. refl)
+
+-- the flags of an intent
+unfoldable pub flags_form : Form Flags
+flags_form =
+    made_of (both flag (both flag (both flag (both flag (both flag (both flag (both flag (both flag (both flag
+    flag)))))))))
+    (λ x. (
+      x.new_task,
+      (
+        x.multiple_task,
+        (
+          x.clear_task,
+          (
+            x.clear_top,
+            (
+              x.single_top,
+              (
+                x.reorder_to_front,
+                (x.registered_only, (x.foreground, (x.no_abort, x.include_stopped))),
+              ),
+            ),
+          ),
+        ),
+      ),
+    ))
+    (λ p. record {
+      new_task = p.0;
+      multiple_task = p.1.0;
+      clear_task = p.1.1.0;
+      clear_top = p.1.1.1.0;
+      single_top =
+          p.1.1.1.1.0;
+      reorder_to_front = p.1.1.1.1.1.0;
+      registered_only = p.1.1.1.1.1.1.0;
+      foreground =
+          p.1.1.1.1.1.1.1.0;
+      no_abort = p.1.1.1.1.1.1.1.1.0;
+      include_stopped = p.1.1.1.1.1.1.1.1.1;
+    })
+    (λ x. refl)
+
+-- an intent
+unfoldable pub intent_form : Form Intent
+intent_form =
+    made_of (both (option_of text) (both (option_of uri_form) (both (option_of mime_form) (both (option_of text)
+    (both (list_of text) (both (option_of text) (both (option_of component_form) (both flags_form (list_of
+    named_form)))))))))
+    (λ x. (
+      x.action,
+      (
+        x.uri,
+        (
+          x.mime,
+          (
+            x.identifier,
+            (
+              x.categories,
+              (
+                x.package,
+                (
+                  x.component,
+                  (
+                    x.flags,
+                    x.extras,
+                  ),
+                ),
+              ),
+            ),
+          ),
+        ),
+      ),
+    ))
+    (λ p. record {
+      action = p.0;
+      uri = p.1.0;
+      mime = p.1.1.0;
+      identifier = p.1.1.1.0;
+      categories = p.1.1.1.1.0;
+      «package» = p.1.1.1.1.1.0;
+      component = p.1.1.1.1.1.1.0;
+      flags = p.1.1.1.1.1.1.1.0;
+      extras = p.1.1.1.1.1.1.1.1;
+    })
+    (λ x. refl)
+
+-- the flags of a pending intent
+unfoldable pub pending_flags_form : Form PendingFlags
+pending_flags_form =
+    made_of (both flag (both flag (both flag (both flag (both flag flag)))))
+    (λ x. (x.one_shot, (x.no_create, (x.cancel_current, (x.update_current, (x.immutable, x.mutable))))))
+    (λ p. record {
+      one_shot = p.0;
+      no_create = p.1.0;
+      cancel_current = p.1.1.0;
+      update_current = p.1.1.1.0;
+      immutable
+          = p.1.1.1.1.0;
+      mutable = p.1.1.1.1.1;
+    })
+    (λ x. refl)

@@ -1,0 +1,10 @@
+pub mod Forms
+pub mod Numbers
+pub mod Texts
+pub mod Lists
+pub mod Intents
+pub mod Filters
+pub mod Outcomes
+pub mod Parts
+pub mod Requests
+pub mod Archives
