@@ -6,8 +6,8 @@ use Rattle.std.proofs.lemmas.Option.{get_or_from_slice_get, none-some, same_Some
 use Rattle.am_types.specs.declared.history.Entry.{Entry}
 use Rattle.am_history.specs.State.{State}
 use Rattle.am_history.specs.History.{IsLegal, IsLegalFrom, MayBeNext, replay}
-use Rattle.am_audit_calls.specs.Replays.{Replay, state_of}
-use Rattle.am_audit_lines.specs.Lines.{IsWhole}
+use Rattle.am_audit_history.specs.Replays.{Replay, state_of}
+use Rattle.am_audit_history.specs.Lines.{IsWhole}
 use Rattle.am_audit_answers.specs.Audits.{Ground}
 use Rattle.am_audit_answers.specs.Matching.{IsReplayed}
 

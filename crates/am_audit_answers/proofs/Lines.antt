@@ -21,12 +21,15 @@ take_more : (n b : ℕ) (rest : List ℕ) → take (1 + n) (b ∷ rest) ≡ b �
 take_more n b rest = let more : 1 + n ≡ suc n = omega arith in ap (λ m. take m (b ∷ rest)) more
 
 -- what is behind the first such byte of a text that begins with one that lacks it
-pub past : (c : ℕ) (text rest : List ℕ) → lacks c text ≡ true → after_first (λ b. b == c) (text ++ rest) ≡ after_first (λ b. b == c) rest
+pub past : (c : ℕ) (text rest : List ℕ) → lacks c text ≡ true
+    → after_first (λ b. b == c) (text ++ rest) ≡ after_first (λ b. b == c) rest
 past c [] rest none = refl
 past c (b ∷ text) rest none = by (eqb b c) none (past c text rest)
   where
-    by : (t : Bool) → not t && lacks c text ≡ true → (lacks c text ≡ true → after_first (λ b. b == c) (text ++ rest) ≡ after_first (λ b. b == c) rest)
-        → drop (cond (not t) (1 + position_or_len (λ b. b == c) (text ++ rest)) 0 + 1) (b ∷ (text ++ rest)) ≡ after_first (λ b. b == c) rest
+    by : (t : Bool) → not t && lacks c text ≡ true
+        → (lacks c text ≡ true → after_first (λ b. b == c) (text ++ rest) ≡ after_first (λ b. b == c) rest)
+        → drop (cond (not t) (1 + position_or_len (λ b. b == c) (text ++ rest)) 0 + 1) (b ∷ (text ++ rest))
+        ≡ after_first (λ b. b == c) rest
     by true none later = absurd cc
     by false none later = drop_more (position_or_len (λ b. b == c) (text ++ rest)) b (text ++ rest) ∙ later none
 
@@ -42,10 +45,13 @@ before c [] rest none = by (eqb c c) (self c)
     by false is = absurd cc
 before c (b ∷ text) rest none = by (eqb b c) none (before c text rest)
   where
-    by : (t : Bool) → not t && lacks c text ≡ true → (lacks c text ≡ true → before_first (λ b. b == c) (text ++ c ∷ rest) ≡ text)
-        → take (cond (not t) (1 + position_or_len (λ b. b == c) (text ++ c ∷ rest)) 0) (b ∷ (text ++ c ∷ rest)) ≡ b ∷ text
+    by : (t : Bool) → not t && lacks c text ≡ true
+        → (lacks c text ≡ true → before_first (λ b. b == c) (text ++ c ∷ rest) ≡ text)
+        → take (cond (not t) (1 + position_or_len (λ b. b == c) (text ++ c ∷ rest)) 0) (b ∷ (text ++ c ∷ rest))
+        ≡ b ∷ text
     by true none later = absurd cc
-    by false none later = take_more (position_or_len (λ b. b == c) (text ++ c ∷ rest)) b (text ++ c ∷ rest) ∙ ap (λ (l : List ℕ). b ∷ l) (later none)
+    by false none later = take_more (position_or_len (λ b. b == c) (text ++ c ∷ rest)) b (text ++ c ∷ rest)
+        ∙ ap (λ (l : List ℕ). b ∷ l) (later none)
 
 -- digits lack what is no digit
 digits_lack : (c : ℕ) → 10 ≤ digit_value c → (text : List ℕ) → AllDigits 10 text → lacks c text ≡ true
@@ -66,11 +72,13 @@ decimal_lacks c n none fits = digits_lack c none (decimal n) (decimal_is_IsNumer
 abbrev pub AreLines : List (ℕ × List ℕ) → Type 0
 AreLines rows = AllByRecursion (λ (row : ℕ × List ℕ). lacks 10 row.1 ≡ true) rows
 
-phrase_in_lacks : (rows : List (ℕ × List ℕ)) (status : ℕ) → AreLines rows → lacks 10 (unwrap_or (phrase_in rows status) []) ≡ true
+phrase_in_lacks : (rows : List (ℕ × List ℕ)) (status : ℕ) → AreLines rows
+    → lacks 10 (unwrap_or (phrase_in rows status) []) ≡ true
 phrase_in_lacks [] status all = refl
 phrase_in_lacks (row ∷ rows) status all = by (eqb status row.0) (phrase_in_lacks rows status all.1)
   where
-    by : (t : Bool) → lacks 10 (unwrap_or (phrase_in rows status) []) ≡ true → lacks 10 (unwrap_or (cond t (Some row.1) (phrase_in rows status)) []) ≡ true
+    by : (t : Bool) → lacks 10 (unwrap_or (phrase_in rows status) []) ≡ true
+        → lacks 10 (unwrap_or (cond t (Some row.1) (phrase_in rows status)) []) ≡ true
     by true later = all.0
     by false later = later
 
@@ -83,26 +91,32 @@ abbrev pub line_behind : List ℕ → List ℕ
 line_behind text = after_first (λ b. b == 10) text
 
 head_first : (status n : ℕ) (rest : List ℕ) → status < 2 ^ 64 → n < 2 ^ 64
-    → line_behind (head status n ++ rest) ≡ codes "Content-Type: application/json\r\nContent-Length: " ++ (decimal n ++ (codes "\r\n" ++ rest))
+    → line_behind (head status n ++ rest)
+    ≡ codes "Content-Type: application/json\r\nContent-Length: " ++ (decimal n ++ (codes "\r\n" ++ rest))
 unfolding head
 head_first status n rest fits few =
     let tail : List ℕ = codes "\r\nContent-Type: application/json\r\nContent-Length: " ++ (decimal n ++ codes "\r\n") in
     ap line_behind (append_assoc (codes "HTTP/1.1 ") (decimal status ++ (codes " " ++ (phrase status ++ tail))) rest)
     ∙ past 10 (codes "HTTP/1.1 ") ((decimal status ++ (codes " " ++ (phrase status ++ tail))) ++ rest) refl
     ∙ ap line_behind (append_assoc (decimal status) (codes " " ++ (phrase status ++ tail)) rest)
-    ∙ past 10 (decimal status) ((codes " " ++ (phrase status ++ tail)) ++ rest) (decimal_lacks 10 status (omega arith) fits)
+    ∙ past 10 (decimal status) ((codes " " ++ (phrase status ++ tail)) ++ rest)
+    (decimal_lacks 10 status (omega arith) fits)
     ∙ ap line_behind (append_assoc (codes " ") (phrase status ++ tail) rest)
     ∙ past 10 (codes " ") ((phrase status ++ tail) ++ rest) refl
     ∙ ap line_behind (append_assoc (phrase status) tail rest)
     ∙ past 10 (phrase status) (tail ++ rest) (phrase_lacks status)
-    ∙ ap line_behind (append_assoc (codes "\r\nContent-Type: application/json\r\nContent-Length: ") (decimal n ++ codes "\r\n") rest)
-    ∙ ap (λ (l : List ℕ). codes "Content-Type: application/json\r\nContent-Length: " ++ l) (append_assoc (decimal n) (codes "\r\n") rest)
+    ∙ ap line_behind
+    (append_assoc (codes "\r\nContent-Type: application/json\r\nContent-Length: ") (decimal n ++ codes "\r\n") rest)
+    ∙ ap (λ (l : List ℕ). codes "Content-Type: application/json\r\nContent-Length: " ++ l)
+    (append_assoc (decimal n) (codes "\r\n") rest)
 
 head_second : (n : ℕ) (rest : List ℕ)
-    → line_behind (codes "Content-Type: application/json\r\nContent-Length: " ++ rest) ≡ codes "Content-Length: " ++ rest
+    → line_behind (codes "Content-Type: application/json\r\nContent-Length: " ++ rest)
+    ≡ codes "Content-Length: " ++ rest
 head_second n rest = refl
 
-head_third : (n : ℕ) (rest : List ℕ) → n < 2 ^ 64 → line_behind (codes "Content-Length: " ++ (decimal n ++ (codes "\r\n" ++ rest))) ≡ rest
+head_third : (n : ℕ) (rest : List ℕ) → n < 2 ^ 64
+    → line_behind (codes "Content-Length: " ++ (decimal n ++ (codes "\r\n" ++ rest))) ≡ rest
 head_third n rest few =
     past 10 (codes "Content-Length: ") (decimal n ++ (codes "\r\n" ++ rest)) refl
     ∙ past 10 (decimal n) (codes "\r\n" ++ rest) (decimal_lacks 10 n (omega arith) few)
@@ -125,14 +139,18 @@ same_number c n m rest others none fits few is =
     sym (decimal_is_IsNumeral n fits).1 ∙ ap (digits_value 10) texts ∙ (decimal_is_IsNumeral m few).1
 
 -- responses that begin alike have the same status
-pub same_status : (s t n m : ℕ) (rest others : List ℕ) → s < 2 ^ 64 → t < 2 ^ 64 → head s n ++ rest ≡ head t m ++ others → s ≡ t
+pub same_status : (s t n m : ℕ) (rest others : List ℕ) → s < 2 ^ 64 → t < 2 ^ 64
+    → head s n ++ rest ≡ head t m ++ others → s ≡ t
 unfolding head
 same_status s t n m rest others fits few is =
-    let tail : ℕ → ℕ → List ℕ = λ status length. phrase status ++ (codes "\r\nContent-Type: application/json\r\nContent-Length: " ++ (decimal length ++ codes "\r\n")) in
-    let split : (status length : ℕ) (more : List ℕ) → (codes "HTTP/1.1 " ++ (decimal status ++ (codes " " ++ tail status length))) ++ more
+    let tail : ℕ → ℕ → List ℕ = λ status length. phrase status
+    ++ (codes "\r\nContent-Type: application/json\r\nContent-Length: " ++ (decimal length ++ codes "\r\n")) in
+    let split : (status length : ℕ) (more : List ℕ)
+    → (codes "HTTP/1.1 " ++ (decimal status ++ (codes " " ++ tail status length))) ++ more
     ≡ codes "HTTP/1.1 " ++ (decimal status ++ (32 ∷ (tail status length ++ more))) =
     λ status length more.
     append_assoc (codes "HTTP/1.1 ") (decimal status ++ (codes " " ++ tail status length)) more
-    ∙ ap (λ (l : List ℕ). codes "HTTP/1.1 " ++ l) (append_assoc (decimal status) (codes " " ++ tail status length) more) in
+    ∙ ap (λ (l : List ℕ). codes "HTTP/1.1 " ++ l)
+    (append_assoc (decimal status) (codes " " ++ tail status length) more) in
     same_number 32 s t (tail s n ++ rest) (tail t m ++ others) (omega arith) fits few
     (ap (λ (l : List ℕ). drop 9 l) (sym (split s n rest) ∙ is ∙ split t m others))

@@ -8,7 +8,7 @@ use Rattle.am_history.specs.State.{State}
 use Rattle.am_http.specs.Exchanges.{Exchange, IsAbove, Point, floor_after}
 use Rattle.am_http.specs.Head.{Frame}
 use Rattle.am_http.specs.Requests.{request_of}
-use Rattle.am_audit_calls.specs.Replays.{Replay}
+use Rattle.am_audit_history.specs.Replays.{Replay}
 use Rattle.am_audit_answers.specs.declared.judging.Accepted.{Accepted}
 use Rattle.am_audit_answers.specs.declared.judging.Bench.{Bench}
 use Rattle.am_audit_answers.specs.Judged.{Judges, Stands, case_of, ground_of}

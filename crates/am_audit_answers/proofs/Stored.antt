@@ -11,7 +11,7 @@ use Rattle.am_history.specs.Desks.{Follows}
 use Rattle.am_http.specs.Exchanges.{Exchange, IsAnswer, IsCalled, Point}
 use Rattle.am_http.specs.Head.{Frame}
 use Rattle.am_http.specs.Requests.{call_of, request_of}
-use Rattle.am_audit_calls.specs.Replays.{Replay, ShowsKept}
+use Rattle.am_audit_history.specs.Replays.{Replay, ShowsKept}
 use Rattle.am_audit_answers.specs.declared.judging.Accepted.{Accepted}
 use Rattle.am_audit_answers.specs.declared.judging.Bench.{Bench}
 use Rattle.am_audit_answers.specs.Judged.{IsAccepted, IsMade, IsNext, IsShownBy, Judges, ShowsAs, case_of, ground_of}

@@ -10,7 +10,7 @@ use Rattle.am_history.specs.Desks.{Follows}
 use Rattle.am_http.specs.Exchanges.{Exchange, IsAnswer, IsCalled, Point}
 use Rattle.am_http.specs.Head.{Frame}
 use Rattle.am_http.specs.Requests.{call_of, request_of}
-use Rattle.am_audit_calls.specs.Replays.{Replay, ShowsKept}
+use Rattle.am_audit_history.specs.Replays.{Replay, ShowsKept}
 use Rattle.am_audit_answers.specs.declared.judging.Accepted.{Accepted}
 use Rattle.am_audit_answers.specs.declared.judging.Bench.{Bench}
 use Rattle.am_audit_answers.specs.Audits.{IsTimedBy}
@@ -80,7 +80,8 @@ module _ (history : List Entry) (bench : Bench) (frame : Frame) (left : List ℕ
       isnt_stored desk e rest answers =
           let p = placed desk e rest answers in
           let there : false ≡ is_stored (replay bench.replayed.start before) before (call_of desk frame 0 request) =
-          subst (λ (n : ℕ). false ≡ is_stored (replay bench.replayed.start before) before (call_of desk frame n request))
+          subst (λ (n : ℕ). false
+          ≡ is_stored (replay bench.replayed.start before) before (call_of desk frame n request))
           (now_is desk e rest answers p) p.marked.stored in
           stored_is desk ∙ sym there
 
@@ -88,9 +89,11 @@ module _ (history : List Entry) (bench : Bench) (frame : Frame) (left : List ℕ
       shows_it : (desk : ℕ) (e : Exchange) (rest : List ℕ) → Answers c desk e rest → IsShownBy shown e.bytes
       shows_it desk e rest answers =
           let p = placed desk e rest answers in
-          let here : IsShownBy (shown_at bench.replayed.start history point (call_of desk frame 0 request) p.kept) e.bytes
+          let here : IsShownBy
+          (shown_at bench.replayed.start history point (call_of desk frame 0 request) p.kept) e.bytes
           =
-          subst (λ (n : ℕ). IsShownBy (shown_at bench.replayed.start history point (call_of desk frame n request) p.kept)
+          subst (λ (n : ℕ). IsShownBy
+          (shown_at bench.replayed.start history point (call_of desk frame n request) p.kept)
           e.bytes) (now_is desk e rest answers p) p.shows in
           subst (λ (s : Shown). IsShownBy s e.bytes) (shown_is desk p.kept (isnt_stored desk e rest answers)) here
 
@@ -120,7 +123,8 @@ module _ (history : List Entry) (bench : Bench) (frame : Frame) (left : List ℕ
           → IsAccepted c (record { bench = record { replayed = after; desk = bench.desk }; taken = taken })
       unfolding called
       accepts taken takes =
-          accepted_at c point (record { bench = record { replayed = after; desk = bench.desk }; taken = taken }) (Some 0)
+          accepted_at c point
+          (record { bench = record { replayed = after; desk = bench.desk }; taken = taken }) (Some 0)
           (omega arith) takes.1.0
           (λ desk suits. (suits, record { answer = answer desk; timed = λ _. refl }))
           (λ desk e rest answers. (

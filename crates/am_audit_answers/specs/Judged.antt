@@ -7,7 +7,7 @@ use Rattle.am_history.specs.Steps.{Call}
 use Rattle.am_http.specs.Head.{Frame}
 use Rattle.am_http.specs.Requests.{call_of}
 use Rattle.am_http.specs.Responses.{response, want_after}
-use Rattle.am_audit_calls.specs.Replays.{Replay, ShowsKept, state_of}
+use Rattle.am_audit_history.specs.Replays.{Replay, ShowsKept, state_of}
 use Rattle.am_audit_answers.specs.declared.calls.Making.{Making}
 use Rattle.am_audit_answers.specs.declared.judging.Accepted.{Accepted}
 use Rattle.am_audit_answers.specs.declared.judging.Bench.{Bench}

@@ -6,8 +6,8 @@ use Rattle.am_history.specs.State.{State, uid_of}
 use Rattle.am_history.specs.History.{IsLegal}
 use Rattle.am_http.specs.Head.{Frame}
 use Rattle.am_http.specs.Requests.{request_of}
-use Rattle.am_audit_calls.specs.Replays.{Replay}
-use Rattle.am_audit_lines.specs.Lines.{IsWhole}
+use Rattle.am_audit_history.specs.Replays.{Replay}
+use Rattle.am_audit_history.specs.Lines.{IsWhole}
 use Rattle.am_audit_answers.specs.Audits.{Ground}
 
 -- a frame with the key and the body of a whole one makes this request

@@ -5,11 +5,10 @@ ghost use Rattle.am_http.specs.Requests.{call_of};
 ghost use Rattle.am_audit_answers.specs.Judged.{IsMade, ShowsAs, ShowsFirst};
 ghost use Rattle.am_audit_answers.specs.Matching.{MakesRequest};
 
-use crate::requests::key_text;
 use crate::texts::{begins, want_after};
-use am_audit_calls::{Call, Replayed};
+use am_audit_history::{Call, Replayed};
 use am_http::frame::WholeFrame;
-use am_http::response_bytes;
+use am_http::{key_text, response_bytes};
 use am_types::{NoMemory, Request, Shown};
 use std::alloc::Global;
 
@@ -33,7 +32,7 @@ fn shown_length(alloc: Global, shown: &Shown, left: &[u8]) -> Result<Option<usiz
         return Ok(Some(response.len()));
     }
     let want = want_after(alloc, shown.at, shown.stored)?;
-    if begins(left, want.as_bytes()) {
+    if begins(left, want.as_slice()) {
         Ok(Some(want.len()))
     } else {
         Ok(None)

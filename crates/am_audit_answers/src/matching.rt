@@ -2,14 +2,13 @@
 ghost use Rattle.std.specs.Prelude.{◌≡◌, ◌↔◌, IsTrue, IfOk, Some};
 ghost use Rattle.am_history.specs.State.{uid_of};
 ghost use Rattle.am_http.specs.FrameSpans.{frame_held};
-ghost use Rattle.am_audit_lines.specs.Lines.{IsReadAgain};
-ghost use Rattle.am_audit_calls.specs.Replays.{state_of};
+ghost use Rattle.am_audit_history.specs.Lines.{IsReadAgain};
+ghost use Rattle.am_audit_history.specs.Replays.{state_of};
 ghost use Rattle.am_audit_answers.specs.Judging.{Suits};
 ghost use Rattle.am_audit_answers.specs.Matching.{IsItsCall, MakesRequest};
 
 use crate::judging::Bench;
-use am_audit_calls::Replayed;
-use am_audit_lines::is_same_request;
+use am_audit_history::{Replayed, is_same_request};
 use am_http::frame::WholeFrame;
 use am_types::{Entry, NoMemory, Request};
 use std::alloc::Global;

@@ -2,7 +2,7 @@
 ghost use Rattle.std.specs.Prelude.{◌≡◌, ◌+◌, ◌<◌, IfOk, length};
 ghost use Rattle.am_audit_answers.specs.Matching.{GoesTo, IsRecord, IsReplayed};
 
-use am_audit_calls::Replayed;
+use am_audit_history::Replayed;
 use am_types::{Entry, NoMemory};
 
 // Replays the next entry of the history.

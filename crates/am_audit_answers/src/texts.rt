@@ -1,7 +1,8 @@
 //! The texts of responses.
-ghost use Rattle.std.specs.Prelude.{◌≡◌, ◌≤◌, ◌++◌, ℕ, List as Items, IsTrue, IfOk, drop, length, string_bytes};
-ghost use Rattle.am_http.specs.Responses.{digit, want_before, want_after};
+ghost use Rattle.std.specs.Prelude.{◌≡◌, ◌≤◌, ◌++◌, ℕ, List as Items, IsTrue, IfOk, drop, length};
+ghost use Rattle.am_http.specs.Responses.{want_after};
 
+use am_http::{WANT_ROOM, put_want_after};
 use am_types::NoMemory;
 use std::alloc::Global;
 
@@ -14,28 +15,11 @@ pub(crate) fn begins(bytes: &[u8], text: &[u8]) -> bool
     bytes.starts_with(text)
 }
 
-/// The response if memory ran out before the call was made. Takes no memory.
-#[tactic(auto, unfolding(am_http::proofs::Literals::responses_on_literals))]
-pub(crate) fn want_before() -> &'static [u8]
-    ensures { result.now ≡ want_before }
-{
-    b"HTTP/1.1 507 Insufficient Storage\r\nContent-Type: application/json\r\nContent-Length: 21\r\nAM-Stored: 0\r\n\r\n{\"error\":\"no_memory\"}"
-}
-
-// A truth as a digit.
-#[tactic(auto, unfolding(am_http::specs::Responses::digit))]
-fn digit(truth: bool) -> &'static str
-    ensures { result.now ≡ digit truth }
-{
-    if truth { "1" } else { "0" }
-}
-
 /// The response if memory ran out after the call was made.
-pub(crate) fn want_after(alloc: Global, at: u64, stored: bool) -> Result<String, NoMemory>
-    ensures { IfOk result (λ text. string_bytes text ≡ want_after at stored) }
+pub(crate) fn want_after(alloc: Global, at: u64, stored: bool) -> Result<Vec<u8>, NoMemory>
+    ensures { IfOk result (λ text. text.items ≡ want_after at stored) }
 {
-    let stored = digit(stored);
-    Ok(format!(in alloc;
-        "HTTP/1.1 507 Insufficient Storage\r\nContent-Type: application/json\r\nContent-Length: 21\r\nAM-At: {at}\r\nAM-Stored: {stored}\r\n\r\n{{\"error\":\"no_memory\"}}"
-    )?)
+    let mut text = Vec::with_capacity(alloc, WANT_ROOM)?;
+    put_want_after(&mut text, at, stored);
+    Ok(text)
 }

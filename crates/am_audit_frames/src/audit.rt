@@ -9,7 +9,7 @@ ghost use Rattle.am_audit_frames.specs.Walks.{GoesOn, Walked, ground_at};
 
 use crate::endings::may_end;
 use am_audit_answers::{Bench, judge};
-use am_audit_calls::Replayed;
+use am_audit_history::Replayed;
 use am_http::MAX_FRAMES;
 use am_http::frame::{Framing, frame};
 use am_types::{Device, Entry, NoMemory};

@@ -7,7 +7,7 @@ use Rattle.am_outside.specs.Files.{AnswersTold, ReadsFile, bytes_of}
 use Rattle.am_outside.specs.declared.files.FileBytes.{FileBytes}
 use Rattle.am_history.specs.State.{State, opening}
 use Rattle.am_manifest.specs.Devices.{device_of}
-use Rattle.am_audit_calls.specs.Histories.{IsHistory, IsReadAs}
+use Rattle.am_audit_history.specs.Histories.{IsHistory, IsReadAs}
 use Rattle.am_audit_answers.specs.Matching.{IsRecord}
 use Rattle.am_console.specs.declared.setback.Setback.{Setback}
 use Rattle.am_console.specs.declared.setback.Setback.TheVariants as setbacks

@@ -5,8 +5,8 @@ use Rattle.std.proofs.lemmas.List.Elements.{All-from_recursion}
 use Rattle.am_types.specs.declared.device.Device.{Device}
 use Rattle.am_types.specs.declared.history.Entry.{Entry}
 use Rattle.am_history.specs.State.{State, opening}
-use Rattle.am_audit_lines.specs.Lines.{IsWhole}
-use Rattle.am_audit_calls.specs.Histories.{IsHistory, Reads, behind}
+use Rattle.am_audit_history.specs.Lines.{IsWhole}
+use Rattle.am_audit_history.specs.Histories.{IsHistory, Reads, behind}
 use Rattle.am_audit_answers.specs.Matching.{IsRecord}
 use Rattle.am_audit_shell.specs.Contents.{ground_of}
 

@@ -5,7 +5,7 @@ use Rattle.am_types.specs.declared.history.Entry.{Entry}
 use Rattle.am_outside.specs.Counts.{HasRisen}
 use Rattle.am_outside.specs.declared.files.FileBytes.{FileBytes}
 use Rattle.am_history.specs.State.{opening}
-use Rattle.am_audit_calls.specs.Histories.{IsHistory, IsRefusedAt, lines_in}
+use Rattle.am_audit_history.specs.Histories.{IsHistory, IsRefusedAt, lines_in}
 use Rattle.am_audit_frames.specs.declared.audit.Verdict.{Verdict}
 use Rattle.am_audit_answers.specs.Audits.{Ground}
 use Rattle.am_audit_frames.specs.Verdicts.{IsVerdict, Transcript}

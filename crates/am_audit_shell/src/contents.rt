@@ -7,7 +7,7 @@ ghost use Rattle.am_audit_shell.specs.Naming.{named_at};
 
 use crate::finding::Part;
 use crate::words::NamedFiles;
-use am_audit_calls::lines_in;
+use am_audit_history::lines_in;
 use am_console::Setback;
 use am_outside::Files;
 

@@ -73,11 +73,22 @@ abbrev pub root_or : Option (List ℕ) → List ℕ → Option ℕ → Option �
 root_or None key others = others
 root_or (Some root_key) key others = if is_same root_key key then Some root_uid else others
 
+-- the key of the package with that uid, if there is one
+abbrev pub key_of_package : List Package → ℕ → Option (List ℕ)
+key_of_package [] uid = None
+key_of_package (first ∷ others) uid = if first.uid == uid then Some first.key else key_of_package others uid
+
 -- the uid that has the key, if there is one
 abbrev pub uid_of : State → List ℕ → Option ℕ
 uid_of state key =
     if is_same state.system_key key then Some system_uid else root_or state.root_key key
     (uid_of_package state.board.packages key)
+
+-- the key of the caller with the uid, if there is one
+abbrev pub key_of : State → ℕ → Option (List ℕ)
+key_of state uid =
+    if uid == system_uid then Some state.system_key else if uid == root_uid then state.root_key
+    else key_of_package state.board.packages uid
 
 -- some caller of the state has the uid
 abbrev pub has_uid : State → ℕ → Bool

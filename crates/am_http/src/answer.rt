@@ -1,5 +1,6 @@
 //! The answer to a frame.
 ghost use Rattle.std.specs.Prelude.{◌≡◌, ◌≤◌, length, IfOk, IsUtf8};
+ghost use Rattle.am_types.specs.Reading.{Gives};
 ghost use Rattle.am_wire.specs.Requests.{request_of as request_at};
 ghost use Rattle.am_http.specs.FrameSpans.{frame_held};
 ghost use Rattle.am_http.specs.Requests.{request_of, request_or};
@@ -39,37 +40,37 @@ pub enum Answer {
 }
 
 // The request that the body makes at the endpoint, or why it makes none.
-fn request_at(
-    alloc: Global,
-    endpoint: Endpoint,
-    body: &[u8],
-) -> Result<Result<Request, Refusal>, NoMemory>
-    ensures { IfOk result (λ read. read ≡ request_or (request_at endpoint body.now)) }
+fn request_at(alloc: Global, endpoint: Endpoint, body: &[u8]) -> Result<Request, Unmade<Refusal>>
+    ensures { Gives result (request_or (request_at endpoint body.now)) }
 {
     match read_request(alloc, endpoint, body) {
-        Ok(request) => Ok(Ok(request)),
-        Err(Unmade::Fault(fault)) => Ok(Err(Refusal::BadRequest(fault))),
-        Err(Unmade::NoMemory) => Err(NoMemory),
+        Ok(request) => Ok(request),
+        Err(Unmade::Fault(fault)) => Err(Unmade::Fault(Refusal::BadRequest(fault))),
+        Err(Unmade::NoMemory) => Err(Unmade::NoMemory),
     }
 }
 
-// The request that a frame makes, or why it makes none.
-fn request_of(
+/// The request that a frame makes.
+///
+/// # Errors
+///
+/// `Unmade::Fault` with why it makes none, and `Unmade::NoMemory` if memory ran out.
+pub fn request_of(
     alloc: Global,
     routes: &Routes,
     frame: &WholeFrame<'_>,
-) -> Result<Result<Request, Refusal>, NoMemory>
-    ensures { IfOk result (λ read. read ≡ request_of (frame_held frame.now)) }
+) -> Result<Request, Unmade<Refusal>>
+    ensures { Gives result (request_of (frame_held frame.now)) }
 {
     match routes.route(frame.method, frame.target) {
         Ok(endpoint) => request_at(alloc, endpoint, frame.body),
-        Err(RouteFault::NoMethod(_)) => Ok(Err(Refusal::NoMethod)),
-        Err(RouteFault::NoRoute) => Ok(Err(Refusal::NoRoute)),
+        Err(RouteFault::NoMethod(_)) => Err(Unmade::Fault(Refusal::NoMethod)),
+        Err(RouteFault::NoRoute) => Err(Unmade::Fault(Refusal::NoRoute)),
     }
 }
 
-// The key as a text.
-fn key_text(alloc: Global, key: &[u8]) -> Result<Text, NoMemory>
+/// The key of a frame, which is UTF-8, as a text.
+pub fn key_text(alloc: Global, key: &[u8]) -> Result<Text, NoMemory>
     requires { IsUtf8 key.now }
     ensures { IfOk result (λ text. text ≡ key.now) }
 {
@@ -125,11 +126,11 @@ pub fn answer_frame<D: Desk, C: Clock>(
     ensures goes_on { GoesOn (D.view desk.old) (D.view desk.new) }
 {
     match request_of(alloc, routes, frame) {
-        Err(NoMemory) => Answer::Want,
-        Ok(Err(refusal)) => Answer::Refused(refusal),
-        Ok(Ok(request)) => {
+        Ok(request) => {
             let now = clock.now();
             call(alloc, desk, now, frame, request)
         }
+        Err(Unmade::Fault(refusal)) => Answer::Refused(refusal),
+        Err(Unmade::NoMemory) => Answer::Want,
     }
 }

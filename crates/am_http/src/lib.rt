@@ -14,8 +14,11 @@ mod response;
 mod send;
 mod window;
 
+pub use answer::{Refusal, key_text, request_of};
 pub use buffers::Buffers;
 pub use connection::{MAX_FRAMES, serve_connection, serve_link};
 pub use end::{End, Served};
-pub use response::{defect_bytes, refusal_bytes, response_bytes};
-pub use send::write_all;
+pub use response::{
+    WANT_ROOM, defect_bytes, put_want_after, refusal_bytes, response_bytes, want_before,
+};
+pub use send::{refusal_text, write_all};

@@ -40,8 +40,8 @@ pub fn write_all<W: Sink>(sink: &mut W, bytes: &[u8]) -> Result<(), Failed>
     Ok(())
 }
 
-// The response to a frame that makes no request.
-fn refusal_text(alloc: Global, refusal: Refusal) -> Result<Vec<u8>, NoMemory>
+/// The response to a frame that makes no request.
+pub fn refusal_text(alloc: Global, refusal: Refusal) -> Result<Vec<u8>, NoMemory>
     ensures { IfOk result (λ bytes. bytes.items ≡ refusal_text refusal) }
 {
     match refusal {

@@ -6,3 +6,4 @@ pub mod SoundBoards
 pub mod SoundSteps
 pub mod SoundOpenings
 pub mod Sound
+pub mod Keys

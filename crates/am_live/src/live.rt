@@ -1,17 +1,18 @@
 //! The live state, and time.
 ghost use Rattle.std.specs.Prelude.{◌≡◌, ◌+◌, ◌<◌, ◌≤◌, IfOk, MatchOption};
+ghost use Rattle.std.specs.Option.{option_copied};
 ghost use Rattle.am_model.specs.Sound.{IsSound};
 ghost use Rattle.am_history.specs.Answers.{for_admin};
-ghost use Rattle.am_history.specs.State.{opening, uid_of};
+ghost use Rattle.am_history.specs.State.{key_of, opening, uid_of};
 ghost use Rattle.am_history.specs.Steps.{advance, advanced, at_moment, due, moment_after};
 
-use am_live_gate::{Caller, uid_of};
+use am_live_gate::{Caller, key_of_package, uid_of};
 use am_pending::Pending;
 use am_queue::{LAST_MOMENT, Queues};
 use am_resolve::Board;
 use am_services::Services;
 use am_tasks::Tasks;
-use am_types::{Device, Limit, NoMemory, Reply, Rule, Steps, Text, drop_parts};
+use am_types::{Device, Limit, NoMemory, ROOT, Reply, Rule, SYSTEM, Steps, Text, drop_parts};
 use std::alloc::Global;
 use std::hash::RandomState;
 use std::marker::Model;
@@ -110,6 +111,19 @@ impl Live {
         ensures { result ≡ uid_of self.now key.now }
     {
         uid_of(&self.system_key, &self.root_key, self.board.packages(), key)
+    }
+
+    /// The key of the caller with the uid, if there is one. Takes no memory.
+    pub fn key_of(&self, uid: u32) -> Option<&Text>
+        ensures { option_copied result ≡ key_of self.now uid }
+    {
+        if uid == SYSTEM {
+            return Some(&self.system_key);
+        }
+        if uid == ROOT {
+            return self.root_key.as_ref();
+        }
+        key_of_package(self.board.packages(), uid)
     }
 
     /// The moment of a call at `now`, in milliseconds: never before the last one, and 2^62 at most. Takes

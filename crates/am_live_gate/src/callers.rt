@@ -1,10 +1,11 @@
 //! Callers, and which one has a key.
 ghost use Rattle.std.specs.Prelude.{◌≡◌, ◌≤◌, ◌||◌, Some, if◌then◌else◌};
 ghost use Rattle.std.specs.List.{list_any};
+ghost use Rattle.std.specs.Option.{option_copied};
 ghost use Rattle.am_types.specs.declared.device.Package.{Package};
 ghost use Rattle.am_model.specs.Texts.{is_same};
 ghost use Rattle.am_history.specs.Packages.{is_root_key};
-ghost use Rattle.am_history.specs.State.{system_uid, uid_of_package, root_or};
+ghost use Rattle.am_history.specs.State.{key_of_package, root_or, system_uid, uid_of_package};
 
 use am_types::{List, Package, ROOT, SYSTEM, Text};
 
@@ -51,6 +52,18 @@ fn uid_of_package(packages: &List<Package>, key: &Text) -> Option<u32>
     for installed in packages.as_slice() {
         if installed.key == *key {
             return Some(installed.uid);
+        }
+    }
+    None
+}
+
+/// The key of the package with that uid. Takes no memory.
+pub fn key_of_package(packages: &List<Package>, uid: u32) -> Option<&Text>
+    ensures { option_copied result ≡ key_of_package packages.now uid }
+{
+    for installed in packages.as_slice() {
+        if installed.uid == uid {
+            return Some(&installed.key);
         }
     }
     None

@@ -4,5 +4,5 @@
 mod callers;
 mod gates;
 
-pub use callers::{Caller, is_key_used, uid_of};
+pub use callers::{Caller, is_key_used, key_of_package, uid_of};
 pub use gates::gate;

@@ -5,7 +5,7 @@ use Rattle.am_types.specs.declared.history.Entry.{Entry}
 use Rattle.am_types.specs.declared.request.Request.{Request}
 use Rattle.am_http.specs.Head.{Frame}
 use Rattle.am_http.specs.FrameSpans.{frame_held}
-use Rattle.am_audit_calls.specs.Replays.{state_of}
+use Rattle.am_audit_history.specs.Replays.{state_of}
 use Rattle.am_audit_answers.specs.declared.judging.Bench.{Bench}
 use Rattle.am_audit_answers.specs.Judged.{IsNext}
 use Rattle.am_audit_answers.specs.Judging.{Suits}

@@ -1,8 +1,8 @@
 use Rattle.std.proofs.Common.{◌≡◌, ◌<◌, None, Some, length, sym, subst, arith}
 use Rattle.std.specs.Prelude.{slice_get}
-use Rattle.am_audit_lines.specs.Lines.{IsWhole}
-use Rattle.am_audit_calls.specs.Replays.{Advances}
-use Rattle.am_audit_calls.proofs.Formed.{read_again_is_formed}
+use Rattle.am_audit_history.specs.Lines.{IsWhole}
+use Rattle.am_audit_history.specs.Replays.{Advances}
+use Rattle.am_audit_history.proofs.Formed.{read_again_is_formed}
 use Rattle.am_audit_answers.proofs.Going.{next_is_legal, next_there}
 use Rattle.am_audit_answers.proofs.places.go_on.Goals as goal
 

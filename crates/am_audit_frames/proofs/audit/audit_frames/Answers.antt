@@ -3,7 +3,7 @@ use Rattle.std.proofs.lemmas.Bool.{eq-eqb, eqb-true}
 use Rattle.std.proofs.lemmas.List.{nil_from_length}
 use Rattle.am_types.specs.declared.history.Entry.{Entry}
 use Rattle.am_history.specs.State.{State, opening}
-use Rattle.am_audit_calls.specs.Replays.{Replay}
+use Rattle.am_audit_history.specs.Replays.{Replay}
 use Rattle.am_audit_answers.specs.Audits.{Ground}
 use Rattle.am_audit_answers.specs.Judged.{standing_of}
 use Rattle.am_audit_frames.specs.declared.audit.Verdict.{Verdict}

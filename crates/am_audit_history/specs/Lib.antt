@@ -1,0 +1,4 @@
+pub mod Histories
+pub mod Lines
+pub mod Reading
+pub mod Replays
