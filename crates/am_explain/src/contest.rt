@@ -151,7 +151,8 @@ pub(crate) fn find_contest<L: Ledger>(
     steps: &mut Steps<L>,
 ) -> Result<Contest, NoMemory>
     ensures contest { IfOk result (λ contest. IsContest board.now (question_of question.now) contest) }
-    ensures tests { steps.new ≤ steps.old + 2 * group_size board.now.packages question.now.kind question.now.intent.now }
+    ensures tests { steps.new
+        ≤ steps.old + 2 * group_size board.now.packages question.now.kind question.now.intent.now }
     ensures explicit { IsSome question.now.intent.now.component → steps.new ≡ steps.old }
 {
     match question.kind {

@@ -112,7 +112,8 @@ pub(crate) fn add_registered<L: Ledger>(
     steps: &mut Steps<L>,
 ) -> Result<(), NoMemory>
     ensures added { OnOk result (told.new.items
-        ≡ told.old.items ++ registered_accounts installed.now (question_of question.now) shown installed.now.registered) }
+        ≡ told.old.items
+        ++ registered_accounts installed.now (question_of question.now) shown installed.now.registered) }
     ensures tests { steps.new ≤ steps.old + length installed.now.registered }
     ensures explicit { IsSome question.now.intent.now.component → steps.new ≡ steps.old }
 {

@@ -191,7 +191,9 @@ impl Installed {
     /// Grants the permission to the uid, or takes it away; taking it away takes no memory. If memory
     /// runs out, nothing changes.
     pub fn set_grant(&mut self, uid: u32, permission: &Text, held: bool) -> Result<(), NoMemory>
-        ensures set { OnOk result (self.new ≡ record self.old { grants = with_grant self.old.grants uid permission.now held }) }
+        ensures set { OnOk result (self.new ≡ record self.old {
+          grants = with_grant self.old.grants uid permission.now held;
+        }) }
         ensures same { OnErr result (self.new ≡ self.old) }
         ensures taken { held ≡ false → IsOk result }
     {
@@ -204,7 +206,9 @@ impl Installed {
     /// Approves the uid for the host, or takes the approval away; taking it away takes no memory. If memory
     /// runs out, nothing changes.
     pub fn set_link(&mut self, uid: u32, host: &Text, approved: bool) -> Result<(), NoMemory>
-        ensures set { OnOk result (self.new ≡ record self.old { links = with_link self.old.links uid host.now approved }) }
+        ensures set { OnOk result (self.new ≡ record self.old {
+          links = with_link self.old.links uid host.now approved;
+        }) }
         ensures same { OnErr result (self.new ≡ self.old) }
         ensures taken { approved ≡ false → IsOk result }
     {
@@ -216,7 +220,10 @@ impl Installed {
 
     /// Removes the grants and the links of the uid. Takes no memory.
     pub fn drop_rights(&mut self, uid: u32)
-        ensures { self.new ≡ record self.old { grants = grants_without self.old.grants uid; links = links_without self.old.links uid } }
+        ensures { self.new ≡ record self.old {
+          grants = grants_without self.old.grants uid;
+          links = links_without self.old.links uid;
+        } }
     {
         let mut grants = take(&mut self.grants, self.alloc);
         let mut links = take(&mut self.links, self.alloc);
@@ -228,7 +235,9 @@ impl Installed {
 
     /// Registers a receiver, in its place by number. If memory runs out, nothing changes.
     pub fn register(&mut self, registration: Registration) -> Result<(), NoMemory>
-        ensures registered { OnOk result (self.new ≡ record self.old { registered = place_registered registration self.old.registered }) }
+        ensures registered { OnOk result (self.new ≡ record self.old {
+          registered = place_registered registration self.old.registered;
+        }) }
         ensures same { OnErr result (self.new ≡ self.old) }
     {
         let mut registered = take(&mut self.registered, self.alloc);
@@ -239,7 +248,9 @@ impl Installed {
 
     /// Removes the registered receiver with this number. Takes no memory.
     pub fn unregister(&mut self, number: u64)
-        ensures { self.new ≡ record self.old { registered = filter (λ (r : Registration). not (r.number == number)) self.old.registered } }
+        ensures { self.new ≡ record self.old {
+          registered = filter (λ (r : Registration). not (r.number == number)) self.old.registered;
+        } }
     {
         let mut registered = take(&mut self.registered, self.alloc);
         lists::drop_registered(&mut registered, number);

@@ -35,7 +35,8 @@ pub fn drop_package(packages: &mut Vec<Package>, uid: u32)
 
 /// Makes a package stopped, or no longer stopped, if it has the uid.
 fn stop_if(package: &mut Package, uid: u32, stopped: bool)
-    ensures { «package».new ≡ (if «package».old.uid == uid then record «package».old { stopped = stopped } else «package».old) }
+    ensures { «package».new ≡
+        (if «package».old.uid == uid then record «package».old { stopped = stopped } else «package».old) }
 {
     if package.uid == uid {
         package.stopped = stopped;

@@ -103,7 +103,8 @@ fn place_of<T: Right>(rights: &[T], right: &T) -> usize
 
 /// Puts a right in its place. If memory runs out, all stay.
 fn put_right<T: Right>(rights: &mut Vec<T>, uid: u32, text: &Text) -> Result<(), NoMemory>
-    ensures put { OnOk result (rights.new.items ≡ inserted (before_right T.right_of) (T.made uid text.now) rights.old.items) }
+    ensures put { OnOk result (rights.new.items
+        ≡ inserted (before_right T.right_of) (T.made uid text.now) rights.old.items) }
     ensures same { OnErr result (rights.new.items ≡ rights.old.items) }
 {
     rights.reserve(1)?;

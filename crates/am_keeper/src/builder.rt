@@ -25,7 +25,8 @@ impl Model for RowsBuilder {
 
     ghost view = { λ b. record { packages = b.packages.items; grants = b.grants.items; links = b.links.items } };
 
-    ghost invariant = { λ b. IsInOrder (record { packages = b.packages.items; grants = b.grants.items; links = b.links.items }) };
+    ghost invariant = { λ b. IsInOrder
+        (record { packages = b.packages.items; grants = b.grants.items; links = b.links.items }) };
 }
 
 /// A copy of the rows of one kind.

@@ -127,15 +127,21 @@ pub trait Store {
         ensures tells { tells self.new ≡ tells self.old }
         ensures same_rows { IsTrue (tells self.old) → (at : Items ℕ) → rows_at self.new at ≡ rows_at self.old at }
         ensures in_order { IfOk result (λ attached. IsInOrder attached.rows) }
-        ensures told { IfOk result (λ attached. Self.Kept.is_honest attached.keeper → (told : Told) → Self.Kept.rows attached.keeper ≡ Some told → attached.rows ≡ told) }
+        ensures told { IfOk result (λ attached. Self.Kept.is_honest attached.keeper
+            → (told : Told) → Self.Kept.rows attached.keeper ≡ Some told → attached.rows ≡ told) }
         ensures pathless { IfOk result (λ attached. option_copied path.entry ≡ None → attached.rows ≡ no_rows) }
-        ensures stored { IsTrue (tells self.old) → IfOk result (λ attached. (at : Items ℕ) → option_copied path.entry ≡ Some at → attached.rows ≡ rows_at self.old at) }
-        ensures keeper_tells { IsTrue (tells self.old) → IfOk result (λ attached. Self.Kept.rows attached.keeper ≡ Some attached.rows) }
-        ensures keeper_honest { IsTrue (tells self.old) → IfOk result (λ attached. Self.Kept.stays_honest attached.keeper) }
+        ensures stored { IsTrue (tells self.old) → IfOk result (λ attached. (at : Items ℕ)
+            → option_copied path.entry ≡ Some at → attached.rows ≡ rows_at self.old at) }
+        ensures keeper_tells { IsTrue (tells self.old)
+            → IfOk result (λ attached. Self.Kept.rows attached.keeper ≡ Some attached.rows) }
+        ensures keeper_honest { IsTrue (tells self.old)
+            → IfOk result (λ attached. Self.Kept.stays_honest attached.keeper) }
         ensures keeper_place { IfOk result (λ attached. Self.Kept.place attached.keeper ≡ option_copied path.entry) }
         ensures no_faults { IfOk result (λ attached. Self.Kept.faults attached.keeper ≡ 0) }
-        ensures attached { IsTrue (tells self.old) → OnOk result ((at : Items ℕ) → has_attached self.new at ↔ (has_attached self.old at ⊎ (option_copied path.entry ≡ Some at))) }
-        ensures not_attached { IsTrue (tells self.old) → OnErr result ((at : Items ℕ) → has_attached self.new at ↔ has_attached self.old at) }
+        ensures attached { IsTrue (tells self.old) → OnOk result ((at : Items ℕ)
+            → has_attached self.new at ↔ (has_attached self.old at ⊎ (option_copied path.entry ≡ Some at))) }
+        ensures not_attached { IsTrue (tells self.old) → OnErr result
+            ((at : Items ℕ) → has_attached self.new at ↔ has_attached self.old at) }
         ensures never_falls { failed_attaches self.old ≤ failed_attaches self.new }
         ensures failed { result ≡ Err KeepFail.Failed → HasRisen (failed_attaches self.old) (failed_attaches self.new) }
         ensures only_failed { result ≢ Err KeepFail.Failed → failed_attaches self.new ≡ failed_attaches self.old }
@@ -143,14 +149,18 @@ pub trait Store {
 
     /// Takes a keeper back with its rows. Takes no memory.
     fn detach(&mut self, keeper: Self::Kept)
-        requires { IsTrue (tells self.old) → (at : Items ℕ) → Self.Kept.place keeper ≡ Some at → has_attached self.old at }
+        requires { IsTrue (tells self.old)
+            → (at : Items ℕ) → Self.Kept.place keeper ≡ Some at → has_attached self.old at }
         ensures tells { tells self.new ≡ tells self.old }
-        ensures rows { IsTrue (tells self.old) → Self.Kept.is_honest keeper → (told : Told) → Self.Kept.rows keeper ≡ Some told
+        ensures rows { IsTrue (tells self.old) → Self.Kept.is_honest keeper
+            → (told : Told) → Self.Kept.rows keeper ≡ Some told
             → (at : Items ℕ) → rows_at self.new at ≡ rows_after (Self.Kept.place keeper) told at (rows_at self.old at) }
-        ensures attached { IsTrue (tells self.old) → (at : Items ℕ) → has_attached self.new at ↔ has_attached self.old at }
+        ensures attached { IsTrue (tells self.old) → (at : Items ℕ)
+            → has_attached self.new at ↔ has_attached self.old at }
         ensures failed_attaches { failed_attaches self.new ≡ failed_attaches self.old }
         ensures keepers { keeper_faults self.new ≡ raised_by (Self.Kept.faults keeper) (keeper_faults self.old) };
 
     /// If a store tells its rows, its keepers are honest and tell theirs.
-    ghost honest_where_told: { (store : Self) → IsTrue (tells store) → (keeper : Self.Kept) → Self.Kept.is_honest keeper × IsTrue (is_some (Self.Kept.rows keeper)) };
+    ghost honest_where_told: { (store : Self) → IsTrue (tells store) → (keeper : Self.Kept)
+        → Self.Kept.is_honest keeper × IsTrue (is_some (Self.Kept.rows keeper)) };
 }

@@ -45,7 +45,8 @@ fn place_for(slots: &[Slot], path: &Text) -> Option<usize>
 
 /// The rows that came back to the slot for this path.
 fn rows_back<'a>(slots: &'a [Slot], path: &Text) -> Option<&'a Logged>
-    ensures { (otherwise : Told) → rows_in_slots slots.now path.now otherwise ≡ unwrap_or (option_copied result) otherwise }
+    ensures { (otherwise : Told) → rows_in_slots slots.now path.now otherwise
+        ≡ unwrap_or (option_copied result) otherwise }
 {
     for slot in slots {
         if slot.path == *path {
@@ -71,8 +72,10 @@ fn rows_in_places(alloc: Global, places: &[StoredRows], path: &Text) -> Result<R
 
 /// Makes a slot for this path if there is none yet.
 fn make_room(slots: &mut Vec<Slot>, path: &Text) -> Result<(), AllocError>
-    ensures rows { (at : Items ℕ) (otherwise : Told) → rows_in_slots slots.new.items at otherwise ≡ rows_in_slots slots.old.items at otherwise }
-    ensures ok { OnOk result ((at : Items ℕ) → IsTrue (has_slot slots.new.items at) ↔ (IsTrue (has_slot slots.old.items at) ⊎ (path.now ≡ at))) }
+    ensures rows { (at : Items ℕ) (otherwise : Told) → rows_in_slots slots.new.items at otherwise
+        ≡ rows_in_slots slots.old.items at otherwise }
+    ensures ok { OnOk result ((at : Items ℕ) → IsTrue (has_slot slots.new.items at)
+        ↔ (IsTrue (has_slot slots.old.items at) ⊎ (path.now ≡ at))) }
     ensures err { OnErr result (slots.new.items ≡ slots.old.items) }
 {
     if has_slot(slots, path) {
@@ -88,7 +91,8 @@ fn make_room(slots: &mut Vec<Slot>, path: &Text) -> Result<(), AllocError>
 /// Puts rows that came back into the slot for their place.
 fn keep(slots: &mut Vec<Slot>, place: &Text, rows: Logged)
     requires { IsTrue (has_slot slots.old.items place.now) }
-    ensures rows { (at : Items ℕ) (otherwise : Told) → rows_in_slots slots.new.items at otherwise ≡ (if same_text place.now at then rows else rows_in_slots slots.old.items at otherwise) }
+    ensures rows { (at : Items ℕ) (otherwise : Told) → rows_in_slots slots.new.items at otherwise
+        ≡ (if same_text place.now at then rows else rows_in_slots slots.old.items at otherwise) }
     ensures slots { (at : Items ℕ) → has_slot slots.new.items at ≡ has_slot slots.old.items at }
 {
     if let Some(at) = place_for(slots, place) {
@@ -146,7 +150,8 @@ impl MemoryStore {
     /// Counts a call of `attach`, and tells whether it is to fail.
     fn count_attach(&mut self) -> Result<(), KeepFail>
         ensures exact { self.new ≡ after_attach self.old self.old.slots result }
-        ensures fails { (result ≡ Err KeepFail.Failed) ↔ IsTrue (fails_at self.old.failing (one_more self.old.attaches)) }
+        ensures fails { (result ≡ Err KeepFail.Failed)
+            ↔ IsTrue (fails_at self.old.failing (one_more self.old.attaches)) }
         ensures never_falls { self.old.failed_attaches ≤ self.new.failed_attaches }
         ensures only_failed { result ≢ Err KeepFail.Failed → self.new.failed_attaches ≡ self.old.failed_attaches }
     {
@@ -171,9 +176,11 @@ impl MemoryStore {
 
     /// A keeper of the rows at a path, or of no rows without a path.
     fn keeper_for(&self, path: Option<&Text>) -> Result<Attached<MemoryKeeper>, AllocError>
-        ensures keeper { IfOk result (λ attached. attached.keeper ≡ fresh_keeper attached.rows (option_copied path.entry) []) }
+        ensures keeper { IfOk result
+            (λ attached. attached.keeper ≡ fresh_keeper attached.rows (option_copied path.entry) []) }
         ensures pathless { IfOk result (λ attached. option_copied path.entry ≡ None → attached.rows ≡ no_rows) }
-        ensures stored { IfOk result (λ attached. (at : Items ℕ) → option_copied path.entry ≡ Some at → attached.rows ≡ rows_on self.now at) }
+        ensures stored { IfOk result (λ attached. (at : Items ℕ)
+            → option_copied path.entry ≡ Some at → attached.rows ≡ rows_on self.now at) }
         ensures in_order { IfOk result (λ attached. IsInOrder attached.rows) }
     {
         let (rows, place) = match path {
@@ -208,11 +215,15 @@ impl Store for MemoryStore {
         ensures same_rows { (at : Items ℕ) → rows_on self.new at ≡ rows_on self.old at }
         ensures in_order { IfOk result (λ attached. IsInOrder attached.rows) }
         ensures pathless { IfOk result (λ attached. option_copied path.entry ≡ None → attached.rows ≡ no_rows) }
-        ensures stored { IfOk result (λ attached. (at : Items ℕ) → option_copied path.entry ≡ Some at → attached.rows ≡ rows_on self.old at) }
-        ensures keeper { IfOk result (λ attached. attached.keeper ≡ fresh_keeper attached.rows (option_copied path.entry) []) }
-        ensures attached { OnOk result ((at : Items ℕ) → IsTrue (has_slot self.new.slots at) ↔ (IsTrue (has_slot self.old.slots at) ⊎ (option_copied path.entry ≡ Some at))) }
+        ensures stored { IfOk result (λ attached. (at : Items ℕ)
+            → option_copied path.entry ≡ Some at → attached.rows ≡ rows_on self.old at) }
+        ensures keeper { IfOk result
+            (λ attached. attached.keeper ≡ fresh_keeper attached.rows (option_copied path.entry) []) }
+        ensures attached { OnOk result ((at : Items ℕ) → IsTrue (has_slot self.new.slots at)
+            ↔ (IsTrue (has_slot self.old.slots at) ⊎ (option_copied path.entry ≡ Some at))) }
         ensures not_attached { OnErr result (self.new.slots ≡ self.old.slots) }
-        ensures fails { (result ≡ Err KeepFail.Failed) ↔ IsTrue (fails_at self.old.failing (one_more self.old.attaches)) }
+        ensures fails { (result ≡ Err KeepFail.Failed)
+            ↔ IsTrue (fails_at self.old.failing (one_more self.old.attaches)) }
         ensures never_falls { self.old.failed_attaches ≤ self.new.failed_attaches }
         ensures only_failed { result ≢ Err KeepFail.Failed → self.new.failed_attaches ≡ self.old.failed_attaches }
     {
@@ -226,9 +237,13 @@ impl Store for MemoryStore {
 
     fn detach(&mut self, keeper: MemoryKeeper)
         requires { (at : Items ℕ) → keeper.place ≡ Some at → IsTrue (has_slot self.old.slots at) }
-        ensures rows { (at : Items ℕ) → rows_on self.new at ≡ rows_after keeper.place keeper.told at (rows_on self.old at) }
+        ensures rows { (at : Items ℕ) → rows_on self.new at ≡ rows_after keeper.place keeper.told at
+            (rows_on self.old at) }
         ensures slots { (at : Items ℕ) → has_slot self.new.slots at ≡ has_slot self.old.slots at }
-        ensures exact { self.new ≡ record self.old { slots = self.new.slots; keeper_faults = raised_by keeper.faults self.old.keeper_faults } }
+        ensures exact { self.new ≡ record self.old {
+          slots = self.new.slots;
+          keeper_faults = raised_by keeper.faults self.old.keeper_faults;
+        } }
     {
         let (rows, place, faults) = keeper.into_parts();
         self.keeper_faults = self.keeper_faults.saturating_add(faults);

@@ -40,7 +40,8 @@ is_met read r = list_all (holds (read ∷ r ∷ [])) update_query.filter
 
 -- what becomes of such a row: its rowid and its key stay, and the other columns are those of the row that was to be put
 abbrev pub updated : Row → Row → Row
-updated read r = column r 0 ∷ column r 0 ∷ column r 1 ∷ column r 2 ∷ column r 3 ∷ column read 12 ∷ column read 13 ∷ column read 14 ∷ column read 15 ∷ []
+updated read r = column r 0 ∷ column r 0 ∷ column r 1 ∷ column r 2 ∷ column r 3
+    ∷ column read 12 ∷ column read 13 ∷ column read 14 ∷ column read 15 ∷ []
 
 abbrev pub create_text : List ℕ
 create_text = codes "CREATE TABLE kept (kind INTEGER NOT NULL, uid INTEGER NOT NULL, word TEXT NOT NULL, name TEXT NOT NULL, access TEXT NOT NULL, manifest TEXT NOT NULL, truth INTEGER NOT NULL, PRIMARY KEY (kind, uid, word)) STRICT"
@@ -51,7 +52,9 @@ upsert_text = codes "INSERT INTO kept (kind, uid, word, name, access, manifest, 
 abbrev pub select_text : List ℕ
 select_text = codes "SELECT kind, uid, word, name, access, manifest, truth FROM kept ORDER BY kind, uid, word"
 
-pub create_is : (command_of (understood no_schema create_text) ≡ CreateTable) × (statement_of create_text (understood no_schema create_text) ≡ create_text) × (table_defined_by create_text ≡ Ok kept)
+pub create_is : (command_of (understood no_schema create_text) ≡ CreateTable)
+    × (statement_of create_text (understood no_schema create_text) ≡ create_text)
+    × (table_defined_by create_text ≡ Ok kept)
 unfolding understood everything
 create_is = (refl, refl, refl)
 
@@ -95,6 +98,9 @@ select_query = record {
   offset = lit (Int (pos 0));
 }
 
-pub select_is : (command_of (understood kept_schema select_text) ≡ Select (record { lets = []; body = select_query }) (codes "kind" ∷ codes "uid" ∷ codes "word" ∷ codes "name" ∷ codes "access" ∷ codes "manifest" ∷ codes "truth" ∷ [])) × (reads_listing kept_schema select_text ≡ false)
+pub select_is :
+    (command_of (understood kept_schema select_text) ≡ Select (record { lets = []; body = select_query })
+    (codes "kind" ∷ codes "uid" ∷ codes "word" ∷ codes "name" ∷ codes "access" ∷ codes "manifest" ∷ codes "truth" ∷ []))
+    × (reads_listing kept_schema select_text ≡ false)
 unfolding understood everything
 select_is = (refl, refl)

@@ -46,8 +46,8 @@ pub fn send<L: Ledger>(
 ) -> Result<Reply, NoMemory>
     requires { queues.old.next_broadcast ≤ 1125899906842624 }
     ensures done { IfOk result (λ reply. (s : State) →
-        send (at_moment (record s { board = board.now; broadcasts = queues.old }) by.moment) by.uid message.now.intent.now
-        (option_copied message.now.permission) (option_copied message.now.ordered)
+        send (at_moment (record s { board = board.now; broadcasts = queues.old }) by.moment) by.uid
+        message.now.intent.now (option_copied message.now.permission) (option_copied message.now.ordered)
         ≡ (reply, record s { board = board.now; broadcasts = queues.new; moment = by.moment })) }
     ensures same { OnErr result (queues.new ≡ queues.old) }
 {

@@ -254,7 +254,8 @@ fn each_component(
     key: &str,
     values: &[Value],
 ) -> Result<Vec<Decl>, ReadFault>
-    ensures { GivesBy (λ decls. decls.items) result (each (component_entry kind «package».now at.now key.now) 0 (map view values.now)) }
+    ensures { GivesBy (λ decls. decls.items) result
+        (each (component_entry kind «package».now at.now key.now) 0 (map view values.now)) }
 {
     read_each(alloc, values, |i, value| {
         component_entry(alloc, kind, package, at, key, i, value)

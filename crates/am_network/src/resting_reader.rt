@@ -53,8 +53,10 @@ impl Source for RestingReader {
     fn read(&mut self, into: &mut [u8]) -> Result<usize, Failed>
         requires { 0 < length into.old }
         ensures within { ReadsAtMost result into.new }
-        ensures left { ReadConsumes (Some self.old.reader.source.left) (Some self.new.reader.source.left) result into.new }
-        ensures given { WriteAppends (Some self.old.reader.source.given) (Some self.new.reader.source.given) result into.new }
+        ensures left { ReadConsumes (Some self.old.reader.source.left) (Some self.new.reader.source.left)
+            result into.new }
+        ensures given { WriteAppends (Some self.old.reader.source.given) (Some self.new.reader.source.given)
+            result into.new }
         ensures never_falls { self.old.reader.source.faults ≤ self.new.reader.source.faults }
         ensures failed { OnErr result (HasRisen self.old.reader.source.faults self.new.reader.source.faults) }
         ensures fails { IsErr result

@@ -73,15 +73,18 @@ none_parked [] none = refl
 none_parked (first ∷ others) none = absurd (none (omega arith))
 
 -- a gate that handed out its next link for the first time, or none as none is to come, did what any gate does
-pub hands_first : (gate new : RestingInMemory) (next : Option RestingPlan) (handed : Option (RestingReader × MemoryWriter))
+pub hands_first : (gate new : RestingInMemory) (next : Option RestingPlan)
+    (handed : Option (RestingReader × MemoryWriter))
     → (HasParkedOnly gate → ⊥) → slice_get gate.plan gate.handed ≡ next
     → handed ≡ option_map (ends_of gate.handed) next → new ≡ handed_first gate handed → IfSome next HasUnusedEnds
     → HandsOut (Some (links_of gate)) (Some (links_of new)) (option_map ends_view handed)
 hands_first gate new None handed more at is now unused =
     let P : Option (RestingReader × MemoryWriter) → Type 0 =
     λ h. new ≡ handed_first gate h → HandsOut (Some (links_of gate)) (Some (links_of new)) (option_map ends_view h) in
-    let closed : IsClosed (links_of gate) =
-    (all_sent gate.plan gate.handed at, none_parked gate.parked (λ some. more (ends_by gate.plan gate.handed at, some))) in
+    let closed : IsClosed (links_of gate) = (
+      all_sent gate.plan gate.handed at,
+      none_parked gate.parked (λ some. more (ends_by gate.plan gate.handed at, some)),
+    ) in
     subst P (sym is) (λ e. (closed, ap (λ (g : RestingInMemory). Some (links_of g)) e)) now
 hands_first gate new (Some planned) handed more at is now unused =
     let P : Option (RestingReader × MemoryWriter) → Type 0 =

@@ -13,7 +13,6 @@ use Rattle.am_keeper.specs.declared.rows.GrantRow.{GrantRow}
 use Rattle.am_keeper.specs.declared.rows.LinkRow.{LinkRow}
 use Rattle.am_keeper.specs.Rows.{leads, rises}
 use Rattle.am_types.specs.declared.device.RightKind.TheVariants.{Permission, Host}
-use Rattle.am_model.specs.Boards.{is_package_uid}
 use Rattle.am_model.specs.Lists.{inserted}
 use Rattle.am_model.specs.Rights.{Right, before_right, grant_of, has_right, link_of, of_grant, of_link, with_right as with_right_of}
 use Rattle.am_model.specs.Sound.{right_cmp, rights_approved, rights_granted}

@@ -57,7 +57,8 @@ pub trait Files {
 
     /// The bytes of the file of that name, whole.
     fn read_file(&mut self, name: &Text) -> Result<Vec<u8>, FileFail>
-        ensures answer { ReadsFile (λ bytes. bytes.items) (files self.old) name.now (faults self.old) (faults self.new) result }
+        ensures answer { ReadsFile (λ bytes. bytes.items) (files self.old) name.now
+            (faults self.old) (faults self.new) result }
         ensures never_falls { faults self.old ≤ faults self.new }
         ensures files { files self.new ≡ files self.old };
 }

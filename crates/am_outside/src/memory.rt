@@ -147,7 +147,14 @@ impl MemorySink {
         failing: List<u32>,
     ) -> Result<MemorySink, NoMemory>
         requires { 0 < most }
-        ensures { IfOk result (λ sink. sink ≡ record { taken = []; room = room; most = most; failing = failing; writes = 0; faults = 0 }) }
+        ensures { IfOk result (λ sink. sink ≡ record {
+          taken = [];
+          room = room;
+          most = most;
+          failing = failing;
+          writes = 0;
+          faults = 0;
+        }) }
     {
         Ok(MemorySink {
             taken: Vec::with_capacity(alloc, room)?,
@@ -197,7 +204,9 @@ impl Sink for MemorySink {
         ensures taken { WriteAppends (Some self.old.taken) (Some self.new.taken) result from.now }
         ensures never_falls { self.old.faults ≤ self.new.faults }
         ensures failed { OnErr result (HasRisen self.old.faults self.new.faults) }
-        ensures fails { IsErr result ↔ (IsTrue (fails self.old.failing (one_more self.old.writes)) ⊎ ((self.old.room ≡ 0) × (0 < length from.now))) }
+        ensures fails { IsErr result
+            ↔ (IsTrue (fails self.old.failing (one_more self.old.writes))
+            ⊎ ((self.old.room ≡ 0) × (0 < length from.now))) }
     {
         self.writes = self.writes.saturating_add(1);
         if is_failing(&self.failing, self.writes) || (self.room == 0 && !from.is_empty()) {

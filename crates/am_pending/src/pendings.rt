@@ -64,7 +64,8 @@ fn is_clear(flags: PendingFlags) -> bool
 /// The record's intent, with the fill-in applied if it is mutable.
 fn lent(alloc: Global, kept: &Record, fill: Option<&Intent>) -> Result<Intent, FillFault>
     ensures ok { IfOk result (λ intent. lent_by kept.now (option_copied fill.entry) ≡ Ok intent) }
-    ensures full { (result ≡ Err FillFault.ExtrasFull) → (lent_by kept.now (option_copied fill.entry) ≡ Err FillFault.ExtrasFull) }
+    ensures full { (result ≡ Err FillFault.ExtrasFull)
+        → (lent_by kept.now (option_copied fill.entry) ≡ Err FillFault.ExtrasFull) }
     ensures wanting { result ≡ Err FillFault.NoMemory → IsOk (lent_by kept.now (option_copied fill.entry)) }
 {
     let key = kept.key();
@@ -115,8 +116,11 @@ impl Pending {
         steps: &mut Steps<L>,
     ) -> Result<Option<u64>, PendingFault>
         requires { self.old.next ≤ 1125899906842624 }
-        ensures answer { IsAnswer result self.old self.new (get self.old (record { creator = creator; kind = kind; code = code; intent = intent; flags = flags })) }
-        ensures wanting { result ≡ Err PendingFault.NoMemory → IsOk (get self.old (record { creator = creator; kind = kind; code = code; intent = intent; flags = flags })) }
+        ensures answer { IsAnswer result self.old self.new (get self.old
+            (record { creator = creator; kind = kind; code = code; intent = intent; flags = flags })) }
+        ensures wanting { result ≡ Err PendingFault.NoMemory
+            → IsOk (get self.old
+            (record { creator = creator; kind = kind; code = code; intent = intent; flags = flags })) }
         ensures next { self.new.next ≤ self.old.next + 1 }
         ensures steps { steps.new ≤ steps.old + 2 }
     {
@@ -361,7 +365,8 @@ impl Pending {
         steps: &mut Steps<L>,
     ) -> Result<Used, PendingFault>
         ensures answer { IsUse result (use_token self.now token uid (option_copied fill.entry)) }
-        ensures wanting { result ≡ Err PendingFault.NoMemory → IsOk (use_token self.now token uid (option_copied fill.entry)) }
+        ensures wanting { result ≡ Err PendingFault.NoMemory
+            → IsOk (use_token self.now token uid (option_copied fill.entry)) }
         ensures steps { steps.new ≤ steps.old + 1 }
     {
         let Some(kept) = self.records.read(token, steps) else {

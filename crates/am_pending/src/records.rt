@@ -84,7 +84,8 @@ impl Records {
         ensures found { IfOk result (λ gone. record_in token self.old ≡ Some (pending_of token gone)) }
         ensures others { OnOk result (self.new ≡ without_token self.old token) }
         ensures err { OnErr result (self.new ≡ self.old) }
-        ensures answer { (next : ℕ) → IsChange result (before self.old next) (before self.new next) (cancel (before self.old next) token uid) }
+        ensures answer { (next : ℕ) → IsChange result (before self.old next) (before self.new next)
+            (cancel (before self.old next) token uid) }
         ensures memory { (result ≡ Err PendingFault.NoMemory) → ⊥ }
         ensures steps { steps.new ≡ steps.old + 1 }
     {
@@ -122,8 +123,10 @@ impl Records {
         to: u32,
         steps: &mut Steps<L>,
     ) -> Result<(), PendingFault>
-        ensures answer { (next : ℕ) → IsChange result (before self.old next) (before self.new next) (give (before self.old next) token uid to) }
-        ensures wanting { result ≡ Err PendingFault.NoMemory → (next : ℕ) → IsOk (give (before self.old next) token uid to) }
+        ensures answer { (next : ℕ) → IsChange result (before self.old next) (before self.new next)
+            (give (before self.old next) token uid to) }
+        ensures wanting { result ≡ Err PendingFault.NoMemory
+            → (next : ℕ) → IsOk (give (before self.old next) token uid to) }
         ensures steps { steps.new ≡ steps.old + 1 }
     {
         steps.tick();

@@ -117,8 +117,10 @@ impl Board {
         permission: Option<&Text>,
         steps: &mut Steps<L>,
     ) -> Result<List<Receiving>, NoMemory>
-        ensures receivers { IfOk result (λ offered. offered ≡ receivers self.now intent.now sender (option_copied permission.entry)) }
-        ensures tests { steps.new ≤ steps.old + group_size self.now.packages Receiver intent.now + length self.now.registered }
+        ensures receivers { IfOk result
+            (λ offered. offered ≡ receivers self.now intent.now sender (option_copied permission.entry)) }
+        ensures tests { steps.new
+            ≤ steps.old + group_size self.now.packages Receiver intent.now + length self.now.registered }
         ensures explicit { IsSome intent.now.component → steps.new ≡ steps.old }
     {
         let found = self.query(alloc, Kind::Receiver, intent, false, steps)?;
@@ -237,7 +239,9 @@ impl Board {
     /// Grants the permission to the uid, or takes it away; taking it away takes no memory. If memory
     /// runs out, nothing changes.
     pub fn set_grant(&mut self, uid: u32, permission: &Text, held: bool) -> Result<(), NoMemory>
-        ensures set { OnOk result (self.new ≡ record self.old { grants = with_grant self.old.grants uid permission.now held }) }
+        ensures set { OnOk result (self.new ≡ record self.old {
+          grants = with_grant self.old.grants uid permission.now held;
+        }) }
         ensures same { OnErr result (self.new ≡ self.old) }
         ensures taken { held ≡ false → IsOk result }
     {
@@ -247,7 +251,9 @@ impl Board {
     /// Approves the uid for the host, or takes the approval away; taking it away takes no memory. If memory
     /// runs out, nothing changes.
     pub fn set_link(&mut self, uid: u32, host: &Text, approved: bool) -> Result<(), NoMemory>
-        ensures set { OnOk result (self.new ≡ record self.old { links = with_link self.old.links uid host.now approved }) }
+        ensures set { OnOk result (self.new ≡ record self.old {
+          links = with_link self.old.links uid host.now approved;
+        }) }
         ensures same { OnErr result (self.new ≡ self.old) }
         ensures taken { approved ≡ false → IsOk result }
     {
@@ -256,7 +262,10 @@ impl Board {
 
     /// Removes the grants and the links of the uid. Takes no memory.
     pub fn drop_rights(&mut self, uid: u32)
-        ensures { self.new ≡ record self.old { grants = grants_without self.old.grants uid; links = links_without self.old.links uid } }
+        ensures { self.new ≡ record self.old {
+          grants = grants_without self.old.grants uid;
+          links = links_without self.old.links uid;
+        } }
     {
         self.installed.drop_rights(uid);
     }
@@ -286,7 +295,9 @@ impl Board {
 
     /// Removes the registered receiver with this number. Takes no memory.
     pub fn unregister(&mut self, number: u64)
-        ensures { self.new ≡ record self.old { registered = filter (λ (r : Registration). not (r.number == number)) self.old.registered } }
+        ensures { self.new ≡ record self.old {
+          registered = filter (λ (r : Registration). not (r.number == number)) self.old.registered;
+        } }
     {
         self.installed.unregister(number);
     }

@@ -195,7 +195,8 @@ fn is_general<L: Ledger>(
 ) -> bool
     requires { IsStrictlyIncreasing (uids_of packages.now) }
     ensures general { result ≡ is_general packages.now intent.now hit.now }
-    ensures tests { steps.new ≤ steps.old + cost_at intent.now hit.now.component.class (package_at packages.now hit.now.uid) }
+    ensures tests { steps.new
+        ≤ steps.old + cost_at intent.now hit.now.component.class (package_at packages.now hit.now.uid) }
 {
     match package_at(packages, hit.uid) {
         None => false,

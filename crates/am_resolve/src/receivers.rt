@@ -54,7 +54,8 @@ fn add_registered<L: Ledger>(
     steps: &mut Steps<L>,
 ) -> Result<(), NoMemory>
     ensures added { OnOk result (ranked.new.items
-        ≡ ranked.old.items ++ ranked_of_registered installed.now intent.now sender (option_copied required.entry) installed.now.registered) }
+        ≡ ranked.old.items ++ ranked_of_registered installed.now intent.now sender (option_copied required.entry)
+        installed.now.registered) }
     ensures tests { steps.new ≤ steps.old + length installed.now.registered }
     ensures explicit { IsSome intent.now.component → steps.new ≡ steps.old }
 {
@@ -83,7 +84,8 @@ fn add_registration<L: Ledger>(
     steps: &mut Steps<L>,
 ) -> Result<(), NoMemory>
     ensures added { OnOk result (ranked.new.items
-        ≡ ranked.old.items ++ ranked_of_registration installed.now intent.now sender (option_copied required.entry) registration.now) }
+        ≡ ranked.old.items ++ ranked_of_registration installed.now intent.now sender (option_copied required.entry)
+        registration.now) }
     ensures tests { steps.new ≤ steps.old + 1 }
     ensures explicit { IsSome intent.now.component → steps.new ≡ steps.old }
 {
@@ -122,7 +124,8 @@ fn add_declared(
 ) -> Result<(), NoMemory>
     requires { found.now ≡ hits installed.now.packages Receiver intent.now false }
     ensures { OnOk result (ranked.new.items
-        ≡ ranked.old.items ++ map (ranked_of installed.now intent.now sender (option_copied required.entry)) (declared_offers installed.now.packages found.now)) }
+        ≡ ranked.old.items ++ map (ranked_of installed.now intent.now sender (option_copied required.entry))
+        (declared_offers installed.now.packages found.now)) }
 {
     let packages = installed.packages();
     for hit in found.as_slice() {
@@ -143,7 +146,8 @@ fn add_hit(
 ) -> Result<(), NoMemory>
     requires { IsStrictlyIncreasing (uids_of packages.now) }
     ensures { OnOk result (ranked.new.items
-        ≡ ranked.old.items ++ ranked_of_hit installed.now packages.now intent.now sender (option_copied required.entry) hit.now) }
+        ≡ ranked.old.items ++ ranked_of_hit installed.now packages.now intent.now sender (option_copied required.entry)
+        hit.now) }
 {
     let Some(decl) = decl_at(packages, hit) else {
         return Ok(());
@@ -167,7 +171,13 @@ fn decl_at<'a>(packages: &'a List<Package>, hit: &Hit) -> Option<&'a Decl>
 /// The offer to a manifest's receiver.
 fn declared_offer<'a>(hit: &Hit, aim: Aim, decl: &'a Decl) -> Offer<'a>
     ensures { offer_of result
-        ≡ record { uid = hit.now.uid; aim = aim; priority = hit.now.priority; exported = decl.now.exported; permission = decl.now.permission } }
+        ≡ record {
+          uid = hit.now.uid;
+          aim = aim;
+          priority = hit.now.priority;
+          exported = decl.now.exported;
+          permission = decl.now.permission;
+        } }
 {
     Offer {
         uid: hit.uid,
@@ -188,7 +198,8 @@ fn add_offer(
     offer: Offer,
 ) -> Result<(), NoMemory>
     ensures { OnOk result (ranked.new.items
-        ≡ ranked.old.items ++ ranked_of installed.now intent.now sender (option_copied required.entry) (offer_of offer.entry) ∷ []) }
+        ≡ ranked.old.items ++ ranked_of installed.now intent.now sender (option_copied required.entry)
+        (offer_of offer.entry) ∷ []) }
 {
     let skip = skip_of(installed, intent, sender, required, &offer)?;
     let receiving = Receiving {

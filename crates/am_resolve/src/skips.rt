@@ -72,7 +72,9 @@ fn is_exempt(exempt: &List<Text>, action: &Option<Text>) -> bool
 /// The rule by which the gate refuses the sender, if it does refuse.
 fn refusal(grants: &List<Grant>, sender: u32, offer: &Offer) -> Result<Option<Rule>, AllocError>
     ensures { IfOk result
-        (λ refusal. refusal ≡ rule_of (verdict grants.now sender offer.now.uid offer.now.exported (option_copied offer.now.permission))) }
+        (λ refusal. refusal
+        ≡ rule_of
+        (verdict grants.now sender offer.now.uid offer.now.exported (option_copied offer.now.permission))) }
 {
     match verdict(sender, offer.uid, offer.exported, offer.permission, grants) {
         Ruling::Admit => Ok(None),

@@ -38,11 +38,13 @@ pub fn run_session<F: Files, S: Source, W: Sink, E: Sink, T: Store, C: Clock>(
 ) -> u8
     ensures { RunsSession asked
         (record {
-          outside = outside_of F.Files T.Store S.Source W.Sink C.Clock files.old store.old input.old output.old clock.old;
+          outside = outside_of F.Files T.Store S.Source W.Sink C.Clock files.old store.old input.old output.old
+              clock.old;
           errors = sink_of E.Sink errors.old;
         })
         (record {
-          outside = outside_of F.Files T.Store S.Source W.Sink C.Clock files.new store.new input.new output.new clock.new;
+          outside = outside_of F.Files T.Store S.Source W.Sink C.Clock files.new store.new input.new output.new
+              clock.new;
           errors = sink_of E.Sink errors.new;
         })
         result }

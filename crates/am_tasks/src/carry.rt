@@ -205,7 +205,9 @@ pub(crate) fn renew_in(
     ensures { HoldsAt
         (λ (task : Kept). (result.0 ≡ task.number)
         × (result.1 ≡ number_at task.instances instance)
-        × (tasks.new.items ≡ record task { instances = with_intent result.1 intent (kept_by keeping instance task.instances) }
+        × (tasks.new.items ≡ record task {
+          instances = with_intent result.1 intent (kept_by keeping instance task.instances);
+        }
         ∷ remove tasks.old.items place))
         tasks.old.items place }
 {

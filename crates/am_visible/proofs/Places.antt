@@ -1,6 +1,6 @@
 -- The queries of a package, looked for one place after the other.
-use Rattle.std.proofs.Common.{◌≡◌, ℕ, ◌+◌, ◌<◌, ◌≤◌, Bool, true, false, ◌==◌, List, [], ◌∷◌, length, drop, get_or, Option, Some, None, refl, sym, ap, ◌∙◌}
-use Rattle.std.proofs.lemmas.List.{drop_more, drop_all}
+use Rattle.std.proofs.Common.{◌≡◌, ℕ, ◌+◌, ◌<◌, false, ◌==◌, List, [], ◌∷◌, length, drop, get_or, sym, ap, ◌∙◌}
+use Rattle.std.proofs.lemmas.List.{drop_more}
 use Rattle.am_types.specs.declared.device.Package.{Package}
 use Rattle.am_types.specs.declared.visible.Queries.{Queries}
 use Rattle.am_model.specs.Visibility.{queries_of}

@@ -20,7 +20,8 @@ pub(crate) fn put_given(
     name: &str,
     value: Option<Value>,
 ) -> Result<(), AllocError>
-    ensures { OnOk result (members_view members.new.entries ≡ put_given name.now (option_map view value) (members_view members.old.entries)) }
+    ensures { OnOk result (members_view members.new.entries ≡ put_given name.now (option_map view value)
+        (members_view members.old.entries)) }
 {
     match value {
         None => Ok(()),
@@ -35,7 +36,8 @@ pub(crate) fn put_word(
     name: &str,
     word: &str,
 ) -> Result<(), AllocError>
-    ensures { OnOk result (members_view members.new.entries ≡ with_member name.now (string word.now) (members_view members.old.entries)) }
+    ensures { OnOk result (members_view members.new.entries ≡ with_member name.now (string word.now)
+        (members_view members.old.entries)) }
 {
     put(members, alloc, name, Value::try_from_str(alloc, word)?)
 }
@@ -65,7 +67,8 @@ pub(crate) fn put_some_texts(
     name: &str,
     texts: &List<Text>,
 ) -> Result<(), AllocError>
-    ensures { OnOk result (members_view members.new.entries ≡ put_given name.now (some_texts texts.now) (members_view members.old.entries)) }
+    ensures { OnOk result (members_view members.new.entries ≡ put_given name.now (some_texts texts.now)
+        (members_view members.old.entries)) }
 {
     let values = values(alloc, texts.as_slice())?;
     put_given(alloc, members, name, some_listed(values))
@@ -98,7 +101,8 @@ fn push_word(alloc: Global, values: &mut Vec<Value>, word: &str) -> Result<(), A
 
 /// The names of the flags that are set, each as a value.
 pub(crate) fn names_set(alloc: Global, named: &[(bool, &str)]) -> Result<Vec<Value>, AllocError>
-    ensures { IfOk result (λ values. map view values.items ≡ map string (names_set (map (λ n. (n.0, n.1.now)) named.now))) }
+    ensures { IfOk result (λ values. map view values.items
+        ≡ map string (names_set (map (λ n. (n.0, n.1.now)) named.now))) }
 {
     let mut values = Vec::new(alloc);
     for (is_set, name) in named {

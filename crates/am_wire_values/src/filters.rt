@@ -35,7 +35,8 @@ impl Shown for Filter {
 
 /// Puts the rows, unless there are none.
 fn put_rows(alloc: Global, members: &mut Members, filter: &Filter) -> Result<(), AllocError>
-    ensures { OnOk result (members_view members.new.entries ≡ put_given (codes "data") (some_listed (rows_of filter.now)) (members_view members.old.entries)) }
+    ensures { OnOk result (members_view members.new.entries
+        ≡ put_given (codes "data") (some_listed (rows_of filter.now)) (members_view members.old.entries)) }
 {
     let rows = rows_of(alloc, filter)?;
     put_given(alloc, members, "data", some_listed(rows))
@@ -71,7 +72,8 @@ fn add_keyed<T: Shown>(
     key: &str,
     shown: &[T],
 ) -> Result<(), AllocError>
-    ensures { OnOk result (map view rows.new.items ≡ map view rows.old.items ++ map (λ value. row_of key.now (T.as_data value)) shown.now) }
+    ensures { OnOk result (map view rows.new.items ≡ map view rows.old.items
+        ++ map (λ value. row_of key.now (T.as_data value)) shown.now) }
 {
     for value in shown {
         rows.push(one(alloc, key, value)?)?;

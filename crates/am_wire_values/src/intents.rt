@@ -44,7 +44,8 @@ pub(crate) fn put_some_extras(
     members: &mut Members,
     extras: &List<Named>,
 ) -> Result<(), AllocError>
-    ensures { OnOk result (members_view members.new.entries ≡ put_given (codes "extras") (some_extras extras.now) (members_view members.old.entries)) }
+    ensures { OnOk result (members_view members.new.entries
+        ≡ put_given (codes "extras") (some_extras extras.now) (members_view members.old.entries)) }
 {
     if extras.as_slice().is_empty() {
         Ok(())
@@ -96,7 +97,8 @@ pub(crate) fn extras_value(alloc: Global, extras: &List<Named>) -> Result<Value,
 
 /// Puts extras under their keys.
 fn put_extras(alloc: Global, members: &mut Members, extras: &[Named]) -> Result<(), AllocError>
-    ensures { OnOk result (members_view members.new.entries ≡ with_extras extras.now (members_view members.old.entries)) }
+    ensures { OnOk result (members_view members.new.entries
+        ≡ with_extras extras.now (members_view members.old.entries)) }
 {
     for named in extras {
         put_shown(alloc, members, named.key.as_str(), &named.value)?;

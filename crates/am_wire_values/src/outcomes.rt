@@ -16,7 +16,8 @@ pub(crate) fn put_outcome(
     members: &mut Members,
     outcome: &Outcome,
 ) -> Result<(), AllocError>
-    ensures { OnOk result (members_view members.new.entries ≡ with_outcome outcome.now (members_view members.old.entries)) }
+    ensures { OnOk result (members_view members.new.entries ≡ with_outcome outcome.now
+        (members_view members.old.entries)) }
 {
     put_some(alloc, members, "data", &outcome.text)?;
     put_some_extras(alloc, members, &outcome.extras)
@@ -29,7 +30,8 @@ pub(crate) fn put_ordered(
     members: &mut Members,
     ordered: &Ordered,
 ) -> Result<(), AllocError>
-    ensures { OnOk result (members_view members.new.entries ≡ with_ordered ordered.now (members_view members.old.entries)) }
+    ensures { OnOk result (members_view members.new.entries ≡ with_ordered ordered.now
+        (members_view members.old.entries)) }
 {
     put_shown(alloc, members, "ordered", &true)?;
     put_outcome(alloc, members, &ordered.initial)?;

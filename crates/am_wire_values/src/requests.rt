@@ -138,7 +138,8 @@ fn put_explain(
     shown: &Option<Text>,
 ) -> Result<(), AllocError>
     requires { members_view members.old.entries ≡ no_members }
-    ensures { OnOk result (object (members_view members.new.entries) ≡ explain_data kind intent.now caller.now permission.now shown.now) }
+    ensures { OnOk result (object (members_view members.new.entries)
+        ≡ explain_data kind intent.now caller.now permission.now shown.now) }
 {
     put_word(alloc, members, "kind", kind_name(kind))?;
     put_shown(alloc, members, "intent", intent)?;
@@ -156,7 +157,8 @@ fn put_send(
     ordered: &Option<Ordered>,
 ) -> Result<(), AllocError>
     requires { members_view members.old.entries ≡ no_members }
-    ensures { OnOk result (object (members_view members.new.entries) ≡ send_data intent.now permission.now ordered.now) }
+    ensures { OnOk result (object (members_view members.new.entries)
+        ≡ send_data intent.now permission.now ordered.now) }
 {
     put_shown(alloc, members, "intent", intent)?;
     put_some(alloc, members, "permission", permission)?;

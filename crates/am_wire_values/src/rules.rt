@@ -28,7 +28,8 @@ pub(crate) fn put_refusal(
 
 /// An error as a value, with a name if there is one.
 pub fn error_value(alloc: Global, error: &str, name: Option<&str>) -> Result<Value, AllocError>
-    ensures { IfOk result (λ value. view value ≡ error_data error.now (option_copied name.entry)) }
+    ensures { IfOk result (λ value. view value
+        ≡ error_data error.now (option_copied name.entry)) }
 {
     object_with!(alloc, |members| put_error(alloc, &mut members, error, name))
 }
@@ -41,7 +42,8 @@ fn put_error(
     name: Option<&str>,
 ) -> Result<(), AllocError>
     requires { members_view members.old.entries ≡ no_members }
-    ensures { OnOk result (object (members_view members.new.entries) ≡ error_data error.now (option_copied name.entry)) }
+    ensures { OnOk result (object (members_view members.new.entries)
+        ≡ error_data error.now (option_copied name.entry)) }
 {
     put_word(alloc, members, "error", error)?;
     match name {

@@ -102,7 +102,8 @@ pub(crate) fn put_shown<T: Shown>(
     name: &str,
     shown: &T,
 ) -> Result<(), AllocError>
-    ensures { OnOk result (members_view members.new.entries ≡ with_member name.now (T.as_data shown.now) (members_view members.old.entries)) }
+    ensures { OnOk result (members_view members.new.entries ≡ with_member name.now (T.as_data shown.now)
+        (members_view members.old.entries)) }
 {
     put(members, alloc, name, shown.value(alloc)?)
 }
@@ -114,7 +115,8 @@ pub(crate) fn put_some<T: Shown>(
     name: &str,
     shown: &Option<T>,
 ) -> Result<(), AllocError>
-    ensures { OnOk result (members_view members.new.entries ≡ put_given name.now (option_map T.as_data shown.now) (members_view members.old.entries)) }
+    ensures { OnOk result (members_view members.new.entries ≡ put_given name.now (option_map T.as_data shown.now)
+        (members_view members.old.entries)) }
 {
     match shown {
         None => Ok(()),

@@ -88,7 +88,9 @@ pub(crate) fn put_judged(
     aim: &Aim,
     verdict: &str,
 ) -> Result<(), AllocError>
-    ensures { OnOk result (members_view members.new.entries ≡ with_member (codes "verdict") (string verdict.now) (with_member (codes "to") (aim_data aim.now) (members_view members.old.entries))) }
+    ensures { OnOk result (members_view members.new.entries
+        ≡ with_member (codes "verdict") (string verdict.now)
+        (with_member (codes "to") (aim_data aim.now) (members_view members.old.entries))) }
 {
     put_shown(alloc, members, "to", aim)?;
     put_word(alloc, members, "verdict", verdict)
@@ -109,7 +111,8 @@ fn put_skipped(
     rule: &Rule,
 ) -> Result<(), AllocError>
     requires { members_view members.old.entries ≡ no_members }
-    ensures { OnOk result (object (members_view members.new.entries) ≡ skipped_data aim.now (rule_name rule.now) (named_by rule.now)) }
+    ensures { OnOk result (object (members_view members.new.entries)
+        ≡ skipped_data aim.now (rule_name rule.now) (named_by rule.now)) }
 {
     match named_by(alloc, rule)? {
         None => put_judged(alloc, members, aim, rule_name(rule)),
@@ -134,7 +137,8 @@ impl Shown for Receiving {
 
 /// A delivery of a normal broadcast.
 fn normal_value(alloc: Global, item: &Item, aim: &Aim, intent: &Intent) -> Result<Value, AllocError>
-    ensures { IfOk result (λ value. view value ≡ item_data item.now.broadcast item.now.delivery (Normal aim.now intent.now)) }
+    ensures { IfOk result (λ value. view value ≡ item_data item.now.broadcast item.now.delivery
+        (Normal aim.now intent.now)) }
 {
     object_of!(
         alloc,
@@ -154,7 +158,8 @@ fn ordered_value(
     intent: &Intent,
     outcome: &Outcome,
 ) -> Result<Value, AllocError>
-    ensures { IfOk result (λ value. view value ≡ item_data item.now.broadcast item.now.delivery (InOrder aim.now intent.now outcome.now)) }
+    ensures { IfOk result (λ value. view value ≡ item_data item.now.broadcast item.now.delivery
+        (InOrder aim.now intent.now outcome.now)) }
 {
     let mut members = Map::new(alloc);
     put_shown(alloc, &mut members, "broadcast", &item.broadcast)?;
@@ -172,7 +177,11 @@ fn put_outcome(
     item: &Item,
     outcome: &Outcome,
 ) -> Result<(), AllocError>
-    ensures { OnOk result (members_view members.new.entries ≡ with_member (codes "extras") (extras_data outcome.now.extras) (with_member (codes "delivery") (natural item.now.delivery) (with_member (codes "data") (or_null (option_map string outcome.now.text)) (with_member (codes "code") (whole outcome.now.code) (members_view members.old.entries))))) }
+    ensures { OnOk result (members_view members.new.entries
+        ≡ with_member (codes "extras") (extras_data outcome.now.extras)
+        (with_member (codes "delivery") (natural item.now.delivery)
+        (with_member (codes "data") (or_null (option_map string outcome.now.text))
+        (with_member (codes "code") (whole outcome.now.code) (members_view members.old.entries))))) }
 {
     put_shown(alloc, members, "code", &outcome.code)?;
     put_shown(alloc, members, "data", &outcome.text)?;

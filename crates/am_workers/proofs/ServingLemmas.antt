@@ -348,7 +348,8 @@ module _ {W : Type 0} (view : W → WorkerView) (did : W → Worked) where
           → HasRisen count (faults_raised (raised_by (view y).gate.faults count) gates)
       by true is any later =
           let once = raised_once (view x).gate.faults (view y).gate.faults count
-          (risen_by (did y).failed most (view x).gate.faults (ended_in all.0.services) all.0.links (view y).gate all.0.ends is) in
+          (risen_by (did y).failed most (view x).gate.faults (ended_in all.0.services) all.0.links
+          (view y).gate all.0.ends is) in
           let rest = not_lower (raised_by (view y).gate.faults count) gates in
           omega (arith, once, rest)
       by false is any later =

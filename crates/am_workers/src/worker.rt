@@ -80,7 +80,8 @@ pub(crate) fn hire<D: Drop, A: Acceptor, C: Clock>(
     requires room { vec_len desks ≤ vec_capacity workers }
     ensures desks { map (λ (w : Worker D A C). w.desk) result.items ≡ desks.items }
     ensures gates { map (λ (w : Worker D A C). w.gate) result.items ≡ gates.items }
-    ensures clocks { All (λ (w : Worker D A C). (calls : ℕ) → C.moments w.clock calls ≡ C.moments clock.now calls) result.items }
+    ensures clocks { All (λ (w : Worker D A C). (calls : ℕ) → C.moments w.clock calls ≡ C.moments clock.now calls)
+        result.items }
 {
     let mut free_desks = VecDeque::from_vec(desks);
     let mut free_gates = VecDeque::from_vec(gates);
@@ -115,12 +116,18 @@ pub(crate) fn work_all<R: Threads + Wait + Sync, D: Desk + Drop + Send, A: Accep
     ensures works { (i : ℕ) (other : Worker D A C) → i < length workers.old → Works most
         (record {
           desk = D.view (slice_index_or workers.old i other).desk;
-          gate = record { links = A.links (slice_index_or workers.old i other).gate; faults = A.faults (slice_index_or workers.old i other).gate };
+          gate = record {
+            links = A.links (slice_index_or workers.old i other).gate;
+            faults = A.faults (slice_index_or workers.old i other).gate;
+          };
           clock = C.moments (slice_index_or workers.old i other).clock;
         })
         (record {
           desk = D.view (slice_index_or workers.new i other).desk;
-          gate = record { links = A.links (slice_index_or workers.new i other).gate; faults = A.faults (slice_index_or workers.new i other).gate };
+          gate = record {
+            links = A.links (slice_index_or workers.new i other).gate;
+            faults = A.faults (slice_index_or workers.new i other).gate;
+          };
           clock = C.moments (slice_index_or workers.new i other).clock;
         })
         (slice_index_or workers.new i other).worked }
@@ -160,7 +167,8 @@ pub(crate) fn work_all<R: Threads + Wait + Sync, D: Desk + Drop + Send, A: Accep
 
 // What the workers did together.
 pub(crate) fn totals_of<D: Drop, A: Drop, C: Drop>(workers: &[Worker<D, A, C>]) -> Worked
-    ensures served { result.served ≡ min 18446744073709551615 (sum_by (λ (w : Worker D A C). w.worked.served) workers.now) }
+    ensures served { result.served ≡ min 18446744073709551615 (sum_by (λ (w : Worker D A C). w.worked.served)
+        workers.now) }
     ensures failed { result.failed ≡ list_any (λ (w : Worker D A C). w.worked.failed) workers.now }
 {
     Worked {
@@ -189,10 +197,14 @@ pub(crate) fn dismiss<N: Network, D: Drop, C: Drop>(
     requires room { vec_len desks + length workers.items ≤ vec_capacity desks }
     requires may { MayReleaseAll (N.listening network.old) (length workers.items) }
     ensures desks { result.items ≡ desks.items ++ map (λ (w : Worker D N.Gate C). w.desk) workers.items }
-    ensures told { N.listening network.new ≡ all_released (N.listening network.old) (map (λ (w : Worker D N.Gate C). record { links = N.Gate.links w.gate; faults = N.Gate.faults w.gate }) workers.items) }
+    ensures told { N.listening network.new ≡ all_released (N.listening network.old)
+        (map (λ (w : Worker D N.Gate C). record { links = N.Gate.links w.gate; faults = N.Gate.faults w.gate })
+        workers.items) }
     ensures listens { N.listens network.new ≡ N.listens network.old }
     ensures faults { N.faults network.new ≡ N.faults network.old }
-    ensures gate_faults { N.gate_faults network.new ≡ faults_raised (N.gate_faults network.old) (map (λ (w : Worker D N.Gate C). record { links = N.Gate.links w.gate; faults = N.Gate.faults w.gate }) workers.items) }
+    ensures gate_faults { N.gate_faults network.new ≡ faults_raised (N.gate_faults network.old)
+        (map (λ (w : Worker D N.Gate C). record { links = N.Gate.links w.gate; faults = N.Gate.faults w.gate })
+        workers.items) }
 {
     while let Some(worker) = workers.pop_front() {
         let Worker {

@@ -21,7 +21,12 @@ returns-clause-done c = λ (s : State).
     register_left (record s { board = c.args.board.now; next_registration = c.args.next.now }) c.args.caller
     c.args.filter.now (option_copied c.args.permission)
     c.count_of.result
-    (record { number = c.args.next.now; uid = c.args.caller; filter = c.in_ok-copy.copy; permission = c.in_ok-held.held })
+    (record {
+      number = c.args.next.now;
+      uid = c.args.caller;
+      filter = c.in_ok-copy.copy;
+      permission = c.in_ok-held.held;
+    })
     c.register.new.self counted c.if-count_of-ge-MOST_REGISTERED.false
     c.requires.registered
     (ap (λ f. record { number = c.args.next.now; uid = c.args.caller; filter = f; permission = c.in_ok-held.held })

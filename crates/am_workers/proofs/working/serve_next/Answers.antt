@@ -7,7 +7,10 @@ use Rattle.am_workers.proofs.working.serve_next.Goals as goal
 pub hand_back-requires-clause-may : goal.hand_back-requires-clause-may
 hand_back-requires-clause-may g c κs within =
     let handed = subst (λ o. HandsOn (g.A.Acceptor.links c.args.gate.now) (g.A.Acceptor.links c.next_link.new.self)
-    (option_map (λ link. record { link = link_of g.A.Reader.Source g.A.Writer.Sink link.0 link.1; answered = link.2 }) o))
+    (option_map (λ link. record {
+      link = link_of g.A.Reader.Source g.A.Writer.Sink link.0 link.1;
+      answered = link.2;
+    }) o))
     c.in-Some.is c.in_ok-reader.ensures.next in
     let same = c.serve_link-served.ensures.same in
     may_be_back _ _ _ (link_of g.A.Reader.Source g.A.Writer.Sink c.serve_link-served.new.source
@@ -20,7 +23,10 @@ hand_back-requires-clause-few g c κs within =
 pub returns-clause-next : goal.returns-clause-next
 returns-clause-next g c =
     let handed = subst (λ o. HandsOn (g.A.Acceptor.links c.args.gate.now) (g.A.Acceptor.links c.next_link.new.self)
-    (option_map (λ link. record { link = link_of g.A.Reader.Source g.A.Writer.Sink link.0 link.1; answered = link.2 }) o))
+    (option_map (λ link. record {
+      link = link_of g.A.Reader.Source g.A.Writer.Sink link.0 link.1;
+      answered = link.2;
+    }) o))
     c.in-Some.is c.in_ok-reader.ensures.next in
     let stand : Stand = record {
       link = link_of g.A.Reader.Source g.A.Writer.Sink c.in-Some.reader c.in-Some.writer;
@@ -36,7 +42,10 @@ returns-clause-next g c =
 pub returns-clause-back : goal.returns-clause-back
 returns-clause-back g c =
     let handed = subst (λ o. HandsOn (g.A.Acceptor.links c.args.gate.now) (g.A.Acceptor.links c.next_link.new.self)
-    (option_map (λ link. record { link = link_of g.A.Reader.Source g.A.Writer.Sink link.0 link.1; answered = link.2 }) o))
+    (option_map (λ link. record {
+      link = link_of g.A.Reader.Source g.A.Writer.Sink link.0 link.1;
+      answered = link.2;
+    }) o))
     c.in-Some.is c.in_ok-reader.ensures.next in
     let same = c.serve_link-served.ensures.same in
     let back = c.hand_back.ensures.back in
