@@ -15,31 +15,31 @@ use Rattle.am_baton.proofs.Fronts.{alone}
 
 -- the history that a pass found, as the desk's caller sees it
 pub sees_found : {K : Type 0} (t : TableId) (v : Known) (b : Baton K) (w : Known) → Taken v b w
-    → SeesOthers (desk_of t v.mark) b.manager.history
+    → SeesOthers (desk_of t v.mark) b.manager.value.history
 sees_found t v b w taken = record {
   grows = taken.front.grows;
   others = taken.front.own;
-  alone = λ one. alone v.mark b.manager.history one taken.made taken.numbered taken.front;
+  alone = λ one. alone v.mark b.manager.value.history one taken.made taken.numbered taken.front;
 }
 
 -- what one of the desks may say of the manager that was taken last
 closed : {K : Type 0} (t : TableId) (v : Known) (b : Baton K) (w : Known) → Taken v b w → (mark : Mark) → mark.start
     ≡ v.mark.start
-    → IsFront mark b.manager.history → IsClosed (desk_of t mark) b.manager
+    → IsFront mark b.manager.value.history → IsClosed (desk_of t mark) b.manager.value
 closed t v b w taken mark same front = record {
   origin = taken.origin ∙ ap (λ (s : Start). s.origin) (sym same);
   begins = front.begins;
   grows = front.grows;
   own = front.own;
-  others = subst (λ (s : Start). IsNumbered s.desks s.handed b.manager.history) (sym same) taken.numbered;
+  others = subst (λ (s : Start). IsNumbered s.desks s.handed b.manager.value.history) (sym same) taken.numbered;
 }
 
 pub all_closed : {K : Type 0} (t : TableId) (v : Known) (b : Baton K) (w : Known) → Taken v b w
-    → All (λ (mark : Mark). IsClosed (desk_of t mark) b.manager) (v.ended ++ v.mark ∷ [])
+    → All (λ (mark : Mark). IsClosed (desk_of t mark) b.manager.value) (v.ended ++ v.mark ∷ [])
 all_closed t v b w taken =
-    All-push (λ (mark : Mark). IsClosed (desk_of t mark) b.manager) v.ended v.mark
-    (All-weaker (λ (mark : Mark). (mark.start ≡ v.mark.start) × IsFront mark b.manager.history)
-    (λ (mark : Mark). IsClosed (desk_of t mark) b.manager) (λ mark fact. closed t v b w taken mark fact.0 fact.1)
+    All-push (λ (mark : Mark). IsClosed (desk_of t mark) b.manager.value) v.ended v.mark
+    (All-weaker (λ (mark : Mark). (mark.start ≡ v.mark.start) × IsFront mark b.manager.value.history)
+    (λ (mark : Mark). IsClosed (desk_of t mark) b.manager.value) (λ mark fact. closed t v b w taken mark fact.0 fact.1)
     v.ended taken.others)
     (closed t v b w taken v.mark refl taken.front)
 
@@ -128,27 +128,27 @@ closed_desks manager t v desks items last parts none own closing =
 pub call_shows : {K E : Type 0} (t : TableId) (v : Known) (b : Baton K) (w : Known) (old : DeskView)
     (now after : List Entry) (made call : Call) (result : Result Shown E)
     → Taken v b w → old ≡ desk_of t v.mark → now ≡ after → made ≡ call
-    → IfOk result (λ shown. ShowsAt (opening_of b.manager.origin) b.manager.history after made shown)
+    → IfOk result (λ shown. ShowsAt (opening_of b.manager.value.origin) b.manager.value.history after made shown)
     → IfOk result (λ shown. (before : List Entry) × SeesOthers old before
     × ShowsAt (start_of old) before now call shown)
 call_shows t v b w old now after made call (Ok shown) taken is seen same shows = (
-  b.manager.history,
-  subst (λ (d : DeskView). SeesOthers d b.manager.history) (sym is) (sees_found t v b w taken),
-  subst (λ (o : Origin). ShowsAt (opening_of o) b.manager.history now call shown)
+  b.manager.value.history,
+  subst (λ (d : DeskView). SeesOthers d b.manager.value.history) (sym is) (sees_found t v b w taken),
+  subst (λ (o : Origin). ShowsAt (opening_of o) b.manager.value.history now call shown)
       (taken.origin ∙ sym (ap (λ (d : DeskView). d.origin) is))
-      (subst (λ (l : List Entry). ShowsAt (opening_of b.manager.origin) b.manager.history l call shown) (sym seen)
-      (subst (λ (c : Call). ShowsAt (opening_of b.manager.origin) b.manager.history after c shown) same shows)),
+      (subst (λ (l : List Entry). ShowsAt (opening_of b.manager.value.origin) b.manager.value.history l call shown) (sym seen)
+      (subst (λ (c : Call). ShowsAt (opening_of b.manager.value.origin) b.manager.value.history after c shown) same shows)),
 )
 call_shows t v b w old now after made call (Err e) taken is seen same shows = tt
 
 pub call_refused : {K X E : Type 0} (t : TableId) (v : Known) (b : Baton K) (w : Known) (old : DeskView)
     (now after : List Entry) (result : Result X E)
-    → Taken v b w → old ≡ desk_of t v.mark → now ≡ after → OnErr result (after ≡ b.manager.history)
+    → Taken v b w → old ≡ desk_of t v.mark → now ≡ after → OnErr result (after ≡ b.manager.value.history)
     → OnErr result (SeesOthers old now)
 call_refused t v b w old now after (Ok x) taken is seen same = tt
 call_refused t v b w old now after (Err e) taken is seen same =
     subst (λ (l : List Entry). SeesOthers old l) (sym (seen ∙ same))
-    (subst (λ (d : DeskView). SeesOthers d b.manager.history) (sym is) (sees_found t v b w taken))
+    (subst (λ (d : DeskView). SeesOthers d b.manager.value.history) (sym is) (sees_found t v b w taken))
 
 -- the desks that were made are all desks of their manager
 pub new_all : (origin : Origin) (sharing : Sharing) (desks : List DeskView) → 1 ≤ sharing.desks

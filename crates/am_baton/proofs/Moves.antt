@@ -205,8 +205,8 @@ module _ {K : Type 0} where
   begins = inl (refl, refl)
 
   lies_alone : (b : Baton K) (items : List (Baton K)) (m : Moment) → Lies (b ∷ items) m
-      → (items ≡ []) × (m.taker ≡ 0) × (b.manager.origin ≡ m.start.origin) × (b.desks ≡ m.start.desks)
-      × (b.manager.history ≡ m.now)
+      → (items ≡ []) × (m.taker ≡ 0) × (b.manager.value.origin ≡ m.start.origin) × (b.desks ≡ m.start.desks)
+      × (b.manager.value.history ≡ m.now)
   lies_alone b [] m l = (refl, l.0, l.1, l.2, l.3)
   lies_alone b (c ∷ bs) m l = absurd l
 
@@ -219,23 +219,23 @@ module _ {K : Type 0} where
   pub opens : (n port : ℕ) (v : Known) (b : Baton K) → v ≡ fresh → 1 ≤ b.desks
       → Pushes OneManager n port v b (Begun v b)
   opens n port v b begun some_desk items views room h at =
-      let start : Start = record { origin = b.manager.origin; desks = b.desks; handed = b.manager.history } in
-      let mark : Mark = record { start = start; number = 0; seen = b.manager.history } in
+      let start : Start = record { origin = b.manager.value.origin; desks = b.desks; handed = b.manager.value.history } in
+      let mark : Mark = record { start = start; number = 0; seen = b.manager.value.history } in
       let w : Known = idle true mark [] in
-      let m : Moment = record { start = start; now = b.manager.history; next = 1; taker = 0; seat = λ _. port } in
+      let m : Moment = record { start = start; now = b.manager.value.history; next = 1; taker = 0; seat = λ _. port } in
       ⊎_elim
       (λ (x : (items ≡ []) × (views ≡ fresh ∷ [])). (
         w,
         inr (record {
           moment = m;
           lies = subst (λ (l : List (Baton K)). Lies (l ++ b ∷ []) m) (sym x.0) (refl, refl, refl, refl);
-          numbered = numbered_first 1 b.manager.history;
+          numbered = numbered_first 1 b.manager.value.history;
           few = some_desk;
           fits = each_set (Fits m) views port w
               (fits_idle m port true mark []
               (record {
                 same = refl;
-                front = front_whole mark b.manager.history (extends_self b.manager.history);
+                front = front_whole mark b.manager.value.history (extends_self b.manager.value.history);
                 made = omega arith;
                 seated = refl;
               })
@@ -253,17 +253,17 @@ module _ {K : Type 0} where
   -- a pass takes the manager out
   pub takes : (port : ℕ) (v : Known) → v.live ≡ true → Pops (OneManager {K = K}) port v (Taken v)
   takes port v live b items views h at =
-      let w : Known = holding v.makes (with_seen v.mark b.manager.history) v.ended in
+      let w : Known = holding v.makes (with_seen v.mark b.manager.value.history) v.ended in
       ⊎_elim
       (λ (x : (b ∷ items ≡ []) × (views ≡ fresh ∷ [])). absurd (cons_nil b items x.0))
       (λ (x : IsShared (b ∷ items) views).
       let old = x.moment in
       let m : Moment = record old { taker = suc port } in
       let a = lies_alone b items old x.lies in
-      let now : b.manager.history ≡ old.now = a.4 in
+      let now : b.manager.value.history ≡ old.now = a.4 in
       let f = x.fits port v at in
       let own = f.own live in
-      let front : IsFront v.mark b.manager.history = subst (IsFront v.mark) (sym now) own.front in
+      let front : IsFront v.mark b.manager.value.history = subst (IsFront v.mark) (sym now) own.front in
       let start : v.mark.start ≡ old.start = own.same in (
         w,
         inr (record {
@@ -276,9 +276,9 @@ module _ {K : Type 0} where
                 begun = refl;
                 own = λ _. record {
                   same = start;
-                  front = subst (λ (l : List Entry). IsFront (with_seen v.mark b.manager.history) l) now
-                      (front_whole v.mark b.manager.history (extends_on v.mark.start.handed v.mark.seen
-                      b.manager.history front.begins front.grows));
+                  front = subst (λ (l : List Entry). IsFront (with_seen v.mark b.manager.value.history) l) now
+                      (front_whole v.mark b.manager.value.history (extends_on v.mark.start.handed v.mark.seen
+                      b.manager.value.history front.begins front.grows));
                   made = own.made;
                   seated = own.seated;
                 };
@@ -309,10 +309,10 @@ module _ {K : Type 0} where
           desks = a.3 ∙ ap (λ (s : Start). s.desks) (sym start);
           front = front;
           others = All-weaker (Belongs old port) (λ (mark : Mark). (mark.start ≡ v.mark.start)
-              × IsFront mark b.manager.history)
+              × IsFront mark b.manager.value.history)
               (λ mark belongs. (belongs.same ∙ sym start, subst (IsFront mark) (sym now) belongs.front)) v.ended
               (f.others live);
-          numbered = subst (λ (s : Start). IsNumbered s.desks s.handed b.manager.history) (sym start)
+          numbered = subst (λ (s : Start). IsNumbered s.desks s.handed b.manager.value.history) (sym start)
               (subst (IsNumbered old.start.desks old.start.handed) (sym now)
               (numbered_wider old.next old.start.desks old.start.handed old.now x.few x.numbered));
           made = subst (λ (s : Start). v.mark.number < s.desks) (sym start)
@@ -324,11 +324,11 @@ module _ {K : Type 0} where
 
   -- the pass that holds the manager puts it back, with at most one entry more
   pub gives_back : (n port : ℕ) (v : Known) (b : Baton K) → v.holds ≡ true → v.live ≡ true → v.ended ≡ []
-      → b.manager.origin ≡ v.mark.start.origin
-      → b.desks ≡ v.mark.start.desks → AddsOne v.mark.number v.mark.seen b.manager.history
+      → b.manager.value.origin ≡ v.mark.start.origin
+      → b.desks ≡ v.mark.start.desks → AddsOne v.mark.number v.mark.seen b.manager.value.history
       → Pushes OneManager n port v b (Put v b)
   gives_back n port v b holds live none origin desks adds items views room h at =
-      let new = b.manager.history in
+      let new = b.manager.value.history in
       let mark : Mark = with_seen v.mark new in
       let w : Known = idle v.makes mark v.ended in
       ⊎_elim

@@ -154,8 +154,8 @@ module _ {K : Type 0} where
   abbrev pub Lies : List (Baton K) → Moment → Type 0
   Lies [] moment = 0 < moment.taker
   Lies (b ∷ []) moment =
-      (moment.taker ≡ 0) × (b.manager.origin ≡ moment.start.origin) × (b.desks ≡ moment.start.desks)
-      × (b.manager.history ≡ moment.now)
+      (moment.taker ≡ 0) × (b.manager.value.origin ≡ moment.start.origin) × (b.desks ≡ moment.start.desks)
+      × (b.manager.value.history ≡ moment.now)
   Lies (b ∷ c ∷ bs) moment = ⊥
 
 -- the manager is shared
@@ -175,7 +175,7 @@ module _ {K : Type 0} where
 
   -- what the desks of a manager have in common as they are made
   abbrev pub start_of : Baton K → Start
-  start_of b = record { origin = b.manager.origin; desks = b.desks; handed = b.manager.history }
+  start_of b = record { origin = b.manager.value.origin; desks = b.desks; handed = b.manager.value.history }
 
   -- the first put begins the sharing, by the desk of number 0
   abbrev pub Begun : Known → Baton K → Known → Type 0
@@ -183,17 +183,17 @@ module _ {K : Type 0} where
 
   -- the manager was put back, and the desk has seen its history
   abbrev pub Put : Known → Baton K → Known → Type 0
-  Put v b w = w ≡ idle v.makes (with_seen v.mark b.manager.history) v.ended
+  Put v b w = w ≡ idle v.makes (with_seen v.mark b.manager.value.history) v.ended
 
 -- the manager was taken: it is the one that the pass's desks share, and each has seen the beginning of its history
 pub record Taken {K : Type 0} (v : Known) (b : Baton K) (w : Known) : Type 0 where
-  pub origin : b.manager.origin ≡ v.mark.start.origin
+  pub origin : b.manager.value.origin ≡ v.mark.start.origin
   pub desks : b.desks ≡ v.mark.start.desks
-  pub front : IsFront v.mark b.manager.history
-  pub others : All (λ (mark : Mark). (mark.start ≡ v.mark.start) × IsFront mark b.manager.history) v.ended
-  pub numbered : IsNumbered v.mark.start.desks v.mark.start.handed b.manager.history
+  pub front : IsFront v.mark b.manager.value.history
+  pub others : All (λ (mark : Mark). (mark.start ≡ v.mark.start) × IsFront mark b.manager.value.history) v.ended
+  pub numbered : IsNumbered v.mark.start.desks v.mark.start.handed b.manager.value.history
   pub made : v.mark.number < v.mark.start.desks
-  pub view : w ≡ holding v.makes (with_seen v.mark b.manager.history) v.ended
+  pub view : w ≡ holding v.makes (with_seen v.mark b.manager.value.history) v.ended
 
 -- the desk with this number, as it is made
 abbrev pub new_desk : Origin → Sharing → ℕ → DeskView

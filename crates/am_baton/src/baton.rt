@@ -9,10 +9,11 @@ use am_machine::Manager;
 use crossbeam_queue::RuledArrayQueue;
 use std::sync::Mutex;
 
-/// A manager, and how many desks share it.
+/// A manager, and how many desks share it. It is handed over with each call, so the manager, which takes some
+/// kilobytes, lies in a box.
 #[derive(Drop)]
 pub struct Baton<K: Keeper> {
-    pub(crate) manager: Manager<K>,
+    pub(crate) manager: Box<Manager<K>>,
     pub(crate) desks: u32,
 }
 

@@ -88,7 +88,7 @@ fn take_last<R: Wait, K: Keeper>(
         ((view pass.old).ended ++ (view pass.old).mark ∷ []) }
 {
     match stand.queue.pop_as::<Takes, R>(rt, pass) {
-        Some(baton) => baton.manager,
+        Some(baton) => Box::into_inner(baton.manager),
         None => unreachable!(),
     }
 }

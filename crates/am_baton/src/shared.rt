@@ -64,9 +64,9 @@ fn give<R: Wait, K: Keeper>(
 )
     requires pass { IsPassOf stand.now.queue pass.old }
     requires holds { view pass.old ≡ holding (view pass.old).makes (view pass.old).mark [] }
-    requires origin { baton.manager.origin ≡ (view pass.old).mark.start.origin }
+    requires origin { baton.manager.value.origin ≡ (view pass.old).mark.start.origin }
     requires desks { baton.desks ≡ (view pass.old).mark.start.desks }
-    requires adds { AddsOne (view pass.old).mark.number (view pass.old).mark.seen baton.manager.history }
+    requires adds { AddsOne (view pass.old).mark.number (view pass.old).mark.seen baton.manager.value.history }
     ensures pass { IsPassOf stand.now.queue pass.new × (pass.new.table_id ≡ pass.old.table_id) }
     ensures put { Put (view pass.old) baton (view pass.new) }
 {

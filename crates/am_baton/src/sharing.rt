@@ -51,6 +51,7 @@ fn begin<R: Wait, K: Keeper>(
     ensures first { IfOk result (λ made. view made.1 ≡ idle true (new_mark
         (record { origin = manager.origin; desks = desks; handed = manager.history }) 0) []) }
 {
+    let manager = Box::new(alloc, manager)?;
     let (queue, mut pass) = RuledArrayQueue::<Baton<K>, Ticket, OneHistory>::ruled(alloc, 1)?;
     let stand = Stand {
         queue,

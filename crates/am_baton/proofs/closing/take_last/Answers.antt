@@ -10,4 +10,4 @@ pop_as-requires-clause-rule g c =
     (takes _ _ live, filled _ _ live (ap (λ v. v.holds) mine) c.requires.all)
 
 pub returns : goal.returns
-returns g c = all_closed _ _ _ _ c.in-Some.ensures.rule
+returns g c = rw c.into_inner.ensures (all_closed _ _ _ _ c.in-Some.ensures.rule)
