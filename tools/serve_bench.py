@@ -32,6 +32,8 @@ from server import HEAD, Server, ask_many, built, fail, frame, free_port, is_lis
 CONNECTIONS = (1, 4, 16, 64)
 PACKAGES = 256
 REQUESTS = 200_000
+# after so many responses am ends a connection, which wrk counts as an error of a read
+MOST_RESPONSES = 65_536
 START = {"intent": {"component": "com.p0/com.p0.A", "flags": ["NEW_TASK"]}}
 QUERY = {"intent": {"action": "x.0"}, "kind": "activity"}
 ASKED = {
@@ -192,6 +194,15 @@ def latency(output: str, share: int) -> float:
     return float(found[1]) * UNITS[found[2]] if found else fail(f"wrk printed {output!r}")
 
 
+def is_fault(note: str, requests: int) -> bool:
+    """Whether a line of wrk says more than that connections ended which had all their responses."""
+    counts = [int(count) for count in re.findall(r"\d+", note)]
+    if not note.startswith("Socket errors") or len(counts) != 4:
+        return True
+    connect, read, write, late = counts
+    return connect + write + late > 0 or read > requests // MOST_RESPONSES
+
+
 def measured(plan: Plan, running: Running, connections: int, script: str) -> Figures:
     """One run of wrk."""
     before = processor_time(running.pids)
@@ -201,11 +212,12 @@ def measured(plan: Plan, running: Running, connections: int, script: str) -> Fig
         capture_output=True, text=True, check=True,
     ).stdout
     used = processor_time(running.pids) - before
-    if notes := re.findall(r"(Socket errors: .*|Non-2xx or 3xx responses: \d+)", output):
-        fail(f"{script} at {connections} connections: {' '.join(notes)}")
     count, rate = re.search(r"(\d+) requests in", output), re.search(r"Requests/sec:\s+([\d.]+)", output)
     if not count or not rate:
         fail(f"wrk printed {output!r}")
+    notes = re.findall(r"(Socket errors: .*|Non-2xx or 3xx responses: .*)", output)
+    if any(is_fault(note, int(count[1])) for note in notes):
+        fail(f"{script} at {connections} connections: {' '.join(notes)}")
     return Figures(float(rate[1]), latency(output, 50), latency(output, 99), used / max(int(count[1]), 1) * 1e6)
 
 
