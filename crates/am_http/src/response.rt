@@ -5,7 +5,8 @@ ghost use Rattle.am_http.specs.Responses.{HasPhrase, phrase, head, digit, place_
 
 use crate::frame::Defect;
 use am_types::{NoMemory, Shown};
-use am_wire_values::{error_value, reply_status, reply_text};
+use am_wire_replies::{error_text, reply_text};
+use am_wire_values::reply_status;
 use itoa::Buffer;
 use std::alloc::{AllocError, Global};
 
@@ -36,7 +37,7 @@ pub fn refusal_bytes(
     requires { HasPhrase status }
     ensures { IfOk result (λ bytes. bytes.items ≡ refusal status error.now (option_copied name.entry)) }
 {
-    let body = error_value(alloc, error, name)?.to_string(alloc)?;
+    let body = error_text(alloc, error, name)?;
     Ok(message(alloc, status, "", body)?.into_bytes())
 }
 

@@ -3,7 +3,8 @@ use am_trials_words::lent;
 use am_types::{
     Account, Aim, Entry, List, Narrowing, Reply, Request, Rule, Standing, TaskView, Why,
 };
-use am_wire_values::{reply_status, reply_text};
+use am_wire_replies::reply_text;
+use am_wire_values::reply_status;
 use std::alloc::{AllocError, Global};
 use std::process::Abort;
 use std::test::Fail;

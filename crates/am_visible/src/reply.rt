@@ -6,7 +6,7 @@ ghost use Rattle.am_visible.specs.Answers.{components_of, is_query, line_of, rep
 use crate::shown::visible;
 use am_resolve::Board;
 use am_types::{Component, Hit, List, NoMemory, Queries, Reply, Request, Steps, Text};
-use am_wire_values::reply_text;
+use am_wire_replies::reply_text;
 use std::alloc::{AllocError, Global};
 use std::marker::Brand;
 use std::sync::ledger::{Blank, Ledger};

@@ -244,35 +244,32 @@ two_none : (k : List ℕ) (d : Data) (l : List ℕ) (e : Data) → has_float d �
     → has_float (with_two k d l e) ≡ false
 two_none k d l e h n = put_none l e (put k d no_members) n (one_none k d h)
 
+-- the members of a kind and an intent
+abbrev asked : Kind → Intent → Members
+asked kind intent = put (codes "intent") (intent_data intent) (put (codes "kind") (string (kind_name kind)) no_members)
+
+asked_none : (kind : Kind) (intent : Intent) → members_have_float (asked kind intent) ≡ false
+asked_none kind intent =
+    put_none (codes "intent") (intent_data intent) (put (codes "kind") (string (kind_name kind)) no_members)
+    (intent_none intent) (put_none (codes "kind") (string (kind_name kind)) no_members refl refl)
+
 query_none : (kind : Kind) (intent : Intent) (default_only : Bool) → has_float (query_data kind intent default_only)
     ≡ false
 unfolding query_data
-query_none kind intent default_only =
-    let ms-a : Members = put (codes "kind") (string (kind_name kind)) no_members in
-    let none-a : members_have_float ms-a ≡ false = put_none (codes "kind") (string (kind_name kind)) no_members refl
-    refl in
-    let ms-b : Members = put (codes "intent") (intent_data intent) ms-a in
-    let none-b : members_have_float ms-b ≡ false = put_none (codes "intent") (intent_data intent) ms-a
-    (intent_none intent) none-a in
-    given_none (codes "defaultOnly") (some_truth default_only) ms-b (truth_none default_only) none-b
+query_none kind intent default_only = given_none (codes "defaultOnly") (some_truth default_only) (asked kind intent)
+    (truth_none default_only) (asked_none kind intent)
 
 explain_none : (kind : Kind) (intent : Intent) (caller permission shown : Option (List ℕ))
     → has_float (explain_data kind intent caller permission shown) ≡ false
 unfolding explain_data
 explain_none kind intent caller permission shown =
-    let ms-a : Members = put (codes "kind") (string (kind_name kind)) no_members in
-    let none-a : members_have_float ms-a ≡ false = put_none (codes "kind") (string (kind_name kind)) no_members refl
-    refl in
-    let ms-b : Members = put (codes "intent") (intent_data intent) ms-a in
-    let none-b : members_have_float ms-b ≡ false = put_none (codes "intent") (intent_data intent) ms-a
-    (intent_none intent) none-a in
-    let ms-c : Members = put_given (codes "as") (option_map string caller) ms-b in
-    let none-c : members_have_float ms-c ≡ false = given_none (codes "as") (option_map string caller) ms-b
-    (option_none string text_none caller) none-b in
-    let ms-d : Members = put_given (codes "permission") (option_map string permission) ms-c in
-    let none-d : members_have_float ms-d ≡ false = given_none (codes "permission") (option_map string permission) ms-c
-    (option_none string text_none permission) none-c in
-    given_none (codes "of") (option_map string shown) ms-d (option_none string text_none shown) none-d
+    let ms-a : Members = put_given (codes "as") (option_map string caller) (asked kind intent) in
+    let none-a : members_have_float ms-a ≡ false = given_none (codes "as") (option_map string caller)
+    (asked kind intent) (option_none string text_none caller) (asked_none kind intent) in
+    let ms-b : Members = put_given (codes "permission") (option_map string permission) ms-a in
+    let none-b : members_have_float ms-b ≡ false = given_none (codes "permission") (option_map string permission) ms-a
+    (option_none string text_none permission) none-a in
+    given_none (codes "of") (option_map string shown) ms-b (option_none string text_none shown) none-b
 
 start_none : (intent : Intent) (source : Option ℕ) → has_float (start_data intent source) ≡ false
 unfolding start_data
@@ -335,19 +332,20 @@ pending_send_none token fill =
     let none-a : members_have_float ms-a ≡ false = put_none (codes "token") (natural token) no_members refl refl in
     given_none (codes "fill") (option_map intent_data fill) ms-a (option_none intent_data intent_none fill) none-a
 
+-- a package, a text and whether it has that right
+right_none : (name key text : List ℕ) (word : List ℕ) (has : Bool) → members_have_float (put word (boolean has)
+    (put key (string text) (put (codes "package") (string name) no_members))) ≡ false
+right_none name key text word has =
+    put_none word (boolean has) (put key (string text) (put (codes "package") (string name) no_members)) refl
+    (two_none (codes "package") (string name) key (string text) refl refl)
+
 grant_none : (name permission : List ℕ) (held : Bool) → has_float (grant_data name permission held) ≡ false
 unfolding grant_data
-grant_none name permission held =
-    let ms : Members = put (codes "permission") (string permission) (put (codes "package") (string name) no_members) in
-    put_none (codes "held") (boolean held) ms refl (two_none (codes "package") (string name) (codes "permission")
-    (string permission) refl refl)
+grant_none name permission held = right_none name (codes "permission") permission (codes "held") held
 
 link_none : (name host : List ℕ) (approved : Bool) → has_float (link_data name host approved) ≡ false
 unfolding link_data
-link_none name host approved =
-    let ms : Members = put (codes "host") (string host) (put (codes "package") (string name) no_members) in
-    put_none (codes "approved") (boolean approved) ms refl (two_none (codes "package") (string name) (codes "host")
-    (string host) refl refl)
+link_none name host approved = right_none name (codes "host") host (codes "approved") approved
 
 -- a request
 pub request_none : (r : Request) → has_float (request_data r) ≡ false

@@ -85,8 +85,8 @@ impl Shown for Component {
     }
 }
 
-/// Extras as an object.
-pub(crate) fn extras_value(alloc: Global, extras: &List<Named>) -> Result<Value, AllocError>
+/// Extras as an object: of those with the same key, the last.
+pub fn extras_value(alloc: Global, extras: &List<Named>) -> Result<Value, AllocError>
     ensures { IfOk result (λ value. view value ≡ extras_data extras.now) }
 {
     object_with!(

@@ -14,8 +14,9 @@ mod shown;
 mod views;
 
 pub use filters::filter_value;
-pub use intents::intent_value;
-pub use names::{narrowing_name, why_name};
-pub use replies::{reply_status, reply_text, reply_value};
+pub use intents::{extras_value, intent_value};
+pub use names::{narrowing_name, placed_name, why_name};
+pub use replies::{reply_status, reply_value};
 pub use requests::request_value;
-pub use rules::{error_value, rule_name};
+pub use rules::{named_by, rule_name};
+pub use views::number_after;

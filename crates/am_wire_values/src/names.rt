@@ -31,8 +31,8 @@ pub(crate) fn pending_name(kind: Kind) -> &'static str
     }
 }
 
-/// What a start did.
-pub(crate) fn placed_name(how: Placed) -> &'static str
+/// What a start did. Takes no memory.
+pub fn placed_name(how: Placed) -> &'static str
     ensures { result.now ≡ placed_name how }
 {
     match how {

@@ -1,8 +1,7 @@
 //! Replies as values, and their statuses.
-ghost use Rattle.std.specs.Prelude.{◌≡◌, IfOk, OnOk, string_bytes};
+ghost use Rattle.std.specs.Prelude.{◌≡◌, IfOk, OnOk};
 ghost use Rattle.serde_json.specs.Data.{object, no_members};
 ghost use Rattle.serde_json.specs.View.{view, members_view};
-ghost use Rattle.serde_json.specs.Written.{compact_text};
 ghost use Rattle.am_types.specs.declared.reply.Reply.TheVariants.{Entries};
 ghost use Rattle.am_wire_values.specs.Replies.{reply_data, status_of};
 
@@ -20,14 +19,6 @@ pub fn reply_value(alloc: Global, shown: &Shown) -> Result<Value, NoMemory>
     ensures { IfOk result (λ value. view value ≡ reply_data shown.now.reply) }
 {
     Ok(value_of(alloc, &shown.reply)?)
-}
-
-/// The compact text of the reply's value.
-#[tactic(auto, using(crate::proofs::FloatsOfReplies::reply_none))]
-pub fn reply_text(alloc: Global, reply: &Reply) -> Result<String, NoMemory>
-    ensures { IfOk result (λ text. string_bytes text ≡ compact_text (reply_data reply.now)) }
-{
-    Ok(value_of(alloc, reply)?.to_string(alloc)?)
 }
 
 fn value_of(alloc: Global, reply: &Reply) -> Result<Value, AllocError>

@@ -2,13 +2,11 @@
 ghost use Rattle.std.specs.Prelude.{◌≡◌, IfOk, OnOk, option_map, string_bytes};
 ghost use Rattle.std.specs.Option.{option_copied};
 ghost use Rattle.serde_json.specs.Data.{object, no_members};
-ghost use Rattle.serde_json.specs.View.{view, members_view};
+ghost use Rattle.serde_json.specs.View.{members_view};
 ghost use Rattle.am_wire_values.specs.Rules.{error_data, limit_name, named_by, refusal_data, rule_name, rule_status};
 
 use crate::fields::{Members, put_word};
-use crate::shown::object_with;
 use am_types::{Limit, Rule};
-use serde_json::Value;
 use std::alloc::{AllocError, Global};
 
 /// Puts a refusal: its name, and what it names.
@@ -24,14 +22,6 @@ pub(crate) fn put_refusal(
         None => put_error(alloc, members, rule_name(rule), None),
         Some(name) => put_error(alloc, members, rule_name(rule), Some(name.as_str())),
     }
-}
-
-/// An error as a value, with a name if there is one.
-pub fn error_value(alloc: Global, error: &str, name: Option<&str>) -> Result<Value, AllocError>
-    ensures { IfOk result (λ value. view value
-        ≡ error_data error.now (option_copied name.entry)) }
-{
-    object_with!(alloc, |members| put_error(alloc, &mut members, error, name))
 }
 
 /// Puts an error, and a name if there is one.
@@ -53,7 +43,7 @@ fn put_error(
 }
 
 /// What a rule names: a permission, a limit, or the fault of a manifest.
-pub(crate) fn named_by(alloc: Global, rule: &Rule) -> Result<Option<String>, AllocError>
+pub fn named_by(alloc: Global, rule: &Rule) -> Result<Option<String>, AllocError>
     ensures { IfOk result (λ name. option_map string_bytes name ≡ named_by rule.now) }
 {
     match rule {

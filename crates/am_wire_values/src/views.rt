@@ -217,9 +217,9 @@ impl Shown for Item {
     }
 }
 
-/// The number after this one; the greatest 64-bit number stays.
+/// The number of the stored call after this one; the greatest 64-bit number stays.
 #[tactic(auto, unfolding(crate::specs::Replies::number_after))]
-fn number_after(at: u64) -> u64
+pub fn number_after(at: u64) -> u64
     ensures { result ≡ number_after at }
 {
     if at < u64::MAX { at + 1 } else { at }
