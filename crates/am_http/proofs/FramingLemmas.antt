@@ -12,9 +12,10 @@ use Rattle.httparse.specs.Grammar.{RequestHead, print_request, ReadsRequest}
 use Rattle.httparse.proofs.GrammarLemmas.{request_unique, ReadsRequest-append}
 use Rattle.am_http.specs.declared.frame.Defect.{Defect}
 use Rattle.am_http.specs.declared.frame.Defect.TheVariants.{BadHead, HeadTooLarge, LengthRequired, BodyTooLarge}
-use Rattle.am_http.specs.Fields.{Header, values_of, is_length, stated_length, length_by, length_without, body_length, first_text, key_of}
+use Rattle.am_http.specs.Fields.{Header, values_of, is_length, longest_body, stated_length, length_by, length_without, body_length, first_text, key_of}
 use Rattle.am_http.specs.Head.{Frame, Outcome, whole, empty, refused, cut, Head, head_of, frame_of, after_length, after_head}
 use Rattle.am_http.specs.Framing.{window, BeginsWithHead, HasNoHead, IsDead, MayOverlook, MayWait, without_head, IsFraming, by_head, by_dead, by_wait}
+use Rattle.am_http.specs.Sessions.{most_held}
 use Rattle.am_http.proofs.WaitLemmas.{length-print_request}
 
 -- ---- the window over more bytes
@@ -59,21 +60,21 @@ full_window_stays bytes more full =
 -- ---- what follows from a head
 
 -- the length that a whole head gives is at most the most that a body may have
-stated_length-le : (value : List ℕ) (n : ℕ) → stated_length value ≡ Ok n → n ≤ 65536
-stated_length-le value n e = by_tests (is_length value) (nat_lt 65536 (digits_value 10 value)) refl e
+stated_length-le : (value : List ℕ) (n : ℕ) → stated_length value ≡ Ok n → n ≤ longest_body
+stated_length-le value n e = by_tests (is_length value) (nat_lt longest_body (digits_value 10 value)) refl e
   where
-    by_tests : (a b : Bool) → nat_lt 65536 (digits_value 10 value) ≡ b
-        → cond a (cond b (Err BodyTooLarge) (Ok (digits_value 10 value))) (Err BadHead) ≡ Ok n → n ≤ 65536
+    by_tests : (a b : Bool) → nat_lt longest_body (digits_value 10 value) ≡ b
+        → cond a (cond b (Err BodyTooLarge) (Ok (digits_value 10 value))) (Err BadHead) ≡ Ok n → n ≤ longest_body
     by_tests true true is e = absurd cc
     by_tests true false is e =
         let same : digits_value 10 value ≡ n = cc in
-        omega (arith, ltb-false 65536 (digits_value 10 value) is)
+        omega (arith, ltb-false longest_body (digits_value 10 value) is)
     by_tests false b is e = absurd cc
 
-length_by-le : (method : List ℕ) (lengths : List (List ℕ)) (n : ℕ) → length_by method lengths ≡ Ok n → n ≤ 65536
+length_by-le : (method : List ℕ) (lengths : List (List ℕ)) (n : ℕ) → length_by method lengths ≡ Ok n → n ≤ longest_body
 length_by-le method [] n e = by_test (bytes_eq method (codes "POST")) e
   where
-    by_test : (b : Bool) → cond b (Err LengthRequired) (Ok 0) ≡ Ok n → n ≤ 65536
+    by_test : (b : Bool) → cond b (Err LengthRequired) (Ok 0) ≡ Ok n → n ≤ longest_body
     by_test true e = absurd cc
     by_test false e =
         let none : 0 ≡ n = cc in
@@ -82,11 +83,12 @@ length_by-le method (value ∷ []) n e = stated_length-le value n e
 length_by-le method (value ∷ other ∷ more) n e = absurd cc
 
 length_without-le : (codings : List (List ℕ)) (method : List ℕ) (lengths : List (List ℕ)) (n : ℕ)
-    → length_without codings method lengths ≡ Ok n → n ≤ 65536
+    → length_without codings method lengths ≡ Ok n → n ≤ longest_body
 length_without-le [] method lengths n e = length_by-le method lengths n e
 length_without-le (coding ∷ codings) method lengths n e = absurd cc
 
-body_length-le : (method : List ℕ) (headers : List Header) (n : ℕ) → body_length method headers ≡ Ok n → n ≤ 65536
+body_length-le : (method : List ℕ) (headers : List Header) (n : ℕ) → body_length method headers ≡ Ok n
+    → n ≤ longest_body
 unfolding body_length
 body_length-le method headers n e =
     length_without-le (values_of (codes "Transfer-Encoding") headers) method
@@ -158,18 +160,18 @@ after_head-not_empty bytes head e = by_length (body_length head.method head.head
         by_test false e = cc
 
 -- a body that is cut off ends past the input
-after_head-cut : (bytes : List ℕ) (head : Head) → cut ≡ after_head bytes head → length bytes < head.size + 65536
+after_head-cut : (bytes : List ℕ) (head : Head) → cut ≡ after_head bytes head → length bytes < head.size + longest_body
 unfolding after_head
 after_head-cut bytes head e = by_length (body_length head.method head.headers) refl e
   where
     by_length : (r : Result ℕ Defect) → body_length head.method head.headers ≡ r → cut ≡ after_length bytes head r
-        → length bytes < head.size + 65536
+        → length bytes < head.size + longest_body
     by_length (Err d) is e = absurd cc
     by_length (Ok n) is e = by_test (nat_le (head.size + n) (length bytes)) refl e
       where
         by_test : (b : Bool) → nat_le (head.size + n) (length bytes) ≡ b → cut
             ≡ cond b (whole (frame_of bytes head n)) cut
-            → length bytes < head.size + 65536
+            → length bytes < head.size + longest_body
         by_test true more e = absurd cc
         by_test false more e =
             omega (arith, leb-false (head.size + n) (length bytes) more, body_length-le head.method head.headers n is)
@@ -285,7 +287,7 @@ refused_stays bytes more d (by_wait none may e) =
 
 -- A whole frame has bytes, lies in the input, and has at most 8,192 bytes of head and 65,536 of body.
 pub whole_fits : (bytes : List ℕ) (f : Frame) → IsFraming bytes (whole f)
-    → (0 < f.length) × (f.length ≤ length bytes) × (f.length ≤ 73728)
+    → (0 < f.length) × (f.length ≤ length bytes) × (f.length ≤ most_held)
 unfolding frame_of
 whole_fits bytes f (by_head h b e) =
     let w = after_head-whole bytes (head_of h) f e in
@@ -300,13 +302,13 @@ whole_fits bytes f (by_wait none may e) =
     absurd (without_head-not_whole (window bytes) f e)
 
 -- An input that ends inside its first frame is shorter than the longest frame.
-pub cut_fits : (bytes : List ℕ) → IsFraming bytes cut → length bytes < 73728
+pub cut_fits : (bytes : List ℕ) → IsFraming bytes cut → length bytes < most_held
 cut_fits bytes (by_head h b e) =
     omega (arith, after_head-cut bytes (head_of h) e, (head_fits bytes h b).0)
 cut_fits bytes (by_dead dead e) = absurd cc
 cut_fits bytes (by_wait none may e) =
-    without_head-cases (window bytes) (λ o. cut ≡ o → length bytes < 73728) (λ full g. absurd cc) (λ zero g. absurd cc)
-    (λ other some g. omega (arith, length-take 8192 bytes)) e
+    without_head-cases (window bytes) (λ o. cut ≡ o → length bytes < most_held) (λ full g. absurd cc)
+    (λ zero g. absurd cc) (λ other some g. omega (arith, length-take 8192 bytes)) e
 
 not_dead : (bytes : List ℕ) (h : RequestHead) → BeginsWithHead (window bytes) h → ¬ (IsDead (window bytes))
 not_dead bytes h b dead =
@@ -384,7 +386,7 @@ whole_target bytes f (by_wait none may e) =
     absurd (without_head-not_whole (window bytes) f e)
 
 -- Its body has at most 65,536 bytes.
-pub whole_body : (bytes : List ℕ) (f : Frame) → IsFraming bytes (whole f) → length f.body ≤ 65536
+pub whole_body : (bytes : List ℕ) (f : Frame) → IsFraming bytes (whole f) → length f.body ≤ longest_body
 unfolding frame_of
 whole_body bytes f (by_head h b e) =
     let w = after_head-whole bytes (head_of h) f e in

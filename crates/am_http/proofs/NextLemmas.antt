@@ -7,7 +7,7 @@ use Rattle.am_http.specs.Framing.{IsFraming}
 use Rattle.am_http.specs.declared.frame.Found.{Found}
 use Rattle.am_http.specs.declared.frame.Found.TheVariants as Spans
 use Rattle.am_http.specs.FrameSpans.{outcome_at, frame_at, IsFoundWithin}
-use Rattle.am_http.specs.Sessions.{IsPartial, GivesAtMost}
+use Rattle.am_http.specs.Sessions.{most_held, IsPartial, GivesAtMost}
 use Rattle.am_http.specs.Windows.{Finds, Reads, is_open}
 use Rattle.am_http.proofs.FramingLemmas.{whole_stays, refused_stays, empty_only, cut_fits}
 
@@ -38,15 +38,15 @@ reads_more old mid new a b c h k = (
   consumes_more a b c h.0 k.0 h.2 k.2,
 )
 
-pub gives_window : (old new : List ℕ) (left left' : Option (List ℕ)) → Reads old new left left' → length new ≤ 73728
-    → GivesAtMost 73728 left left'
+pub gives_window : (old new : List ℕ) (left left' : Option (List ℕ)) → Reads old new left left' → length new ≤ most_held
+    → GivesAtMost most_held left left'
 gives_window old new left left' reads fits =
     (reads.0, reads.2, omega (arith, ap length reads.1, length-append old reads.0, fits))
 
 -- and what it gives while more is read twice
 pub gives_read : (old mid new : List ℕ) (a b c : Option (List ℕ)) → Reads old mid a b → Reads mid new b c
-    → length new ≤ 73728
-    → GivesAtMost 73728 a c
+    → length new ≤ most_held
+    → GivesAtMost most_held a c
 gives_read old mid new a b c first next fits = gives_window old new a c (reads_more old mid new a b c first next) fits
 
 pub gives_none : (left : Option (List ℕ)) → GivesAtMost 0 left left
@@ -106,7 +106,7 @@ wanting_partial w Spans.Empty h wanting = inl h
 wanting_partial w (Spans.Refused d) h wanting = absurd cc
 wanting_partial w Spans.Cut h wanting = inr h
 
-pub partial_fits : (w : List ℕ) → IsPartial w → length w < 73728
+pub partial_fits : (w : List ℕ) → IsPartial w → length w < most_held
 partial_fits w (inl h) = omega (arith, ap length (empty_only w h))
 partial_fits w (inr h) = cut_fits w h
 

@@ -21,7 +21,7 @@ use Rattle.am_http.specs.Framing.{IsFraming}
 use Rattle.am_http.specs.Head.{Frame, empty, whole, refused, cut}
 use Rattle.am_http.specs.Sending.{WritesPart, Sends}
 use Rattle.am_http.specs.Links.{Midway, Server, rest_of}
-use Rattle.am_http.specs.Sessions.{Serves, Replies, FailsAtAnswer, GivesAtMost, HasDefect}
+use Rattle.am_http.specs.Sessions.{most_held, Serves, Replies, FailsAtAnswer, GivesAtMost, HasDefect}
 use Rattle.am_http.specs.Windows.{Finds}
 use Rattle.am_http.proofs.FramingLemmas.{empty_only, whole_stays, whole_fits}
 
@@ -71,7 +71,7 @@ found_frame w left found spans finds is =
 
 -- what the source gave of a rest that still stands in the window
 pub gave_window : (rest : Option (List ℕ)) (w : List ℕ) (left : Option (List ℕ)) → Keeps rest (prepend_known w left)
-    → length w ≤ 73728 → GivesAtMost 73728 rest left
+    → length w ≤ most_held → GivesAtMost most_held rest left
 gave_window None w left keeps fits = ([], tt, omega arith)
 gave_window (Some input) w None keeps fits = absurd keeps
 gave_window (Some input) w (Some left) keeps fits = (w, sym keeps, fits)
@@ -198,7 +198,7 @@ turn_replied close old new w f answer bytes keeps framed used answers said sent 
 
 -- the response wasn't written whole
 pub turn_failed : (old new : Midway) (f : Frame) (answer : Answer) (bytes : List ℕ)
-    → Keeps (rest_of old) (rest_of new) → IsFraming new.window (whole f) → length new.window ≤ 73728
+    → Keeps (rest_of old) (rest_of new) → IsFraming new.window (whole f) → length new.window ≤ most_held
     → AnswersFrame old.link.server new.link.server f answer → Says answer bytes
     → WritesPart old.link.sink.taken new.link.sink.taken bytes → FailsAtAnswer old new
 turn_failed old new f answer bytes keeps framed fits answers said part =

@@ -31,11 +31,15 @@ values_of name (header ∷ headers) =
 abbrev pub is_length : List ℕ → Bool
 is_length value = nat_lt 0 (length value) && nat_le (length value) 19 && list_all is_ascii_digit value
 
+-- the most bytes that a body may have
+abbrev pub longest_body : ℕ
+longest_body = 65536
+
 -- the length that the one value of `Content-Length` states, if a body may have it
 abbrev pub stated_length : List ℕ → Result ℕ Defect
 stated_length value =
     if is_length value
-    then (if nat_lt 65536 (digits_value 10 value) then Err BodyTooLarge else Ok (digits_value 10 value))
+    then (if nat_lt longest_body (digits_value 10 value) then Err BodyTooLarge else Ok (digits_value 10 value))
     else Err BadHead
 
 -- the length of the body by the values of `Content-Length`: a POST states it, once

@@ -28,7 +28,7 @@ most_held = 73728
 -- the most bytes that a connection of so many frames takes from its source: as many as a window holds, for each frame
 -- and once more
 abbrev pub most_taken : ℕ → ℕ
-most_taken limit = 73728 * (limit + 1)
+most_taken limit = most_held * (limit + 1)
 
 -- and a whole connection
 abbrev pub most_bytes : ℕ

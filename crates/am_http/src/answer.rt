@@ -2,6 +2,7 @@
 ghost use Rattle.std.specs.Prelude.{◌≡◌, ◌≤◌, length, IfOk, IsUtf8};
 ghost use Rattle.am_types.specs.Reading.{Gives};
 ghost use Rattle.am_wire.specs.Requests.{request_of as request_at};
+ghost use Rattle.am_http.specs.Fields.{longest_body};
 ghost use Rattle.am_http.specs.FrameSpans.{frame_held};
 ghost use Rattle.am_http.specs.Requests.{request_of, request_or};
 ghost use Rattle.am_http.specs.Answering.{AnswersAt, AnswersFrame};
@@ -89,7 +90,7 @@ fn call<D: Desk>(
     request: Request,
 ) -> Answer
     requires key { IsUtf8 (frame_held frame.now).key }
-    requires body { length (frame_held frame.now).body ≤ 65536 }
+    requires body { length (frame_held frame.now).body ≤ longest_body }
     requires request { request_of (frame_held frame.now) ≡ Ok request }
     ensures answer { AnswersAt (D.view desk.old) (D.view desk.new) (frame_held frame.now) now result }
     ensures goes_on { GoesOn (D.view desk.old) (D.view desk.new) }
@@ -118,7 +119,7 @@ pub fn answer_frame<D: Desk, C: Clock>(
     frame: &WholeFrame<'_>,
 ) -> Answer
     requires key { IsUtf8 (frame_held frame.now).key }
-    requires body { length (frame_held frame.now).body ≤ 65536 }
+    requires body { length (frame_held frame.now).body ≤ longest_body }
     ensures answer { AnswersFrame
         (record { desk = D.view desk.old; clock = C.moments clock.old })
         (record { desk = D.view desk.new; clock = C.moments clock.new })

@@ -2,7 +2,7 @@
 ghost use Rattle.std.specs.Prelude.{◌≡◌, ◌≤◌, ◌-◌, true, vec_capacity};
 ghost use Rattle.am_outside.specs.Counts.{HasRisen};
 ghost use Rattle.am_http.specs.Links.{IsSameLink, link_of, streams_of};
-ghost use Rattle.am_http.specs.Sessions.{Session, Visit, HasFault, GivesAtMost, most_frames};
+ghost use Rattle.am_http.specs.Sessions.{Session, Visit, HasFault, GivesAtMost, most_frames, most_held};
 ghost use Rattle.am_http.specs.Turns.{Turns, HasFaultAt};
 
 use crate::answer::answer_frame;
@@ -52,7 +52,7 @@ fn serve_frame<D: Desk, S: Source, W: Sink, C: Clock>(
           link = link_of (D.view desk.new) (streams_of S.Source W.Sink C.Clock source.new sink.new clock.new);
           window = window.new;
         }) }
-    ensures gives { GivesAtMost 73728 (S.left source.old) (S.left source.new) }
+    ensures gives { GivesAtMost most_held (S.left source.old) (S.left source.new) }
     ensures fault { HasFaultAt result
         (link_of (D.view desk.old) (streams_of S.Source W.Sink C.Clock source.old sink.old clock.old))
         (link_of (D.view desk.new) (streams_of S.Source W.Sink C.Clock source.new sink.new clock.new)) }
@@ -113,7 +113,7 @@ fn serve_turn<D: Desk, S: Source, W: Sink, C: Clock>(
           link = link_of (D.view desk.new) (streams_of S.Source W.Sink C.Clock source.new sink.new clock.new);
           window = window.new;
         }) }
-    ensures gives { GivesAtMost 73728 (S.left source.old) (S.left source.new) }
+    ensures gives { GivesAtMost most_held (S.left source.old) (S.left source.new) }
     ensures fault { HasFaultAt result
         (link_of (D.view desk.old) (streams_of S.Source W.Sink C.Clock source.old sink.old clock.old))
         (link_of (D.view desk.new) (streams_of S.Source W.Sink C.Clock source.new sink.new clock.new)) }

@@ -3,7 +3,7 @@ ghost use Rattle.std.specs.Prelude.{◌≡◌, ◌<◌, ◌≤◌, true, [], len
 ghost use Rattle.std.specs.Io.KnownBytes.{Keeps, prepend_known};
 ghost use Rattle.am_outside.specs.Counts.{HasRisen};
 ghost use Rattle.am_http.specs.Links.{source_of};
-ghost use Rattle.am_http.specs.Sessions.{IsPartial, GivesAtMost};
+ghost use Rattle.am_http.specs.Sessions.{IsPartial, GivesAtMost, most_held};
 ghost use Rattle.am_http.specs.Windows.{Finds, Reads, is_open};
 
 use crate::frame::{Found, find_frame};
@@ -27,7 +27,7 @@ fn look<S: Source>(source: &mut S, window: &mut Window) -> Result<Option<Found>,
     ensures reads { Reads window.old window.new (S.left source.old) (S.left source.new) }
     ensures found { IfOk result (λ answer. IfSome answer (Finds window.new (S.left source.new))) }
     ensures more { IfOk result (λ answer. IsNone answer → length window.old < length window.new) }
-    ensures fits { length window.new ≤ 73728 }
+    ensures fits { length window.new ≤ most_held }
     ensures partial { OnErr result (IsPartial window.new) }
     ensures never_falls { S.faults source.old ≤ S.faults source.new }
     ensures failed { OnErr result (HasRisen (S.faults source.old) (S.faults source.new)) }
@@ -55,9 +55,9 @@ pub fn is_idle<S: Source>(source: &mut S, window: &Window) -> bool
 /// Reads until the first frame of what is left is known.
 pub fn next_frame<S: Source>(source: &mut S, window: &mut Window) -> Result<Found, Failed>
     ensures kept { Keeps (prepend_known window.old (S.left source.old)) (prepend_known window.new (S.left source.new)) }
-    ensures gives { GivesAtMost 73728 (S.left source.old) (S.left source.new) }
+    ensures gives { GivesAtMost most_held (S.left source.old) (S.left source.new) }
     ensures found { IfOk result (Finds window.new (S.left source.new)) }
-    ensures fits { length window.new ≤ 73728 }
+    ensures fits { length window.new ≤ most_held }
     ensures partial { OnErr result (IsPartial window.new) }
     ensures never_falls { S.faults source.old ≤ S.faults source.new }
     ensures failed { OnErr result (HasRisen (S.faults source.old) (S.faults source.new)) }

@@ -3,6 +3,7 @@ ghost use Rattle.std.specs.Prelude.{◌≡◌, ℕ, ◌+◌, ◌-◌, ◌<◌, �
 ghost use Rattle.std.specs.Io.{ReadsAtMost};
 ghost use Rattle.std.specs.Io.KnownBytes.{ReadConsumes};
 ghost use Rattle.am_outside.specs.Counts.{HasRisen};
+ghost use Rattle.am_http.specs.Sessions.{most_held};
 ghost use Rattle.am_http.specs.Windows.{Fills};
 
 use am_outside::{Failed, Source};
@@ -23,12 +24,13 @@ pub struct Window {
 
 impl Model for Window {
     ghost use Rattle.std.specs.Prelude.{◌≡◌, ℕ, ◌≤◌, List as Items, take, drop, vec_len};
+    ghost use Rattle.am_http.specs.Sessions.{most_held};
 
     ghost Value = { Items ℕ };
 
     ghost view = { λ w. drop w.start (take w.end w.bytes.items) };
 
-    ghost invariant = { λ w. (w.start ≤ w.end) × (w.end ≤ 73728) × (vec_len w.bytes ≡ 73728) };
+    ghost invariant = { λ w. (w.start ≤ w.end) × (w.end ≤ most_held) × (vec_len w.bytes ≡ most_held) };
 }
 
 impl Window {
@@ -54,7 +56,7 @@ impl Window {
     /// Lends the bytes.
     pub fn bytes(&self) -> &[u8]
         ensures bytes { result.now ≡ self.now }
-        ensures fits { length result.now ≤ 73728 }
+        ensures fits { length result.now ≤ most_held }
     {
         &self.bytes[self.start..self.end]
     }
@@ -69,9 +71,9 @@ impl Window {
 
     /// Reads once into the room after the bytes.
     pub fn fill<S: Source>(&mut self, source: &mut S) -> Result<usize, Failed>
-        requires { length self.old < 73728 }
+        requires { length self.old < most_held }
         ensures fills { Fills self.old self.new (S.left source.old) (S.left source.new) result }
-        ensures fits { length self.new ≤ 73728 }
+        ensures fits { length self.new ≤ most_held }
         ensures never_falls { S.faults source.old ≤ S.faults source.new }
         ensures failed { OnErr result (HasRisen (S.faults source.old) (S.faults source.new)) }
         ensures mark { S.mark source.new ≡ S.mark source.old }

@@ -1,7 +1,7 @@
 use Rattle.std.proofs.Common.{ℕ, ◌+◌, ◌*◌, ◌-◌, List, [], Option, subst, arith}
 use Rattle.am_http.specs.Frames.{Leaves}
 use Rattle.am_http.specs.Links.{Link, link_of, streams_of}
-use Rattle.am_http.specs.Sessions.{most_frames, most_taken}
+use Rattle.am_http.specs.Sessions.{most_frames, most_held, most_taken}
 use Rattle.am_http.proofs.NextLemmas.{gives_none, gives_more}
 use Rattle.am_http.proofs.SessionLemmas.{going_none, leaves_self, going_more, session_close, session_stop, same_link_trans, same_link_refl}
 use Rattle.am_http.proofs.TurnLemmas.{nothing_before}
@@ -29,7 +29,7 @@ returns-in-Closed-clause-session g c =
     let inv = c.loop-answered.invariant in
     let limit = most_frames - c.args.before in
     session_close limit _ _ _ _ mid.answered (omega (arith, c.loop-answered-test.true, c.saturating_sub-most.ensures))
-    (gives_more (73728 * mid.answered) 73728 (most_taken limit) _ _ _
+    (gives_more (most_held * mid.answered) most_held (most_taken limit) _ _ _
     (omega (arith, c.loop-answered-test.true, c.saturating_sub-most.ensures)) inv.gives c.in-Closed.ensures.gives)
     inv.same.desk.desk inv.going c.in-Closed.ensures.turn
 
@@ -46,7 +46,7 @@ returns-in-Stopped-clause-session g c =
     let limit = most_frames - c.args.before in
     session_stop limit _ _ _ _ mid.answered c.in-Stopped.end (omega
     (arith, c.loop-answered-test.true, c.saturating_sub-most.ensures))
-    (gives_more (73728 * mid.answered) 73728 (most_taken limit) _ _ _
+    (gives_more (most_held * mid.answered) most_held (most_taken limit) _ _ _
     (omega (arith, c.loop-answered-test.true, c.saturating_sub-most.ensures)) inv.gives c.in-Stopped.ensures.gives)
     inv.same.desk.desk inv.going c.in-Stopped.ensures.turn
 
@@ -57,8 +57,8 @@ loop-answered-preserved g c =
     let went = c.in-Went.ensures in
     record {
       going = going_more _ _ _ mid.answered inv.same.desk.desk inv.going went.turn;
-      gives = gives_more (73728 * mid.answered) 73728 (73728 * (mid.answered + 1)) _ _ _ (omega arith) inv.gives
-          went.gives;
+      gives = gives_more (most_held * mid.answered) most_held (most_held * (mid.answered + 1)) _ _ _ (omega arith)
+          inv.gives went.gives;
       same = same_link_trans _ _ _ inv.same went.same;
       waits = omega (arith, inv.waits, went.never_falls);
     }

@@ -1,6 +1,6 @@
 use Rattle.std.proofs.Common.{◌*◌, ◌≤◌}
 use Rattle.am_http.specs.Links.{Link, IsSameLink, link_of, streams_of}
-use Rattle.am_http.specs.Sessions.{Going, GivesAtMost}
+use Rattle.am_http.specs.Sessions.{Going, GivesAtMost, most_held}
 use Rattle.am_http.proofs.connection.serve_link.Given as goal
 
 -- the connection goes on: so far each frame was answered, and what is left is told
@@ -12,7 +12,7 @@ invariant-loop-answered g l =
     in
     record {
       going : Going first (record { link = link; window = l.buffers.window }) l.answered;
-      gives : GivesAtMost (73728 * l.answered) first.source.left link.source.left;
+      gives : GivesAtMost (most_held * l.answered) first.source.left link.source.left;
       same : IsSameLink first link;
       waits : g.S.Source.waits l.initial.source ≤ g.S.Source.waits l.source;
     }

@@ -1,5 +1,6 @@
 use Rattle.std.proofs.Common.{◌≡◌, ◌-◌, ◌≤◌, length}
 use Rattle.std.specs.Io.KnownBytes.{Keeps, prepend_known}
+use Rattle.am_http.specs.Sessions.{most_held}
 use Rattle.am_http.specs.Windows.{Reads}
 use Rattle.am_http.proofs.reader.next_frame.Given as goal
 
@@ -16,4 +17,4 @@ invariant-loop-found g l =
     }
 
 abbrev pub decreases-loop-found : goal.decreases-loop-found
-decreases-loop-found g l = 73728 - length l.window
+decreases-loop-found g l = most_held - length l.window
