@@ -54,25 +54,16 @@ use Rattle.am_machine.specs.declared.keeping.Answered.{Answered}
 use Rattle.am_machine.specs.Keeping.{
   AsksAtMostOnce,
   AsksOnce,
-  CountsNone,
   GoesOn,
-  IsUnasked,
+  Leaves,
+  LeavesUnmade,
+  Replied,
+  TellsSame,
   is_asked,
   is_keeper_fault,
   told_after,
   with_any,
   with_kept,
-}
-
--- a keeper that isn't asked goes on
-pub goes_on : {K : Type 0} (g : Ghosts K) (keeper : K) → GoesOn g keeper keeper
-goes_on g keeper = record {
-  tells = refl;
-  place = refl;
-  was_honest = λ h. h;
-  for_good = (λ h. h, λ h. h);
-  never_falls =
-      omega arith;
 }
 
 -- a request that keeps no row has none
@@ -200,19 +191,6 @@ made_asked change row state entry (Ok answered) accepted keeps =
     λ (before : List Entry). made_asks change row state before entry answered.kept accepted keeps
 made_asked change row state entry (Err error) accepted keeps = tt
 
-pub made_put : {K : Type 0} (g : Ghosts K) (change : Change) (row : Row) (state new : State) (entry : Entry)
-    (moment : ℕ) (made : Result Answered NoMemory) (old now : K)
-    → IsAccepted change row state entry.uid entry.request
-    → IfOk made (λ (answered : Answered). Made change state new moment answered.reply answered.kept)
-    → IfOk made (λ (answered : Answered). g.is_honest now →
-    g.rows now ≡ (if answered.kept then option_map (λ told. with_row told row) (g.rows old) else g.rows old))
-    → IfOk made (λ (answered : Answered). g.is_honest now → g.rows now
-    ≡ told_after state entry.request answered.reply (g.rows old))
-made_put g change row state new entry moment (Ok answered) old now accepted made tells =
-    λ (honest : g.is_honest now). made_told change row state new entry moment answered.reply answered.kept (g.rows old)
-    (g.rows now) accepted made (tells honest)
-made_put g change row state new entry moment (Err error) old now accepted made tells = tt
-
 -- what was made is answered neither by a refusal nor, if its row was kept, by a fault
 not_refused : (change : Change) (state new : State) (moment : ℕ) (reply : Reply) (kept : Bool)
     → Made change state new moment reply kept
@@ -223,27 +201,12 @@ not_refused change state new moment reply true made refused other =
 not_refused change state new moment reply false made refused other = other
     (sym (ap (λ (answer : Reply × State). answer.0) made))
 
-pub made_unasked : {K : Type 0} (change : Change) (state new : State) (moment : ℕ) (made : Result Answered NoMemory)
-    (old now : K)
-    → IfOk made (λ (answered : Answered). Made change state new moment answered.reply answered.kept)
-    → IfOk made (λ (answered : Answered). IsUnasked answered.reply old now)
-made_unasked change state new moment (Ok answered) old now is =
-    λ refused other. absurd (not_refused change state new moment answered.reply answered.kept is refused other)
-made_unasked change state new moment (Err error) old now is = tt
-
--- a row that was kept left the count of the faults as it was
-pub made_counts : {K : Type 0} (g : Ghosts K) (change : Change) (state new : State) (moment : ℕ)
-    (made : Result Answered NoMemory) (old now : K)
-    → IfOk made (λ (answered : Answered). Made change state new moment answered.reply answered.kept)
-    → IfOk made (λ (answered : Answered). answered.kept ≡ true → g.faults now ≡ g.faults old)
-    → IfOk made (λ (answered : Answered). CountsNone g answered.reply old now)
-made_counts g change state new moment (Ok answered) old now is counts = λ other. by answered.kept refl is other
-  where
-    by : (b : Bool) → answered.kept ≡ b → Made change state new moment answered.reply b
-        → (answered.reply ≡ Refused KeeperFault → ⊥) → g.faults now ≡ g.faults old
-    by true kept made other = counts kept
-    by false kept made other = absurd (other (sym (ap (λ (answer : Reply × State). answer.0) made)))
-made_counts g change state new moment (Err error) old now is counts = tt
+-- and if it isn't, its row was kept
+was_kept : (change : Change) (state new : State) (moment : ℕ) (reply : Reply) (kept : Bool)
+    → Made change state new moment reply kept → (reply ≡ Refused KeeperFault → ⊥) → kept ≡ true
+was_kept change state new moment reply true made other = refl
+was_kept change state new moment reply false made other = absurd
+    (other (sym (ap (λ (answer : Reply × State). answer.0) made)))
 
 -- a reply that isn't the keeper's fault isn't one by its test either
 not_fault : (reply : Reply) → (reply ≡ Refused KeeperFault → ⊥) → is_keeper_fault reply ≡ false
@@ -270,16 +233,44 @@ pub refused_none : (request : Request) (rule : Rule) → (Refused rule ≡ Refus
     → is_asked request (Refused rule) ≡ false
 refused_none request rule other = ap (λ (b : Bool). b && keeps_row request) (not_fault (Refused rule) other)
 
-pub refused_asks_none : {K : Type 0} (g : Ghosts K) (rule : Rule) (state : State) (caller : ℕ) (request : Request)
-    (keeper : K) → IsRefusedBy rule state caller request → AsksOnce g request (Refused rule) keeper keeper
-refused_asks_none g rule state caller request keeper refuses =
-    asks_none g request (Refused rule) keeper (refused_none request rule
-    (λ (fault : Refused rule ≡ Refused KeeperFault). act_never_faults (at_moment state 0) [] caller request
-    (ap (λ (answer : Reply × State). answer.0) (refuses 0 []) ∙ fault)))
+-- and no request is refused by that one itself
+refused_other : (rule : Rule) (state : State) (caller : ℕ) (request : Request) → IsRefusedBy rule state caller request
+    → Refused rule ≡ Refused KeeperFault → ⊥
+refused_other rule state caller request refuses fault =
+    act_never_faults (at_moment state 0) [] caller request
+    (ap (λ (answer : Reply × State). answer.0) (refuses 0 []) ∙ fault)
 
--- a keeper that isn't asked makes at most one put
-pub asks_at_most : {K : Type 0} (g : Ghosts K) (keeper : K) → AsksAtMostOnce g keeper keeper
-asks_at_most g keeper = inl refl
+-- what a call leaves of a keeper that isn't asked for it
+pub leaves_same : {K : Type 0} (g : Ghosts K) (call : Replied) (keeper : K)
+    → g.rows keeper ≡ told_after call.state call.request call.reply (g.rows keeper)
+    → is_asked call.request call.reply ≡ false → Leaves g call keeper keeper
+leaves_same g call keeper told none = record {
+  put = λ (honest : g.is_honest keeper). told;
+  unasked = λ refused other. refl;
+  counts = λ other. refl;
+  asks = asks_none g call.request call.reply keeper none;
+}
+
+-- since it keeps no row
+pub leaves_rowless : {K : Type 0} (g : Ghosts K) (call : Replied) (keeper : K) → keeps_row call.request ≡ false
+    → Leaves g call keeper keeper
+leaves_rowless g call keeper rowless =
+    leaves_same g call keeper
+    (told_as_before call.state call.request call.reply (g.rows keeper) (has_no_row call.state call.request rowless))
+    (keeps_none call.request call.reply rowless)
+
+-- or is refused
+pub leaves_refused : {K : Type 0} (g : Ghosts K) (rule : Rule) (state : State) (caller : ℕ) (request : Request)
+    (keeper : K) → IsRefusedBy rule state caller request
+    → Leaves g (record { state = state; request = request; reply = Refused rule }) keeper keeper
+leaves_refused g rule state caller request keeper refuses =
+    leaves_same g (record { state = state; request = request; reply = Refused rule }) keeper refl
+    (refused_none request rule (refused_other rule state caller request refuses))
+
+-- or wasn't made
+pub leaves_unmade : {K : Type 0} (g : Ghosts K) (keeper : K) → LeavesUnmade g keeper keeper
+leaves_unmade g keeper =
+    record { rows = λ (honest : g.is_honest keeper). refl; uncounted = refl; asks = inl refl }
 
 -- what is known anyway is known of an answer, and if there is none
 pub whatever : {P : Type 0} (made : Result Answered NoMemory) → P → IfOk made (λ (answered : Answered). P)
@@ -290,19 +281,41 @@ pub otherwise : {X P : Type 0} (made : Result X NoMemory) → P → OnErr made P
 otherwise (Ok answered) known = tt
 otherwise (Err error) known = known
 
--- a call whose row was asked for made one put
-pub made_once : {K : Type 0} (g : Ghosts K) (change : Change) (state new : State) (moment : ℕ)
-    (made : Result Answered NoMemory) (old now : K) (request : Request)
-    → keeps_row request ≡ true → IfOk made (λ (answered : Answered). Made change state new moment answered.reply
-    answered.kept)
+-- a call whose change was planned asks the keeper
+made_is_asked : (change : Change) (state new : State) (moment : ℕ) (reply : Reply) (kept : Bool) (request : Request)
+    → Made change state new moment reply kept → keeps_row request ≡ true → is_asked request reply ≡ true
+made_is_asked change state new moment reply true request made keeps =
+    let accepted : is_refusal reply ≡ false = sym (ap (λ (answer : Reply × State). is_refusal answer.0) made)
+    ∙ changed_is_accepted change (at_moment state moment) in
+    rw (accepted, keeps)
+made_is_asked change state new moment reply false request made keeps =
+    rw (sym (ap (λ (answer : Reply × State). answer.0) made), keeps)
+
+-- what such a call leaves of the keeper
+pub made_leaves : {K : Type 0} (g : Ghosts K) (change : Change) (row : Row) (state new : State) (entry : Entry)
+    (moment : ℕ) (made : Result Answered NoMemory) (old now : K)
+    → IsAccepted change row state entry.uid entry.request → keeps_row entry.request ≡ true
+    → IfOk made (λ (answered : Answered). Made change state new moment answered.reply answered.kept)
+    → IfOk made (λ (answered : Answered). g.is_honest now →
+    g.rows now ≡ (if answered.kept then option_map (λ told. with_row told row) (g.rows old) else g.rows old))
+    → IfOk made (λ (answered : Answered). answered.kept ≡ true → g.faults now ≡ g.faults old)
     → IfOk made (λ (answered : Answered). g.puts now ≡ raised_by 1 (g.puts old))
-    → IfOk made (λ (answered : Answered). AsksOnce g request answered.reply old now)
-made_once g change state new moment (Ok answered) old now request keeps is once = rw (asked answered.kept is) once
-  where
-    asked : (kept : Bool) → Made change state new moment answered.reply kept → is_asked request answered.reply ≡ true
-    asked true made =
-        let accepted : is_refusal answered.reply ≡ false = sym (ap (λ (answer : Reply × State). is_refusal answer.0)
-        made) ∙ changed_is_accepted change (at_moment state moment) in
-        rw (accepted, keeps)
-    asked false made = rw (sym (ap (λ (answer : Reply × State). answer.0) made), keeps)
-made_once g change state new moment (Err error) old now request keeps is once = tt
+    → IfOk made (λ (answered : Answered). Leaves g
+    (record { state = state; request = entry.request; reply = answered.reply }) old now)
+made_leaves g change row state new entry moment (Ok answered) old now accepted keeps is tells counts once = record {
+  put = λ (honest : g.is_honest now). made_told change row state new entry moment answered.reply answered.kept
+      (g.rows old) (g.rows now) accepted is (tells honest);
+  unasked = λ refused other. absurd
+      (not_refused change state new moment answered.reply answered.kept is refused other);
+  counts = λ other. counts (was_kept change state new moment answered.reply answered.kept is other);
+  asks = rw (made_is_asked change state new moment answered.reply answered.kept entry.request is keeps) once;
+}
+made_leaves g change row state new entry moment (Err error) old now accepted keeps is tells counts once = tt
+
+-- what is known of a keeper after a call that isn't made
+pub unmade_leaves : {K X : Type 0} (g : Ghosts K) (made : Result X NoMemory) (old now : K)
+    → OnErr made (TellsSame g old now) → OnErr made (g.faults now ≡ g.faults old)
+    → OnErr made (AsksAtMostOnce g old now) → OnErr made (LeavesUnmade g old now)
+unmade_leaves g (Ok answered) old now rows uncounted asks = tt
+unmade_leaves g (Err error) old now rows uncounted asks =
+    record { rows = rows; uncounted = uncounted; asks = asks }

@@ -3,5 +3,3 @@ pub mod Beginning
 pub mod Kept
 pub mod FoundRows
 pub mod Shown
-pub mod Acting
-pub mod Calm

@@ -3,7 +3,6 @@ use Rattle.std.proofs.Common.{◌≡◌, ℕ, ◌+◌, ◌≤◌, ◌<◌, Bool,
 use Rattle.std.specs.Prelude.{if◌then◌else◌, count_by, not, is_some}
 use Rattle.std.proofs.lemmas.List.{length-append}
 use Rattle.std.proofs.lemmas.List.Sums.{sum_by_push, count_by-le-length}
-use Rattle.am_types.specs.declared.device.Device.{Device}
 use Rattle.am_types.specs.declared.history.Entry.{Entry}
 use Rattle.am_types.specs.declared.reply.Reply.{Reply}
 use Rattle.am_types.specs.declared.reply.Reply.TheVariants.{Refused}
@@ -18,9 +17,10 @@ use Rattle.am_history.specs.History.{replay, weight_of, has_room, may_change}
 use Rattle.am_history.specs.Desks.{Origin, opening_of}
 use Rattle.am_history.proofs.Places.{legal_more, replay_more}
 use Rattle.am_laws.proofs.Faults.{act_never_faults}
+use Rattle.am_machine.specs.declared.opened.Opened.{Opened}
 use Rattle.am_machine.specs.Keeping.{GoesOn, told_after}
 use Rattle.am_machine.proofs.FoundRows.{told_more}
-use Rattle.am_machine.specs.Managed.{Managed, Holds, HoldsKept, is_unkept}
+use Rattle.am_machine.specs.Managed.{Managed, Holds, HoldsKept, is_unkept, origin_at}
 
 -- there is room for one more entry of that weight
 room_is : (history : List Entry) (weight : ℕ) → has_room history weight ≡ true
@@ -87,54 +87,34 @@ holds_kept_more g origin live after history entry reply old new holds replayed f
         omega (arith, more, unkept, rises, count_by-le-length is_unkept history)
 
 -- what holds of a manager's parts after a call that is stored
-pub stored_more : {K : Type 0} (g : Ghosts K) (device : Device) (rows : Rows) (live after : State)
+pub stored_more : {K : Type 0} (g : Ghosts K) (opened : Opened) (live after : State)
     (history : List Entry) (weight : ℕ) (entry : Entry) (reply : Reply) (old new : K)
-    → Holds (record { device = device; rows = rows; place = g.place old }) live history weight
-    × HoldsKept g (record { device = device; rows = rows; place = g.place old }) history old
+    → Holds (origin_at opened (g.place old)) live history weight
+    × HoldsKept g (origin_at opened (g.place old)) history old
     → IsTrue (has_uid live entry.uid) → IsTrue (may_change live entry.now entry.request)
     → IsTrue (has_room history entry.weight)
     → IsTrue (entry.kept || asks_keeper (after_due live entry.now) history entry.uid entry.request)
     → step live history entry ≡ (reply, after)
     → GoesOn g old new → (g.is_honest new → g.rows new ≡ told_after live entry.request reply (g.rows old))
     → (entry.kept ≡ false → HasRisen (g.faults old) (g.faults new))
-    → Holds (record { device = device; rows = rows; place = g.place new }) after (history ++ entry ∷ [])
+    → Holds (origin_at opened (g.place new)) after (history ++ entry ∷ [])
     (weight + entry.weight)
-    × HoldsKept g (record { device = device; rows = rows; place = g.place new }) (history ++ entry ∷ []) new
-stored_more g device rows live after history weight entry reply old new holds caller changes room asked does goes put
+    × HoldsKept g (origin_at opened (g.place new)) (history ++ entry ∷ []) new
+stored_more g opened live after history weight entry reply old new holds caller changes room asked does goes put
     risen =
-    let origin : Origin = record { device = device; rows = rows; place = g.place old } in
+    let origin : Origin = origin_at opened (g.place old) in
     let before : Holds origin live history weight = holds.0 in (
-      subst (λ (place : Option (List ℕ)). Holds (record { device = device; rows = rows; place = place }) after
+      subst (λ (place : Option (List ℕ)). Holds (origin_at opened place) after
           (history ++ entry ∷ []) (weight + entry.weight)) (sym goes.place)
           (holds_more origin live after history weight entry reply before
           (subst (λ (state : State). IsTrue (has_uid state entry.uid)) (sym before.replayed) caller)
           (subst (λ (state : State). IsTrue (may_change state entry.now entry.request)) (sym before.replayed) changes)
           room asked does),
-      subst (λ (place : Option (List ℕ)). HoldsKept g (record { device = device; rows = rows; place = place })
+      subst (λ (place : Option (List ℕ)). HoldsKept g (origin_at opened place)
           (history ++ entry ∷ []) new) (sym goes.place)
           (holds_kept_more g origin live after history entry reply old new holds.1 before.replayed before.few does goes
           put risen),
     )
-
--- a manager that begins without entries holds the state in which it begins
-pub holds_at_opening : (origin : Origin) (live : State) (history : List Entry) → IsSound origin.device
-    → opening_of origin ≡ live
-    → history ≡ [] → Holds origin live history 0
-holds_at_opening origin live history sound opens none =
-    subst (λ (h : List Entry). Holds origin live h 0) (sym none)
-    (record { sound = sound; replayed = opens; legal = tt; weighed = refl; most = omega arith; few = omega arith })
-
--- and its keeper may have counted any number of faults
-pub none_kept : {K : Type 0} (g : Ghosts K) (origin : Origin) (history : List Entry) (keeper : K) → history ≡ []
-    → (g.is_honest keeper → (told : Rows) → g.rows keeper ≡ Some told → origin.rows ≡ told)
-    → HoldsKept g origin history keeper
-none_kept g origin history keeper none tells =
-    subst (λ (h : List Entry). HoldsKept g origin h keeper) (sym none)
-    (record {
-      unkept = omega arith;
-      found = λ (honest : g.is_honest keeper) (told : Rows)
-          (is : g.rows keeper ≡ Some told). sym (tells honest told is);
-    })
 
 -- a reply of a stored call is the fault of a keeper only if its row wasn't kept
 pub fault_is_unkept : (state : State) (history : List Entry) (entry : Entry) → (step state history entry).0
@@ -147,13 +127,6 @@ fault_is_unkept state history entry = by entry.kept
         → b ≡ false
     by true is = absurd (act_never_faults (after_due state entry.now) history entry.uid entry.request is)
     by false is = refl
-
--- what only the system and the root may ask is answered by the one or the other reply, in the same state
-pub one_state : (privileged : Bool) (reply : Reply) (state : State)
-    → ◌≡◌ {A = Reply × State} (if privileged then (reply, state) else (Refused AdminOnly, state))
-    (if privileged then reply else Refused AdminOnly, state)
-one_state true reply state = refl
-one_state false reply state = refl
 
 -- what holds of the origin and the history of a manager as it is seen holds of it from inside
 pub from_inside : {K : Type 0} (P : Origin → List Entry → Type 0) (seen inside : Managed K) → seen ≡ inside

@@ -82,3 +82,23 @@ module _ {K : Type 0} where
   -- a call that isn't made, because memory ran out, makes one put or none
   abbrev pub AsksAtMostOnce : Ghosts K → K → K → Type 0
   AsksAtMostOnce g old new = (g.puts new ≡ g.puts old) ⊎ (g.puts new ≡ raised_by 1 (g.puts old))
+
+-- a request that was made in a state, and its reply
+pub record Replied : Type 0 where
+  pub state : State
+  pub request : Request
+  pub reply : Reply
+
+-- what a call leaves of its keeper: its row is put, if it has one and isn't refused; a refusal leaves the whole keeper,
+-- and any reply but the keeper's fault its count of faults; and the keeper is asked at most once
+pub record Leaves {K : Type 0} (g : Ghosts K) (call : Replied) (old new : K) : Type 0 where
+  pub put : g.is_honest new → g.rows new ≡ told_after call.state call.request call.reply (g.rows old)
+  pub unasked : IsUnasked call.reply old new
+  pub counts : CountsNone g call.reply old new
+  pub asks : AsksOnce g call.request call.reply old new
+
+-- what a call that isn't made, because memory ran out, leaves of it
+pub record LeavesUnmade {K : Type 0} (g : Ghosts K) (old new : K) : Type 0 where
+  pub rows : TellsSame g old new
+  pub uncounted : g.faults new ≡ g.faults old
+  pub asks : AsksAtMostOnce g old new

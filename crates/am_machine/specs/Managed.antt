@@ -1,5 +1,5 @@
 -- What a manager and the desk over it are, as contracts see them.
-use Rattle.std.specs.Prelude.{◌≡◌, ◌≤◌, ℕ, Bool, not, List, length, count_by, Some}
+use Rattle.std.specs.Prelude.{◌≡◌, ◌≤◌, ℕ, Bool, not, List, length, count_by, Option, Some}
 use Rattle.am_types.specs.declared.history.Entry.{Entry}
 use Rattle.am_keeper.specs.declared.keeper.Keeper.{Ghosts}
 use Rattle.am_keeper.specs.declared.rows.Rows.{Rows}
@@ -8,6 +8,7 @@ use Rattle.am_history.specs.State.{State}
 use Rattle.am_history.specs.History.{replay, weight_of, IsLegal}
 use Rattle.am_history.specs.Desks.{Origin, opening_of}
 use Rattle.am_laws_kept.specs.Found.{rows_after}
+use Rattle.am_machine.specs.declared.opened.Opened.{Opened}
 
 -- a manager: where it comes from, the calls that it has stored since, how many more it has room for, and its keeper
 pub record Managed (K : Type 0) : Type 0 where
@@ -15,6 +16,10 @@ pub record Managed (K : Type 0) : Type 0 where
   pub history : List Entry
   pub spare : ℕ
   pub keeper : K
+
+-- where a manager comes from that was opened so, over a keeper at that place
+abbrev pub origin_at : Opened → Option (List ℕ) → Origin
+origin_at opened place = record { device = opened.device; rows = opened.rows; place = place }
 
 -- a manager behind one desk, and the history that it had when it was handed over
 pub record Served (K : Type 0) : Type 0 where

@@ -4,11 +4,11 @@ ghost use Rattle.am_types.specs.declared.reply.Reply.TheVariants.{Plain, Refused
 ghost use Rattle.am_types.specs.declared.rule.Rule.TheVariants.{AdminOnly};
 ghost use Rattle.am_model.specs.Gates.{is_privileged};
 ghost use Rattle.am_history.specs.Numbers.{HasNumbers};
-ghost use Rattle.am_history.specs.Steps.{act, after_due, is_calm, keeps_row};
+ghost use Rattle.am_history.specs.Steps.{act, after_due, at_moment, is_calm, keeps_row};
 
+use crate::archive::Archive;
 use crate::reads::read_at;
 use am_live::{Caller, Live};
-use am_packed::Archive;
 use am_types::{Entry, NoMemory, Reply, Request, Rule, Steps};
 use std::sync::ledger::Ledger;
 
@@ -27,12 +27,30 @@ pub(crate) fn act<L: Ledger>(
     ensures same { OnErr result (live.new ≡ live.old) }
     ensures calm { IsTrue (is_calm call.entry.now.request) → IsOk result }
 {
-    let moment = live.moment_after(call.now);
     let by = Caller {
         uid: call.uid,
-        moment,
+        moment: live.moment_after(call.now),
     };
-    match &call.request {
+    act_at(live, history, by, &call.request, steps)
+}
+
+/// The same at a given moment.
+#[tactic(auto, unfolding(am_history::specs::Steps::act))]
+fn act_at<L: Ledger>(
+    live: &mut Live,
+    history: &Archive,
+    by: Caller,
+    request: &Request,
+    steps: &mut Steps<L>,
+) -> Result<Reply, NoMemory>
+    requires rowless { keeps_row request.now ≡ false }
+    requires numbers { HasNumbers live.old }
+    ensures done { IfOk result (λ reply.
+        act (at_moment live.old by.moment) history.now.entries by.uid request.now ≡ (reply, live.new)) }
+    ensures same { OnErr result (live.new ≡ live.old) }
+    ensures calm { IsTrue (is_calm request.now) → IsOk result }
+{
+    match request {
         Request::Start { intent, source } => live.start(by, intent, *source, steps),
         Request::FinishActivity { instance } => Ok(live.finish_activity(by, *instance, steps)),
         Request::Back => Ok(live.back(by, steps)),
@@ -63,11 +81,11 @@ pub(crate) fn act<L: Ledger>(
         Request::PendingGive { token, package } => live.pending_give(by, *token, package, steps),
         Request::ForceStop { package } => Ok(live.force_stop(by, package, steps)),
         Request::Tick => {
-            live.settle(moment, steps);
-            Ok(tick(call.uid))
+            live.settle(by.moment, steps);
+            Ok(tick(by.uid))
         }
         Request::Advance { by: more } => Ok(live.advance(by, *more, steps)),
-        _ => read_at(live, history, by, &call.request, steps),
+        _ => read_at(live, history, by, request, steps),
     }
 }
 

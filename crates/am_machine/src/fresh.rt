@@ -1,23 +1,15 @@
 //! The manager of a device of which nothing was kept.
 ghost use Rattle.std.specs.Prelude.{◌≡◌, Some, IfOk, IfErr, Ok};
 ghost use Rattle.am_keeper.specs.declared.rows.Rows.{Rows as Told};
-ghost use Rattle.am_keeper.specs.Rows.{IsInOrder, no_rows};
+ghost use Rattle.am_keeper.specs.Rows.{no_rows};
 ghost use Rattle.am_model.specs.Sound.{IsSound};
 ghost use Rattle.am_machine.specs.Beginnings.{BeginsWith, IsWant};
 
 use crate::manager::{Manager, begin};
-use am_keeper::{Attached, Keeper, Rows, RowsBuilder};
+use am_keeper::{Attached, Keeper, RowsBuilder};
 use am_opening::BeginFault;
 use am_types::{Device, NoMemory};
 use std::alloc::Global;
-
-// No rows at all.
-fn no_rows(alloc: Global) -> Rows
-    ensures rows { result ≡ no_rows }
-    ensures order { IsInOrder result }
-{
-    RowsBuilder::new(alloc).finish()
-}
 
 // The manager that began, unless memory ran out.
 fn begun<K: Keeper>(manager: Result<Manager<K>, BeginFault>) -> Result<Manager<K>, NoMemory>
@@ -42,6 +34,6 @@ pub fn begin_fresh<K: Keeper>(
     requires told { K.is_honest keeper → (told : Told) → K.rows keeper ≡ Some told → no_rows ≡ told }
     ensures { IfOk result (λ manager. BeginsWith device manager) }
 {
-    let rows = no_rows(alloc);
+    let rows = RowsBuilder::new(alloc).finish();
     begun(begin(alloc, device, Attached { keeper, rows }))
 }

@@ -11,11 +11,11 @@ ghost use Rattle.std.specs.Option.{option_map};
 ghost use Rattle.am_history.specs.Steps.{asks_keeper, after_due, at_moment, keeps_row, step};
 ghost use Rattle.am_laws_state.specs.Sound.{IsSoundState};
 ghost use Rattle.am_live_packages.specs.Changes.{Fits, changed};
-ghost use Rattle.am_machine.specs.Keeping.{AsksAtMostOnce, AsksOnce, CountsNone, GoesOn, IsUnasked, TellsSame, told_after, with_kept};
+ghost use Rattle.am_machine.specs.Keeping.{AsksAtMostOnce, GoesOn, Leaves, LeavesUnmade, TellsSame, with_kept};
 
 use am_keeper::{KeepFail, Keeper, Row, put_row};
 use am_live::{Change, Live, Plan};
-use am_types::{Entry, NoMemory, Reply, Rule, Steps};
+use am_types::{Entry, NoMemory, Reply, Request, Rule, Steps};
 use std::sync::ledger::Ledger;
 
 /// The answer to a call that is stored.
@@ -24,6 +24,19 @@ pub(crate) struct Answered {
     pub(crate) reply: Reply,
     /// False if its row couldn't be kept: then it changed nothing.
     pub(crate) kept: bool,
+}
+
+/// Whether a row is to be kept for the request.
+pub(crate) fn keeps_row(request: &Request) -> bool
+    ensures { result ≡ keeps_row request.now }
+{
+    match request {
+        Request::Install { .. } => true,
+        Request::Uninstall { .. } => true,
+        Request::Grant { .. } => true,
+        Request::Link { .. } => true,
+        _ => false,
+    }
 }
 
 /// The answer to a call with a row, and what it does to the state and the keeper. After `NoMemory` the state
@@ -42,17 +55,12 @@ pub(crate) fn keep<K: Keeper, L: Ledger>(
         || asks_keeper (after_due live.old call.entry.now.now) before call.entry.now.uid call.entry.now.request)) }
     ensures same { OnErr result (live.new ≡ live.old) }
     ensures keeper { GoesOn K.Keeper keeper.old keeper.new }
-    ensures put { IfOk result (λ answered. K.is_honest keeper.new →
-        K.rows keeper.new ≡ told_after live.old call.entry.now.request answered.reply (K.rows keeper.old)) }
-    ensures refused { OnErr result (TellsSame K.Keeper keeper.old keeper.new) }
+    ensures leaves { IfOk result (λ answered. Leaves K.Keeper
+        (record { state = live.old; request = call.entry.now.request; reply = answered.reply })
+        keeper.old keeper.new) }
     ensures fault { IfOk result (λ answered. answered.kept ≡ false →
         HasRisen (K.faults keeper.old) (K.faults keeper.new)) }
-    ensures unasked { IfOk result (λ answered. IsUnasked answered.reply keeper.old keeper.new) }
-    ensures counts { IfOk result (λ answered. CountsNone K.Keeper answered.reply keeper.old keeper.new) }
-    ensures uncounted { OnErr result (K.faults keeper.new ≡ K.faults keeper.old) }
-    ensures asks { IfOk result
-        (λ answered. AsksOnce K.Keeper call.entry.now.request answered.reply keeper.old keeper.new) }
-    ensures at_most { OnErr result (AsksAtMostOnce K.Keeper keeper.old keeper.new) }
+    ensures unmade { OnErr result (LeavesUnmade K.Keeper keeper.old keeper.new) }
 {
     let moment = live.moment_after(call.now);
     let planned = live.plan(call.uid, &call.request)?;

@@ -2,13 +2,13 @@
 #![tactic(auto)]
 
 mod acts;
-mod class;
+mod archive;
 mod fresh;
-mod history;
 mod keeping;
 mod laws;
 mod manager;
 mod opened;
+mod packed;
 mod reads;
 mod sole;
 mod step;

@@ -12,11 +12,11 @@ ghost use Rattle.am_laws_kept.specs.Found.{rows_after};
 ghost use Rattle.am_opening.specs.Openings.{Refuses};
 ghost use Rattle.am_machine.specs.Managed.{is_unkept};
 
+use crate::archive::Archive;
 use crate::opened::Opened;
 use am_keeper::{Attached, Keeper, Rows};
 use am_live::Live;
 use am_opening::{BeginFault, open};
-use am_packed::Archive;
 use am_types::{Device, NoMemory, Text, drop_parts};
 use std::alloc::Global;
 use std::hash::RandomState;
@@ -34,12 +34,12 @@ pub struct Manager<K: Keeper> {
 }
 
 impl<K: Keeper> Model for Manager<K> {
-    ghost use Rattle.am_machine.specs.Managed.{Managed, Holds, HoldsKept};
+    ghost use Rattle.am_machine.specs.Managed.{Managed, Holds, HoldsKept, origin_at};
 
     ghost Value = { Managed K };
 
     ghost view = { λ m. record {
-      origin = record { device = m.opened.device; rows = m.opened.rows; place = K.place m.keeper };
+      origin = origin_at m.opened (K.place m.keeper);
       history = m.history.entries;
       spare = m.history.spare;
       keeper = m.keeper;
@@ -47,10 +47,8 @@ impl<K: Keeper> Model for Manager<K> {
 
     // The live state is the one that the history leaves, and the keeper counted what it couldn't keep.
     ghost invariant = { λ m.
-        Holds (record { device = m.opened.device; rows = m.opened.rows; place = K.place m.keeper })
-        m.live m.history.entries m.weight
-        × HoldsKept K.Keeper (record { device = m.opened.device; rows = m.opened.rows; place = K.place m.keeper })
-        m.history.entries m.keeper };
+        Holds (origin_at m.opened (K.place m.keeper)) m.live m.history.entries m.weight
+        × HoldsKept K.Keeper (origin_at m.opened (K.place m.keeper)) m.history.entries m.keeper };
 }
 
 impl<K: Keeper> Drop for Manager<K> {

@@ -5,17 +5,35 @@ ghost use Rattle.am_types.specs.declared.request.Request.TheVariants as asks;
 ghost use Rattle.am_types.specs.declared.rule.Rule.TheVariants.{AdminOnly};
 ghost use Rattle.am_model.specs.Broadcasts.{Broadcasts};
 ghost use Rattle.am_model.specs.Gates.{is_privileged};
-ghost use Rattle.am_history.specs.Explaining.{explain};
 ghost use Rattle.am_history.specs.Steps.{act, at_moment, is_calm, is_changing, is_steady, page};
 
-use crate::history::page;
+use crate::archive::Archive;
 use am_explain::Question;
 use am_live::{Caller, Live};
-use am_packed::Archive;
-use am_types::{Entry, Intent, Kind, NoMemory, Reply, Request, Rule, Steps, Text};
+use am_types::{Entry, NoMemory, Reply, Request, Rule, Steps};
 use std::sync::ledger::Ledger;
 
+/// How many entries a page of the history has at most.
+const PAGE: usize = 64;
+
+/// Whether the request may change the state.
+pub(crate) fn is_changing(request: &Request) -> bool
+    ensures { result ≡ is_changing request.now }
+{
+    match request {
+        Request::Query { .. } => false,
+        Request::Explain { .. } => false,
+        Request::ListTasks => false,
+        Request::Services => false,
+        Request::Inbox => false,
+        Request::History { .. } => false,
+        Request::Status => false,
+        _ => true,
+    }
+}
+
 /// The answer to a request that changes nothing.
+#[tactic(auto, unfolding(am_history::specs::Steps::act))]
 pub(crate) fn read<L: Ledger>(
     live: &Live,
     history: &Archive,
@@ -35,6 +53,7 @@ pub(crate) fn read<L: Ledger>(
 
 /// The answer to a request that changes nothing, except that time passes: what is due at the moment is handled.
 /// After `NoMemory` the state is as before.
+#[tactic(auto, unfolding(am_history::specs::Steps::act))]
 pub(crate) fn read_at<L: Ledger>(
     live: &mut Live,
     history: &Archive,
@@ -63,6 +82,7 @@ pub(crate) fn read_at<L: Ledger>(
 }
 
 /// The length of the history, the moment and the number of packages, for the system and the root.
+#[tactic(auto, unfolding(am_history::specs::Steps::act))]
 fn status(live: &Live, history: &Archive, caller: u32) -> Reply
     ensures { act live.now history.now.entries caller asks.Status ≡ (result, live.now) }
 {
@@ -79,6 +99,7 @@ fn status(live: &Live, history: &Archive, caller: u32) -> Reply
 
 /// The answer to a request that changes nothing, and whose answer depends neither on broadcasts nor on
 /// the moment.
+#[tactic(auto, unfolding(am_history::specs::Steps::act))]
 fn steady<L: Ledger>(
     live: &Live,
     history: &Archive,
@@ -103,30 +124,15 @@ fn steady<L: Ledger>(
             caller: name,
             permission,
             shown,
-        } => explained(live, caller, *kind, intent, name, permission, shown, steps),
+        } => {
+            let question = Question::new(caller, *kind, intent, permission.as_ref());
+            live.explain(&question, name.as_ref(), shown.as_ref(), steps)
+        }
         Request::ListTasks => live.tasks(caller),
         Request::Services => live.services(caller),
         Request::History { from } => entries(history, caller, *from),
         _ => unreachable!(),
     }
-}
-
-/// Whom an intent of the caller, or of the one with that name, reaches, and why not the others.
-fn explained<L: Ledger>(
-    live: &Live,
-    caller: u32,
-    kind: Kind,
-    intent: &Intent,
-    name: &Option<Text>,
-    permission: &Option<Text>,
-    shown: &Option<Text>,
-    steps: &mut Steps<L>,
-) -> Result<Reply, NoMemory>
-    ensures { IfOk result (λ reply. reply ≡ explain live.now.board
-        (record { caller = caller; kind = kind; intent = intent.now; required = permission.now }) name.now shown.now) }
-{
-    let question = Question::new(caller, kind, intent, permission.as_ref());
-    live.explain(&question, name.as_ref(), shown.as_ref(), steps)
 }
 
 /// A page of the history, for the system and the root.
@@ -137,6 +143,6 @@ fn entries(history: &Archive, caller: u32, from: u64) -> Result<Reply, NoMemory>
     if !Live::is_privileged(caller) {
         return Ok(Reply::Refused(Rule::AdminOnly));
     }
-    let entries = page(history, from)?;
+    let entries = history.page(from as usize, PAGE)?;
     Ok(Reply::Entries { from, entries })
 }

@@ -9,16 +9,15 @@ ghost use Rattle.am_history.specs.State.{uid_of, has_uid};
 ghost use Rattle.am_history.specs.Numbers.{HasNumbers};
 ghost use Rattle.am_history.specs.Steps.{Call, after_due, asks_keeper, is_calm, is_formed, keeps_row, step};
 ghost use Rattle.am_laws_state.specs.Sound.{IsSoundState};
-ghost use Rattle.am_machine.specs.Keeping.{AsksAtMostOnce, AsksOnce, CountsNone, GoesOn, IsFault, IsUnasked, TellsSame, told_after, with_kept};
+ghost use Rattle.am_machine.specs.Keeping.{AsksAtMostOnce, AsksOnce, CountsNone, GoesOn, IsFault, IsUnasked, Leaves, LeavesUnmade, TellsSame, told_after, with_kept};
 
 use crate::acts::act;
-use crate::class::{is_changing, keeps_row};
-use crate::keeping::{Answered, keep};
+use crate::archive::Archive;
+use crate::keeping::{Answered, keep, keeps_row};
 use crate::manager::Manager;
-use crate::reads::read;
+use crate::reads::{is_changing, read};
 use am_keeper::Keeper;
 use am_live::Live;
-use am_packed::Archive;
 use am_types::{Entry, NoMemory, Reply, Request, Rule, Shown, Steps, Text};
 use std::marker::Brand;
 use std::sync::ledger::{Blank, Ledger};
@@ -94,7 +93,6 @@ impl<K: Keeper> Manager<K> {
     }
 
     // A call of a known caller, by a counter that begins with the blank.
-    #[tactic(auto, using(crate::proofs::Calm::calm_is_short))]
     fn counted<L: Ledger>(&mut self, call: &Entry, blank: Blank) -> Result<Shown, NoMemory>
         requires name { blank.name ≡ L.name }
         requires parts { blank.parts ≡ L.parts }
@@ -109,16 +107,13 @@ impl<K: Keeper> Manager<K> {
         ensures refused { OnErr result (self.new.history ≡ self.old.history) }
         ensures keeper { GoesOn K.Keeper self.old.keeper self.new.keeper }
         ensures quiet { keeps_row call.entry.now.request ≡ false → self.new.keeper ≡ self.old.keeper }
-        ensures put { IfOk result (λ shown. K.is_honest self.new.keeper → K.rows self.new.keeper
-            ≡ told_after (replay (opening_of self.old.origin) self.old.history) call.entry.now.request shown.reply
-            (K.rows self.old.keeper)) }
-        ensures refused_rows { OnErr result (TellsSame K.Keeper self.old.keeper self.new.keeper) }
-        ensures unasked { IfOk result (λ shown. IsUnasked shown.reply self.old.keeper self.new.keeper) }
-        ensures counts { IfOk result (λ shown. CountsNone K.Keeper shown.reply self.old.keeper self.new.keeper) }
-        ensures uncounted { OnErr result (K.faults self.new.keeper ≡ K.faults self.old.keeper) }
-        ensures asks { IfOk result
-            (λ shown. AsksOnce K.Keeper call.entry.now.request shown.reply self.old.keeper self.new.keeper) }
-        ensures at_most { OnErr result (AsksAtMostOnce K.Keeper self.old.keeper self.new.keeper) }
+        ensures leaves { IfOk result (λ shown. Leaves K.Keeper
+            (record {
+              state = replay (opening_of self.old.origin) self.old.history;
+              request = call.entry.now.request;
+              reply = shown.reply;
+            }) self.old.keeper self.new.keeper) }
+        ensures unmade { OnErr result (LeavesUnmade K.Keeper self.old.keeper self.new.keeper) }
         ensures fault { IfOk result (λ shown. shown.reply ≡ Refused KeeperFault → IsFault K.Keeper self.old self.new) }
         ensures spare { IfOk result (λ shown. self.old.spare ≤ self.new.spare + (if shown.stored then 1 else 0)) }
         ensures room { OnErr result (self.old.spare ≤ self.new.spare) }
@@ -197,17 +192,12 @@ fn answer<K: Keeper, L: Ledger>(
     ensures same { OnErr result (live.new ≡ live.old) }
     ensures keeper { GoesOn K.Keeper keeper.old keeper.new }
     ensures quiet { keeps_row call.entry.now.request ≡ false → keeper.new ≡ keeper.old }
-    ensures put { IfOk result (λ answered. K.is_honest keeper.new →
-        K.rows keeper.new ≡ told_after live.old call.entry.now.request answered.reply (K.rows keeper.old)) }
-    ensures refused { OnErr result (TellsSame K.Keeper keeper.old keeper.new) }
+    ensures leaves { IfOk result (λ answered. Leaves K.Keeper
+        (record { state = live.old; request = call.entry.now.request; reply = answered.reply })
+        keeper.old keeper.new) }
     ensures fault { IfOk result (λ answered. answered.kept ≡ false →
         HasRisen (K.faults keeper.old) (K.faults keeper.new)) }
-    ensures unasked { IfOk result (λ answered. IsUnasked answered.reply keeper.old keeper.new) }
-    ensures counts { IfOk result (λ answered. CountsNone K.Keeper answered.reply keeper.old keeper.new) }
-    ensures uncounted { OnErr result (K.faults keeper.new ≡ K.faults keeper.old) }
-    ensures asks { IfOk result
-        (λ answered. AsksOnce K.Keeper call.entry.now.request answered.reply keeper.old keeper.new) }
-    ensures at_most { OnErr result (AsksAtMostOnce K.Keeper keeper.old keeper.new) }
+    ensures unmade { OnErr result (LeavesUnmade K.Keeper keeper.old keeper.new) }
     ensures calm { IsTrue (is_calm call.entry.now.request) → IsOk result }
 {
     if keeps_row(&call.request) {

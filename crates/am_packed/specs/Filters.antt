@@ -1,10 +1,10 @@
 -- Filters as bytes.
-use Rattle.std.specs.Prelude.{◌≡◌, ℕ, zero, suc, List, [], ◌∷◌, ◌++◌, refl}
+use Rattle.std.specs.Prelude.{◌≡◌, ℕ, zero, suc, List, refl}
 use Rattle.am_types.specs.declared.filter.Authority.{Authority}
 use Rattle.am_types.specs.declared.filter.PathRule.{PathRule}
 use Rattle.am_types.specs.declared.filter.PathRule.TheVariants as rules
 use Rattle.am_types.specs.declared.filter.Filter.{Filter}
-use Rattle.am_packed.specs.Forms.{Form, both, made_of}
+use Rattle.am_packed.specs.Forms.{Form, ◌and◌, ◌&◌, made_of}
 use Rattle.am_packed.specs.Numbers.{number, whole}
 use Rattle.am_packed.specs.Texts.{text}
 use Rattle.am_packed.specs.Lists.{option_of, list_of}
@@ -13,49 +13,52 @@ use Rattle.am_packed.specs.Intents.{mime_form}
 -- a host and its port
 unfoldable pub authority_form : Form Authority
 authority_form =
-    made_of (both text (option_of number))
-    (λ x. (x.host, x.port))
-    (λ p. record { host = p.0; port = p.1 })
+    made_of (text and option_of number) (λ x. x.host & x.port) (λ p. record { host = p.0; port = p.1 })
     (λ x. refl)
 
--- the bytes of a rule on paths: a byte that says which it is, then its text
-abbrev pub path_bytes : PathRule → List ℕ
-path_bytes (rules.Literal words) = 0 ∷ text.bytes words
-path_bytes (rules.Prefix words) = 1 ∷ text.bytes words
-path_bytes (rules.Suffix words) = 2 ∷ text.bytes words
-path_bytes (rules.Pattern words) = 3 ∷ text.bytes words
+-- the number of a rule on paths
+abbrev pub rule_number : PathRule → ℕ
+rule_number (rules.Literal words) = 0
+rule_number (rules.Prefix words) = 1
+rule_number (rules.Suffix words) = 2
+rule_number (rules.Pattern words) = 3
 
--- the rule on paths that bytes begin with, and what follows it
-abbrev pub path_at : List ℕ → PathRule × List ℕ
-path_at [] = (rules.Literal [], [])
-path_at (zero ∷ others) = (rules.Literal (text.read others).0, (text.read others).1)
-path_at (suc zero ∷ others) = (rules.Prefix (text.read others).0, (text.read others).1)
-path_at (suc (suc zero) ∷ others) = (rules.Suffix (text.read others).0, (text.read others).1)
-path_at (suc (suc (suc n)) ∷ others) = (rules.Pattern (text.read others).0, (text.read others).1)
+-- its text
+abbrev pub rule_text : PathRule → List ℕ
+rule_text (rules.Literal words) = words
+rule_text (rules.Prefix words) = words
+rule_text (rules.Suffix words) = words
+rule_text (rules.Pattern words) = words
 
-pub path_again : (x : PathRule) (rest : List ℕ) → path_at (path_bytes x ++ rest) ≡ (x, rest)
-path_again (rules.Literal words) rest = rw (text.again words rest) refl
-path_again (rules.Prefix words) rest = rw (text.again words rest) refl
-path_again (rules.Suffix words) rest = rw (text.again words rest) refl
-path_again (rules.Pattern words) rest = rw (text.again words rest) refl
+-- the rule of that number with that text
+abbrev pub rule_of : ℕ → List ℕ → PathRule
+rule_of zero words = rules.Literal words
+rule_of (suc zero) words = rules.Prefix words
+rule_of (suc (suc zero)) words = rules.Suffix words
+rule_of (suc (suc (suc n))) words = rules.Pattern words
+
+pub rule_back : (rule : PathRule) → rule_of (rule_number rule) (rule_text rule) ≡ rule
+rule_back (rules.Literal words) = refl
+rule_back (rules.Prefix words) = refl
+rule_back (rules.Suffix words) = refl
+rule_back (rules.Pattern words) = refl
 
 -- a rule on paths
 unfoldable pub path_form : Form PathRule
-path_form = record { bytes = path_bytes; read = path_at; again = path_again }
+path_form = made_of (number and text) (λ x. rule_number x & rule_text x) (λ p. rule_of p.0 p.1) rule_back
 
 -- a filter
 unfoldable pub filter_form : Form Filter
 filter_form =
-    made_of (both (list_of text) (both (list_of text) (both (list_of text) (both (list_of authority_form) (both
-    (list_of path_form) (both (list_of mime_form) whole))))))
-    (λ x. (x.actions, (x.categories, (x.schemes, (x.authorities, (x.paths, (x.types, x.priority)))))))
+    made_of (list_of text and list_of text and list_of text and list_of authority_form and list_of path_form and
+    list_of mime_form and whole)
+    (λ x. x.actions & x.categories & x.schemes & x.authorities & x.paths & x.types & x.priority)
     (λ p. record {
       actions = p.0;
       categories = p.1.0;
       schemes = p.1.1.0;
       authorities = p.1.1.1.0;
-      paths =
-          p.1.1.1.1.0;
+      paths = p.1.1.1.1.0;
       types = p.1.1.1.1.1.0;
       priority = p.1.1.1.1.1.1;
     })

@@ -19,12 +19,22 @@ module _ {A B : Type 0} where
       rw (append_assoc (f.bytes x.0) (g.bytes x.1) rest, f.again x.0 (g.bytes x.1 ++ rest), g.again x.1 rest) refl
 
   -- one value, then the other
-  abbrev pub both : Form A → Form B → Form (A × B)
+  unfoldable pub both : Form A → Form B → Form (A × B)
   both f g = record {
     bytes = λ x. f.bytes x.0 ++ g.bytes x.1;
     read = λ s. then_read g.read (f.read s);
     again = both_again f g;
   }
+
+  -- the same, for chains of values
+  infixr 20 ◌and◌
+  abbrev pub ◌and◌ : Form A → Form B → Form (A × B)
+  f and g = both f g
+
+  -- one value and another, or more, as pairs
+  infixr 20 ◌&◌
+  abbrev pub ◌&◌ : A → B → A × B
+  x & y = (x, y)
 
   -- a value as the other one that it is made of
   abbrev pub made_of : Form B → (to : A → B) → (from : B → A) → ((x : A) → from (to x) ≡ x) → Form A

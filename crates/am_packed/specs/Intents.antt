@@ -11,7 +11,7 @@ use Rattle.am_types.specs.declared.intent.Intent.{Intent}
 use Rattle.am_types.specs.declared.uri.Uri.{Uri}
 use Rattle.am_types.specs.declared.uri.Mime.{Mime}
 use Rattle.am_types.specs.declared.pending.PendingFlags.{PendingFlags}
-use Rattle.am_packed.specs.Forms.{Form, both, made_of}
+use Rattle.am_packed.specs.Forms.{Form, ◌and◌, ◌&◌, made_of}
 use Rattle.am_packed.specs.Numbers.{number, flag, whole}
 use Rattle.am_packed.specs.Texts.{text}
 use Rattle.am_packed.specs.Lists.{option_of, list_of}
@@ -38,26 +38,19 @@ kind_form = made_of number kind_number kind_of kind_back
 -- the name of a component
 unfoldable pub component_form : Form Component
 component_form =
-    made_of (both text text)
-    (λ x. (x.package, x.class))
-    (λ p. record { «package» = p.0; class = p.1 })
-    (λ x. refl)
+    made_of (text and text) (λ x. x.package & x.class) (λ p. record { «package» = p.0; class = p.1 }) (λ x. refl)
 
 -- a URI with its parts
 unfoldable pub uri_form : Form Uri
 uri_form =
-    made_of (both text (both text (both (option_of text) (both (option_of number) text))))
-    (λ x. (x.text, (x.scheme, (x.host, (x.port, x.path)))))
-    (λ p. record { text = p.0; scheme = p.1.0; host = p.1.1.0; port = p.1.1.1.0; path = p.1.1.1.1 })
-    (λ x. refl)
+    made_of (text and text and option_of text and option_of number and text)
+    (λ x. x.text & x.scheme & x.host & x.port & x.path)
+    (λ p. record { text = p.0; scheme = p.1.0; host = p.1.1.0; port = p.1.1.1.0; path = p.1.1.1.1 }) (λ x. refl)
 
 -- a MIME type
 unfoldable pub mime_form : Form Mime
 mime_form =
-    made_of (both text text)
-    (λ x. (x.main, x.sub))
-    (λ p. record { main = p.0; sub = p.1 })
-    (λ x. refl)
+    made_of (text and text) (λ x. x.main & x.sub) (λ p. record { main = p.0; sub = p.1 }) (λ x. refl)
 
 -- the bytes of an extra's value: a byte that says which it is, then the value
 abbrev pub extra_bytes : Extra → List ℕ
@@ -84,46 +77,23 @@ extra_form = record { bytes = extra_bytes; read = extra_at; again = extra_again 
 -- an extra under its key
 unfoldable pub named_form : Form Named
 named_form =
-    made_of (both text extra_form)
-    (λ x. (x.key, x.value))
-    (λ p. record { key = p.0; value = p.1 })
-    (λ x. refl)
+    made_of (text and extra_form) (λ x. x.key & x.value) (λ p. record { key = p.0; value = p.1 }) (λ x. refl)
 
 -- the flags of an intent
 unfoldable pub flags_form : Form Flags
 flags_form =
-    made_of (both flag (both flag (both flag (both flag (both flag (both flag (both flag (both flag (both flag
-    flag)))))))))
-    (λ x. (
-      x.new_task,
-      (
-        x.multiple_task,
-        (
-          x.clear_task,
-          (
-            x.clear_top,
-            (
-              x.single_top,
-              (
-                x.reorder_to_front,
-                (x.registered_only, (x.foreground, (x.no_abort, x.include_stopped))),
-              ),
-            ),
-          ),
-        ),
-      ),
-    ))
+    made_of (flag and flag and flag and flag and flag and flag and flag and flag and flag and flag)
+    (λ x. x.new_task & x.multiple_task & x.clear_task & x.clear_top & x.single_top & x.reorder_to_front &
+    x.registered_only & x.foreground & x.no_abort & x.include_stopped)
     (λ p. record {
       new_task = p.0;
       multiple_task = p.1.0;
       clear_task = p.1.1.0;
       clear_top = p.1.1.1.0;
-      single_top =
-          p.1.1.1.1.0;
+      single_top = p.1.1.1.1.0;
       reorder_to_front = p.1.1.1.1.1.0;
       registered_only = p.1.1.1.1.1.1.0;
-      foreground =
-          p.1.1.1.1.1.1.1.0;
+      foreground = p.1.1.1.1.1.1.1.0;
       no_abort = p.1.1.1.1.1.1.1.1.0;
       include_stopped = p.1.1.1.1.1.1.1.1.1;
     })
@@ -132,34 +102,9 @@ flags_form =
 -- an intent
 unfoldable pub intent_form : Form Intent
 intent_form =
-    made_of (both (option_of text) (both (option_of uri_form) (both (option_of mime_form) (both (option_of text)
-    (both (list_of text) (both (option_of text) (both (option_of component_form) (both flags_form (list_of
-    named_form)))))))))
-    (λ x. (
-      x.action,
-      (
-        x.uri,
-        (
-          x.mime,
-          (
-            x.identifier,
-            (
-              x.categories,
-              (
-                x.package,
-                (
-                  x.component,
-                  (
-                    x.flags,
-                    x.extras,
-                  ),
-                ),
-              ),
-            ),
-          ),
-        ),
-      ),
-    ))
+    made_of (option_of text and option_of uri_form and option_of mime_form and option_of text and list_of text and
+    option_of text and option_of component_form and flags_form and list_of named_form)
+    (λ x. x.action & x.uri & x.mime & x.identifier & x.categories & x.package & x.component & x.flags & x.extras)
     (λ p. record {
       action = p.0;
       uri = p.1.0;
@@ -176,15 +121,14 @@ intent_form =
 -- the flags of a pending intent
 unfoldable pub pending_flags_form : Form PendingFlags
 pending_flags_form =
-    made_of (both flag (both flag (both flag (both flag (both flag flag)))))
-    (λ x. (x.one_shot, (x.no_create, (x.cancel_current, (x.update_current, (x.immutable, x.mutable))))))
+    made_of (flag and flag and flag and flag and flag and flag)
+    (λ x. x.one_shot & x.no_create & x.cancel_current & x.update_current & x.immutable & x.mutable)
     (λ p. record {
       one_shot = p.0;
       no_create = p.1.0;
       cancel_current = p.1.1.0;
       update_current = p.1.1.1.0;
-      immutable
-          = p.1.1.1.1.0;
+      immutable = p.1.1.1.1.0;
       mutable = p.1.1.1.1.1;
     })
     (λ x. refl)

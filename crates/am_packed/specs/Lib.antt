@@ -6,5 +6,3 @@ pub mod Intents
 pub mod Filters
 pub mod Outcomes
 pub mod Parts
-pub mod Requests
-pub mod Archives

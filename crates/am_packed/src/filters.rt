@@ -1,9 +1,9 @@
 //! Filters and their parts.
 ghost use Rattle.std.specs.Prelude.{◌≡◌, ◌++◌, OnOk, IfOk};
-ghost use Rattle.am_packed.specs.Filters.{authority_form, path_form, filter_form};
+ghost use Rattle.am_packed.specs.Filters.{authority_form, path_form, rule_number, rule_of, rule_text, filter_form};
 
-use crate::form::Pack;
-use am_types::{Authority, Filter, Glob, List, Mime, NoMemory, PathRule, Text};
+use crate::form::{Pack, Parts, pack_parts, parts, unpack_parts};
+use am_types::{Authority, Filter, Glob, NoMemory, PathRule, Text};
 use std::alloc::Global;
 
 impl Pack for Authority {
@@ -11,16 +11,12 @@ impl Pack for Authority {
 
     #[tactic(auto, unfolding(crate::specs::Filters::authority_form))]
     fn pack(&self, out: &mut Vec<u8>) -> Result<(), NoMemory> {
-        self.host.pack(out)?;
-        self.port.pack(out)
+        pack_parts!(self, out: host port)
     }
 
     #[tactic(auto, unfolding(crate::specs::Filters::authority_form))]
     fn unpack(alloc: Global, bytes: &[u8]) -> Result<(Authority, &[u8]), NoMemory> {
-        let (host, rest) = Text::unpack(alloc, bytes)?;
-        let (port, rest) = <Option<u32>>::unpack(alloc, rest)?;
-        let value = Authority { host, port };
-        Ok((value, rest))
+        unpack_parts!(alloc, bytes, Authority: host port)
     }
 }
 
@@ -29,47 +25,41 @@ impl Pack for PathRule {
 
     #[tactic(auto, unfolding(crate::specs::Filters::path_form))]
     fn pack(&self, out: &mut Vec<u8>) -> Result<(), NoMemory> {
-        match self {
-            PathRule::Literal(words) => {
-                out.push(0)?;
-                words.pack(out)
-            }
-            PathRule::Prefix(words) => {
-                out.push(1)?;
-                words.pack(out)
-            }
-            PathRule::Suffix(words) => {
-                out.push(2)?;
-                words.pack(out)
-            }
-            PathRule::Pattern(pattern) => {
-                out.push(3)?;
-                pattern.pack(out)
-            }
-        }
+        let (number, words) = numbered(self);
+        (&number, words).pack_parts(out)
     }
 
     #[tactic(auto, unfolding(crate::specs::Filters::path_form))]
     fn unpack(alloc: Global, bytes: &[u8]) -> Result<(PathRule, &[u8]), NoMemory> {
-        match bytes {
-            [] => Ok((PathRule::Literal(Text::of(alloc, "")?), bytes)),
-            [0, others @ ..] => {
-                let (words, rest) = Text::unpack(alloc, others)?;
-                Ok((PathRule::Literal(words), rest))
-            }
-            [1, others @ ..] => {
-                let (words, rest) = Text::unpack(alloc, others)?;
-                Ok((PathRule::Prefix(words), rest))
-            }
-            [2, others @ ..] => {
-                let (words, rest) = Text::unpack(alloc, others)?;
-                Ok((PathRule::Suffix(words), rest))
-            }
-            [_, others @ ..] => {
-                let (pattern, rest) = Glob::unpack(alloc, others)?;
-                Ok((PathRule::Pattern(pattern), rest))
-            }
-        }
+        let ((number, words), rest) = Pack::unpack(alloc, bytes)?;
+        Ok((rule_of(number, words)?, rest))
+    }
+}
+
+// The number and the text of a rule on paths.
+fn numbered(rule: &PathRule) -> (u64, &Text)
+    ensures { (result.0 ≡ rule_number rule.now) × (result.1.now ≡ rule_text rule.now) }
+{
+    match rule {
+        PathRule::Literal(words) => (0, words),
+        PathRule::Prefix(words) => (1, words),
+        PathRule::Suffix(words) => (2, words),
+        PathRule::Pattern(pattern) => (3, pattern.text()),
+    }
+}
+
+// The rule on paths with that number and text.
+fn rule_of(number: u64, words: Text) -> Result<PathRule, NoMemory>
+    ensures { IfOk result (λ rule. rule ≡ rule_of number words) }
+{
+    match number {
+        0 => Ok(PathRule::Literal(words)),
+        1 => Ok(PathRule::Prefix(words)),
+        2 => Ok(PathRule::Suffix(words)),
+        _ => match Glob::new(words) {
+            Ok(pattern) => Ok(PathRule::Pattern(pattern)),
+            Err(_) => Err(NoMemory),
+        },
     }
 }
 
@@ -78,33 +68,14 @@ impl Pack for Filter {
 
     #[tactic(auto, unfolding(crate::specs::Filters::filter_form))]
     fn pack(&self, out: &mut Vec<u8>) -> Result<(), NoMemory> {
-        self.actions.pack(out)?;
-        self.categories.pack(out)?;
-        self.schemes.pack(out)?;
-        self.authorities.pack(out)?;
-        self.paths.pack(out)?;
-        self.types.pack(out)?;
-        self.priority.pack(out)
+        pack_parts!(self, out: actions categories schemes authorities paths types priority)
     }
 
     #[tactic(auto, unfolding(crate::specs::Filters::filter_form))]
     fn unpack(alloc: Global, bytes: &[u8]) -> Result<(Filter, &[u8]), NoMemory> {
-        let (actions, rest) = <List<Text>>::unpack(alloc, bytes)?;
-        let (categories, rest) = <List<Text>>::unpack(alloc, rest)?;
-        let (schemes, rest) = <List<Text>>::unpack(alloc, rest)?;
-        let (authorities, rest) = <List<Authority>>::unpack(alloc, rest)?;
-        let (paths, rest) = <List<PathRule>>::unpack(alloc, rest)?;
-        let (types, rest) = <List<Mime>>::unpack(alloc, rest)?;
-        let (priority, rest) = i32::unpack(alloc, rest)?;
-        let value = Filter {
-            actions,
-            categories,
-            schemes,
-            authorities,
-            paths,
-            types,
-            priority,
-        };
-        Ok((value, rest))
+        unpack_parts!(
+            alloc, bytes, Filter:
+            actions categories schemes authorities paths types priority
+        )
     }
 }

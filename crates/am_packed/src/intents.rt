@@ -1,10 +1,12 @@
-//! Intents and their parts.
+//! Intents and their parts, and the outcomes of broadcasts, which carry extras too.
 ghost use Rattle.std.specs.Prelude.{◌≡◌, ◌++◌, OnOk, IfOk};
+ghost use Rattle.am_packed.specs.Outcomes.{outcome_form, ordered_form};
 ghost use Rattle.am_packed.specs.Intents.{kind_form, component_form, uri_form, mime_form, extra_form, named_form, flags_form, intent_form, pending_flags_form};
 
-use crate::form::Pack;
+use crate::form::{Pack, Parts, pack_parts, parts, unpack_parts};
 use am_types::{
-    Component, Extra, Flags, Intent, Kind, List, Mime, Named, NoMemory, PendingFlags, Text, Uri,
+    Component, Extra, Flags, Intent, Kind, Mime, Named, NoMemory, Ordered, Outcome, PendingFlags,
+    Text, Uri,
 };
 use std::alloc::Global;
 
@@ -37,16 +39,12 @@ impl Pack for Component {
 
     #[tactic(auto, unfolding(crate::specs::Intents::component_form))]
     fn pack(&self, out: &mut Vec<u8>) -> Result<(), NoMemory> {
-        self.package.pack(out)?;
-        self.class.pack(out)
+        pack_parts!(self, out: package class)
     }
 
     #[tactic(auto, unfolding(crate::specs::Intents::component_form))]
     fn unpack(alloc: Global, bytes: &[u8]) -> Result<(Component, &[u8]), NoMemory> {
-        let (package, rest) = Text::unpack(alloc, bytes)?;
-        let (class, rest) = Text::unpack(alloc, rest)?;
-        let value = Component { package, class };
-        Ok((value, rest))
+        unpack_parts!(alloc, bytes, Component: package class)
     }
 }
 
@@ -55,28 +53,12 @@ impl Pack for Uri {
 
     #[tactic(auto, unfolding(crate::specs::Intents::uri_form))]
     fn pack(&self, out: &mut Vec<u8>) -> Result<(), NoMemory> {
-        self.text.pack(out)?;
-        self.scheme.pack(out)?;
-        self.host.pack(out)?;
-        self.port.pack(out)?;
-        self.path.pack(out)
+        pack_parts!(self, out: text scheme host port path)
     }
 
     #[tactic(auto, unfolding(crate::specs::Intents::uri_form))]
     fn unpack(alloc: Global, bytes: &[u8]) -> Result<(Uri, &[u8]), NoMemory> {
-        let (text, rest) = Text::unpack(alloc, bytes)?;
-        let (scheme, rest) = Text::unpack(alloc, rest)?;
-        let (host, rest) = <Option<Text>>::unpack(alloc, rest)?;
-        let (port, rest) = <Option<u32>>::unpack(alloc, rest)?;
-        let (path, rest) = Text::unpack(alloc, rest)?;
-        let value = Uri {
-            text,
-            scheme,
-            host,
-            port,
-            path,
-        };
-        Ok((value, rest))
+        unpack_parts!(alloc, bytes, Uri: text scheme host port path)
     }
 }
 
@@ -85,16 +67,12 @@ impl Pack for Mime {
 
     #[tactic(auto, unfolding(crate::specs::Intents::mime_form))]
     fn pack(&self, out: &mut Vec<u8>) -> Result<(), NoMemory> {
-        self.main.pack(out)?;
-        self.sub.pack(out)
+        pack_parts!(self, out: main sub)
     }
 
     #[tactic(auto, unfolding(crate::specs::Intents::mime_form))]
     fn unpack(alloc: Global, bytes: &[u8]) -> Result<(Mime, &[u8]), NoMemory> {
-        let (main, rest) = Text::unpack(alloc, bytes)?;
-        let (sub, rest) = Text::unpack(alloc, rest)?;
-        let value = Mime { main, sub };
-        Ok((value, rest))
+        unpack_parts!(alloc, bytes, Mime: main sub)
     }
 }
 
@@ -144,16 +122,12 @@ impl Pack for Named {
 
     #[tactic(auto, unfolding(crate::specs::Intents::named_form))]
     fn pack(&self, out: &mut Vec<u8>) -> Result<(), NoMemory> {
-        self.key.pack(out)?;
-        self.value.pack(out)
+        pack_parts!(self, out: key value)
     }
 
     #[tactic(auto, unfolding(crate::specs::Intents::named_form))]
     fn unpack(alloc: Global, bytes: &[u8]) -> Result<(Named, &[u8]), NoMemory> {
-        let (key, rest) = Text::unpack(alloc, bytes)?;
-        let (value, rest) = Extra::unpack(alloc, rest)?;
-        let value = Named { key, value };
-        Ok((value, rest))
+        unpack_parts!(alloc, bytes, Named: key value)
     }
 }
 
@@ -162,43 +136,18 @@ impl Pack for Flags {
 
     #[tactic(auto, unfolding(crate::specs::Intents::flags_form))]
     fn pack(&self, out: &mut Vec<u8>) -> Result<(), NoMemory> {
-        self.new_task.pack(out)?;
-        self.multiple_task.pack(out)?;
-        self.clear_task.pack(out)?;
-        self.clear_top.pack(out)?;
-        self.single_top.pack(out)?;
-        self.reorder_to_front.pack(out)?;
-        self.registered_only.pack(out)?;
-        self.foreground.pack(out)?;
-        self.no_abort.pack(out)?;
-        self.include_stopped.pack(out)
+        pack_parts!(
+            self, out: new_task multiple_task clear_task clear_top single_top reorder_to_front
+            registered_only foreground no_abort include_stopped
+        )
     }
 
     #[tactic(auto, unfolding(crate::specs::Intents::flags_form))]
     fn unpack(alloc: Global, bytes: &[u8]) -> Result<(Flags, &[u8]), NoMemory> {
-        let (new_task, rest) = bool::unpack(alloc, bytes)?;
-        let (multiple_task, rest) = bool::unpack(alloc, rest)?;
-        let (clear_task, rest) = bool::unpack(alloc, rest)?;
-        let (clear_top, rest) = bool::unpack(alloc, rest)?;
-        let (single_top, rest) = bool::unpack(alloc, rest)?;
-        let (reorder_to_front, rest) = bool::unpack(alloc, rest)?;
-        let (registered_only, rest) = bool::unpack(alloc, rest)?;
-        let (foreground, rest) = bool::unpack(alloc, rest)?;
-        let (no_abort, rest) = bool::unpack(alloc, rest)?;
-        let (include_stopped, rest) = bool::unpack(alloc, rest)?;
-        let value = Flags {
-            new_task,
-            multiple_task,
-            clear_task,
-            clear_top,
-            single_top,
-            reorder_to_front,
-            registered_only,
-            foreground,
-            no_abort,
-            include_stopped,
-        };
-        Ok((value, rest))
+        unpack_parts!(
+            alloc, bytes, Flags: new_task multiple_task clear_task clear_top single_top
+            reorder_to_front registered_only foreground no_abort include_stopped
+        )
     }
 }
 
@@ -207,40 +156,15 @@ impl Pack for Intent {
 
     #[tactic(auto, unfolding(crate::specs::Intents::intent_form))]
     fn pack(&self, out: &mut Vec<u8>) -> Result<(), NoMemory> {
-        self.action.pack(out)?;
-        self.uri.pack(out)?;
-        self.mime.pack(out)?;
-        self.identifier.pack(out)?;
-        self.categories.pack(out)?;
-        self.package.pack(out)?;
-        self.component.pack(out)?;
-        self.flags.pack(out)?;
-        self.extras.pack(out)
+        pack_parts!(self, out: action uri mime identifier categories package component flags extras)
     }
 
     #[tactic(auto, unfolding(crate::specs::Intents::intent_form))]
     fn unpack(alloc: Global, bytes: &[u8]) -> Result<(Intent, &[u8]), NoMemory> {
-        let (action, rest) = <Option<Text>>::unpack(alloc, bytes)?;
-        let (uri, rest) = <Option<Uri>>::unpack(alloc, rest)?;
-        let (mime, rest) = <Option<Mime>>::unpack(alloc, rest)?;
-        let (identifier, rest) = <Option<Text>>::unpack(alloc, rest)?;
-        let (categories, rest) = <List<Text>>::unpack(alloc, rest)?;
-        let (package, rest) = <Option<Text>>::unpack(alloc, rest)?;
-        let (component, rest) = <Option<Component>>::unpack(alloc, rest)?;
-        let (flags, rest) = Flags::unpack(alloc, rest)?;
-        let (extras, rest) = <List<Named>>::unpack(alloc, rest)?;
-        let value = Intent {
-            action,
-            uri,
-            mime,
-            identifier,
-            categories,
-            package,
-            component,
-            flags,
-            extras,
-        };
-        Ok((value, rest))
+        unpack_parts!(
+            alloc, bytes, Intent: action uri mime identifier categories package component flags
+            extras
+        )
     }
 }
 
@@ -249,30 +173,42 @@ impl Pack for PendingFlags {
 
     #[tactic(auto, unfolding(crate::specs::Intents::pending_flags_form))]
     fn pack(&self, out: &mut Vec<u8>) -> Result<(), NoMemory> {
-        self.one_shot.pack(out)?;
-        self.no_create.pack(out)?;
-        self.cancel_current.pack(out)?;
-        self.update_current.pack(out)?;
-        self.immutable.pack(out)?;
-        self.mutable.pack(out)
+        pack_parts!(self, out: one_shot no_create cancel_current update_current immutable mutable)
     }
 
     #[tactic(auto, unfolding(crate::specs::Intents::pending_flags_form))]
     fn unpack(alloc: Global, bytes: &[u8]) -> Result<(PendingFlags, &[u8]), NoMemory> {
-        let (one_shot, rest) = bool::unpack(alloc, bytes)?;
-        let (no_create, rest) = bool::unpack(alloc, rest)?;
-        let (cancel_current, rest) = bool::unpack(alloc, rest)?;
-        let (update_current, rest) = bool::unpack(alloc, rest)?;
-        let (immutable, rest) = bool::unpack(alloc, rest)?;
-        let (mutable, rest) = bool::unpack(alloc, rest)?;
-        let value = PendingFlags {
-            one_shot,
-            no_create,
-            cancel_current,
-            update_current,
-            immutable,
-            mutable,
-        };
-        Ok((value, rest))
+        unpack_parts!(
+            alloc, bytes, PendingFlags:
+            one_shot no_create cancel_current update_current immutable mutable
+        )
+    }
+}
+
+impl Pack for Outcome {
+    ghost form = { outcome_form };
+
+    #[tactic(auto, unfolding(crate::specs::Outcomes::outcome_form))]
+    fn pack(&self, out: &mut Vec<u8>) -> Result<(), NoMemory> {
+        pack_parts!(self, out: code text extras)
+    }
+
+    #[tactic(auto, unfolding(crate::specs::Outcomes::outcome_form))]
+    fn unpack(alloc: Global, bytes: &[u8]) -> Result<(Outcome, &[u8]), NoMemory> {
+        unpack_parts!(alloc, bytes, Outcome: code text extras)
+    }
+}
+
+impl Pack for Ordered {
+    ghost form = { ordered_form };
+
+    #[tactic(auto, unfolding(crate::specs::Outcomes::ordered_form))]
+    fn pack(&self, out: &mut Vec<u8>) -> Result<(), NoMemory> {
+        pack_parts!(self, out: initial wanted)
+    }
+
+    #[tactic(auto, unfolding(crate::specs::Outcomes::ordered_form))]
+    fn unpack(alloc: Global, bytes: &[u8]) -> Result<(Ordered, &[u8]), NoMemory> {
+        unpack_parts!(alloc, bytes, Ordered: initial wanted)
     }
 }

@@ -1,15 +1,13 @@
-//! Requests and stored calls in a form that takes little memory.
+//! Values in a form that takes little memory: as bytes, from which they are read back.
 #![tactic(auto)]
 
-mod archive;
 mod filters;
 mod form;
 mod intents;
 mod lists;
 mod numbers;
-mod outcomes;
-mod packed;
 mod parts;
 mod texts;
 
-pub use archive::{Archive, Stored};
+pub use form::{Pack, Parts};
+pub use parts::{bytes_of, value_of};

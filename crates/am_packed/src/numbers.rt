@@ -6,6 +6,17 @@ use crate::form::Pack;
 use am_types::NoMemory;
 use std::alloc::Global;
 
+// Unpacks a number of fewer bits than the type that it is packed as.
+macro_rules! unpack_narrow {
+    ($alloc:ident, $bytes:ident, $wide:ident as $narrow:ident) => {{
+        let (value, rest) = $wide::unpack($alloc, $bytes)?;
+        match $narrow::try_from(value) {
+            Ok(value) => Ok((value, rest)),
+            Err(_) => Err(NoMemory),
+        }
+    }};
+}
+
 impl Pack for u64 {
     ghost form = { number };
 
@@ -55,11 +66,7 @@ impl Pack for u32 {
     }
 
     fn unpack(alloc: Global, bytes: &[u8]) -> Result<(u32, &[u8]), NoMemory> {
-        let (value, rest) = u64::unpack(alloc, bytes)?;
-        match u32::try_from(value) {
-            Ok(value) => Ok((value, rest)),
-            Err(_) => Err(NoMemory),
-        }
+        unpack_narrow!(alloc, bytes, u64 as u32)
     }
 }
 
@@ -121,10 +128,6 @@ impl Pack for i32 {
     }
 
     fn unpack(alloc: Global, bytes: &[u8]) -> Result<(i32, &[u8]), NoMemory> {
-        let (value, rest) = i64::unpack(alloc, bytes)?;
-        match i32::try_from(value) {
-            Ok(value) => Ok((value, rest)),
-            Err(_) => Err(NoMemory),
-        }
+        unpack_narrow!(alloc, bytes, i64 as i32)
     }
 }

@@ -3,7 +3,7 @@ ghost use Rattle.std.specs.Prelude.{◌≡◌, ◌++◌, OnOk, IfOk};
 ghost use Rattle.am_packed.specs.Texts.{text};
 
 use crate::form::Pack;
-use am_types::{Glob, NoMemory, Text};
+use am_types::{NoMemory, Text};
 use std::alloc::Global;
 use std::str;
 
@@ -27,22 +27,6 @@ impl Pack for Text {
         let (words, rest) = rest.split_at(count as usize);
         match str::from_utf8(words) {
             Ok(words) => Ok((Text::of(alloc, words)?, rest)),
-            Err(_) => Err(NoMemory),
-        }
-    }
-}
-
-impl Pack for Glob {
-    ghost form = { text };
-
-    fn pack(&self, out: &mut Vec<u8>) -> Result<(), NoMemory> {
-        self.text().pack(out)
-    }
-
-    fn unpack(alloc: Global, bytes: &[u8]) -> Result<(Glob, &[u8]), NoMemory> {
-        let (text, rest) = Text::unpack(alloc, bytes)?;
-        match Glob::new(text) {
-            Ok(glob) => Ok((glob, rest)),
             Err(_) => Err(NoMemory),
         }
     }

@@ -1,10 +1,10 @@
-use Rattle.std.proofs.Common.{inr}
-use Rattle.am_machine.proofs.Kept.{asks_at_most, otherwise, whatever}
+use Rattle.std.proofs.Common.{inl, inr, refl}
+use Rattle.am_machine.proofs.Kept.{otherwise, whatever}
 use Rattle.am_machine.proofs.keeping.make.Goals as goal
 
 -- what can't be prepared isn't put
 pub returns-in-Err-clause-at_most : goal.returns-in-Err-clause-at_most
-returns-in-Err-clause-at_most g c = asks_at_most g.K.Keeper c.args.keeper.now
+returns-in-Err-clause-at_most g c = inl refl
 
 -- and what isn't kept was put once
 pub returns-in-Err-asked-clause-asks : goal.returns-in-Err-asked-clause-asks

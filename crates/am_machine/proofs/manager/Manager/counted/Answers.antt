@@ -1,9 +1,9 @@
-use Rattle.std.proofs.Common.{◌≡◌, ◌∙◌, ℕ, ◌+◌, true, false, length, Some, List, [], ◌∷◌, ◌++◌, sym, ap, subst, IsTrue}
+use Rattle.std.proofs.Common.{◌≡◌, ◌∙◌, ℕ, ◌+◌, true, false, length, Some, List, [], ◌∷◌, ◌++◌, refl, sym, ap, subst, IsTrue}
 use Rattle.am_types.specs.declared.history.Entry.{Entry}
 use Rattle.am_types.specs.declared.history.Shown.{Shown}
 use Rattle.am_types.specs.declared.reply.Reply.{Reply}
 use Rattle.am_types.specs.declared.reply.Reply.TheVariants.{Refused}
-use Rattle.am_types.specs.declared.rule.Rule.TheVariants.{KeeperFault}
+use Rattle.am_types.specs.declared.rule.Rule.TheVariants.{HistoryFull, KeeperFault}
 use Rattle.am_outside.specs.Counts.{HasRisen}
 use Rattle.am_history.specs.Steps.{Call, step}
 use Rattle.am_history.specs.State.{State, has_uid, uid_of}
@@ -14,42 +14,26 @@ use Rattle.am_laws.proofs.Faults.{act_never_faults}
 use Rattle.am_laws.proofs.Numbers.{enough_numbers}
 use Rattle.am_laws_state.specs.Sound.{IsSoundState}
 use Rattle.am_laws_state.proofs.Sound.{replay_is_sound}
-use Rattle.am_machine.specs.Keeping.{AsksOnce, CountsNone, IsUnasked, is_asked, told_after, with_kept}
-use Rattle.am_machine.specs.Managed.{Holds, HoldsKept, Managed}
-use Rattle.am_machine.proofs.Kept.{
-  asks_at_most,
-  asks_none,
-  has_no_row,
-  keeps_none,
-  only_reads,
-  otherwise,
-  reads_keep_nothing,
-  told_as_before,
-}
+use Rattle.am_machine.specs.Keeping.{Leaves, with_kept}
+use Rattle.am_machine.specs.Managed.{Holds, HoldsKept, Managed, origin_at}
+use Rattle.am_machine.proofs.Kept.{leaves_rowless, leaves_same, leaves_unmade, only_reads, otherwise, reads_keep_nothing}
 use Rattle.am_machine.proofs.Stored.{stored_more, fault_is_unkept}
 use Rattle.am_machine.proofs.Shown.{kept_shows}
 use Rattle.am_machine.proofs.manager.Manager.counted.Goals as goal
 
 -- what only reads has no row
-pub returns-then-not-may_change-clause-put : goal.returns-then-not-may_change-clause-put
-returns-then-not-may_change-clause-put g c = λ (honest : g.K.Keeper.is_honest c.args.self.now.keeper).
+pub returns-then-not-may_change-clause-leaves : goal.returns-then-not-may_change-clause-leaves
+returns-then-not-may_change-clause-leaves g c =
     let state : State = replay (opening_of c.args.self.now.origin) c.args.self.now.history in
-    told_as_before state c.args.call.now.request c.unstored.result.reply (g.K.Keeper.rows c.args.self.now.keeper)
-    (has_no_row state c.args.call.now.request (reads_keep_nothing c.args.call.now.request
+    leaves_rowless g.K.Keeper
+    (record { state = state; request = c.args.call.now.request; reply = c.unstored.result.reply }) c.args.self.now.keeper
+    (reads_keep_nothing c.args.call.now.request
     (only_reads state c.args.call.now.now c.args.call.now.request (sym c.may_change.ensures
-    ∙ c.if-not-may_change.true))))
+    ∙ c.if-not-may_change.true)))
 
-pub returns-then-not-may_change-clause-asks : goal.returns-then-not-may_change-clause-asks
-returns-then-not-may_change-clause-asks g c =
-    let state : State = replay (opening_of c.args.self.now.origin) c.args.self.now.history in
-    asks_none g.K.Keeper c.args.call.now.request c.unstored.result.reply c.args.self.now.keeper
-    (keeps_none c.args.call.now.request c.unstored.result.reply (reads_keep_nothing c.args.call.now.request
-    (only_reads state c.args.call.now.now c.args.call.now.request (sym c.may_change.ensures
-    ∙ c.if-not-may_change.true))))
-
-pub returns-in_err-reply-clause-at_most : goal.returns-in_err-reply-clause-at_most
-returns-in_err-reply-clause-at_most g c =
-    otherwise c.from_residual.result (asks_at_most g.K.Keeper c.args.self.now.keeper)
+pub returns-in_err-reply-clause-unmade : goal.returns-in_err-reply-clause-unmade
+returns-in_err-reply-clause-unmade g c =
+    otherwise c.from_residual.result (leaves_unmade g.K.Keeper c.args.self.now.keeper)
 
 -- and isn't answered by a fault
 pub returns-then-not-may_change-clause-fault : goal.returns-then-not-may_change-clause-fault
@@ -60,32 +44,27 @@ returns-then-not-may_change-clause-fault g c = λ (faults : c.unstored.result.re
     ∙ sym (ap (λ (shown : Shown). shown.reply) c.unstored.ensures) ∙ faults))
 
 -- a full history refuses before the keeper is asked
-pub returns-then-not-has_room-clause-asks : goal.returns-then-not-has_room-clause-asks
-returns-then-not-has_room-clause-asks g c =
-    asks_none g.K.Keeper c.args.call.now.request c.unstored-then-not-has_room.result.reply c.args.self.now.keeper
-    (ap (λ (shown : Shown). is_asked c.args.call.now.request shown.reply) c.unstored-then-not-has_room.ensures)
+pub returns-then-not-has_room-clause-leaves : goal.returns-then-not-has_room-clause-leaves
+returns-then-not-has_room-clause-leaves g c =
+    let state : State = replay (opening_of c.args.self.now.origin) c.args.self.now.history in
+    subst (λ (shown : Shown). Leaves g.K.Keeper
+    (record { state = state; request = c.args.call.now.request; reply = shown.reply }) c.args.self.now.keeper
+    c.args.self.now.keeper) (sym c.unstored-then-not-has_room.ensures)
+    (leaves_same g.K.Keeper
+    (record { state = state; request = c.args.call.now.request; reply = Refused HistoryFull })
+    c.args.self.now.keeper refl refl)
 
 -- the live state is the one that the history leaves, so it has numbers for the call, and it is sound
 pub answer-requires-clause-numbers : goal.answer-requires-clause-numbers
 answer-requires-clause-numbers g c =
-    let origin : Origin = record {
-      device = c.self.inside.opened.device;
-      rows = c.self.inside.opened.rows;
-      place =
-          g.K.Keeper.place c.self.inside.keeper;
-    } in
-    subst HasNumbers c.self.invariant.0.replayed (enough_numbers origin c.self.inside.history.entries
+    subst HasNumbers c.self.invariant.0.replayed
+    (enough_numbers (origin_at c.self.inside.opened (g.K.Keeper.place c.self.inside.keeper)) c.self.inside.history.entries
     c.self.invariant.0.few)
 
 pub answer-requires-clause-sound : goal.answer-requires-clause-sound
 answer-requires-clause-sound g c =
-    let origin : Origin = record {
-      device = c.self.inside.opened.device;
-      rows = c.self.inside.opened.rows;
-      place =
-          g.K.Keeper.place c.self.inside.keeper;
-    } in
-    subst IsSoundState c.self.invariant.0.replayed (replay_is_sound origin c.self.inside.history.entries
+    subst IsSoundState c.self.invariant.0.replayed
+    (replay_is_sound (origin_at c.self.inside.opened (g.K.Keeper.place c.self.inside.keeper)) c.self.inside.history.entries
     c.self.invariant.0.sound)
 
 -- what the call left is held, and its entry stands behind the others
@@ -98,6 +77,7 @@ invariant_of-self-2 g c =
     let is_call : c.set_kept.new.self ≡ call =
     c.set_kept.ensures ∙ ap (λ (e : Entry). with_kept e c.in_ok-answered.answered.kept) c.in_ok-stored.ensures.packed in
     let new = c.answer.new.keeper in
+    let origin : Origin = origin_at c.self.inside.opened (g.K.Keeper.place new) in
     let put : c.push_reserved.new.self.entries ≡ before ++ call ∷ [] =
     c.push_reserved.ensures.entries ∙ ap (λ (l : List Entry). l ++ c.set_kept.new.self ∷ []) c.prepare.ensures.entries
     ∙ ap (λ (e : Entry). before ++ e ∷ []) is_call in
@@ -110,30 +90,11 @@ invariant_of-self-2 g c =
     subst (λ (s : State). P s before) c.self.invariant.0.replayed
     (subst (λ (m : Managed g.row.K.Denot). P (replay (opening_of m.origin) m.history) m.history) (sym c.self.view_is)
     seen) in
-    subst (λ (l : List Entry). Holds (record {
-      device = c.self.inside.opened.device;
-      rows = c.self.inside.opened.rows;
-      place = g.K.Keeper.place new;
-    }) c.answer.new.live l (c.self.inside.weight + c.from.result)
-    × HoldsKept g.K.Keeper (record {
-      device = c.self.inside.opened.device;
-      rows = c.self.inside.opened.rows;
-      place =
-          g.K.Keeper.place new;
-    }) l new) (sym put)
-    (subst (λ (n : ℕ). Holds (record {
-      device = c.self.inside.opened.device;
-      rows = c.self.inside.opened.rows;
-      place =
-          g.K.Keeper.place new;
-    }) c.answer.new.live (before ++ call ∷ []) (c.self.inside.weight + n)
-    × HoldsKept g.K.Keeper (record {
-      device = c.self.inside.opened.device;
-      rows = c.self.inside.opened.rows;
-      place =
-          g.K.Keeper.place new;
-    }) (before ++ call ∷ []) new) (sym c.from.ensures)
-    (stored_more g.K.Keeper c.self.inside.opened.device c.self.inside.opened.rows live c.answer.new.live before
+    subst (λ (l : List Entry). Holds origin c.answer.new.live l (c.self.inside.weight + c.from.result)
+    × HoldsKept g.K.Keeper origin l new) (sym put)
+    (subst (λ (n : ℕ). Holds origin c.answer.new.live (before ++ call ∷ []) (c.self.inside.weight + n)
+    × HoldsKept g.K.Keeper origin (before ++ call ∷ []) new) (sym c.from.ensures)
+    (stored_more g.K.Keeper c.self.inside.opened live c.answer.new.live before
     c.self.inside.weight call c.in_ok-answered.answered.reply c.self.inside.keeper new
     c.self.invariant
     (known (λ (s : State) (h : List Entry). IsTrue (has_uid s c.args.call.now.uid)) c.requires.caller)
@@ -144,42 +105,25 @@ invariant_of-self-2 g c =
     (rw read at c.in_ok-answered.ensures.asked)
     (ap (λ (l : List Entry). step live l call) (sym read) ∙ c.in_ok-answered.ensures.done)
     c.answer.ensures.keeper
-    c.in_ok-answered.ensures.put
+    c.in_ok-answered.ensures.leaves.put
     c.in_ok-answered.ensures.fault))
 
 -- so the history could have been made
 pub returns-clause-legal : goal.returns-clause-legal
 returns-clause-legal g c = (invariant_of-self-2 g c).0.legal
 
--- the keeper's rows follow the state that the history left
-pub returns-clause-put : goal.returns-clause-put
-returns-clause-put g c =
-    let new = c.answer.new.keeper in
-    let reply = c.in_ok-answered.answered.reply in
-    subst (λ (m : Managed g.row.K.Denot). g.K.Keeper.is_honest new
-    → g.K.Keeper.rows new ≡ told_after (replay (opening_of m.origin) m.history) c.args.call.now.request reply
-    (g.K.Keeper.rows m.keeper)) c.self.view_is
-    (λ (honest : g.K.Keeper.is_honest new).
-    subst (λ (s : State). g.K.Keeper.rows new ≡ told_after s c.args.call.now.request reply
-    (g.K.Keeper.rows c.self.inside.keeper)) (sym c.self.invariant.0.replayed)
-    (c.in_ok-answered.ensures.put honest))
-
 -- the keeper is the one that the call left
-pub returns-clause-unasked : goal.returns-clause-unasked
-returns-clause-unasked g c =
-    subst (λ (m : Managed g.row.K.Denot). IsUnasked c.in_ok-answered.answered.reply m.keeper c.answer.new.keeper)
-    c.self.view_is c.in_ok-answered.ensures.unasked
-
-pub returns-clause-counts : goal.returns-clause-counts
-returns-clause-counts g c =
-    subst (λ (m : Managed g.row.K.Denot). CountsNone g.K.Keeper c.in_ok-answered.answered.reply m.keeper
-    c.answer.new.keeper) c.self.view_is c.in_ok-answered.ensures.counts
-
-pub returns-clause-asks : goal.returns-clause-asks
-returns-clause-asks g c =
-    subst (λ (m : Managed g.row.K.Denot). AsksOnce g.K.Keeper c.args.call.now.request c.in_ok-answered.answered.reply
-    m.keeper
-    c.answer.new.keeper) c.self.view_is c.in_ok-answered.ensures.asks
+pub returns-clause-leaves : goal.returns-clause-leaves
+returns-clause-leaves g c =
+    let reply = c.in_ok-answered.answered.reply in
+    subst (λ (m : Managed g.row.K.Denot). Leaves g.K.Keeper (record {
+      state = replay (opening_of m.origin) m.history;
+      request = c.args.call.now.request;
+      reply = reply;
+    }) m.keeper c.answer.new.keeper) c.self.view_is
+    (subst (λ (s : State). Leaves g.K.Keeper
+    (record { state = s; request = c.args.call.now.request; reply = reply }) c.self.inside.keeper c.answer.new.keeper)
+    (sym c.self.invariant.0.replayed) c.in_ok-answered.ensures.leaves)
 
 -- no request is itself answered by a fault, so the row wasn't kept
 pub returns-clause-fault : goal.returns-clause-fault

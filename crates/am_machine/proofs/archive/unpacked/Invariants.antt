@@ -1,5 +1,5 @@
 use Rattle.std.proofs.Common.{◌≡◌, take}
-use Rattle.am_packed.proofs.archive.unpacked.Given as goal
+use Rattle.am_machine.proofs.archive.unpacked.Given as goal
 
 -- the entries so far
 abbrev pub invariant-loop-one : goal.invariant-loop-one

@@ -4,7 +4,7 @@ use Rattle.std.proofs.lemmas.List.{take_min, length-drop}
 use Rattle.std.proofs.Math.Seq.{take-length}
 use Rattle.am_types.specs.declared.failure.NoMemory.{NoMemory}
 use Rattle.am_types.specs.declared.history.Entry.{Entry}
-use Rattle.am_packed.proofs.archive.page_of.Goals as goal
+use Rattle.am_machine.proofs.archive.page_of.Goals as goal
 
 pub returns : goal.returns
 returns c = by c.unpacked.result c.unpacked.ensures

@@ -1,6 +1,6 @@
 //! The stored calls of a history.
 ghost use Rattle.std.specs.Prelude.{◌≡◌, ◌≤◌, ◌+◌, ◌++◌, ◌∷◌, [], length, take, drop, IfOk, OnOk, IsOk, IsTrue};
-ghost use Rattle.am_packed.specs.Requests.{is_short};
+ghost use Rattle.am_history.specs.Steps.{is_calm};
 
 use crate::packed::{Packed, pack, unpack};
 use am_types::{Entry, List, NoMemory, drop_parts};
@@ -8,7 +8,7 @@ use std::alloc::Global;
 use std::marker::Model;
 
 /// A stored call whose request is packed. Contracts see it as the entry.
-pub struct Stored {
+pub(crate) struct Stored {
     desk: u32,
     uid: u32,
     now: u64,
@@ -19,7 +19,7 @@ pub struct Stored {
 
 impl Model for Stored {
     ghost use Rattle.am_types.specs.declared.history.Entry.{Entry};
-    ghost use Rattle.am_packed.specs.Requests.{request_of};
+    ghost use Rattle.am_machine.specs.Requests.{request_of};
 
     ghost Value = { Entry };
 
@@ -41,7 +41,7 @@ impl Drop for Stored {
 
 impl Stored {
     /// It is kept, or not. Takes no memory.
-    pub fn set_kept(&mut self, kept: bool)
+    pub(crate) fn set_kept(&mut self, kept: bool)
         ensures { self.new ≡ record (self.old) { kept = kept } }
     {
         self.kept = kept;
@@ -65,7 +65,7 @@ impl Stored {
 
 /// Stored calls, each in few bytes beside those of its request. Contracts see the entries, and for how many more
 /// there is room at once.
-pub struct Archive {
+pub(crate) struct Archive {
     alloc: Global,
     entries: Vec<Stored>,
     // Where a request is packed before its bytes are copied.
@@ -74,7 +74,7 @@ pub struct Archive {
 
 impl Model for Archive {
     ghost use Rattle.std.specs.Prelude.{vec_capacity, vec_len, ◌-◌};
-    ghost use Rattle.am_packed.specs.Archives.{Archived};
+    ghost use Rattle.am_machine.specs.Archives.{Archived};
 
     ghost Value = { Archived };
 
@@ -89,7 +89,7 @@ impl Drop for Archive {
 
 impl Archive {
     /// An archive without entries. Takes no memory.
-    pub fn new(alloc: Global) -> Archive
+    pub(crate) fn new(alloc: Global) -> Archive
         ensures { result ≡ record { entries = []; spare = 0 } }
     {
         Archive {
@@ -100,14 +100,14 @@ impl Archive {
     }
 
     /// The number of entries. Takes no memory.
-    pub fn len(&self) -> usize
+    pub(crate) fn len(&self) -> usize
         ensures { result ≡ length self.now.entries }
     {
         self.entries.len()
     }
 
     /// Makes room for that many more entries at once.
-    pub fn reserve(&mut self, more: usize) -> Result<(), NoMemory>
+    pub(crate) fn reserve(&mut self, more: usize) -> Result<(), NoMemory>
         ensures entries { self.new.entries ≡ self.old.entries }
         ensures room { OnOk result (more ≤ self.new.spare) }
         ensures grows { self.old.spare ≤ self.new.spare }
@@ -117,14 +117,14 @@ impl Archive {
         Ok(())
     }
 
-    /// The entry in packed form, for which there is room then. If there was room before, a short request takes no
+    /// The entry in packed form, for which there is room then. If there was room before, a calm request takes no
     /// memory that can be refused.
-    pub fn prepare(&mut self, call: &Entry) -> Result<Stored, NoMemory>
+    pub(crate) fn prepare(&mut self, call: &Entry) -> Result<Stored, NoMemory>
         ensures packed { IfOk result (λ stored. stored ≡ call.entry.now) }
         ensures entries { self.new.entries ≡ self.old.entries }
         ensures room { OnOk result (1 ≤ self.new.spare) }
         ensures grows { self.old.spare ≤ self.new.spare }
-        ensures short { IsTrue (is_short call.entry.now.request) → 1 ≤ self.old.spare → IsOk result }
+        ensures calm { IsTrue (is_calm call.entry.now.request) → 1 ≤ self.old.spare → IsOk result }
     {
         self.reserve(1)?;
         let request = pack(self.alloc, &mut self.buffer, &call.request)?;
@@ -139,7 +139,7 @@ impl Archive {
     }
 
     /// Adds an entry for which there is room. Takes no memory.
-    pub fn push_reserved(&mut self, stored: Stored)
+    pub(crate) fn push_reserved(&mut self, stored: Stored)
         requires { 1 ≤ self.old.spare }
         ensures entries { self.new.entries ≡ self.old.entries ++ stored ∷ [] }
         ensures spare { self.new.spare + 1 ≡ self.old.spare }
@@ -148,7 +148,7 @@ impl Archive {
     }
 
     /// At most that many entries, from a number on.
-    pub fn page(&self, from: usize, most: usize) -> Result<List<Entry>, NoMemory>
+    pub(crate) fn page(&self, from: usize, most: usize) -> Result<List<Entry>, NoMemory>
         ensures { IfOk result (λ entries. entries ≡ take most (drop from self.now.entries)) }
     {
         page_of(self.alloc, &self.entries, from, most)
