@@ -11,10 +11,11 @@ use Rattle.am_console.specs.declared.setback.Setback.TheVariants as setbacks
 use Rattle.am_words.specs.declared.command.QuestionWords.{QuestionWords}
 use Rattle.am_shell.specs.declared.undone.Undone.{Undone}
 use Rattle.am_shell.specs.declared.undone.Undone.TheVariants as undone
-use Rattle.am_shell.specs.Questions.{Desk, FailsToRead, Happens, IsAsked, IsNoReply, IsRead, most_read}
+use Rattle.am_shell.specs.Questions.{FailsToRead, Happens, IsAsked, IsNoReply, IsRead, RunsQuestion, TellsAnswer, most_read}
+use Rattle.am_shell.specs.World.{World, voices_in}
 
 -- the caller's answer is that of the question
-went : (result : Result (List ℕ) Undone) (asked : QuestionWords) (before after : Desk) (known : Described) (caller : ℕ)
+went : (result : Result (List ℕ) Undone) (asked : QuestionWords) (before after : World) (known : Described) (caller : ℕ)
     (bytes : List ℕ)
     → IsAsked asked before.files known caller → IsRead before.input after.input bytes
     → IfOk result (λ text. answer_to known caller bytes ≡ Ok text)
@@ -30,7 +31,7 @@ went (Err (undone.Setback setbacks.NoMemory)) asked before after known caller by
     inr (refl, record { known = known; caller = caller; asks = asks; taken = (bytes, read.taken, read.within) })
 went (Err why) asked before after known caller bytes asks read answers fails = absurd fails
 
-pub answered : (result : Result (List ℕ) Undone) (asked : QuestionWords) (before after : Desk) (known : Described)
+pub answered : (result : Result (List ℕ) Undone) (asked : QuestionWords) (before after : World) (known : Described)
     (caller : ℕ) (bytes body : List ℕ)
     → body ≡ bytes → IsAsked asked before.files known caller → IsRead before.input after.input bytes
     → IfOk result (λ text. answer_to known caller body ≡ Ok text) → IfErr result
@@ -58,3 +59,9 @@ failed_behind undone.InputFault before mid after bytes taken within falls fails 
 failed_behind (undone.Setback setbacks.NoMemory) before mid after bytes taken within falls fails =
     given_behind before mid after bytes taken within fails
 failed_behind why before mid after bytes taken within falls fails = absurd fails
+
+-- a question that went so and is told so
+pub runs : (work : Result (List ℕ) Undone) (asked : QuestionWords) (before after : World) (status : ℕ)
+    → Happens work asked before after → TellsAnswer work (voices_in before) (voices_in after) status
+    → RunsQuestion asked before after status
+runs work asked before after status happened told = record { work = work; happened = happened; told = told }

@@ -1,5 +1,5 @@
 -- What a session is, on the only desk of a manager, and what it leaves.
-use Rattle.std.proofs.Common.{◌≡◌, ℕ, List, [], Option, Some, IsTrue, refl, sym, ap, ◌∙◌, subst}
+use Rattle.std.proofs.Common.{◌≡◌, ℕ, List, [], Option, Some, Result, Ok, Err, IsTrue, refl, sym, ap, ◌∙◌, subst}
 use Rattle.std.specs.Prelude.{All}
 use Rattle.am_types.specs.declared.device.Device.{Device}
 use Rattle.am_types.specs.declared.history.Entry.{Entry}
@@ -16,8 +16,12 @@ use Rattle.am_words.specs.declared.command.StepWords.{StepWords}
 use Rattle.am_words.specs.declared.command.SessionWords.{SessionWords}
 use Rattle.am_shell.specs.Clocks.{ServesOn}
 use Rattle.am_shell.specs.Kept.{IsOrigin, IsUnchanged, Leaves}
-use Rattle.am_shell.specs.Sessions.{sole_desk, Serves, Works}
-use Rattle.am_shell.specs.Outside.{StoreView, Workplace}
+use Rattle.am_console.specs.declared.setback.Setback.TheVariants as setbacks
+use Rattle.am_console.specs.Devices.{Describes}
+use Rattle.am_shell.specs.declared.undone.Undone.{Undone}
+use Rattle.am_shell.specs.declared.undone.Undone.TheVariants as undone
+use Rattle.am_shell.specs.Sessions.{sole_desk, Happens, Serves, ServesOr, Works}
+use Rattle.am_shell.specs.World.{StoreView, World, streams_in}
 use Rattle.am_workers.specs.Serving.{IsFormed}
 use Rattle.am_workers.proofs.FormedLemmas.{all_formed}
 use Rattle.am_shell.proofs.StoreLemmas.{leaves_asked}
@@ -82,21 +86,21 @@ found origin device place history old new law sound begins left forms tells at i
     (law device origin.rows (opening_of origin) history sound begins.in_order begins.opens forms)
 
 -- the work of a session
-pub works : {K : Type 0} (asked : SessionWords) (device : Device) (before after : Workplace) (now : StoreView)
+pub works : {K : Type 0} (asked : SessionWords) (device : Device) (before after : World) (now : StoreView)
     (end : End)
     (place : Option (List ℕ)) (manager out : machine.Managed K) (made last : machine.Served K) → KeptIsFound
     → IsSound device → place ≡ asked.store
     → IsOrigin manager.origin device place before.store → manager.history ≡ [] → IsUnchanged before.store now
     → made ≡ record { managed = manager; handed = manager.history }
-    → ServesOn asked.clock end (link_of (desk_of made) before.streams) (link_of (desk_of last) after.streams)
+    → ServesOn asked.clock end (link_of (desk_of made) (streams_in before)) (link_of (desk_of last) (streams_in after))
     → out ≡ last.managed → Leaves out.origin out.origin.place out.history now after.store
     → Works asked device before after end
 works {K} asked device before after now end place manager out made last law sound asks begun fresh same is went handed
     left =
     let begins : IsOrigin manager.origin device asked.store before.store =
     subst (λ (p : Option (List ℕ)). IsOrigin manager.origin device p before.store) asks begun in
-    let session : Serves manager.origin asked.clock before.streams after.streams end =
-    serves manager.origin asked.clock before.streams after.streams (desk_of made) (desk_of last) end
+    let session : Serves manager.origin asked.clock (streams_in before) (streams_in after) end =
+    serves manager.origin asked.clock (streams_in before) (streams_in after) (desk_of made) (desk_of last) end
     (first_desk made manager is fresh) went in
     let one : last.managed.origin ≡ manager.origin = session.went.same.desk.desk.origin in
     let kept : Leaves manager.origin asked.store last.managed.history before.store after.store =
@@ -110,7 +114,7 @@ works {K} asked device before after now end place manager out made last law soun
       store = kept;
       found = found manager.origin device asked.store last.managed.history before.store after.store law sound begins
           kept
-          (formed manager.origin asked.clock before.streams after.streams end session);
+          (formed manager.origin asked.clock (streams_in before) (streams_in after) end session);
     }
 
 -- the store has attached the place of the keeper that comes back
@@ -127,3 +131,16 @@ attached_back {K} old now place Attached manager out made last attached same at_
     ap (λ (m : machine.Managed K). m.origin.place) handed ∙ (ap (λ (o : Origin). o.place) one
     ∙ ap (λ (s : machine.Served K). s.managed.origin.place) is) in
     attached told at (sym at_place ∙ (sym back ∙ stands))
+
+-- the session of the device that the file describes is that of the file
+pub serves_file : (o : Result End Undone) (asked : SessionWords) (device : Device) (before after : World)
+    → Describes before.files.files asked.device (Ok device) → ServesOr o asked device before after
+    → Happens o asked before after
+serves_file (Ok end) asked device before after file s = record { device = device; file = file; works = s }
+serves_file (Err undone.StoreFault) asked device before after file s =
+    (record { device = device; file = file; risen = s.0 }, s.1)
+serves_file (Err (undone.RowsRefused line)) asked device before after file s =
+    (record { device = device; file = file; refused = s.0 }, s.1)
+serves_file (Err (undone.Setback setbacks.NoMemory)) asked device before after file s = (tt, s.1)
+serves_file (Err (undone.Setback setback)) asked device before after file s = absurd s.0
+serves_file (Err why) asked device before after file s = absurd s.0

@@ -19,10 +19,10 @@ use Rattle.am_http.specs.Sending.{Sends, WritesPart}
 use Rattle.am_http.proofs.SendLemmas.{appends_trans, part_more}
 use Rattle.am_shell.specs.Clocks.{serving_moments}
 use Rattle.am_shell.specs.Kept.{IsOrigin, IsUnchanged, Leaves}
-use Rattle.am_shell.specs.Outside.{StoreView}
+use Rattle.am_shell.specs.World.{StoreView, World, voices_in}
 use Rattle.am_console.specs.declared.setback.Setback.TheVariants as setbacks
 use Rattle.am_shell.specs.declared.undone.Undone.TheVariants as undone
-use Rattle.am_shell.specs.Servings.{IsLeft, ServesOr, Site, Works, listened, unheard}
+use Rattle.am_shell.specs.Servings.{Happens, IsLeft, RunsServing, ServesOr, TellsServing, Works, listened, unheard}
 use Rattle.am_shell.specs.declared.undone.Undone.{Undone}
 use Rattle.am_workers.proofs.ServingLemmas.{serves_timed}
 use Rattle.am_shell.proofs.ServeLemmas.{found}
@@ -87,7 +87,7 @@ unheard_so before after told listens gate_faults =
     }) gate_faults
 
 -- memory ran out once the network had listened
-pub lacks_workers : (asked : ServingWords) (device : Device) (before after : Site) (mid : NetworkView) (count : ℕ)
+pub lacks_workers : (asked : ServingWords) (device : Device) (before after : World) (mid : NetworkView) (count : ℕ)
     (why : Undone) → why ≡ undone.Setback setbacks.NoMemory
     → count ≡ asked.workers → IsUnchanged before.store after.store
     → mid.listening ≡ listening_at before.network.listening asked.port asked.workers → mid.listens
@@ -105,7 +105,7 @@ lacks_workers asked device before after mid count why is many same told listens 
     }))
 
 -- a serving that ended
-pub works_serving : {K : Type 0} (asked : ServingWords) (device : Device) (before after : Site) (now : StoreView)
+pub works_serving : {K : Type 0} (asked : ServingWords) (device : Device) (before after : World) (now : StoreView)
     (mid : NetworkView) (done : Done) (place : Option (List ℕ))
     (count : ℕ) (clock : Moments) (manager out : machine.Managed K) → KeptIsFound → IsSound device → place ≡ asked.store
     → count ≡ asked.workers
@@ -208,3 +208,9 @@ pub sends_behind : (old mid new : Option (List ℕ)) (xs ys : List ℕ) (result 
     → Appends old mid xs → Sends mid new ys result → Sends old new (xs ++ ys) result
 sends_behind old mid new xs ys (Ok done) first sent = appends_trans old mid new xs ys first sent
 sends_behind old mid new xs ys (Err e) first sent = part_more old mid new xs ys first sent
+
+-- a serving that went so and is told so
+pub runs : (work : Result Done Undone) (asked : ServingWords) (before after : World) (status : ℕ)
+    → Happens work asked before after → TellsServing work (voices_in before) (voices_in after) status
+    → RunsServing asked before after status
+runs work asked before after status happened told = record { work = work; happened = happened; told = told }

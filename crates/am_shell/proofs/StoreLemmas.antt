@@ -10,7 +10,7 @@ use Rattle.am_history.specs.Desks.{Origin, opening_of}
 use Rattle.am_laws_kept.specs.Found.{rows_after}
 use Rattle.am_machine.specs.Managed.{is_unkept}
 use Rattle.am_shell.specs.Kept.{IsUnchanged, Leaves}
-use Rattle.am_shell.specs.Outside.{StoreView}
+use Rattle.am_shell.specs.World.{StoreView}
 
 -- a test whose outcome is known
 test_true : {X : Type 0} (b : Bool) (x y : X) → b ≡ true → (if b then x else y) ≡ x

@@ -16,7 +16,7 @@ use Rattle.am_console.specs.declared.setback.Setback.TheVariants as setbacks
 use Rattle.am_shell.specs.declared.undone.Undone.{Undone}
 use Rattle.am_shell.specs.declared.undone.Undone.TheVariants as undone
 use Rattle.am_shell.specs.Lines.{rows_line}
-use Rattle.am_shell.specs.Outside.{StoreView}
+use Rattle.am_shell.specs.World.{StoreView}
 
 -- these rows were kept at the place: those that the store tells there, if it tells its rows; none without a place
 abbrev pub AreKept : StoreView → Option (List ℕ) → Rows → Type 0

@@ -3,8 +3,8 @@ pub mod Devices
 pub mod Drillings
 pub mod Kept
 pub mod Lines
-pub mod Outside
 pub mod Questions
 pub mod Runs
 pub mod Servings
 pub mod Sessions
+pub mod World

@@ -2,38 +2,24 @@
 use Rattle.std.specs.Prelude.{◌≡◌, ℕ, ◌≤◌, ◌⊎◌, codes, List, ◌++◌, length, Some, None, Result, Ok, Err, ⊤}
 use Rattle.std.specs.Io.KnownBytes.{Consumes, IsAtEnd}
 use Rattle.am_outside.specs.Counts.{HasRisen}
-use Rattle.am_outside.specs.declared.files.Files.{Ghosts as FilesGhosts}
-use Rattle.am_outside.specs.declared.outside.Source.{Ghosts as SourceGhosts}
 use Rattle.am_model.specs.Boards.{caller_of}
 use Rattle.am_wire_fields.specs.declared.fault.WireFault.{WireFault}
 use Rattle.am_wire_fields.specs.Printing.{printed}
 use Rattle.am_manifest_queries.specs.declared.device.Described.{Described}
 use Rattle.am_manifest_queries.specs.Queries.{described}
 use Rattle.am_visible.specs.Answers.{answer_to}
-use Rattle.am_http.specs.Links.{SourceView, source_of}
+use Rattle.am_http.specs.Links.{SourceView}
 use Rattle.am_http.specs.Sessions.{GivesAtMost}
 use Rattle.am_console.specs.declared.setback.Setback.TheVariants as setbacks
 use Rattle.am_console.specs.Devices.{ReadsAs}
-use Rattle.am_console.specs.Files.{Shelf, shelf_of}
+use Rattle.am_console.specs.Files.{Shelf}
 use Rattle.am_words.specs.declared.command.QuestionWords.{QuestionWords}
 use Rattle.am_shell.specs.declared.undone.Undone.{Undone}
 use Rattle.am_shell.specs.declared.undone.Undone.TheVariants as undone
 use Rattle.am_shell.specs.Devices.{FailsToOpen}
 use Rattle.am_console.specs.Telling.{OnlyTold, Prints, Voices}
 use Rattle.am_shell.specs.Lines.{line_of, status_of, write_line}
-
--- what a question is answered from: the files, and the input
-pub record Desk : Type 0 where
-  pub files : Shelf
-  pub input : SourceView
-
-abbrev pub desk_of : {F S : Type 0} → FilesGhosts F → SourceGhosts S → F → S → Desk
-desk_of f s files input = record { files = shelf_of f files; input = source_of s input }
-
--- the outside of a whole question: what it is answered from, and what its answer is printed on
-pub record Booth : Type 0 where
-  pub desk : Desk
-  pub voices : Voices
+use Rattle.am_shell.specs.World.{World, voices_in}
 
 -- the most bytes that are read: one more than a query's body may have
 abbrev pub most_read : ℕ
@@ -77,7 +63,7 @@ IsNoReply (undone.Setback setbacks.NoMemory) reply = ⊤
 IsNoReply _ reply = ⊥
 
 -- the answer to the caller for this input, as text or as the first fault
-pub record Replies (asked : QuestionWords) (before after : Desk) (reply : Result (List ℕ) WireFault) : Type 0 where
+pub record Replies (asked : QuestionWords) (before after : World) (reply : Result (List ℕ) WireFault) : Type 0 where
   pub known : Described
   pub caller : ℕ
   pub asks : IsAsked asked before.files known caller
@@ -86,7 +72,7 @@ pub record Replies (asked : QuestionWords) (before after : Desk) (reply : Result
   pub answers : answer_to known caller bytes ≡ reply
 
 -- the input was read, as far as it is read at most, for a caller that the device has
-pub record IsBegun (asked : QuestionWords) (before after : Desk) : Type 0 where
+pub record IsBegun (asked : QuestionWords) (before after : World) : Type 0 where
   pub known : Described
   pub caller : ℕ
   pub asks : IsAsked asked before.files known caller
@@ -94,7 +80,7 @@ pub record IsBegun (asked : QuestionWords) (before after : Desk) : Type 0 where
 
 -- why a question isn't answered: the device file, the name, the input, or what was asked; or memory ran out. The input
 -- is as it was before, unless the device has the caller
-abbrev pub FailsToAnswer : Undone → QuestionWords → Desk → Desk → Type 0
+abbrev pub FailsToAnswer : Undone → QuestionWords → World → World → Type 0
 FailsToAnswer (undone.Setback setback) asked before after =
     (FailsToOpen setback described asked.device before.files after.files × (after.input ≡ before.input))
     ⊎ ((setback ≡ setbacks.NoMemory) × IsBegun asked before after)
@@ -108,7 +94,7 @@ FailsToAnswer (undone.QueryRefused line) asked before after =
 FailsToAnswer _ asked before after = ⊥
 
 -- the text that answers the question, or why it isn't answered
-abbrev pub Happens : Result (List ℕ) Undone → QuestionWords → Desk → Desk → Type 0
+abbrev pub Happens : Result (List ℕ) Undone → QuestionWords → World → World → Type 0
 Happens (Ok text) asked before after = Replies asked before after (Ok text)
 Happens (Err why) asked before after = FailsToAnswer why asked before after
 
@@ -118,7 +104,7 @@ TellsAnswer (Ok text) before after status = Prints write_line text 0 before afte
 TellsAnswer (Err why) before after status = OnlyTold (line_of why) (status_of why) before after status
 
 -- a run of a question that is asked: how it went, and that the output, the errors and the status tell it
-pub record RunsQuestion (asked : QuestionWords) (before after : Booth) (status : ℕ) : Type 0 where
+pub record RunsQuestion (asked : QuestionWords) (before after : World) (status : ℕ) : Type 0 where
   pub work : Result (List ℕ) Undone
-  pub happened : Happens work asked before.desk after.desk
-  pub told : TellsAnswer work before.voices after.voices status
+  pub happened : Happens work asked before after
+  pub told : TellsAnswer work (voices_in before) (voices_in after) status

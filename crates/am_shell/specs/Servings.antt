@@ -3,23 +3,17 @@ use Rattle.std.specs.Prelude.{◌≡◌, ℕ, ◌⊎◌, codes, decimal, List, [
 use Rattle.am_types.specs.declared.device.Device.{Device}
 use Rattle.am_outside.specs.Counts.{HasRisen}
 use Rattle.am_outside.specs.Memory.{one_more}
-use Rattle.am_outside.specs.declared.clock.Clock.{Ghosts as ClockGhosts}
-use Rattle.am_outside.specs.declared.files.Files.{Ghosts as FilesGhosts}
-use Rattle.am_network.specs.declared.network.Network.{Ghosts as NetworkGhosts}
 use Rattle.am_network.specs.Links.{listening_at}
-use Rattle.am_keeper.specs.declared.keeper.Store.{Ghosts as StoreGhosts}
 use Rattle.am_history.specs.Desks.{Origin, opening_of}
 use Rattle.am_history.specs.History.{replay}
 use Rattle.am_laws_kept.specs.Found.{OpensAs}
 use Rattle.am_manifest.specs.Devices.{device_of}
-use Rattle.am_http.specs.Links.{Moments}
-use Rattle.am_workers.specs.Serving.{Ended, IsUnserved, NetworkView, ServesAll, network_of}
+use Rattle.am_workers.specs.Serving.{Ended, IsUnserved, NetworkView, ServesAll}
 use Rattle.am_shell.specs.declared.serving.Done.{Done}
 use Rattle.am_words.specs.declared.command.ServingWords.{ServingWords}
 use Rattle.am_console.specs.declared.setback.Setback.{Setback}
 use Rattle.am_console.specs.declared.setback.Setback.TheVariants as setbacks
 use Rattle.am_console.specs.Devices.{Describes}
-use Rattle.am_console.specs.Files.{Shelf, shelf_of}
 use Rattle.am_shell.specs.declared.undone.Undone.{Undone}
 use Rattle.am_shell.specs.declared.undone.Undone.TheVariants as undone
 use Rattle.am_shell.specs.Devices.{FailsToOpen}
@@ -27,34 +21,7 @@ use Rattle.am_shell.specs.Kept.{FailsToOpenRows, IsOrigin, IsUnchanged, Leaves}
 use Rattle.am_console.specs.Telling.{OnlyTold, Prints, Voices}
 use Rattle.am_shell.specs.Lines.{line_of, network_line, status_of, write_line}
 use Rattle.am_shell.specs.Clocks.{serving_moments}
-use Rattle.am_shell.specs.Outside.{StoreView, store_of}
-
--- what a serving works on: the store of the kept rows, the network, and the moments that the clock will answer, if it
--- tells them
-pub record Site : Type 0 where
-  pub store : StoreView
-  pub network : NetworkView
-  pub clock : Moments
-
-abbrev pub site_of : {T K N G R W C : Type 0} → StoreGhosts T K → NetworkGhosts N G R W → ClockGhosts C → T → N → C
-    → Site
-site_of t n c store network clock =
-    record { store = store_of t store; network = network_of n network; clock = c.moments clock }
-
--- what it is opened from, and works with
-pub record Grounds : Type 0 where
-  pub files : Shelf
-  pub site : Site
-
-abbrev pub grounds_of : {F T K N G R W C : Type 0} → FilesGhosts F → StoreGhosts T K → NetworkGhosts N G R W
-    → ClockGhosts C → F → T → N → C → Grounds
-grounds_of f t n c files store network clock =
-    record { files = shelf_of f files; site = site_of t n c store network clock }
-
--- the outside of a whole serving: that, and what its end is printed on
-pub record Premises : Type 0 where
-  pub grounds : Grounds
-  pub voices : Voices
+use Rattle.am_shell.specs.World.{StoreView, World, voices_in}
 
 -- the network once it was asked, one time more, and answered so many gates at a port, with this count of faults
 abbrev pub listened : NetworkView → ℕ → ℕ → ℕ → NetworkView
@@ -73,7 +40,7 @@ unheard network faults = record network { listens = one_more network.listens; fa
 -- workers serve it over the network, which listened once and as was asked for, at the moment of the words or those of
 -- the clock; and it leaves the rows that its history has kept. With these the device opens as the serving left it. What
 -- is told of it are the history's length and what the workers did
-pub record Works (asked : ServingWords) (device : Device) (before after : Site) (done : Done) : Type 0 where
+pub record Works (asked : ServingWords) (device : Device) (before after : World) (done : Done) : Type 0 where
   pub origin : Origin
   pub ended : Ended
   pub begins : IsOrigin origin device asked.store before.store
@@ -93,7 +60,7 @@ pub record IsLeft (asked : ServingWords) (device : Device) (before after : Store
   pub store : Leaves origin asked.store [] before after
 
 -- no manager began: the rows stay, and nothing was asked of the network
-pub record IsUnbegun (why : Undone) (asked : ServingWords) (device : Device) (before after : Site) : Type 0 where
+pub record IsUnbegun (why : Undone) (asked : ServingWords) (device : Device) (before after : World) : Type 0 where
   pub fails : FailsToOpenRows why device asked.store before.store after.store
   pub store : IsUnchanged before.store after.store
   pub network : after.network ≡ before.network
@@ -106,41 +73,42 @@ FailsToListen _ old new = ⊥
 
 -- the network didn't listen and is as it was, except for the counts of its calls, and the keeper of the manager that
 -- began came back
-pub record IsUnheard (why : Undone) (asked : ServingWords) (device : Device) (before after : Site) : Type 0 where
+pub record IsUnheard (why : Undone) (asked : ServingWords) (device : Device) (before after : World) : Type 0 where
   pub fails : FailsToListen why before.network after.network
   pub network : after.network ≡ unheard before.network after.network.faults
   pub store : IsLeft asked device before.store after.store
 
 -- memory ran out before the first link was handed out: the network listened, and its gates came back new.
 -- The rows stay
-pub record LacksWorkers (why : Undone) (asked : ServingWords) (before after : Site) : Type 0 where
+pub record LacksWorkers (why : Undone) (asked : ServingWords) (before after : World) : Type 0 where
   pub is : why ≡ undone.Setback setbacks.NoMemory
   pub network : IsUnserved asked.workers (listened before.network asked.port asked.workers after.network.faults)
       after.network
   pub store : IsUnchanged before.store after.store
 
 -- the serving that is asked for, of this device, or why nobody was served
-abbrev pub ServesOr : Result Done Undone → ServingWords → Device → Site → Site → Type 0
+abbrev pub ServesOr : Result Done Undone → ServingWords → Device → World → World → Type 0
 ServesOr (Ok done) asked device before after = Works asked device before after done
 ServesOr (Err why) asked device before after =
     IsUnbegun why asked device before after ⊎ IsUnheard why asked device before after ⊎ LacksWorkers why asked before
     after
 
 -- the serving that is asked for, of the device that its file describes, or why it didn't begin
-pub record ServesFile (work : Result Done Undone) (asked : ServingWords) (before after : Grounds) : Type 0 where
+pub record ServesFile (work : Result Done Undone) (asked : ServingWords) (before after : World) : Type 0 where
   pub device : Device
   pub file : Describes before.files.files asked.device (Ok device)
-  pub serves : ServesOr work asked device before.site after.site
+  pub serves : ServesOr work asked device before after
 
 -- the device file describes no device, or memory ran out as it was read, and nothing else was done
-pub record LacksDevice (work : Result Done Undone) (asked : ServingWords) (before after : Grounds) : Type 0 where
+pub record LacksDevice (work : Result Done Undone) (asked : ServingWords) (before after : World) : Type 0 where
   pub setback : Setback
   pub is : work ≡ Err (undone.Setback setback)
   pub fails : FailsToOpen setback device_of asked.device before.files after.files
-  pub site : after.site ≡ before.site
+  pub store : after.store ≡ before.store
+  pub network : after.network ≡ before.network
 
 -- how a serving that is asked for went
-abbrev pub Happens : Result Done Undone → ServingWords → Grounds → Grounds → Type 0
+abbrev pub Happens : Result Done Undone → ServingWords → World → World → Type 0
 Happens work asked before after = ServesFile work asked before after ⊎ LacksDevice work asked before after
 
 -- the line of a serving that ended: how long its history is, and how many links were served
@@ -159,7 +127,7 @@ TellsServing (Ok done) before after status = TellsDone done.totals.failed done b
 TellsServing (Err why) before after status = OnlyTold (line_of why) (status_of why) before after status
 
 -- a run of a serving that is asked for: how it went, and that the output, the errors and the status tell it
-pub record RunsServing (asked : ServingWords) (before after : Premises) (status : ℕ) : Type 0 where
+pub record RunsServing (asked : ServingWords) (before after : World) (status : ℕ) : Type 0 where
   pub work : Result Done Undone
-  pub happened : Happens work asked before.grounds after.grounds
-  pub told : TellsServing work before.voices after.voices status
+  pub happened : Happens work asked before after
+  pub told : TellsServing work (voices_in before) (voices_in after) status

@@ -19,7 +19,7 @@ use Rattle.am_shell.specs.declared.undone.Undone.TheVariants as undone
 use Rattle.am_shell.specs.Clocks.{Connects, left_of, timed, with_clock}
 use Rattle.am_shell.specs.Devices.{FailsToOpen}
 use Rattle.am_shell.specs.Kept.{FailsToOpenRows, IsOrigin, IsUnchanged, Leaves, RefusesRows}
-use Rattle.am_shell.specs.Outside.{Outside, Workplace}
+use Rattle.am_shell.specs.World.{World, streams_in}
 
 -- the only desk of a manager with this origin, which has seen this history
 abbrev pub sole_desk : Origin → List Entry → DeskView
@@ -47,55 +47,55 @@ pub record Serves
 
 -- the store keeps its rows, and the input, the output and the clock tell what they told before: nothing was kept, read,
 -- written or asked
-pub record IsIdle (before after : Workplace) : Type 0 where
+pub record IsIdle (before after : World) : Type 0 where
   pub store : IsUnchanged before.store after.store
-  pub input : after.streams.input ≡ before.streams.input
-  pub output : after.streams.output ≡ before.streams.output
-  pub clock : after.streams.clock ≡ before.streams.clock
+  pub input : after.input ≡ before.input
+  pub output : after.output ≡ before.output
+  pub clock : after.clock ≡ before.clock
 
 -- the device file describes a device, and the store failed
-pub record Unattached (asked : SessionWords) (before after : Outside) : Type 0 where
+pub record Unattached (asked : SessionWords) (before after : World) : Type 0 where
   pub device : Device
   pub file : Describes before.files.files asked.device (Ok device)
-  pub risen : HasRisen before.work.store.failed after.work.store.failed
+  pub risen : HasRisen before.store.failed after.store.failed
 
 -- the device file describes a device, and a row that was kept for it is refused, whose package the line names
-pub record Unopened (asked : SessionWords) (before : Outside) (line : List ℕ) : Type 0 where
+pub record Unopened (asked : SessionWords) (before : World) (line : List ℕ) : Type 0 where
   pub device : Device
   pub file : Describes before.files.files asked.device (Ok device)
-  pub refused : RefusesRows device asked.store before.work.store line
+  pub refused : RefusesRows device asked.store before.store line
 
 -- the session that is asked for, of this device, with its end: it begins with the rows that were kept, and leaves those
 -- that its history has kept. With these the device opens as the session left it
-pub record Works (asked : SessionWords) (device : Device) (before after : Workplace) (end : End) : Type 0 where
+pub record Works (asked : SessionWords) (device : Device) (before after : World) (end : End) : Type 0 where
   pub origin : Origin
   pub begins : IsOrigin origin device asked.store before.store
-  pub session : Serves origin asked.clock before.streams after.streams end
+  pub session : Serves origin asked.clock (streams_in before) (streams_in after) end
   pub store : Leaves origin asked.store session.desk.seen before.store after.store
   pub found : IsTrue before.store.tells → (at : List ℕ) → asked.store ≡ Some at
       → OpensAs device (after.store.rows at) (replay (opening_of origin) session.desk.seen)
 
 -- the session that is asked for, of the device that its file describes, ended so
-pub record Worked (asked : SessionWords) (before after : Outside) (end : End) : Type 0 where
+pub record Worked (asked : SessionWords) (before after : World) (end : End) : Type 0 where
   pub device : Device
   pub file : Describes before.files.files asked.device (Ok device)
-  pub works : Works asked device before.work after.work end
+  pub works : Works asked device before after end
 
 -- why a session that is asked for didn't begin: the device file, the store, a row, or memory ran out
-abbrev pub FailsToBegin : Undone → SessionWords → Outside → Outside → Type 0
+abbrev pub FailsToBegin : Undone → SessionWords → World → World → Type 0
 FailsToBegin (undone.Setback setback) asked before after =
-    FailsToOpen setback device_of asked.device before.files after.files × IsIdle before.work after.work
-FailsToBegin undone.StoreFault asked before after = Unattached asked before after × IsIdle before.work after.work
-FailsToBegin (undone.RowsRefused line) asked before after = Unopened asked before line × IsIdle before.work after.work
+    FailsToOpen setback device_of asked.device before.files after.files × IsIdle before after
+FailsToBegin undone.StoreFault asked before after = Unattached asked before after × IsIdle before after
+FailsToBegin (undone.RowsRefused line) asked before after = Unopened asked before line × IsIdle before after
 FailsToBegin _ asked before after = ⊥
 
 -- how a session that is asked for went
-abbrev pub Happens : Result End Undone → SessionWords → Outside → Outside → Type 0
+abbrev pub Happens : Result End Undone → SessionWords → World → World → Type 0
 Happens (Ok end) asked before after = Worked asked before after end
 Happens (Err why) asked before after = FailsToBegin why asked before after
 
 -- the session that is asked for, of this device, or why it didn't begin
-abbrev pub ServesOr : Result End Undone → SessionWords → Device → Workplace → Workplace → Type 0
+abbrev pub ServesOr : Result End Undone → SessionWords → Device → World → World → Type 0
 ServesOr (Ok end) asked device before after = Works asked device before after end
 ServesOr (Err why) asked device before after =
     FailsToOpenRows why device asked.store before.store after.store × IsIdle before after

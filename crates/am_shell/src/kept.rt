@@ -4,7 +4,7 @@ ghost use Rattle.std.specs.Option.{option_copied};
 ghost use Rattle.am_model.specs.Sound.{IsSound};
 ghost use Rattle.am_shell.specs.Kept.{FailsToOpenRows, IsOrigin, IsUnchanged, Leaves, unattached_of};
 ghost use Rattle.am_shell.specs.Lines.{rows_line};
-ghost use Rattle.am_shell.specs.Outside.{store_of};
+ghost use Rattle.am_shell.specs.World.{store_of};
 
 use crate::undone::Undone;
 use am_console::Setback;

@@ -1,5 +1,6 @@
 //! The top call.
-ghost use Rattle.am_shell.specs.Runs.{Runs, world_of};
+ghost use Rattle.am_shell.specs.Runs.{Runs};
+ghost use Rattle.am_shell.specs.World.{world_of};
 
 use crate::drilling::run_drill;
 use crate::question::run_question;

@@ -1,10 +1,12 @@
 //! Which components a package sees: a question about a device, asked on the input.
 ghost use Rattle.std.specs.Prelude.{◌≡◌, ◌-◌, ◌≤◌, ◌<◌, IfOk, IfErr, Ok, length};
+ghost use Rattle.am_console.specs.Files.{shelf_of};
 ghost use Rattle.am_http.specs.Links.{source_of};
 ghost use Rattle.am_model.specs.Sound.{IsSound};
 ghost use Rattle.am_visible.specs.Answers.{answer_to};
 ghost use Rattle.am_console.specs.Telling.{voices_of};
-ghost use Rattle.am_shell.specs.Questions.{FailsToRead, Happens, IsNoReply, IsRead, ReadsMore, RunsQuestion, desk_of, most_read, query_line};
+ghost use Rattle.am_shell.specs.Questions.{FailsToRead, Happens, IsNoReply, IsRead, ReadsMore, RunsQuestion, most_read, query_line};
+ghost use Rattle.am_shell.specs.World.{World, with_voices};
 
 use crate::device::open_described;
 use crate::telling::print;
@@ -36,14 +38,14 @@ pub fn run_question<F: Files, S: Source, W: Sink, E: Sink>(
     output: &mut W,
     errors: &mut E,
 ) -> u8
-    ensures { RunsQuestion asked
-        (record {
-          desk = desk_of F.Files S.Source files.old input.old;
-          voices = voices_of W.Sink E.Sink output.old errors.old;
+    ensures { (before after : World) → RunsQuestion asked
+        (record (with_voices before (voices_of W.Sink E.Sink output.old errors.old)) {
+          files = shelf_of F.Files files.old;
+          input = source_of S.Source input.old;
         })
-        (record {
-          desk = desk_of F.Files S.Source files.new input.new;
-          voices = voices_of W.Sink E.Sink output.new errors.new;
+        (record (with_voices after (voices_of W.Sink E.Sink output.new errors.new)) {
+          files = shelf_of F.Files files.new;
+          input = source_of S.Source input.new;
         })
         result }
 {
@@ -60,9 +62,9 @@ fn answer_question<F: Files, S: Source>(
     files: &mut F,
     input: &mut S,
 ) -> Result<Text, Undone>
-    ensures { Happens result asked.now
-        (desk_of F.Files S.Source files.old input.old)
-        (desk_of F.Files S.Source files.new input.new) }
+    ensures { (before after : World) → Happens result asked.now
+        (record before { files = shelf_of F.Files files.old; input = source_of S.Source input.old })
+        (record after { files = shelf_of F.Files files.new; input = source_of S.Source input.new }) }
 {
     let known = open_described(alloc, files, &asked.device)?;
     let Some(caller) = caller_named(&known.device.packages, &asked.package) else {

@@ -4,8 +4,11 @@ ghost use Rattle.am_outside.specs.Counts.{HasRisen};
 ghost use Rattle.am_model.specs.Sound.{IsSound};
 ghost use Rattle.am_http.specs.Sending.{Sends};
 ghost use Rattle.am_words.specs.Ranges.{IsServingInRange};
+ghost use Rattle.am_console.specs.Files.{shelf_of};
 ghost use Rattle.am_console.specs.Telling.{voices_of};
-ghost use Rattle.am_shell.specs.Servings.{Happens, RunsServing, ServesOr, TellsDone, done_line, grounds_of, site_of};
+ghost use Rattle.am_shell.specs.Servings.{Happens, RunsServing, ServesOr, TellsDone, done_line};
+ghost use Rattle.am_shell.specs.World.{World, store_of, with_voices};
+ghost use Rattle.am_workers.specs.Serving.{network_of};
 
 use crate::clocks::clock_of;
 use crate::device::open_device;
@@ -56,14 +59,17 @@ where
     R: Threads + Wait + Clone + Drop + Send + Sync,
     T::Kept: Send,
     requires range { IsServingInRange asked }
-    ensures { RunsServing asked
-        (record {
-          grounds = grounds_of F.Files T.Store N.Network C.Clock files.old store.old network.old clock.now;
-          voices = voices_of W.Sink E.Sink output.old errors.old;
+    ensures { (before after : World) → RunsServing asked
+        (record (with_voices before (voices_of W.Sink E.Sink output.old errors.old)) {
+          files = shelf_of F.Files files.old;
+          store = store_of T.Store store.old;
+          network = network_of N.Network network.old;
+          clock = C.moments clock.now;
         })
-        (record {
-          grounds = grounds_of F.Files T.Store N.Network C.Clock files.new store.new network.new clock.now;
-          voices = voices_of W.Sink E.Sink output.new errors.new;
+        (record (with_voices after (voices_of W.Sink E.Sink output.new errors.new)) {
+          files = shelf_of F.Files files.new;
+          store = store_of T.Store store.new;
+          network = network_of N.Network network.new;
         })
         result }
 {
@@ -88,9 +94,18 @@ where
     R: Threads + Wait + Clone + Drop + Send + Sync,
     T::Kept: Send,
     requires range { IsServingInRange asked }
-    ensures { Happens result asked
-        (grounds_of F.Files T.Store N.Network C.Clock files.old store.old network.old clock.now)
-        (grounds_of F.Files T.Store N.Network C.Clock files.new store.new network.new clock.now) }
+    ensures { (before after : World) → Happens result asked
+        (record before {
+          files = shelf_of F.Files files.old;
+          store = store_of T.Store store.old;
+          network = network_of N.Network network.old;
+          clock = C.moments clock.now;
+        })
+        (record after {
+          files = shelf_of F.Files files.new;
+          store = store_of T.Store store.new;
+          network = network_of N.Network network.new;
+        }) }
 {
     let device = open_device(alloc, files, &asked.device)?;
     serve_device(rt, alloc, drawn, device, asked, network, store, clock)
@@ -112,9 +127,13 @@ where
     T::Kept: Send,
     requires sound { IsSound device }
     requires range { IsServingInRange asked }
-    ensures { ServesOr result asked device
-        (site_of T.Store N.Network C.Clock store.old network.old clock.now)
-        (site_of T.Store N.Network C.Clock store.new network.new clock.now) }
+    ensures { (before after : World) → ServesOr result asked device
+        (record before {
+          store = store_of T.Store store.old;
+          network = network_of N.Network network.old;
+          clock = C.moments clock.now;
+        })
+        (record after { store = store_of T.Store store.new; network = network_of N.Network network.new }) }
 {
     let ServingWords {
         device: _,

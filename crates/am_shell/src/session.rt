@@ -1,12 +1,13 @@
 //! One session of a device over an input and an output.
 ghost use Rattle.std.specs.Prelude.{◌≡◌};
 ghost use Rattle.am_model.specs.Sound.{IsSound};
+ghost use Rattle.am_console.specs.Files.{shelf_of};
 ghost use Rattle.am_http.specs.Links.{link_of, sink_of, streams_of};
 ghost use Rattle.am_shell.specs.Clocks.{ServesOn};
 ghost use Rattle.am_shell.specs.Sessions.{Happens, ServesOr};
 ghost use Rattle.am_shell.specs.Lines.{end_line, end_status};
-ghost use Rattle.am_shell.specs.Outside.{outside_of, workplace_of};
 ghost use Rattle.am_shell.specs.Runs.{RunsSession};
+ghost use Rattle.am_shell.specs.World.{World, store_of, with_streams};
 
 use crate::device::open_device;
 use crate::kept::{hand_back, open_manager};
@@ -36,15 +37,15 @@ pub fn run_session<F: Files, S: Source, W: Sink, E: Sink, T: Store, C: Clock>(
     store: &mut T,
     clock: &mut C,
 ) -> u8
-    ensures { RunsSession asked
-        (record {
-          outside = outside_of F.Files T.Store S.Source W.Sink C.Clock files.old store.old input.old output.old
-              clock.old;
+    ensures { (before after : World) → RunsSession asked
+        (record (with_streams before (streams_of S.Source W.Sink C.Clock input.old output.old clock.old)) {
+          files = shelf_of F.Files files.old;
+          store = store_of T.Store store.old;
           errors = sink_of E.Sink errors.old;
         })
-        (record {
-          outside = outside_of F.Files T.Store S.Source W.Sink C.Clock files.new store.new input.new output.new
-              clock.new;
+        (record (with_streams after (streams_of S.Source W.Sink C.Clock input.new output.new clock.new)) {
+          files = shelf_of F.Files files.new;
+          store = store_of T.Store store.new;
           errors = sink_of E.Sink errors.new;
         })
         result }
@@ -65,9 +66,15 @@ fn open_session<F: Files, S: Source, W: Sink, T: Store, C: Clock>(
     store: &mut T,
     clock: &mut C,
 ) -> Result<End, Undone>
-    ensures { Happens result asked
-        (outside_of F.Files T.Store S.Source W.Sink C.Clock files.old store.old input.old output.old clock.old)
-        (outside_of F.Files T.Store S.Source W.Sink C.Clock files.new store.new input.new output.new clock.new) }
+    ensures { (before after : World) → Happens result asked
+        (record (with_streams before (streams_of S.Source W.Sink C.Clock input.old output.old clock.old)) {
+          files = shelf_of F.Files files.old;
+          store = store_of T.Store store.old;
+        })
+        (record (with_streams after (streams_of S.Source W.Sink C.Clock input.new output.new clock.new)) {
+          files = shelf_of F.Files files.new;
+          store = store_of T.Store store.new;
+        }) }
 {
     let device = open_device(alloc, files, &asked.device)?;
     let end = serve_session(alloc, device, asked, input, output, store, clock)?;
@@ -85,9 +92,13 @@ fn serve_session<S: Source, W: Sink, T: Store, C: Clock>(
     clock: &mut C,
 ) -> Result<End, Undone>
     requires sound { IsSound device }
-    ensures { ServesOr result asked device
-        (workplace_of T.Store S.Source W.Sink C.Clock store.old input.old output.old clock.old)
-        (workplace_of T.Store S.Source W.Sink C.Clock store.new input.new output.new clock.new) }
+    ensures { (before after : World) → ServesOr result asked device
+        (record (with_streams before (streams_of S.Source W.Sink C.Clock input.old output.old clock.old)) {
+          store = store_of T.Store store.old;
+        })
+        (record (with_streams after (streams_of S.Source W.Sink C.Clock input.new output.new clock.new)) {
+          store = store_of T.Store store.new;
+        }) }
 {
     let SessionWords {
         device: _,

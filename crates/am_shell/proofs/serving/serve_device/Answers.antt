@@ -4,7 +4,7 @@ use Rattle.am_shell.proofs.ServingLemmas.{left_again, unheard_so, works_serving}
 use Rattle.am_shell.proofs.serving.serve_device.Goals as goal
 
 pub returns-in-Ok : goal.returns-in-Ok
-returns-in-Ok g c =
+returns-in-Ok g c = λ before after.
     let begun = c.in_ok-manager.ensures in
     let heard = c.in-Ok.ensures in
     let done = c.in_ok-manager-in-Ok.ensures in
@@ -15,7 +15,7 @@ returns-in-Ok g c =
     c.length-history.ensures.count
 
 pub returns-in-Failed : goal.returns-in-Failed
-returns-in-Failed g c =
+returns-in-Failed g c = λ before after.
     let begun = c.in_ok-manager.ensures in
     let out = c.in-Err.ensures in
     inr (inl (record {
@@ -27,7 +27,7 @@ returns-in-Failed g c =
     }))
 
 pub returns : goal.returns
-returns g c =
+returns g c = λ before after.
     let begun = c.in_ok-manager.ensures in
     let out = c.in-Err.ensures in
     inr (inl (record {

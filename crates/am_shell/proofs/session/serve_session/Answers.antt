@@ -10,7 +10,7 @@ hand_back-requires g c =
     c.serve_on-end.ensures.went.same.desk.desk.origin c.into_manager.ensures
 
 pub returns : goal.returns
-returns g c =
+returns g c = λ before after.
     let begun = c.in_ok-manager.ensures in
     works _ _ _ _ _ _ _ c.in_ok-manager.manager c.into_manager.result c.new-desk.result c.serve_on-end.new.desk
     c.kept_is_found.ensures c.requires.sound c.as_ref.ensures.value
