@@ -125,12 +125,15 @@ module _ (board : Board) (caller : ℕ) (intent : Intent) (required : Option (Li
   abbrev tied_account : Rival → Account
   tied_account r = record { to = Declared (component_of r.owner r.decl); standing = Tied }
 
+  -- what leaves out a component that is found
+  abbrev left_out_by : Rival → Option Narrowing
+  left_out_by r = left_out board (host_to_view intent) r.owner (is_some_approved board intent (host_to_view intent))
+      (list_any (takes_any_host intent) r.decl.filters)
+
   -- a component that is found is neither left out nor outranked
   abbrev leads : Rival → Bool
   leads r =
-      is_none (left_out board (host_to_view intent) r.owner (is_some_approved board intent (host_to_view intent))
-      (list_any (takes_any_host intent) r.decl.filters))
-      && not (is_outranked r.priority (start_hits board intent))
+      is_none (left_out_by r) && not (is_outranked r.priority (start_hits board intent))
 
   -- of those that are found these are tied
   tied_of : (rs : List Rival)
@@ -139,9 +142,7 @@ module _ (board : Board) (caller : ℕ) (intent : Intent) (required : Option (Li
   tied_of [] = nothing (is_choice (target board intent))
   tied_of (r ∷ rs) =
       of_one_more is_tied (met_account board asked None r) (map (met_account board asked None) rs) (tied_of rs)
-      ∙ by (left_out board (host_to_view intent) r.owner (is_some_approved board intent (host_to_view intent))
-      (list_any (takes_any_host intent) r.decl.filters))
-      (is_outranked r.priority (start_hits board intent)) (is_choice (target board intent))
+      ∙ by (left_out_by r) (is_outranked r.priority (start_hits board intent)) (is_choice (target board intent))
       (rule_of (verdict board.grants caller r.owner.uid r.decl.exported r.decl.permission))
     where
       others : List Account
@@ -171,9 +172,7 @@ module _ (board : Board) (caller : ℕ) (intent : Intent) (required : Option (Li
   decided_of [] = nothing (is_choice (target board intent))
   decided_of (r ∷ rs) =
       of_one_more is_decided (met_account board asked None r) (map (met_account board asked None) rs) (decided_of rs)
-      ∙ by (left_out board (host_to_view intent) r.owner (is_some_approved board intent (host_to_view intent))
-      (list_any (takes_any_host intent) r.decl.filters))
-      (is_outranked r.priority (start_hits board intent)) (is_choice (target board intent))
+      ∙ by (left_out_by r) (is_outranked r.priority (start_hits board intent)) (is_choice (target board intent))
     where
       others : List Account
       others = map started_account (filter leads rs)

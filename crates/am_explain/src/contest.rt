@@ -41,6 +41,7 @@ pub(crate) struct Leaders {
 /// component itself.
 #[derive(Clone, Copy)]
 pub(crate) struct Grounds<'a> {
+    pub(crate) alloc: Global,
     pub(crate) installed: &'a Installed,
     pub(crate) question: Question<'a>,
     pub(crate) contest: &'a Contest,

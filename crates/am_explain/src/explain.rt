@@ -33,18 +33,18 @@ pub fn accounts<L: Ledger>(
 {
     let contest = find_contest(alloc, board, question, steps)?;
     let grounds = Grounds {
+        alloc,
         installed: board.installed(),
         question: *question,
         contest: &contest,
     };
-    let told = told(alloc, &grounds, shown, steps);
+    let told = told(&grounds, shown, steps);
     drop(contest);
     told
 }
 
 /// The accounts, once it is known what decides.
 fn told<L: Ledger>(
-    alloc: Global,
     grounds: &Grounds,
     shown: Option<u32>,
     steps: &mut Steps<L>,
@@ -56,11 +56,10 @@ fn told<L: Ledger>(
         + length grounds.now.installed.now.registered) }
     ensures explicit { IsSome grounds.now.question.intent.now.component → steps.new ≡ steps.old }
 {
-    let question = &grounds.question;
-    let mut told = Vec::new(alloc);
-    add_declared(&mut told, alloc, grounds, shown, steps)?;
-    if question.kind == Kind::Receiver {
-        add_registered(&mut told, alloc, grounds.installed, question, shown, steps)?;
+    let mut told = Vec::new(grounds.alloc);
+    add_declared(&mut told, grounds, shown, steps)?;
+    if grounds.question.kind == Kind::Receiver {
+        add_registered(&mut told, grounds, shown, steps)?;
     }
     Ok(List::new(told))
 }

@@ -5,6 +5,8 @@ mod asking;
 mod contest;
 mod explain;
 mod laws;
+mod naming;
+mod reaching;
 mod standing;
 mod tested;
 mod walk;

@@ -1,63 +1,22 @@
 //! The standing of a component or a registered receiver.
-ghost use Rattle.std.specs.Prelude.{◌≡◌, ◌+◌, ◌≤◌, ◌∷◌, [], IsSome, IfOk, length, Some, None, false, option_copied};
+ghost use Rattle.std.specs.Prelude.{◌≡◌, ◌+◌, ◌≤◌, ◌∷◌, [], IsSome, IfOk, length, Some, None};
 ghost use Rattle.std.specs.List.{list_any};
-ghost use Rattle.am_types.specs.declared.manifest.Kind.TheVariants.{Service};
-ghost use Rattle.am_model.specs.Candidates.{hits, is_in, is_named};
-ghost use Rattle.am_model.specs.Receivers.{is_protected};
-ghost use Rattle.am_model.specs.Targets.{host_to_view, takes_any_host};
-ghost use Rattle.am_model.specs.Accounts.{by_kind, component_of, enabled, first_of, found, found_activity, found_service, is_other_component, is_other_package, is_that, left_out, left_out_for_browser, named, needs_default, offer_to, offered, registered_standing, sending_rule, standing, started, unless_kept};
-ghost use Rattle.am_resolve.specs.Ranking.{offer_of};
+ghost use Rattle.am_model.specs.Accounts.{enabled, found, named, needs_default, registered_standing, standing};
 ghost use Rattle.am_explain.specs.Asking.{question_of};
-ghost use Rattle.am_explain.specs.Contests.{AreGrounds, IsLed, is_below};
+ghost use Rattle.am_explain.specs.Contests.{AreGrounds};
 ghost use Rattle.am_types.specs.declared.account.Standing.TheVariants.{Filters};
 ghost use Rattle.am_explain.specs.Tests.{takes_all_hosts, tested_of};
 
 use crate::asking::Question;
-use crate::contest::{Contest, Grounds, Leaders};
+use crate::contest::{Contest, Grounds};
+use crate::naming::{is_other_component, is_other_package};
+use crate::reaching::{found_activity, found_service, offered, offered_to, started};
 use crate::tested::{Tested, ask_filters, test};
-use am_gates::{Ruling, is_privileged, verdict};
 use am_installed::Installed;
-use am_resolve::{Offer, approves, host_to_view, is_for, registered_offer, skip_of};
-use am_types::{
-    Aim, Component, Decl, Intent, Kind, List, Narrowing, NoMemory, Package, Registration, Rule,
-    Standing, Steps, Text, Why,
-};
-use std::alloc::{AllocError, Global};
+use am_resolve::{is_for, registered_offer};
+use am_types::{Decl, Kind, List, NoMemory, Package, Registration, Standing, Steps, Why};
+use std::alloc::Global;
 use std::sync::ledger::Ledger;
-
-/// The intent names another component than this one.
-fn is_other_component(component: &Option<Component>, owner: &Package, decl: &Decl) -> bool
-    ensures { result ≡ is_other_component component.now owner.now decl.now }
-{
-    match component {
-        None => false,
-        Some(component) => !is_named(component, owner, decl),
-    }
-}
-
-/// The component has this name.
-fn is_named(component: &Component, owner: &Package, decl: &Decl) -> bool
-    ensures { result ≡ is_named component.now owner.now.name decl.now.class }
-{
-    component.package == owner.name && component.class == decl.class
-}
-
-/// The intent names no component, but a package other than this one.
-fn is_other_package(intent: &Intent, owner: &Package) -> bool
-    ensures { result ≡ is_other_package intent.now owner.now }
-{
-    intent.component.is_none() && !is_in(&intent.package, owner)
-}
-
-/// No package is named, or this one is.
-fn is_in(name: &Option<Text>, owner: &Package) -> bool
-    ensures { result ≡ is_in name.now owner.now }
-{
-    match name {
-        None => true,
-        Some(name) => *name == owner.name,
-    }
-}
 
 /// An implicit start of an activity needs the default category.
 fn needs_default(kind: Kind) -> bool
@@ -67,230 +26,6 @@ fn needs_default(kind: Kind) -> bool
         Kind::Activity => true,
         Kind::Service | Kind::Receiver => false,
     }
-}
-
-/// The name of a component.
-pub(crate) fn component_of(owner: &Package, decl: &Decl) -> Result<Component, AllocError>
-    ensures { IfOk result (λ component. component ≡ component_of owner.now decl.now) }
-{
-    Ok(Component {
-        package: owner.name.clone()?,
-        class: decl.class.clone()?,
-    })
-}
-
-/// A component that is started: the gate may refuse the caller.
-fn started(
-    installed: &Installed,
-    caller: u32,
-    owner: &Package,
-    decl: &Decl,
-) -> Result<Standing, NoMemory>
-    ensures { IfOk result (λ said. said ≡ started installed.now caller owner.now decl.now) }
-{
-    let permission = decl.permission.as_ref();
-    match verdict(
-        caller,
-        owner.uid,
-        decl.exported,
-        permission,
-        installed.grants(),
-    ) {
-        Ruling::Admit => Ok(Standing::Reached),
-        Ruling::NotExported => Ok(Standing::Refused(Rule::NotExported)),
-        Ruling::NeedsPermission(permission) => {
-            Ok(Standing::Refused(Rule::NeedsPermission(permission.clone()?)))
-        }
-    }
-}
-
-fn is_protected(protected: &List<Text>, action: &Option<Text>) -> bool
-    ensures { result ≡ is_protected protected.now action.now }
-{
-    match action {
-        None => false,
-        Some(action) => protected.as_slice().contains(action),
-    }
-}
-
-/// The rule by which the caller may not send the action, if it may not.
-fn sending_rule(installed: &Installed, question: &Question) -> Option<Rule>
-    ensures { result ≡ sending_rule installed.now (question_of question.now) }
-{
-    if is_protected(installed.protected(), &question.intent.action)
-        && !is_privileged(question.caller)
-    {
-        Some(Rule::ProtectedAction)
-    } else {
-        None
-    }
-}
-
-/// A receiver that the broadcast is offered to: it may be skipped, and the caller may not be allowed
-/// to send the action.
-fn offered(installed: &Installed, question: &Question, offer: &Offer) -> Result<Standing, NoMemory>
-    ensures { IfOk result (λ said. said ≡ offered installed.now (question_of question.now) (offer_of offer.now)) }
-{
-    let intent = question.intent;
-    let skip = skip_of(
-        installed,
-        intent,
-        question.caller,
-        question.permission,
-        offer,
-    )?;
-    if let Some(rule) = skip {
-        return Ok(Standing::Refused(rule));
-    }
-    match sending_rule(installed, question) {
-        Some(rule) => Ok(Standing::Refused(rule)),
-        None => Ok(Standing::Reached),
-    }
-}
-
-/// The offer to a manifest's receiver.
-fn offer_to<'a>(owner: &Package, decl: &'a Decl) -> Result<Offer<'a>, NoMemory>
-    ensures { IfOk result (λ offer. offer_of offer ≡ offer_to owner.now decl.now) }
-{
-    let aim = Aim::Declared(component_of(owner, decl)?);
-    Ok(Offer {
-        uid: owner.uid,
-        aim,
-        priority: 0,
-        exported: decl.exported,
-        permission: decl.permission.as_ref(),
-    })
-}
-
-/// A manifest's receiver that the broadcast is offered to.
-fn offered_to(
-    installed: &Installed,
-    question: &Question,
-    owner: &Package,
-    decl: &Decl,
-) -> Result<Standing, NoMemory>
-    ensures { IfOk result
-        (λ said. said ≡ offered installed.now (question_of question.now) (offer_to owner.now decl.now)) }
-{
-    let offer = offer_to(owner, decl)?;
-    let standing = offered(installed, question, &offer);
-    drop(offer);
-    standing
-}
-
-/// Left out, unless the component is kept.
-fn unless_kept(kept: bool, narrowing: Narrowing) -> Option<Narrowing>
-    ensures { result ≡ unless_kept kept narrowing }
-{
-    if kept { None } else { Some(narrowing) }
-}
-
-/// Left out in favor of the browser that the device names; without a browser, of those that take any host.
-fn left_out_for_browser(browser: Option<&Text>, name: &Text, any_host: bool) -> Option<Narrowing>
-    ensures { result ≡ left_out_for_browser (option_copied browser.entry) name.now any_host }
-{
-    match browser {
-        Some(browser) => unless_kept(name == browser, Narrowing::Browser),
-        None => unless_kept(any_host, Narrowing::General),
-    }
-}
-
-/// The reason for which the narrowing leaves an activity out: only a web intent, which has a host, is narrowed.
-fn left_out(
-    installed: &Installed,
-    intent: &Intent,
-    owner: &Package,
-    some_approved: bool,
-    any_host: bool,
-) -> Option<Narrowing>
-    ensures { result ≡ left_out installed.now (host_to_view intent.now) owner.now some_approved any_host }
-{
-    let Some(host) = host_to_view(intent) else {
-        return None;
-    };
-    if some_approved {
-        unless_kept(
-            approves(installed.links(), host, owner.uid),
-            Narrowing::Approved,
-        )
-    } else {
-        left_out_for_browser(installed.browser(), &owner.name, any_host)
-    }
-}
-
-/// The priority is below the other, if there is one.
-fn is_below(priority: i32, greatest: Option<i32>) -> bool
-    ensures { result ≡ is_below priority greatest }
-{
-    match greatest {
-        None => false,
-        Some(greatest) => priority < greatest,
-    }
-}
-
-/// An activity that the intent finds with this priority; `any_host` tells whether a filter that the
-/// intent passes lists no authority.
-fn found_activity(
-    installed: &Installed,
-    question: &Question,
-    leaders: &Leaders,
-    owner: &Package,
-    decl: &Decl,
-    priority: i32,
-    any_host: bool,
-) -> Result<Standing, NoMemory>
-    requires led { IsLed installed.now question.now.intent.now leaders.now }
-    requires any_host { any_host ≡ list_any (takes_any_host question.now.intent.now) decl.now.filters }
-    ensures { IfOk result
-        (λ said. said ≡ found_activity installed.now (question_of question.now) owner.now decl.now priority) }
-{
-    let narrowing = left_out(
-        installed,
-        question.intent,
-        owner,
-        leaders.approved,
-        any_host,
-    );
-    if let Some(narrowing) = narrowing {
-        return Ok(Standing::Narrowed(narrowing));
-    }
-    if is_below(priority, leaders.greatest) {
-        return Ok(Standing::Outranked);
-    }
-    if leaders.tied {
-        return Ok(Standing::Tied);
-    }
-    started(installed, question.caller, owner, decl)
-}
-
-/// There is a named component, and it is this one.
-fn is_that(component: &Option<Component>, owner: &Package, decl: &Decl) -> bool
-    ensures { result ≡ is_that component.now (component_of owner.now decl.now) }
-{
-    match component {
-        None => false,
-        Some(component) => is_named(component, owner, decl),
-    }
-}
-
-/// A service that the intent finds; `first` is the first such service.
-fn found_service(
-    installed: &Installed,
-    question: &Question,
-    first: &Option<Component>,
-    owner: &Package,
-    decl: &Decl,
-) -> Result<Standing, NoMemory>
-    requires { first.now ≡ first_of (hits installed.now.packages Service question.now.intent.now false) }
-    ensures { IfOk result (λ said. said ≡ found_service installed.now (question_of question.now) owner.now decl.now) }
-{
-    if question.intent.package.is_none() {
-        return Ok(Standing::Refused(Rule::ImplicitService));
-    }
-    if !is_that(first, owner, decl) {
-        return Ok(Standing::Outranked);
-    }
-    started(installed, question.caller, owner, decl)
 }
 
 /// A component that has filters that the intent passes.
@@ -354,7 +89,6 @@ fn named(
 
 /// The standing of a component of the kind. Each filter that is tested is a step.
 pub(crate) fn standing_of<L: Ledger>(
-    alloc: Global,
     grounds: &Grounds,
     owner: &Package,
     decl: &Decl,
@@ -381,7 +115,7 @@ pub(crate) fn standing_of<L: Ledger>(
         None => {
             let need_default = needs_default(question.kind);
             let tested = ask_filters(
-                alloc,
+                grounds.alloc,
                 question.kind,
                 question.intent,
                 need_default,
@@ -395,17 +129,17 @@ pub(crate) fn standing_of<L: Ledger>(
 
 /// The standing of a registered receiver. Its filter, if it is tested, is a step.
 pub(crate) fn registered_standing<L: Ledger>(
-    alloc: Global,
-    installed: &Installed,
-    question: &Question,
+    grounds: &Grounds,
     registration: &Registration,
     steps: &mut Steps<L>,
 ) -> Result<Standing, NoMemory>
     ensures standing { IfOk result
-        (λ said. said ≡ registered_standing installed.now (question_of question.now) registration.now) }
+        (λ said. said ≡ registered_standing grounds.now.installed.now (question_of grounds.now.question)
+        registration.now) }
     ensures tests { steps.new ≤ steps.old + 1 }
-    ensures explicit { IsSome question.now.intent.now.component → steps.new ≡ steps.old }
+    ensures explicit { IsSome grounds.now.question.intent.now.component → steps.new ≡ steps.old }
 {
+    let (installed, question) = (grounds.installed, &grounds.question);
     if question.intent.component.is_some() {
         return Ok(Standing::OtherComponent);
     }
@@ -413,7 +147,7 @@ pub(crate) fn registered_standing<L: Ledger>(
         return Ok(Standing::OtherPackage);
     }
     match test(&registration.filter, question.intent, false, steps) {
-        Some(reason) => failed(alloc, reason),
+        Some(reason) => failed(grounds.alloc, reason),
         None => offered(installed, question, &registered_offer(registration)),
     }
 }

@@ -7,12 +7,10 @@ ghost use Rattle.am_explain.specs.Asking.{question_of};
 ghost use Rattle.am_explain.specs.Contests.{AreGrounds};
 ghost use Rattle.am_explain.specs.Costs.{filters_from, filters_in};
 
-use crate::asking::Question;
 use crate::contest::Grounds;
-use crate::standing::{component_of, registered_standing, standing_of};
-use am_installed::Installed;
+use crate::naming::component_of;
+use crate::standing::{registered_standing, standing_of};
 use am_types::{Account, Aim, Decl, NoMemory, Package, Standing, Steps};
-use std::alloc::Global;
 use std::sync::ledger::Ledger;
 
 /// All are shown, or only what has this uid.
@@ -37,7 +35,6 @@ fn tell(told: &mut Vec<Account>, to: Aim, standing: Standing) -> Result<(), NoMe
 /// that is tested is a step.
 pub(crate) fn add_declared<L: Ledger>(
     told: &mut Vec<Account>,
-    alloc: Global,
     grounds: &Grounds,
     shown: Option<u32>,
     steps: &mut Steps<L>,
@@ -51,7 +48,7 @@ pub(crate) fn add_declared<L: Ledger>(
 {
     for owner in grounds.installed.packages().as_slice() {
         if is_shown(shown, owner.uid) {
-            add_package(told, alloc, grounds, owner, steps)?;
+            add_package(told, grounds, owner, steps)?;
         }
     }
     Ok(())
@@ -60,7 +57,6 @@ pub(crate) fn add_declared<L: Ledger>(
 /// Adds the accounts of a package's components of the kind.
 fn add_package<L: Ledger>(
     told: &mut Vec<Account>,
-    alloc: Global,
     grounds: &Grounds,
     owner: &Package,
     steps: &mut Steps<L>,
@@ -73,7 +69,7 @@ fn add_package<L: Ledger>(
 {
     for decl in owner.decls.as_slice() {
         if decl.kind == grounds.question.kind {
-            add_component(told, alloc, grounds, owner, decl, steps)?;
+            add_component(told, grounds, owner, decl, steps)?;
         }
     }
     Ok(())
@@ -82,7 +78,6 @@ fn add_package<L: Ledger>(
 /// Adds the account of a component.
 fn add_component<L: Ledger>(
     told: &mut Vec<Account>,
-    alloc: Global,
     grounds: &Grounds,
     owner: &Package,
     decl: &Decl,
@@ -96,7 +91,7 @@ fn add_component<L: Ledger>(
     ensures tests { steps.new ≤ steps.old + length decl.now.filters }
     ensures explicit { IsSome grounds.now.question.intent.now.component → steps.new ≡ steps.old }
 {
-    let standing = standing_of(alloc, grounds, owner, decl, steps)?;
+    let standing = standing_of(grounds, owner, decl, steps)?;
     let to = Aim::Declared(component_of(owner, decl)?);
     tell(told, to, standing)
 }
@@ -105,21 +100,19 @@ fn add_component<L: Ledger>(
 /// is a step.
 pub(crate) fn add_registered<L: Ledger>(
     told: &mut Vec<Account>,
-    alloc: Global,
-    installed: &Installed,
-    question: &Question,
+    grounds: &Grounds,
     shown: Option<u32>,
     steps: &mut Steps<L>,
 ) -> Result<(), NoMemory>
-    ensures added { OnOk result (told.new.items
-        ≡ told.old.items
-        ++ registered_accounts installed.now (question_of question.now) shown installed.now.registered) }
-    ensures tests { steps.new ≤ steps.old + length installed.now.registered }
-    ensures explicit { IsSome question.now.intent.now.component → steps.new ≡ steps.old }
+    ensures added { OnOk result (told.new.items ≡ told.old.items
+        ++ registered_accounts grounds.now.installed.now (question_of grounds.now.question) shown
+        grounds.now.installed.now.registered) }
+    ensures tests { steps.new ≤ steps.old + length grounds.now.installed.now.registered }
+    ensures explicit { IsSome grounds.now.question.intent.now.component → steps.new ≡ steps.old }
 {
-    for registration in installed.registered().as_slice() {
+    for registration in grounds.installed.registered().as_slice() {
         if is_shown(shown, registration.uid) {
-            let standing = registered_standing(alloc, installed, question, registration, steps)?;
+            let standing = registered_standing(grounds, registration, steps)?;
             tell(told, Aim::Registered(registration.number), standing)?;
         }
     }

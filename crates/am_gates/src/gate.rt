@@ -1,10 +1,12 @@
-ghost use Rattle.std.specs.Prelude.{◌≡◌};
+ghost use Rattle.std.specs.Prelude.{◌≡◌, ◌&&◌, not, IfOk};
 ghost use Rattle.std.specs.Option.{option_copied};
 ghost use Rattle.am_model.specs.Boards.{is_grant, is_granted};
 ghost use Rattle.am_model.specs.Gates.{holds, is_privileged, verdict};
+ghost use Rattle.am_model.specs.Receivers.{is_protected, rule_of};
 ghost use Rattle.am_gates.specs.Rulings.{verdict_of};
 
-use am_types::{Grant, List, ROOT, SYSTEM, Text};
+use am_types::{Grant, List, ROOT, Rule, SYSTEM, Text};
+use std::alloc::AllocError;
 
 /// What is decided about a caller.
 #[derive(Clone, Copy, Debug, PartialEq, Eq)]
@@ -45,6 +47,28 @@ pub fn verdict<'a>(
     }
 }
 
+/// The rule by which [`verdict`] keeps the caller from the component; none if it admits the caller.
+///
+/// # Errors
+///
+/// `AllocError` if memory runs out.
+pub fn refusal(
+    caller: u32,
+    owner: u32,
+    exported: bool,
+    permission: Option<&Text>,
+    grants: &List<Grant>,
+) -> Result<Option<Rule>, AllocError>
+    ensures { IfOk result (λ refusal. refusal
+        ≡ rule_of (verdict grants.now caller owner exported (option_copied permission.entry))) }
+{
+    match verdict(caller, owner, exported, permission, grants) {
+        Ruling::Admit => Ok(None),
+        Ruling::NotExported => Ok(Some(Rule::NotExported)),
+        Ruling::NeedsPermission(permission) => Ok(Some(Rule::NeedsPermission(permission.clone()?))),
+    }
+}
+
 /// Whether the uid holds the permission: the system and the root hold every permission, an app those that
 /// were granted to it. (AOSP, the same method; that grants are handed in is (own).) Takes no memory.
 pub fn holds(uid: u32, permission: &Text, grants: &List<Grant>) -> bool
@@ -68,6 +92,24 @@ pub fn is_granted(grants: &List<Grant>, uid: u32, permission: &str) -> bool
         .as_slice()
         .iter()
         .any(|grant| is_grant(grant, uid, permission))
+}
+
+/// Whether the caller may not broadcast the action: it is protected, and the caller is neither the system nor the
+/// root. Takes no memory.
+pub fn is_withheld(protected: &List<Text>, action: &Option<Text>, caller: u32) -> bool
+    ensures { result ≡ is_protected protected.now action.now && not (is_privileged caller) }
+{
+    is_protected(protected, action) && !is_privileged(caller)
+}
+
+/// There is an action, and it is protected.
+fn is_protected(protected: &List<Text>, action: &Option<Text>) -> bool
+    ensures { result ≡ is_protected protected.now action.now }
+{
+    match action {
+        None => false,
+        Some(action) => protected.as_slice().contains(action),
+    }
 }
 
 /// Whether the uid is the system's or the root's. Takes no memory.

@@ -3,4 +3,6 @@
 
 mod gate;
 
-pub use gate::{Ruling, holds, holds_named, is_granted, is_privileged, verdict};
+pub use gate::{
+    Ruling, holds, holds_named, is_granted, is_privileged, is_withheld, refusal, verdict,
+};

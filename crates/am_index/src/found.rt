@@ -155,19 +155,9 @@ pub fn is_passed<L: Ledger>(
     ensures passes { result ≡ passes filter.now intent.now need_default }
     ensures tests { steps.new ≡ steps.old + (if in_group intent.now filter.now then 1 else 0) }
 {
-    in_group(intent, filter) && is_passed_by_test(filter, intent, need_default, steps)
-}
-
-/// Whether the intent passes the filter: a step. Takes no memory.
-pub fn is_passed_by_test<L: Ledger>(
-    filter: &Filter,
-    intent: &Intent,
-    need_default: bool,
-    steps: &mut Steps<L>,
-) -> bool
-    ensures passes { result ≡ passes filter.now intent.now need_default }
-    ensures tests { steps.new ≡ steps.old + 1 }
-{
+    if !in_group(intent, filter) {
+        return false;
+    }
     steps.tick();
     passes(filter, intent, need_default).is_ok()
 }

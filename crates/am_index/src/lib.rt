@@ -9,5 +9,5 @@ mod lists;
 mod lookup;
 mod merge;
 
-pub use found::{counted_priority, greatest, is_passed, is_passed_by_test};
+pub use found::{counted_priority, greatest, is_passed};
 pub use index::FilterIndex;

@@ -1,5 +1,5 @@
 -- Grants, links and registered receivers stay in order whatever changes.
-use Rattle.std.proofs.Common.{◌≡◌, ℕ, ◌<◌, ◌≤◌, arith, Bool, true, false, cond, ltb, List, [], ◌∷◌, filter, refl, sym, subst, Result, Ok, Err}
+use Rattle.std.proofs.Common.{◌≡◌, ℕ, ◌<◌, ◌≤◌, arith, Bool, true, false, cond, ltb, List, [], ◌∷◌, filter, refl, sym, ◌∙◌, subst, Result, Ok, Err}
 use Rattle.std.specs.Prelude.{OnOk, OnErr}
 use Rattle.std.specs.List.{AllByRecursion}
 use Rattle.std.specs.List.Sorted.{IsStrictlySortedBy}
@@ -76,8 +76,11 @@ in_order_left board keeps order = record {
   registered = fewer_registered keeps board.registered order.registered;
 }
 
--- what holds of both outcomes of a change holds after it
-pub whatever : {T E X : Type 0} (P : X → Type 0) (r : Result T E) (old new changed : X) → OnOk r (new ≡ changed)
-    → OnErr r (new ≡ old) → P old → P changed → P new
-whatever P (Ok x) old new changed ok err before after = subst P (sym ok) after
-whatever P (Err e) old new changed ok err before after = subst P (sym err) before
+-- what was taken out, whether or not it was changed, is put back as it has to be
+pub put_back : {T E X : Type 0} (P : X → Type 0) (r : Result T E) (change : X → X) {was taken left put : X}
+    → taken ≡ was → OnOk r (left ≡ change taken) → OnErr r (left ≡ taken) → put ≡ left
+    → ((x : X) → P x → P (change x)) → P was → P put
+put_back P (Ok x) change {taken = taken} taken_is ok err put_is keeps before =
+    subst P (sym (put_is ∙ ok)) (keeps taken (subst P (sym taken_is) before))
+put_back P (Err e) change taken_is ok err put_is keeps before =
+    subst P (sym (put_is ∙ err)) (subst P (sym taken_is) before)

@@ -9,7 +9,8 @@ ghost use Rattle.am_history.specs.BroadcastCalls.{after_send, count_of, finish, 
 ghost use Rattle.am_history.specs.State.{State};
 ghost use Rattle.am_history.specs.Steps.{at_moment};
 
-use crate::sending::{is_withheld, send_at, send_rule, sending_of};
+use crate::sending::{send_at, send_rule, sending_of};
+use am_gates::is_withheld;
 use am_live_gate::Caller;
 use am_queue::Queues;
 use am_resolve::Board;

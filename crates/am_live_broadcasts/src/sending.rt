@@ -1,47 +1,20 @@
 //! A broadcast that is to be sent: who it goes to, and what it needs from the caller's intent.
-ghost use Rattle.std.specs.Prelude.{◌≡◌, ◌≢◌, ◌≤◌, ◌&&◌, not, Ok, Err, None, IfOk, IfErr, IfNone, IfSome};
+ghost use Rattle.std.specs.Prelude.{◌≡◌, ◌≢◌, ◌≤◌, Ok, Err, None, IfOk, IfErr, IfNone, IfSome};
 ghost use Rattle.std.specs.Option.{option_copied};
 ghost use Rattle.am_model.specs.Broadcasts.{expired};
-ghost use Rattle.am_model.specs.Gates.{is_privileged};
-ghost use Rattle.am_model.specs.Receivers.{admitted, is_protected};
+ghost use Rattle.am_model.specs.Receivers.{admitted};
 ghost use Rattle.am_model.specs.Sending.{send};
-ghost use Rattle.am_model.specs.Texts.{lists};
 ghost use Rattle.am_history.specs.State.{State};
 ghost use Rattle.am_history.specs.BroadcastCalls.{send_rule, sending_of};
 
-use am_gates::is_privileged;
 use am_live_gate::Caller;
 use am_queue::Queues;
 use am_types::{
-    Intent, Limit, List, NoMemory, Ordered, Receiving, Rule, SendFault, Sending, Spot, Steps, Text,
+    Intent, Limit, List, NoMemory, Ordered, Receiving, Rule, SendFault, Sending, Spot, Steps,
 };
 use std::alloc::Global;
 use std::mem;
 use std::sync::ledger::Ledger;
-
-/// Whether the text is listed.
-fn lists(texts: &[Text], text: &Text) -> bool
-    ensures { result ≡ lists texts.now text.now }
-{
-    texts.iter().any(|listed| *listed == *text)
-}
-
-/// Whether there is an action and it is protected.
-fn is_protected(protected: &List<Text>, action: &Option<Text>) -> bool
-    ensures { result ≡ is_protected protected.now action.now }
-{
-    match action {
-        None => false,
-        Some(action) => lists(protected.as_slice(), action),
-    }
-}
-
-/// Whether the action is protected, and the caller is neither the system nor the root.
-pub(crate) fn is_withheld(protected: &List<Text>, action: &Option<Text>, caller: u32) -> bool
-    ensures { result ≡ is_protected protected.now action.now && not (is_privileged caller) }
-{
-    is_protected(protected, action) && !is_privileged(caller)
-}
 
 /// The receivers that are admitted, in their order.
 fn admitted(alloc: Global, offered: &[Receiving]) -> Result<List<Spot>, NoMemory>

@@ -3,7 +3,7 @@ ghost use Rattle.std.specs.Prelude.{◌≡◌, IfOk};
 ghost use Rattle.am_model.specs.Gates.{verdict};
 ghost use Rattle.am_model.specs.Receivers.{rule_of};
 
-use am_gates::{Ruling, verdict};
+use am_gates::refusal;
 use am_resolve::Board;
 use am_types::{Decl, NoMemory, Rule};
 
@@ -14,12 +14,5 @@ pub fn gate(board: &Board, caller: u32, uid: u32, decl: &Decl) -> Result<Option<
         ≡ rule_of (verdict board.now.grants caller uid decl.now.exported decl.now.permission)) }
 {
     let permission = decl.permission.as_ref();
-    match verdict(caller, uid, decl.exported, permission, board.grants()) {
-        Ruling::Admit => Ok(None),
-        Ruling::NotExported => Ok(Some(Rule::NotExported)),
-        Ruling::NeedsPermission(permission) => {
-            let permission = permission.clone()?;
-            Ok(Some(Rule::NeedsPermission(permission)))
-        }
-    }
+    Ok(refusal(caller, uid, decl.exported, permission, board.grants())?)
 }

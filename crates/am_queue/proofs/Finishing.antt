@@ -1,11 +1,11 @@
 -- What a finish finds and leaves.
-use Rattle.std.proofs.Common.{◌≡◌, ℕ, Bool, true, false, not, ◌&&◌, cond, List, [], ◌∷◌, refl, ap}
+use Rattle.std.proofs.Common.{◌≡◌, ℕ, Bool, true, false, not, ◌&&◌, cond, List, [], ◌∷◌, refl, ap, ◌∙◌}
 use Rattle.std.specs.Prelude.{Option, Some, None, is_some, ◌==◌, Ok, Err}
 use Rattle.std.specs.Option.{option_map}
 use Rattle.std.specs.List.{filter, list_all}
 use Rattle.am_types.specs.declared.broadcast.Answer.{Answer}
 use Rattle.am_types.specs.declared.broadcast.FinishFault.{FinishFault}
-use Rattle.am_types.specs.declared.broadcast.FinishFault.TheVariants.{NoDelivery, NotYours, NotOrdered}
+use Rattle.am_types.specs.declared.broadcast.FinishFault.TheVariants.{NotYours, NotOrdered}
 use Rattle.am_model.specs.Filters.{is_empty}
 use Rattle.am_model.specs.Broadcasts.{Broadcasts, Normal, Delivery, InTurn, Doing, normals_keeping}
 use Rattle.am_model.specs.Sending.{Held, or_held, held_in_deliveries, held_in_normals, answered_head, is_for_ordered, finished, finish_held}
@@ -13,6 +13,7 @@ use Rattle.am_queue_ordered.specs.Heads.{is_head, head_turned}
 use Rattle.am_queue_normal.specs.Kept.{AllLive, at_once_by, is_other}
 use Rattle.am_queue.specs.Sound.{has_current, IsSound}
 use Rattle.am_queue.specs.Taken.{fault_of}
+use Rattle.am_queue.proofs.Refusals.{unless_refused}
 
 -- a delivery that isn't held isn't one of these
 unheld_in : (number : ℕ) (deliveries : List Delivery) → held_in_deliveries number deliveries ≡ None
@@ -80,31 +81,18 @@ heads_differ number all sound is =
     false_unless true never = absurd (never refl)
     false_unless false never = refl
 
--- without a fault it is finished
-pub finished_without : (all : Broadcasts) (number uid : ℕ) (answer : Answer) (now : ℕ) (held : Option Held)
-    → fault_of uid answer held ≡ None
-    → finish_held all number uid answer now held ≡ Ok (finished all number answer now)
-finished_without all number uid answer now None none = absurd cc
-finished_without all number uid answer now (Some holder) none = by (not (holder.uid == uid))
-    (is_for_ordered answer && not holder.ordered) none
+-- a fault is the refusal; without one it is finished
+pub finished_unless : (all : Broadcasts) (number uid : ℕ) (answer : Answer) (now : ℕ) (held : Option Held)
+    {fault : Option FinishFault} → fault_of uid answer held ≡ fault
+    → finish_held all number uid answer now held ≡ unless_refused fault (finished all number answer now)
+finished_unless all number uid answer now None is = ap (λ f. unless_refused f (finished all number answer now)) is
+finished_unless all number uid answer now (Some holder) is = by (not (holder.uid == uid))
+    (is_for_ordered answer && not holder.ordered) ∙ ap (λ f. unless_refused f (finished all number answer now)) is
   where
-    by : (other unfit : Bool) → cond other (Some NotYours) (cond unfit (Some NotOrdered) None) ≡ None
+    by : (other unfit : Bool)
         → cond other (Err NotYours) (cond unfit (Err NotOrdered) (Ok (finished all number answer now)))
-        ≡ Ok (finished all number answer now)
-    by true unfit none = absurd cc
-    by false true none = absurd cc
-    by false false none = refl
-
--- a fault is the refusal
-pub refused_with : (all : Broadcasts) (number uid : ℕ) (answer : Answer) (now : ℕ) (held : Option Held)
-    (fault : FinishFault) → fault_of uid answer held ≡ Some fault
-    → finish_held all number uid answer now held ≡ Err fault
-refused_with all number uid answer now None fault is = let e : NoDelivery ≡ fault = cc in ap (λ f. Err f) e
-refused_with all number uid answer now (Some holder) fault is = by (not (holder.uid == uid))
-    (is_for_ordered answer && not holder.ordered) is
-  where
-    by : (other unfit : Bool) → cond other (Some NotYours) (cond unfit (Some NotOrdered) None) ≡ Some fault
-        → cond other (Err NotYours) (cond unfit (Err NotOrdered) (Ok (finished all number answer now))) ≡ Err fault
-    by true unfit is = let e : NotYours ≡ fault = cc in ap (λ f. Err f) e
-    by false true is = let e : NotOrdered ≡ fault = cc in ap (λ f. Err f) e
-    by false false is = absurd cc
+        ≡ unless_refused (cond other (Some NotYours) (cond unfit (Some NotOrdered) None))
+        (finished all number answer now)
+    by true unfit = refl
+    by false true = refl
+    by false false = refl

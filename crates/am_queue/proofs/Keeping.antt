@@ -1,8 +1,8 @@
 -- Each call keeps all broadcasts sound.
-use Rattle.std.proofs.Common.{◌≡◌, ℕ, ◌+◌, ◌*◌, ◌<◌, ◌≤◌, Bool, true, false, List, [], ◌∷◌, ◌++◌, length, arith, ◌⊎◌, inl, inr}
+use Rattle.std.proofs.Common.{◌≡◌, ℕ, ◌+◌, ◌*◌, ◌<◌, ◌≤◌, true, List, [], ◌∷◌, ◌++◌, length, arith, ◌⊎◌, inl, inr}
 use Rattle.std.proofs.lemmas.List.Sums.{sum_by-cons}
 use Rattle.am_model.specs.Broadcasts as broadcasts
-use Rattle.am_model.specs.Broadcasts.{Broadcasts, Normal, InTurn, settled, queue_of, with_queue, settle, span}
+use Rattle.am_model.specs.Broadcasts.{Broadcasts, Normal, InTurn, settled}
 use Rattle.am_queue_ordered.specs.Counts.{Follows, queued_of, results_of}
 use Rattle.am_queue_normal.specs.Kept.{normals_of}
 use Rattle.am_queue.specs.Results.{AreRising}
@@ -11,14 +11,14 @@ use Rattle.am_queue.proofs.Rising.{settled_rising}
 use Rattle.am_queue.proofs.Soundness.{AreMild, settled_owes, settled_rises, settled_current}
 
 -- each broadcast in a queue may still take a number
-pub as_many_owed : (queue : List InTurn) → length queue ≤ owed_in queue
+as_many_owed : (queue : List InTurn) → length queue ≤ owed_in queue
 as_many_owed [] = omega arith
 as_many_owed (b ∷ others) = rw sum_by-cons (omega (arith, as_many_owed others))
 
--- both queues are short, since each broadcast in them may still take a number
-pub are_short : (all : Broadcasts) → IsSound all → length all.foreground + length all.background ≤ 1025 *
-    1125899906842625
-are_short all sound =
+-- a delivery number is left for each broadcast in the queues
+pub numbers_left : {all : Broadcasts} → IsSound all
+    → all.next_delivery + length all.foreground + length all.background ≤ 1025 * 1125899906842625
+numbers_left {all} sound =
     omega (arith, sound.queues.suffice, sound.broadcasts, as_many_owed all.foreground, as_many_owed all.background)
 
 module _ (next bound : ℕ) (one other : List InTurn) (share : ShareNumbers next bound one other) where
@@ -60,21 +60,6 @@ module _ (next bound : ℕ) (one other : List InTurn) (share : ShareNumbers next
     differ = λ number is other_is. share.differ number (mild.current number is) other_is;
   }
 
--- one of the two queues settles
-pub sound_settled : (foreground : Bool) (now : ℕ) (all : Broadcasts) → IsSound all → IsSound (settle foreground now all)
-sound_settled true now all sound = record {
-  queues = one_settles all.next_delivery (1025 * all.next_broadcast) all.foreground all.background sound.queues
-      (now + 10000);
-  broadcasts = sound.broadcasts;
-  rising = settled_rising all.next_delivery (now + 10000) all.foreground all.results sound.rising;
-}
-sound_settled false now all sound = record {
-  queues = swapped _ _ _ _ (one_settles all.next_delivery (1025 * all.next_broadcast) all.background all.foreground
-      (swapped _ _ _ _ sound.queues) (now + 60000));
-  broadcasts = sound.broadcasts;
-  rising = settled_rising all.next_delivery (now + 60000) all.background all.results sound.rising;
-}
-
 -- all with other parts, and the queues changed mildly
 pub sound_mild : (all : Broadcasts) (normal : List Normal) (foreground background : List InTurn)
     (results : List broadcasts.Result)
@@ -89,44 +74,57 @@ sound_mild all normal foreground background results sound rising first second = 
 }
 
 -- the same, with everything that the code keeps apart from the broadcasts
-pub mild : (end room room' : ℕ) (counts counts' : List (ℕ × ℕ)) (all : Broadcasts) (normal : List Normal)
-    (foreground background : List InTurn) (results : List broadcasts.Result)
+pub mild : {end room room' : ℕ} {counts counts' : List (ℕ × ℕ)} {all : Broadcasts} {normal : List Normal}
+    {foreground background : List InTurn} {results : List broadcasts.Result}
     → AreSound end room counts all → AreRising 0 all.next_delivery results → AreMild all.foreground foreground
     → AreMild all.background background
     → room ≤ room'
     → Follows counts counts' (λ uid. normals_of all.normal uid + results_of all.results uid)
     (λ uid. normals_of normal uid + results_of results uid)
     → AreSound end room' counts' (all_of normal foreground background results all.next_broadcast all.next_delivery)
-mild end room room' counts counts' all normal foreground background results sound rising first second more follows =
-    record {
-      sound = sound_mild all normal foreground background results sound.sound rising first second;
-      counted = λ uid. omega (arith, sound.counted uid, follows uid, first.senders uid, second.senders uid);
-      end_before = sound.end_before;
-      results_fit = omega (arith, sound.results_fit, first.as_many, second.as_many, more);
-    }
+mild sound rising first second more follows = record {
+  sound = sound_mild _ _ _ _ _ sound.sound rising first second;
+  counted = λ uid. omega (arith, sound.counted uid, follows uid, first.senders uid, second.senders uid);
+  end_before = sound.end_before;
+  results_fit = omega (arith, sound.results_fit, first.as_many, second.as_many, more);
+}
 
--- one of the two queues settled
-pub settles : (foreground : Bool) (end room room' now deadline : ℕ) (counts counts' : List (ℕ × ℕ)) (all : Broadcasts)
-    (queue : List InTurn) (results : List broadcasts.Result) (next : ℕ)
-    → AreSound end room counts all → deadline ≡ now + span foreground
-    → queue ≡ (settled all.next_delivery deadline (queue_of foreground all)).queue
-    → results ≡ all.results ++ (settled all.next_delivery deadline (queue_of foreground all)).results
-    → next ≡ (settled all.next_delivery deadline (queue_of foreground all)).next
-    → length queue + room ≤ length (queue_of foreground all) + room'
-    → Follows counts counts' (λ uid. queued_of (queue_of foreground all) uid + results_of all.results uid)
+-- the two queues exchanged
+abbrev exchanged : Broadcasts → Broadcasts
+exchanged all = record all { foreground = all.background; background = all.foreground }
+
+-- what holds of the foreground queue holds of the background queue
+pub other_way : {end room : ℕ} {counts : List (ℕ × ℕ)} {all : Broadcasts} → AreSound end room counts all
+    → AreSound end room counts (exchanged all)
+other_way sound = record {
+  sound = record {
+    queues = swapped _ _ _ _ sound.sound.queues;
+    broadcasts = sound.sound.broadcasts;
+    rising = sound.sound.rising;
+  };
+  counted = λ uid. omega (arith, sound.counted uid);
+  end_before = sound.end_before;
+  results_fit = omega (arith, sound.results_fit);
+}
+
+-- the foreground queue settled
+pub settles : {end room room' next : ℕ} (deadline : ℕ) {counts counts' : List (ℕ × ℕ)} {all : Broadcasts}
+    {queue : List InTurn} {results : List broadcasts.Result}
+    → AreSound end room counts all
+    → queue ≡ (settled all.next_delivery deadline all.foreground).queue
+    → results ≡ all.results ++ (settled all.next_delivery deadline all.foreground).results
+    → next ≡ (settled all.next_delivery deadline all.foreground).next
+    → length queue + room ≤ length all.foreground + room'
+    → Follows counts counts' (λ uid. queued_of all.foreground uid + results_of all.results uid)
     (λ uid. queued_of queue uid + results_of results uid)
-    → AreSound end room' counts' (record (with_queue foreground queue all) { results = results; next_delivery = next })
-settles true end room room' now deadline counts counts' all queue results next sound deadline_is queue_is results_are
-    next_is fits follows = record {
-      sound = rw (queue_is, results_are, next_is, deadline_is) (sound_settled true now all sound.sound);
-      counted = λ uid. omega (arith, sound.counted uid, follows uid);
-      end_before = omega (arith, sound.end_before, next_is, settled_rises all.next_delivery deadline all.foreground);
-      results_fit = omega (arith, sound.results_fit, fits);
-    }
-settles false end room room' now deadline counts counts' all queue results next sound deadline_is queue_is results_are
-    next_is fits follows = record {
-      sound = rw (queue_is, results_are, next_is, deadline_is) (sound_settled false now all sound.sound);
-      counted = λ uid. omega (arith, sound.counted uid, follows uid);
-      end_before = omega (arith, sound.end_before, next_is, settled_rises all.next_delivery deadline all.background);
-      results_fit = omega (arith, sound.results_fit, fits);
-    }
+    → AreSound end room' counts' (all_of all.normal queue all.background results all.next_broadcast next)
+settles deadline {all = all} sound queue_is results_are next_is fits follows = record {
+  sound = rw (queue_is, results_are, next_is) (record {
+    queues = one_settles _ _ _ _ sound.sound.queues deadline;
+    broadcasts = sound.sound.broadcasts;
+    rising = settled_rising all.next_delivery deadline all.foreground all.results sound.sound.rising;
+  });
+  counted = λ uid. omega (arith, sound.counted uid, follows uid);
+  end_before = omega (arith, sound.end_before, next_is, settled_rises all.next_delivery deadline all.foreground);
+  results_fit = omega (arith, sound.results_fit, fits);
+}

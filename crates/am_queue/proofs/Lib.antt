@@ -1,6 +1,7 @@
 pub mod Finishing
 pub mod Keeping
 pub mod Ordering
+pub mod Refusals
 pub mod Rising
 pub mod SendLaws
 pub mod Soonest

@@ -15,7 +15,8 @@ use Rattle.am_model.specs.Sending.{at_once, in_turn, is_current, live, with_last
 use Rattle.am_queue_ordered.proofs.Counting.{count_by-append}
 use Rattle.am_queue_ordered.specs.Counts.{count_of, one_for, queued_of}
 use Rattle.am_queue.specs.Sound.{owed, owed_in, has_current, ShareNumbers, IsSound, AreSound, all_of}
-use Rattle.am_queue.proofs.Keeping.{swapped}
+use Rattle.am_queue.proofs.Keeping.{other_way}
+use Rattle.am_queue.proofs.Refusals.{unless_refused}
 use Rattle.am_queue.proofs.Rising.{rising_further}
 
 -- one broadcast more of a sender
@@ -44,13 +45,13 @@ sound_numbered all normal count sound few short = record {
 }
 
 -- a normal broadcast that is sent
-pub at_once_sound : (end room first : ℕ) (counts counts' : List (ℕ × ℕ)) (all : Broadcasts) (sending : Sending)
+pub at_once_sound : {end room : ℕ} (first : ℕ) {counts counts' : List (ℕ × ℕ)} {all : Broadcasts} (sending : Sending)
     → AreSound end room counts all → all.next_broadcast ≤ 1125899906842624
     → length sending.to ≤ 1024 → ((uid : ℕ) → count_of counts' uid ≡ count_of counts uid + one_for sending.sender uid)
     → AreSound (all.next_delivery + length sending.to) room counts'
     (all_of (all.normal ++ at_once all.next_broadcast first sending ∷ []) all.foreground all.background all.results
     (all.next_broadcast + 1) (all.next_delivery + length sending.to))
-at_once_sound end room first counts counts' all sending sound few short counted = record {
+at_once_sound first {all = all} sending sound few short counted = record {
   sound = sound_numbered all (all.normal ++ at_once all.next_broadcast first sending ∷ []) (length sending.to)
       sound.sound few short;
   counted = λ uid. omega (
@@ -123,13 +124,13 @@ one_put next bound bound' one other number sending ordered more share = record {
       ∙ is) other_is;
 }
 
--- an ordered broadcast that is sent
-pub last_sent : (foreground : Bool) (end room room' : ℕ) (counts counts' : List (ℕ × ℕ)) (all : Broadcasts)
+-- an ordered broadcast that is sent, in the foreground queue
+first_sent : (end room room' : ℕ) (counts counts' : List (ℕ × ℕ)) (all : Broadcasts)
     (sending : Sending) (ordered : Ordered) → AreSound end room counts all → all.next_broadcast ≤ 1125899906842624
     → length sending.to ≤ 1024 → ((uid : ℕ) → count_of counts' uid ≡ count_of counts uid + one_for sending.sender uid)
     → length all.foreground + length all.background + 1 ≤ room'
-    → AreSound end room' counts' (with_last foreground (in_turn all.next_broadcast sending ordered) all)
-last_sent true end room room' counts counts' all sending ordered sound few short counted fits = record {
+    → AreSound end room' counts' (with_last true (in_turn all.next_broadcast sending ordered) all)
+first_sent end room room' counts counts' all sending ordered sound few short counted fits = record {
   sound = record {
     queues = one_put all.next_delivery (1025 * all.next_broadcast) (1025 * (all.next_broadcast + 1)) all.foreground
         all.background all.next_broadcast sending ordered (omega (arith, short)) sound.sound.queues;
@@ -146,24 +147,18 @@ last_sent true end room room' counts counts' all sending ordered sound few short
   end_before = sound.end_before;
   results_fit = rw length-append (omega (arith, fits));
 }
-last_sent false end room room' counts counts' all sending ordered sound few short counted fits = record {
-  sound = record {
-    queues = swapped _ _ _ _ (one_put all.next_delivery (1025 * all.next_broadcast) (1025 * (all.next_broadcast + 1))
-        all.background all.foreground all.next_broadcast sending ordered (omega (arith, short))
-        (swapped _ _ _ _ sound.sound.queues));
-    broadcasts = omega (arith, few);
-    rising = sound.sound.rising;
-  };
-  counted = λ uid. omega (
-    arith,
-    counted uid,
-    sound.counted uid,
-    more_queued all.background all.next_broadcast sending
-        ordered uid,
-  );
-  end_before = sound.end_before;
-  results_fit = rw length-append (omega (arith, fits));
-}
+
+-- or in either queue
+last_sent : (foreground : Bool) (end room room' : ℕ) (counts counts' : List (ℕ × ℕ)) (all : Broadcasts)
+    (sending : Sending) (ordered : Ordered) → AreSound end room counts all → all.next_broadcast ≤ 1125899906842624
+    → length sending.to ≤ 1024 → ((uid : ℕ) → count_of counts' uid ≡ count_of counts uid + one_for sending.sender uid)
+    → length all.foreground + length all.background + 1 ≤ room'
+    → AreSound end room' counts' (with_last foreground (in_turn all.next_broadcast sending ordered) all)
+last_sent true end room room' counts counts' all sending ordered sound few short counted fits =
+    first_sent end room room' counts counts' all sending ordered sound few short counted fits
+last_sent false end room room' counts counts' all sending ordered sound few short counted fits =
+    other_way (first_sent end room room' counts counts' _ sending ordered (other_way sound) few short counted
+    (omega (arith, fits)))
 
 -- the same of an ordered broadcast whose start is known to be there, and of what the code keeps then
 pub last_put : (foreground : Bool) (end room room' : ℕ) (counts counts' : List (ℕ × ℕ)) (all : Broadcasts)
@@ -183,26 +178,16 @@ last_put foreground end room room' counts counts' all sending queue results (Som
     rw (queue_is, results_are) (last_sent foreground end room room' counts counts' all sending ordered sound few short
     counted fits)
 
--- a refusal is what the definition answers
-pub refused : {X : Type 0} (all : Broadcasts) (sender receivers : ℕ) (sent : X) (fault : SendFault)
-    → refusal_of all sender receivers ≡ Some fault
-    → cond (nat_le 64 (live all sender)) (Err Full) (cond (nat_lt 1024 receivers) (Err TooMany) (Ok sent)) ≡ Err fault
-refused {X} all sender receivers sent fault is = by (nat_le 64 (live all sender)) (nat_lt 1024 receivers) is
+-- the definition refuses for this reason, or sends if there is none
+pub sent_unless : {X : Type 0} (all : Broadcasts) (sender receivers : ℕ) (sent : X) {reason : Option SendFault}
+    → refusal_of all sender receivers ≡ reason
+    → cond (nat_le 64 (live all sender)) (Err Full) (cond (nat_lt 1024 receivers) (Err TooMany) (Ok sent))
+    ≡ unless_refused reason sent
+sent_unless {X} all sender receivers sent is =
+    by (nat_le 64 (live all sender)) (nat_lt 1024 receivers) ∙ ap (λ r. unless_refused r sent) is
   where
-    by : (full many : Bool) → cond full (Some Full) (cond many (Some TooMany) None) ≡ Some fault
-        → cond full (Err Full) (cond many (Err TooMany) (Ok sent)) ≡ Err fault
-    by true many is = let e : Full ≡ fault = cc in ap (λ f. Err f) e
-    by false true is = let e : TooMany ≡ fault = cc in ap (λ f. Err f) e
-    by false false is = absurd cc
-
--- without one it is sent
-pub not_refused : {X : Type 0} (all : Broadcasts) (sender receivers : ℕ) (sent : X) → refusal_of all sender receivers
-    ≡ None
-    → cond (nat_le 64 (live all sender)) (Err Full) (cond (nat_lt 1024 receivers) (Err TooMany) (Ok sent)) ≡ Ok sent
-not_refused {X} all sender receivers sent none = by (nat_le 64 (live all sender)) (nat_lt 1024 receivers) none
-  where
-    by : (full many : Bool) → cond full (Some Full) (cond many (Some TooMany) None) ≡ None
-        → cond full (Err Full) (cond many (Err TooMany) (Ok sent)) ≡ Ok sent
-    by true many is = absurd cc
-    by false true is = absurd cc
-    by false false is = refl
+    by : (full many : Bool) → cond full (Err Full) (cond many (Err TooMany) (Ok sent))
+        ≡ unless_refused (cond full (Some Full) (cond many (Some TooMany) None)) sent
+    by true many = refl
+    by false true = refl
+    by false false = refl

@@ -5,6 +5,7 @@ mod inbox;
 mod puts;
 mod queues;
 mod results;
+mod settling;
 
 pub use am_types::{FinishFault, SendFault, Sending, Spot};
 pub use queues::{LAST_BROADCAST, LAST_MOMENT, Queues};

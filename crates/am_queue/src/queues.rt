@@ -1,23 +1,18 @@
-//! All live broadcasts.
-ghost use Rattle.std.specs.Prelude.{◌≡◌, ℕ, ◌+◌, ◌≤◌, not, ◌==◌, ◌<◌, ◌≢◌, [], ◌∷◌, ◌++◌, false, filter, map, length, Ok, Err, IsOk, IsSome, IsTrue, ◌↔◌, IfSome, IfOk, IfErr, OnOk, OnErr};
-ghost use Rattle.std.specs.Option.{option_map};
-ghost use Rattle.am_model.specs.Broadcasts as broadcasts;
-ghost use Rattle.am_model.specs.Broadcasts.{no_broadcasts, queue_of, with_queue, settle, settle_both, is_head_due, expired_queue, normals_keeping, due, earliest_deadline, expired, span};
+//! All live broadcasts, and sending one.
+ghost use Rattle.std.specs.Prelude.{◌≡◌, ◌+◌, ◌≤◌, ◌<◌, ◌≢◌, false, length, Ok, Err, IsOk, IsSome, IsTrue, ◌↔◌, IfSome, IfOk, IfErr, OnOk, OnErr};
+ghost use Rattle.am_model.specs.Broadcasts.{no_broadcasts, queue_of, is_head_due, due, earliest_deadline, expired};
 ghost use Rattle.am_model.specs.Filters.{is_empty};
-ghost use Rattle.am_model.specs.Sending.{live, in_turn, with_normal, with_last, with_ordered, with_sent, send, held, answered_head, finish, forget, forget_uid, forget_registered, inbox, result_items, strike, unwanted};
-ghost use Rattle.am_queue_ordered.specs.Doings.{doing_of};
-ghost use Rattle.am_queue_ordered.specs.Struck.{strikes};
-ghost use Rattle.am_queue_ordered.specs.Heads.{head_turned};
+ghost use Rattle.am_model.specs.Sending.{live, in_turn, with_normal, with_last, with_ordered, with_sent, send, inbox};
 ghost use Rattle.am_queue.specs.Sooner.{sooner};
-ghost use Rattle.am_queue.specs.Taken.{fault_of, held_as, is_taken, refusal_of};
-ghost use Rattle.am_queue_normal.specs.Kept.{deliveries_in, is_early, is_other};
+ghost use Rattle.am_queue.specs.Taken.{refusal_of};
 
 use crate::inbox::{SHOWN, first_by_number, push_item};
 use crate::puts::{Last, put_normal, put_turn};
-use crate::results::{Results, Taken};
+use crate::results::Results;
+use crate::settling::span;
 use am_queue_normal::{Begin, Normals};
-use am_queue_ordered::{Counts, Doing, Queue, Struck};
-use am_types::{Answer, FinishFault, Item, List, NoMemory, SendFault, Sending, Steps, drop_parts};
+use am_queue_ordered::{Counts, Queue};
+use am_types::{Item, List, NoMemory, SendFault, Sending, Steps, drop_parts};
 use std::alloc::{AllocError, Global};
 use std::marker::Model;
 use std::sync::ledger::Ledger;
@@ -34,25 +29,19 @@ const MOST_LIVE: u32 = 64;
 /// How many receivers a broadcast may have.
 const MOST_RECEIVERS: usize = 1024;
 
-/// How long a delivery of the foreground queue may take, in milliseconds.
-const FOREGROUND_SPAN: u64 = 10_000;
-
-/// How long any other delivery may take, in milliseconds.
-const BACKGROUND_SPAN: u64 = 60_000;
-
 /// All live broadcasts, and the next numbers. The calls take moments up to `LAST_MOMENT`: the manager
 /// treats a later one as `LAST_MOMENT`.
 pub struct Queues {
     alloc: Global,
-    normals: Normals,
-    foreground: Queue,
-    background: Queue,
+    pub(crate) normals: Normals,
+    pub(crate) foreground: Queue,
+    pub(crate) background: Queue,
     /// Has room for the results of all broadcasts in the queues.
-    results: Results,
+    pub(crate) results: Results,
     /// How many broadcasts of each sender are live.
-    live: Counts,
+    pub(crate) live: Counts,
     next_broadcast: u64,
-    next_delivery: u64,
+    pub(crate) next_delivery: u64,
 }
 
 impl Drop for Queues {
@@ -63,7 +52,6 @@ impl Drop for Queues {
 
 impl Model for Queues {
     ghost use Rattle.am_model.specs.Broadcasts.{Broadcasts};
-    ghost use Rattle.am_queue.specs.Taken.{fault_of, held_as, is_taken, refusal_of};
     ghost use Rattle.am_queue.specs.Sound.{AreSound, all_of};
 
     ghost Value = { Broadcasts };
@@ -311,43 +299,13 @@ impl Queues {
         })
     }
 
-    /// One of the two queues settles at a moment.
-    fn settle(&mut self, foreground: bool, now: u64)
-        requires { now ≤ LAST_MOMENT }
-        ensures { self.new ≡ settle foreground now self.old }
-    {
-        let deadline = now + span(foreground);
-        let (results, live, next) = (&mut self.results, &mut self.live, self.next_delivery);
-        if foreground {
-            self.next_delivery = results.settle(&mut self.foreground, live, next, deadline);
-        } else {
-            self.next_delivery = results.settle(&mut self.background, live, next, deadline);
-        }
-    }
-
-    /// Both queues settle at a moment.
-    fn settle_both(&mut self, now: u64)
-        requires { now ≤ LAST_MOMENT }
-        ensures { self.new ≡ settle_both now self.old }
-    {
-        self.settle(true, now);
-        self.settle(false, now);
-    }
-
-    /// Records what the first receiver of the head of one of the two queues did.
-    fn turn_head(&mut self, foreground: bool, doing: Doing)
-        ensures { self.new
-            ≡ with_queue foreground (head_turned (doing_of doing) (queue_of foreground self.old)) self.old }
-    {
-        if foreground {
-            self.foreground.turn_head(doing);
-        } else {
-            self.background.turn_head(doing);
-        }
-    }
-
     /// Whether the head of one of the two queues has a delivery that is due.
-    fn is_head_due<L: Ledger>(&self, foreground: bool, now: u64, steps: &mut Steps<L>) -> bool
+    pub(crate) fn is_head_due<L: Ledger>(
+        &self,
+        foreground: bool,
+        now: u64,
+        steps: &mut Steps<L>,
+    ) -> bool
         ensures due { result ≡ is_head_due now (queue_of foreground self.now) }
         ensures cost { steps.new ≤ steps.old + 1 }
     {
@@ -357,208 +315,4 @@ impl Queues {
             self.background.is_due(now, steps)
         }
     }
-
-    /// Passes over a late receiver in one of the two queues.
-    fn expire_queue<L: Ledger>(&mut self, foreground: bool, now: u64, steps: &mut Steps<L>)
-        requires { now ≤ LAST_MOMENT }
-        ensures queue { self.new ≡ expired_queue foreground now self.old }
-        ensures cost { steps.new ≤ steps.old + 1 }
-    {
-        if self.is_head_due(foreground, now, steps) {
-            self.turn_head(foreground, Doing::Late);
-            self.settle(foreground, now);
-        }
-    }
-
-    /// Removes the normal deliveries that are due.
-    fn expire_normal<L: Ledger>(&mut self, now: u64, steps: &mut Steps<L>)
-        ensures normal { self.new ≡ record self.old { normal = normals_keeping (is_early now) self.old.normal } }
-        ensures cost { steps.new + deliveries_in self.new.normal ≤ steps.old + 1 + deliveries_in self.old.normal }
-    {
-        self.normals.expire(now, &mut self.live, steps);
-    }
-
-    /// Handles the deadlines that are due: at most one receiver of each queue, and all normal
-    /// deliveries. A step is a reading of a deadline. `now` is at most `LAST_MOMENT`. Takes no memory.
-    pub fn expire<L: Ledger>(&mut self, now: u64, steps: &mut Steps<L>)
-        requires { now ≤ LAST_MOMENT }
-        ensures expired { self.new ≡ expired self.old now }
-        ensures cost { steps.new + deliveries_in self.new.normal ≤ steps.old + 3 + deliveries_in self.old.normal }
-    {
-        self.expire_queue(true, now, steps);
-        self.expire_queue(false, now, steps);
-        self.expire_normal(now, steps);
-    }
-
-    /// Who holds the delivery or the result with this number, and whether it is an ordered broadcast's.
-    fn held(&self, number: u64) -> Option<(u32, bool)>
-        ensures { held self.now number ≡ option_map held_as result }
-    {
-        if let Some(uid) = self.normals.holder(number) {
-            return Some((uid, false));
-        }
-        if let Some(uid) = self.foreground.holder(number) {
-            return Some((uid, true));
-        }
-        if let Some(uid) = self.background.holder(number) {
-            return Some((uid, true));
-        }
-        match self.results.holder(number) {
-            None => None,
-            Some(uid) => Some((uid, false)),
-        }
-    }
-
-    /// Finishes the normal delivery with this number, if there is one.
-    fn finish_normal(&mut self, number: u64)
-        ensures { self.new ≡ record self.old { normal = normals_keeping (is_other number) self.old.normal } }
-    {
-        if self.normals.holder(number).is_some() {
-            self.normals.finish(number, &mut self.live);
-        }
-    }
-
-    /// Answers the ordered delivery with this number, if there is one.
-    fn answer_head(&mut self, number: u64, answer: Answer)
-        ensures { self.new ≡ record self.old {
-          foreground = answered_head number (broadcasts.Answered answer) self.old.foreground;
-          background = answered_head number (broadcasts.Answered answer) self.old.background;
-        } }
-    {
-        if self.foreground.is_head(number) {
-            self.turn_head(true, Doing::Answered(answer));
-        } else if self.background.is_head(number) {
-            self.turn_head(false, Doing::Answered(answer));
-        } else {
-            drop(answer);
-        }
-    }
-
-    /// Removes results.
-    fn take_results(&mut self, taken: &Taken)
-        ensures { self.new
-            ≡ record self.old { results = filter (λ kept. not (is_taken taken.now kept)) self.old.results } }
-    {
-        self.results.take_out(taken, &mut self.live);
-    }
-
-    /// Removes the result with this number, if there is one.
-    fn finish_result(&mut self, number: u64)
-        ensures { self.new
-            ≡ record self.old { results = filter (λ kept. not (kept.delivery == number)) self.old.results } }
-    {
-        if self.results.holder(number).is_some() {
-            self.take_results(&Taken::Delivery(number));
-        }
-    }
-
-    /// Finishes a delivery, or takes a result: `NoDelivery` if there is none with this number,
-    /// `NotYours` if it is another uid's, and `NotOrdered` if the answer sets an outcome or
-    /// aborts, and it isn't an ordered delivery. After a refusal nothing has changed. `now` is at most
-    /// `LAST_MOMENT`. Takes no memory.
-    pub fn finish(
-        &mut self,
-        delivery: u64,
-        uid: u32,
-        answer: Answer,
-        now: u64,
-    ) -> Result<(), FinishFault>
-        requires { now ≤ LAST_MOMENT }
-        ensures finished { OnOk result (finish self.old delivery uid answer now ≡ Ok self.new) }
-        ensures refused { IfErr result (λ fault. finish self.old delivery uid answer now ≡ Err fault) }
-        ensures same { OnErr result (self.new ≡ self.old) }
-    {
-        match fault_of(uid, &answer, self.held(delivery)) {
-            Some(fault) => {
-                drop(answer);
-                Err(fault)
-            }
-            None => {
-                self.finish_normal(delivery);
-                self.answer_head(delivery, answer);
-                self.finish_result(delivery);
-                self.settle_both(now);
-                Ok(())
-            }
-        }
-    }
-
-    /// Strikes receivers everywhere.
-    fn strike(&mut self, struck: &Struck)
-        ensures { self.new ≡ record self.old {
-          normal = normals_keeping (λ delivery. not (strikes struck.now delivery.spot)) self.old.normal;
-          foreground = map (strike (strikes struck.now)) self.old.foreground;
-          background = map (strike (strikes struck.now)) self.old.background;
-        } }
-    {
-        self.normals.strike(struck, &mut self.live);
-        self.foreground.strike(struck);
-        self.background.strike(struck);
-    }
-
-    /// Strikes receivers everywhere, and settles both queues.
-    fn forget(&mut self, struck: &Struck, now: u64)
-        requires { now ≤ LAST_MOMENT }
-        ensures { self.new ≡ forget self.old (strikes struck.now) now }
-    {
-        self.strike(struck);
-        self.settle_both(now);
-    }
-
-    /// A uid no longer wants results.
-    fn unwant(&mut self, uid: u32)
-        ensures { self.new ≡ record self.old {
-          foreground = map (unwanted uid) self.old.foreground;
-          background = map (unwanted uid) self.old.background;
-        } }
-    {
-        self.foreground.unwant(uid);
-        self.background.unwant(uid);
-    }
-
-    /// Strikes the receivers of a uid, and removes its results; it no longer wants any. `now` is at most
-    /// `LAST_MOMENT`. Takes no memory.
-    pub fn forget_uid(&mut self, uid: u32, now: u64)
-        requires { now ≤ LAST_MOMENT }
-        ensures { self.new ≡ forget_uid self.old uid now }
-    {
-        self.unwant(uid);
-        self.take_results(&Taken::Sender(uid));
-        self.forget(&Struck::Uid(uid), now);
-    }
-
-    /// Strikes a registered receiver. `now` is at most `LAST_MOMENT`. Takes no memory.
-    pub fn forget_registered(&mut self, number: u64, now: u64)
-        requires { now ≤ LAST_MOMENT }
-        ensures { self.new ≡ forget_registered self.old number now }
-    {
-        self.forget(&Struck::Registered(number), now);
-    }
-}
-
-/// How long a delivery may take, in milliseconds.
-fn span(foreground: bool) -> u64
-    ensures { result ≡ span foreground }
-{
-    if foreground {
-        FOREGROUND_SPAN
-    } else {
-        BACKGROUND_SPAN
-    }
-}
-
-/// Why a uid doesn't finish what is held.
-fn fault_of(uid: u32, answer: &Answer, held: Option<(u32, bool)>) -> Option<FinishFault>
-    ensures { result ≡ fault_of uid answer.now (option_map held_as held) }
-{
-    let Some((holder, ordered)) = held else {
-        return Some(FinishFault::NoDelivery);
-    };
-    if holder != uid {
-        return Some(FinishFault::NotYours);
-    }
-    if (answer.set.is_some() || answer.abort) && !ordered {
-        return Some(FinishFault::NotOrdered);
-    }
-    None
 }

@@ -1,5 +1,5 @@
 -- What becomes of the offers, gathered and put in order, is the plain definition's.
-use Rattle.std.proofs.Common.{◌≡◌, ℕ, ℤ, Bool, true, false, cond, List, [], ◌∷◌, ◌++◌, map, filter, Option, refl, sym, ap, ◌∙◌}
+use Rattle.std.proofs.Common.{◌≡◌, ℕ, ℤ, Bool, true, false, cond, List, [], ◌∷◌, ◌++◌, map, filter, option_copied, refl, sym, ap, ◌∙◌}
 use Rattle.std.specs.Prelude.{int_lt}
 use Rattle.std.specs.List.{AllByRecursion}
 use Rattle.std.specs.List.Sorted.{IsSortedBy, IsStableBy}
@@ -13,6 +13,7 @@ use Rattle.am_model.specs.Boards.{Board}
 use Rattle.am_model.specs.Candidates.{hits}
 use Rattle.am_model.specs.Receivers.{Offer, declared, declared_offer, declared_offers, finds_registered, in_order, place_offer, receivers, registered_offer, skip_of}
 use Rattle.am_resolve.specs.declared.offers.Ranked.{Ranked}
+use Rattle.am_resolve.specs.declared.offers.Sent.{Sent}
 use Rattle.am_resolve.specs.Ranking.{in_rank, place_ranked, ranked_of, ranked_of_hits, ranked_of_registered, receiving_of}
 use Rattle.am_resolve.proofs.Owners.{IsFoundByUid}
 use Rattle.am_index.proofs.Priorities.{before, sorted_is_order}
@@ -27,10 +28,16 @@ pub sorted_is_in_rank : (found sorted : List Ranked) → IsSortedBy (before (λ 
 sorted_is_in_rank = sorted_is_order (λ (one : Ranked). one.priority) place_ranked in_rank (λ one. refl)
     (λ one first others. refl) refl (λ first others. refl)
 
-module _ (board : Board) (intent : Intent) (sender : ℕ) (required : Option (List ℕ)) where
+module _ (sent : Sent) where
+  abbrev board : Board
+  board = sent.installed.now
+
+  abbrev intent : Intent
+  intent = sent.intent.now
+
   -- what becomes of the offer
   abbrev ranked : Offer → Ranked
-  ranked = ranked_of board intent sender required
+  ranked = ranked_of sent
 
   -- placing what becomes of an offer is placing the offer
   place-ranked : (offer : Offer) (others : List Offer) → place_ranked (ranked offer) (map ranked others)
@@ -52,14 +59,14 @@ module _ (board : Board) (intent : Intent) (sender : ℕ) (required : Option (Li
       ∙ place-ranked first (in_order others)
 
   -- the registered receivers that the intent finds
-  of_registered : (rs : List Registration) → ranked_of_registered board intent sender required rs
+  of_registered : (rs : List Registration) → ranked_of_registered sent rs
       ≡ map ranked (map registered_offer (filter (finds_registered board.packages intent) rs))
   of_registered [] = refl
   of_registered (r ∷ rs) = by (finds_registered board.packages intent r) (of_registered rs)
     where
-      by : (b : Bool) → ranked_of_registered board intent sender required rs
+      by : (b : Bool) → ranked_of_registered sent rs
           ≡ map ranked (map registered_offer (filter (finds_registered board.packages intent) rs))
-          → cond b (ranked (registered_offer r) ∷ []) [] ++ ranked_of_registered board intent sender required rs
+          → cond b (ranked (registered_offer r) ∷ []) [] ++ ranked_of_registered sent rs
           ≡ map ranked (map registered_offer (cond b (r ∷ filter (finds_registered board.packages intent) rs)
           (filter (finds_registered board.packages intent) rs)))
       by true e = ap (λ l. ranked (registered_offer r) ∷ l) e
@@ -67,10 +74,10 @@ module _ (board : Board) (intent : Intent) (sender : ℕ) (required : Option (Li
 
   -- the manifests' receivers
   pub of_hits : (hs : List Hit) → AllByRecursion (IsFoundByUid board.packages) hs
-      → ranked_of_hits board board.packages intent sender required hs ≡ map ranked (declared_offers board.packages hs)
+      → ranked_of_hits sent board.packages hs ≡ map ranked (declared_offers board.packages hs)
   of_hits [] found = refl
   of_hits (h ∷ hs) found =
-      ap (λ d. map ranked (declared_offer h d) ++ ranked_of_hits board board.packages intent sender required hs)
+      ap (λ d. map ranked (declared_offer h d) ++ ranked_of_hits sent board.packages hs)
       (sym found.0)
       ∙ ap (λ l. map ranked (declared_offer h (declared board.packages Receiver h.component)) ++ l) (of_hits hs found.1)
       ∙ sym (map-append ranked (declared_offer h (declared board.packages Receiver h.component))
@@ -81,16 +88,15 @@ module _ (board : Board) (intent : Intent) (sender : ℕ) (required : Option (Li
       ≡ map (λ (offer : Offer). record {
         uid = offer.uid;
         aim = offer.aim;
-        skip = skip_of board intent sender required
-            offer;
+        skip = skip_of board intent sent.sender (option_copied sent.required) offer;
       }) all
   of_ranked [] = refl
   of_ranked (first ∷ others) = ap (λ l. receiving_of (ranked first) ∷ l) (of_ranked others)
 
   -- what becomes of all offers, in order, is what the definition says
-  pub ranked_is_receivers : map receiving_of (in_rank (ranked_of_registered board intent sender required
-      board.registered ++ map ranked (declared_offers board.packages (hits board.packages Receiver intent false))))
-      ≡ receivers board intent sender required
+  pub ranked_is_receivers : map receiving_of (in_rank (ranked_of_registered sent board.registered
+      ++ map ranked (declared_offers board.packages (hits board.packages Receiver intent false))))
+      ≡ receivers board intent sent.sender (option_copied sent.required)
   ranked_is_receivers =
       let registered = map registered_offer (filter (finds_registered board.packages intent) board.registered) in
       let listed = declared_offers board.packages (hits board.packages Receiver intent false) in

@@ -1,17 +1,17 @@
 -- What becomes of offers, as the code gathers it.
 use Rattle.std.specs.Prelude.{ℕ, List, [], ◌∷◌, ◌++◌, map, if◌then◌else◌, Option, Some, None, option_copied, int_lt}
-use Rattle.am_types.specs.declared.intent.Intent.{Intent}
 use Rattle.am_types.specs.declared.device.Package.{Package}
 use Rattle.am_types.specs.declared.manifest.Decl.{Decl}
 use Rattle.am_types.specs.declared.manifest.Kind.TheVariants.{Receiver}
 use Rattle.am_types.specs.declared.resolve.Hit.{Hit}
 use Rattle.am_types.specs.declared.resolve.Registration.{Registration}
 use Rattle.am_types.specs.declared.broadcast.Receiving.{Receiving}
-use Rattle.am_model.specs.Boards.{Board, package_at}
+use Rattle.am_model.specs.Boards.{package_at}
 use Rattle.am_model.specs.Receivers as model
 use Rattle.am_model.specs.Receivers.{decl_in, declared_offer, finds_registered, registered_offer, skip_of, with_uid}
 use Rattle.am_resolve.specs.declared.offers.Offer.{Offer}
 use Rattle.am_resolve.specs.declared.offers.Ranked.{Ranked}
+use Rattle.am_resolve.specs.declared.offers.Sent.{Sent}
 
 -- an offer of the code, as the model's offer
 abbrev pub offer_of : Offer → model.Offer
@@ -23,25 +23,27 @@ offer_of offer = record {
   permission = option_copied offer.permission;
 }
 
--- what becomes of an offer
-abbrev pub ranked_of : Board → Intent → ℕ → Option (List ℕ) → model.Offer → Ranked
-ranked_of board intent sender required offer = record {
+-- what becomes of an offer of what is broadcast
+abbrev pub ranked_of : Sent → model.Offer → Ranked
+ranked_of sent offer = record {
   priority = offer.priority;
-  receiving = record { uid = offer.uid; aim = offer.aim; skip = skip_of board intent sender required offer };
+  receiving = record {
+    uid = offer.uid;
+    aim = offer.aim;
+    skip = skip_of sent.installed.now sent.intent.now sent.sender (option_copied sent.required) offer;
+  };
 }
 
 -- what becomes of the offer to a registered receiver, if the intent finds it
-abbrev pub ranked_of_registration : Board → Intent → ℕ → Option (List ℕ) → Registration → List Ranked
-ranked_of_registration board intent sender required r =
-    if finds_registered board.packages intent r then ranked_of board intent sender required (registered_offer r)
-    ∷ [] else []
+abbrev pub ranked_of_registration : Sent → Registration → List Ranked
+ranked_of_registration sent r =
+    if finds_registered sent.installed.now.packages sent.intent.now r then ranked_of sent (registered_offer r) ∷ []
+    else []
 
 -- what becomes of the offers to several
-abbrev pub ranked_of_registered : Board → Intent → ℕ → Option (List ℕ) → List Registration → List Ranked
-ranked_of_registered board intent sender required [] = []
-ranked_of_registered board intent sender required (first ∷ others) =
-    ranked_of_registration board intent sender required first ++ ranked_of_registered board intent sender required
-    others
+abbrev pub ranked_of_registered : Sent → List Registration → List Ranked
+ranked_of_registered sent [] = []
+ranked_of_registered sent (first ∷ others) = ranked_of_registration sent first ++ ranked_of_registered sent others
 
 -- the enabled receiver that a package declares under a class, if there is one
 abbrev pub receiver_in : List ℕ → Option Package → Option Decl
@@ -53,16 +55,14 @@ abbrev pub decl_at : List Package → Hit → Option Decl
 decl_at packages hit = receiver_in hit.component.class (package_at packages hit.uid)
 
 -- what becomes of the offer to a manifest's receiver
-abbrev pub ranked_of_hit : Board → List Package → Intent → ℕ → Option (List ℕ) → Hit → List Ranked
-ranked_of_hit board packages intent sender required hit =
-    map (ranked_of board intent sender required) (declared_offer hit (with_uid hit.uid (decl_at packages hit)))
+abbrev pub ranked_of_hit : Sent → List Package → Hit → List Ranked
+ranked_of_hit sent packages hit =
+    map (ranked_of sent) (declared_offer hit (with_uid hit.uid (decl_at packages hit)))
 
 -- what becomes of the offers to several
-abbrev pub ranked_of_hits : Board → List Package → Intent → ℕ → Option (List ℕ) → List Hit → List Ranked
-ranked_of_hits board packages intent sender required [] = []
-ranked_of_hits board packages intent sender required (first ∷ others) =
-    ranked_of_hit board packages intent sender required first ++ ranked_of_hits board packages intent sender required
-    others
+abbrev pub ranked_of_hits : Sent → List Package → List Hit → List Ranked
+ranked_of_hits sent packages [] = []
+ranked_of_hits sent packages (first ∷ others) = ranked_of_hit sent packages first ++ ranked_of_hits sent packages others
 
 -- an offer inserted before those of lesser or equal priority, and after the others
 abbrev pub place_ranked : Ranked → List Ranked → List Ranked

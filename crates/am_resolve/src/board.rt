@@ -13,6 +13,7 @@ ghost use Rattle.am_installed.specs.Places.{AreByNumber, place_registered};
 ghost use Rattle.am_index.specs.Groups.{group_size};
 
 use crate::narrow::narrowed;
+use crate::offers::Sent;
 use crate::receivers::receivers;
 use crate::top::choose;
 use am_index::FilterIndex;
@@ -124,15 +125,13 @@ impl Board {
         ensures explicit { IsSome intent.now.component → steps.new ≡ steps.old }
     {
         let found = self.query(alloc, Kind::Receiver, intent, false, steps)?;
-        receivers(
-            alloc,
-            &self.installed,
-            &found,
+        let sent = Sent {
+            installed: &self.installed,
             intent,
             sender,
-            permission,
-            steps,
-        )
+            required: permission,
+        };
+        receivers(alloc, &sent, &found, steps)
     }
 
     /// An enabled component of a kind, in the package of a uid, if there is one. Takes no memory.

@@ -3,7 +3,17 @@ ghost use Rattle.std.specs.Prelude.{◌≡◌};
 ghost use Rattle.am_model.specs.Receivers.{registered_offer};
 ghost use Rattle.am_resolve.specs.Ranking.{offer_of};
 
-use am_types::{Aim, Receiving, Registration, Text};
+use am_installed::Installed;
+use am_types::{Aim, Intent, Receiving, Registration, Text};
+
+/// What is broadcast on a device: the intent of a sender, and what a receiver must hold.
+#[derive(Clone, Copy)]
+pub(crate) struct Sent<'a> {
+    pub(crate) installed: &'a Installed,
+    pub(crate) intent: &'a Intent,
+    pub(crate) sender: u32,
+    pub(crate) required: Option<&'a Text>,
+}
 
 /// A receiver that a broadcast is offered to.
 #[derive(Drop)]

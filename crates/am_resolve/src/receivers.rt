@@ -8,67 +8,52 @@ ghost use Rattle.am_model.specs.Sound.{uids_of};
 ghost use Rattle.am_resolve.specs.Ranking.{decl_at, offer_of, ranked_of, ranked_of_hit, ranked_of_registered, ranked_of_registration};
 
 use crate::names::is_for;
-use crate::offers::{Offer, Ranked, registered_offer};
+use crate::offers::{Offer, Ranked, Sent, registered_offer};
 use crate::order::in_order;
 use crate::skips::skip_of;
-use am_index::is_passed_by_test;
+use am_index::is_passed;
 use am_installed::{Installed, decl_in, package_at};
 use am_types::{
-    Aim, Decl, Hit, Intent, Kind, List, NoMemory, Package, Receiving, Registration, Steps, Text,
+    Aim, Decl, Hit, Intent, Kind, List, NoMemory, Package, Receiving, Registration, Steps,
 };
 use std::alloc::Global;
 use std::sync::ledger::Ledger;
 
 /// Who the broadcast is offered to, by falling priority, each with the rule by which it is skipped.
 /// At a tie registered receivers come first, by number, then the manifests' by uid and place.
-/// `found` is what the intent finds among the manifests' receivers, and `permission` is what the
-/// sender requires. A step is a test of a registered receiver's filter.
-pub fn receivers<L: Ledger>(
+/// `found` is what the intent finds among the manifests' receivers. A step is a test of a registered
+/// receiver's filter.
+pub(crate) fn receivers<L: Ledger>(
     alloc: Global,
-    installed: &Installed,
+    sent: &Sent,
     found: &List<Hit>,
-    intent: &Intent,
-    sender: u32,
-    permission: Option<&Text>,
     steps: &mut Steps<L>,
 ) -> Result<List<Receiving>, NoMemory>
-    requires { found.now ≡ hits installed.now.packages Receiver intent.now false }
-    ensures receivers { IfOk result
-        (λ receivings. receivings ≡ receivers installed.now intent.now sender (option_copied permission.entry)) }
-    ensures tests { steps.new ≤ steps.old + length installed.now.registered }
-    ensures explicit { IsSome intent.now.component → steps.new ≡ steps.old }
+    requires { found.now ≡ hits sent.now.installed.now.packages Receiver sent.now.intent.now false }
+    ensures receivers { IfOk result (λ receivings. receivings
+        ≡ receivers sent.now.installed.now sent.now.intent.now sent.now.sender (option_copied sent.now.required)) }
+    ensures tests { steps.new ≤ steps.old + length sent.now.installed.now.registered }
+    ensures explicit { IsSome sent.now.intent.now.component → steps.new ≡ steps.old }
 {
     let mut ranked = Vec::new(alloc);
-    add_registered(&mut ranked, installed, intent, sender, permission, steps)?;
-    add_declared(&mut ranked, installed, found, intent, sender, permission)?;
+    add_registered(&mut ranked, sent, steps)?;
+    add_declared(&mut ranked, sent, found)?;
     in_order(alloc, ranked)
 }
 
 /// Adds the registered receivers that the intent finds, in their order.
 fn add_registered<L: Ledger>(
     ranked: &mut Vec<Ranked>,
-    installed: &Installed,
-    intent: &Intent,
-    sender: u32,
-    required: Option<&Text>,
+    sent: &Sent,
     steps: &mut Steps<L>,
 ) -> Result<(), NoMemory>
     ensures added { OnOk result (ranked.new.items
-        ≡ ranked.old.items ++ ranked_of_registered installed.now intent.now sender (option_copied required.entry)
-        installed.now.registered) }
-    ensures tests { steps.new ≤ steps.old + length installed.now.registered }
-    ensures explicit { IsSome intent.now.component → steps.new ≡ steps.old }
+        ≡ ranked.old.items ++ ranked_of_registered sent.now sent.now.installed.now.registered) }
+    ensures tests { steps.new ≤ steps.old + length sent.now.installed.now.registered }
+    ensures explicit { IsSome sent.now.intent.now.component → steps.new ≡ steps.old }
 {
-    for registration in installed.registered().as_slice() {
-        add_registration(
-            ranked,
-            installed,
-            intent,
-            sender,
-            required,
-            registration,
-            steps,
-        )?;
+    for registration in sent.installed.registered().as_slice() {
+        add_registration(ranked, sent, registration, steps)?;
     }
     Ok(())
 }
@@ -76,24 +61,20 @@ fn add_registered<L: Ledger>(
 /// Adds the registered receiver if the intent finds it.
 fn add_registration<L: Ledger>(
     ranked: &mut Vec<Ranked>,
-    installed: &Installed,
-    intent: &Intent,
-    sender: u32,
-    required: Option<&Text>,
+    sent: &Sent,
     registration: &Registration,
     steps: &mut Steps<L>,
 ) -> Result<(), NoMemory>
     ensures added { OnOk result (ranked.new.items
-        ≡ ranked.old.items ++ ranked_of_registration installed.now intent.now sender (option_copied required.entry)
-        registration.now) }
+        ≡ ranked.old.items ++ ranked_of_registration sent.now registration.now) }
     ensures tests { steps.new ≤ steps.old + 1 }
-    ensures explicit { IsSome intent.now.component → steps.new ≡ steps.old }
+    ensures explicit { IsSome sent.now.intent.now.component → steps.new ≡ steps.old }
 {
-    if !finds_registered(installed, intent, registration, steps) {
+    if !finds_registered(sent.installed, sent.intent, registration, steps) {
         return Ok(());
     }
     let offer = registered_offer(registration);
-    add_offer(ranked, installed, intent, sender, required, offer)
+    add_offer(ranked, sent, offer)
 }
 
 /// The intent finds the registered receiver: it names no component and no other package, and
@@ -110,26 +91,19 @@ fn finds_registered<L: Ledger>(
 {
     intent.component.is_none()
         && is_for(installed, intent, registration.uid)
-        && is_passed_by_test(&registration.filter, intent, false, steps)
+        && is_passed(&registration.filter, intent, false, steps)
 }
 
 /// Adds the manifests' receivers that were found, in their order.
-fn add_declared(
-    ranked: &mut Vec<Ranked>,
-    installed: &Installed,
-    found: &List<Hit>,
-    intent: &Intent,
-    sender: u32,
-    required: Option<&Text>,
-) -> Result<(), NoMemory>
-    requires { found.now ≡ hits installed.now.packages Receiver intent.now false }
+fn add_declared(ranked: &mut Vec<Ranked>, sent: &Sent, found: &List<Hit>) -> Result<(), NoMemory>
+    requires { found.now ≡ hits sent.now.installed.now.packages Receiver sent.now.intent.now false }
     ensures { OnOk result (ranked.new.items
-        ≡ ranked.old.items ++ map (ranked_of installed.now intent.now sender (option_copied required.entry))
-        (declared_offers installed.now.packages found.now)) }
+        ≡ ranked.old.items ++ map (ranked_of sent.now)
+        (declared_offers sent.now.installed.now.packages found.now)) }
 {
-    let packages = installed.packages();
+    let packages = sent.installed.packages();
     for hit in found.as_slice() {
-        add_hit(ranked, installed, packages, hit, intent, sender, required)?;
+        add_hit(ranked, sent, packages, hit)?;
     }
     Ok(())
 }
@@ -137,24 +111,20 @@ fn add_declared(
 /// Adds a manifest's receiver that was found.
 fn add_hit(
     ranked: &mut Vec<Ranked>,
-    installed: &Installed,
+    sent: &Sent,
     packages: &List<Package>,
     hit: &Hit,
-    intent: &Intent,
-    sender: u32,
-    required: Option<&Text>,
 ) -> Result<(), NoMemory>
     requires { IsStrictlyIncreasing (uids_of packages.now) }
     ensures { OnOk result (ranked.new.items
-        ≡ ranked.old.items ++ ranked_of_hit installed.now packages.now intent.now sender (option_copied required.entry)
-        hit.now) }
+        ≡ ranked.old.items ++ ranked_of_hit sent.now packages.now hit.now) }
 {
     let Some(decl) = decl_at(packages, hit) else {
         return Ok(());
     };
     let aim = Aim::Declared(hit.component.clone()?);
     let offer = declared_offer(hit, aim, decl);
-    add_offer(ranked, installed, intent, sender, required, offer)
+    add_offer(ranked, sent, offer)
 }
 
 /// The component of a hit, found by the uid of its package.
@@ -189,19 +159,17 @@ fn declared_offer<'a>(hit: &Hit, aim: Aim, decl: &'a Decl) -> Offer<'a>
 }
 
 /// Adds what becomes of an offer.
-fn add_offer(
-    ranked: &mut Vec<Ranked>,
-    installed: &Installed,
-    intent: &Intent,
-    sender: u32,
-    required: Option<&Text>,
-    offer: Offer,
-) -> Result<(), NoMemory>
+fn add_offer(ranked: &mut Vec<Ranked>, sent: &Sent, offer: Offer) -> Result<(), NoMemory>
     ensures { OnOk result (ranked.new.items
-        ≡ ranked.old.items ++ ranked_of installed.now intent.now sender (option_copied required.entry)
-        (offer_of offer.entry) ∷ []) }
+        ≡ ranked.old.items ++ ranked_of sent.now (offer_of offer.entry) ∷ []) }
 {
-    let skip = skip_of(installed, intent, sender, required, &offer)?;
+    let skip = skip_of(
+        sent.installed,
+        sent.intent,
+        sent.sender,
+        sent.required,
+        &offer,
+    )?;
     let receiving = Receiving {
         uid: offer.uid,
         aim: offer.aim,

@@ -1,14 +1,13 @@
 //! Why an offer is skipped.
 ghost use Rattle.std.specs.Prelude.{◌≡◌, IfOk, option_copied};
-ghost use Rattle.am_model.specs.Gates.{verdict};
-ghost use Rattle.am_model.specs.Receivers.{is_declared, is_exempt, is_unaimed, lacks, rule_of, skip_of};
+ghost use Rattle.am_model.specs.Receivers.{is_declared, is_exempt, is_unaimed, lacks, skip_of};
 ghost use Rattle.am_resolve.specs.Ranking.{offer_of};
 
 use crate::names::is_stopped;
 use crate::offers::Offer;
-use am_gates::{Ruling, holds, verdict};
+use am_gates::{holds, refusal};
 use am_installed::Installed;
-use am_types::{Aim, Grant, Intent, List, Rule, Text};
+use am_types::{Aim, Intent, List, Rule, Text};
 use std::alloc::AllocError;
 
 /// The first rule by which an offer is skipped; none if the receiver is admitted. `required` is
@@ -36,9 +35,10 @@ pub fn skip_of(
     if !intent.flags.include_stopped && is_stopped(installed, offer.uid) {
         return Ok(Some(Rule::StoppedPackage));
     }
-    match refusal(installed.grants(), sender, offer)? {
+    let (uid, exported, permission) = (offer.uid, offer.exported, offer.permission);
+    match refusal(sender, uid, exported, permission, installed.grants())? {
         Some(rule) => Ok(Some(rule)),
-        None => lacks(installed, offer.uid, required),
+        None => lacks(installed, uid, required),
     }
 }
 
@@ -66,20 +66,6 @@ fn is_exempt(exempt: &List<Text>, action: &Option<Text>) -> bool
     match action {
         None => false,
         Some(action) => exempt.as_slice().contains(action),
-    }
-}
-
-/// The rule by which the gate refuses the sender, if it does refuse.
-fn refusal(grants: &List<Grant>, sender: u32, offer: &Offer) -> Result<Option<Rule>, AllocError>
-    ensures { IfOk result
-        (λ refusal. refusal
-        ≡ rule_of
-        (verdict grants.now sender offer.now.uid offer.now.exported (option_copied offer.now.permission))) }
-{
-    match verdict(sender, offer.uid, offer.exported, offer.permission, grants) {
-        Ruling::Admit => Ok(None),
-        Ruling::NotExported => Ok(Some(Rule::NotExported)),
-        Ruling::NeedsPermission(permission) => Ok(Some(Rule::NeedsPermission(permission.clone()?))),
     }
 }
 

@@ -1,13 +1,9 @@
-use Rattle.std.specs.Prelude.{IsSome}
 use Rattle.am_model.specs.Accounts.{declared_accounts}
-use Rattle.am_explain.specs.Asking.{question_of}
 use Rattle.am_explain.specs.Costs.{filters_in}
 use Rattle.am_explain.proofs.Walks.{AddsAlong}
 use Rattle.am_explain.proofs.walk.add_declared.Given as goal
 
 abbrev pub invariant-loop-owner : goal.invariant-loop-owner
 invariant-loop-owner g l =
-    AddsAlong (declared_accounts l.grounds.installed.now (question_of l.grounds.question) l.shown)
-    (filters_in l.grounds.question.kind)
+    AddsAlong l.grounds (λ board asked. declared_accounts board asked l.shown) (filters_in l.grounds.question.kind)
     l.owner-items l.owner-index l.initial.told.items l.told.items l.initial.steps l.steps
-    (IsSome l.grounds.question.intent.now.component)

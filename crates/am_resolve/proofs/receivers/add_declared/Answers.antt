@@ -1,4 +1,4 @@
-use Rattle.std.proofs.Common.{◌≡◌, ◌++◌, List, [], drop, sym, ap, ◌∙◌, subst, option_copied}
+use Rattle.std.proofs.Common.{◌≡◌, ◌++◌, List, [], drop, sym, ap, ◌∙◌, subst}
 use Rattle.std.specs.List.{AllByRecursion}
 use Rattle.std.proofs.lemmas.List.{append-nil, at_drop_all}
 use Rattle.am_types.specs.declared.device.Package.{Package}
@@ -10,13 +10,11 @@ use Rattle.am_resolve.proofs.receivers.add_declared.Goals as goal
 
 pub returns : goal.returns
 returns c =
-    let board = c.args.installed.now in
-    let intent = c.args.intent.now in
-    let required = option_copied c.args.required in
+    let sent = c.args.sent.now in
+    let board = sent.installed.now in
     let before = c.args.ranked.now.items in
     let hits = c.as_slice-hit-items.result.now in
-    let of = λ (packages : List Package) (hs : List Hit). ranked_of_hits board packages intent c.args.sender required hs
-    in
+    let of = λ (packages : List Package) (hs : List Hit). ranked_of_hits sent packages hs in
     let none : of c.packages-packages.result.now (drop c.loop-hit.hit-index hits) ≡ [] =
     at_drop_all (of c.packages-packages.result.now) hits c.loop-hit.hit-index c.loop-hit-test.false in
     let all : c.loop-hit.ranked.items ≡ before ++ of c.packages-packages.result.now hits =
@@ -26,6 +24,6 @@ returns c =
     ∙ ap (λ packages. before ++ of packages hits) c.packages-packages.ensures.packages
     ∙ ap (λ hs. before ++ of board.packages hs) c.as_slice-hit-items.ensures
     ∙ ap (λ l. before ++ l)
-    (of_hits board intent c.args.sender required c.args.found.now
+    (of_hits sent c.args.found.now
     (subst (AllByRecursion (IsFoundByUid board.packages)) (sym c.requires)
-    (hits_found_by_uid board.packages intent c.packages-packages.ensures.installed)))
+    (hits_found_by_uid board.packages sent.intent.now c.packages-packages.ensures.installed)))

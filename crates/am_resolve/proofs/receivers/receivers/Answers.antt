@@ -9,11 +9,10 @@ use Rattle.am_resolve.proofs.receivers.receivers.Goals as goal
 
 pub returns-clause-receivers : goal.returns-clause-receivers
 returns-clause-receivers g c =
-    let board = c.args.installed.now in
-    let required = option_copied c.args.permission in
-    let ranked = ranked_of board c.args.intent.now c.args.sender required in
-    let registered = ranked_of_registered board c.args.intent.now c.args.sender required board.registered in
-    let declared = map ranked (declared_offers board.packages c.args.found.now) in
+    let sent = c.args.sent.now in
+    let board = sent.installed.now in
+    let registered = ranked_of_registered sent board.registered in
+    let declared = map (ranked_of sent) (declared_offers board.packages c.args.found.now) in
     let first : c.add_registered.new.ranked.items ≡ c.new-ranked.result.items
     ++ registered = c.in_ok-add_registered.ensures.added in
     let second : c.add_declared.new.ranked.items ≡ c.add_registered.new.ranked.items
@@ -22,8 +21,9 @@ returns-clause-receivers g c =
     second ∙ ap (λ l. l ++ declared) (first ∙ ap (λ l. l ++ registered) c.new-ranked.ensures.items) in
     IfOk-weaker c.in_order.result
     (λ (l : List Receiving). l ≡ map receiving_of (in_rank c.add_declared.new.ranked.items))
-    (λ (l : List Receiving). l ≡ receivers board c.args.intent.now c.args.sender required)
+    (λ (l : List Receiving). l ≡ receivers board sent.intent.now sent.sender (option_copied sent.required))
     (λ l e. e ∙ ap (λ all. map receiving_of (in_rank all))
-    (added ∙ ap (λ (found : List Hit). registered ++ map ranked (declared_offers board.packages found)) c.requires)
-    ∙ ranked_is_receivers board c.args.intent.now c.args.sender required)
+    (added ∙ ap (λ (found : List Hit). registered ++ map (ranked_of sent) (declared_offers board.packages found))
+    c.requires)
+    ∙ ranked_is_receivers sent)
     c.in_order.ensures
