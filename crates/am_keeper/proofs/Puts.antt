@@ -33,19 +33,21 @@ and_true true b h k = k
 and_true false b h k = absurd (let e = h in cc)
 
 module _ {X : Type 0} (order : X → X → Ordering) where
+  -- behind an item that is before it
+  put_in-behind : (x y : X) (ys zs : List X) → order y x ≡ Less → put_in order x ys ≡ zs
+      → put_in order x (y ∷ ys) ≡ y ∷ zs
+  put_in-behind x y ys zs first rest = rw first (ap (λ zs. y ∷ zs) rest)
+
   -- over an item that ties
   pub put_in-found : (x : X) (xs : List X) (at : ℕ) → IsPlaceOf order x xs at → put_in order x xs ≡ set xs at x
   put_in-found x [] at p = absurd (omega (arith, p.within))
   put_in-found x (y ∷ ys) zero p = rw (p.ties x) refl
   put_in-found x (y ∷ ys) (suc at) p =
-      let first : order y x ≡ Less = p.before 0 x (omega arith) in
-      let rest = put_in-found x ys at (record {
+      put_in-behind x y ys (set ys at x) (p.before 0 x (omega arith)) (put_in-found x ys at (record {
         within = omega (arith, p.within);
-        before = λ k d h. p.before (suc k) d
-            (omega arith);
+        before = λ k d h. p.before (suc k) d (omega arith);
         ties = p.ties;
-      }) in
-      rw first (ap (λ zs. y ∷ zs) rest)
+      }))
 
   -- between those before and those behind
   pub put_in-absent : (x : X) (xs : List X) (at : ℕ) → IsGapFor order x xs at → put_in order x xs ≡ insert xs at x
@@ -53,14 +55,11 @@ module _ {X : Type 0} (order : X → X → Ordering) where
   put_in-absent x [] (suc at) p = absurd (omega (arith, p.within))
   put_in-absent x (y ∷ ys) zero p = rw (p.behind 0 x (omega arith) (omega arith)) refl
   put_in-absent x (y ∷ ys) (suc at) p =
-      let first : order y x ≡ Less = p.before 0 x (omega arith) in
-      let rest = put_in-absent x ys at (record {
+      put_in-behind x y ys (insert ys at x) (p.before 0 x (omega arith)) (put_in-absent x ys at (record {
         within = omega (arith, p.within);
-        before = λ k d h. p.before (suc k) d
-            (omega arith);
+        before = λ k d h. p.before (suc k) d (omega arith);
         behind = λ k d h g. p.behind (suc k) d (omega arith) (omega arith);
-      }) in
-      rw first (ap (λ zs. y ∷ zs) rest)
+      }))
 
 module _ {X : Type 0} (order : X → X → Ordering) (total : IsTotalOrder order) where
   -- what stands before the first of a list in order stands before each

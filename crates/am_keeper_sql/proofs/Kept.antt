@@ -12,7 +12,7 @@ use Rattle.am_keeper.specs.contracts.rows.Rows as rows_of
 use Rattle.am_keeper.specs.Rows.{no_rows, with_row}
 use Rattle.am_keeper.specs.Keeping.{Puts}
 use Rattle.am_keeper_sql.specs.Told.{told_in}
-use Rattle.am_keeper_sql.specs.Honest.{IsHonest, IsSettled, HoldsTable, Keeps, StaysSeen, told_by}
+use Rattle.am_keeper_sql.specs.Honest.{IsHonest, IsSettled, HoldsTable, Keeps, PutsInto, FailsUnseen, StaysSeen, told_by}
 
 -- what a keeper holds true of its database
 abbrev pub HonestKeeps : State → Type 0
@@ -34,9 +34,7 @@ rows_by : {old : State} (a b : Rows) → HonestKeeps old → IsHonest old → (K
 rows_by a b keeps honest by = ∥∥₁_elim keeps (Coded-set rows_of.the_row.coded a b) (λ k. by (k honest))
 
 module _ {X : Type 0} (old new : State) (row : Kept) (was : IsHonest new → IsHonest old) (keeps : HonestKeeps old) where
-  module _ (r : Result X KeepFail) (put : IsHonest new → Keeps old
-      → OnOk r (Keeps new × (told_by new ≡ with_row (told_by old) row)))
-      (failed : IsHonest new → IsSettled old → OnErr r (StaysSeen old new)) where
+  module _ (r : Result X KeepFail) (put : PutsInto old new row r) (failed : FailsUnseen old new r) where
     pub put_keeps : HonestKeeps new
     put_keeps = ∥∥₁_map keeps (λ k honest. by r (k (was honest)) (put honest (k (was honest)))
         (failed honest (k (was honest)).settled))
@@ -46,9 +44,7 @@ module _ {X : Type 0} (old new : State) (row : Kept) (was : IsHonest new → IsH
         by (Ok done) k done' seen = done'.0
         by (Err e) k done' seen = keeps_seen old new k seen
 
-  pub put_rows : (r : Result X KeepFail) → (IsHonest new → Keeps old
-      → OnOk r (Keeps new × (told_by new ≡ with_row (told_by old) row)))
-      → (IsHonest new → IsSettled old → OnErr r (StaysSeen old new)) → IsHonest new
+  pub put_rows : (r : Result X KeepFail) → PutsInto old new row r → FailsUnseen old new r → IsHonest new
       → Puts (λ told. with_row told row) (Some (told_by old)) (Some (told_by new)) r
   put_rows (Ok done) put failed honest = ap Some (rows_by (told_by new) (with_row (told_by old) row) keeps (was honest)
       (λ k. (put honest k).1))

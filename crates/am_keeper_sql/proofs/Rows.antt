@@ -1,10 +1,11 @@
 -- Kept rows by their keys.
-use Rattle.std.proofs.Common.{◌≡◌, inl, inr, List, [], ◌∷◌, map, Option, Some, None, pos, refl, sym, ap, ◌∙◌}
+use Rattle.std.proofs.Common.{◌≡◌, ℕ, inl, inr, List, [], ◌∷◌, map, Option, Some, None, pos, refl, sym, ap, ◌∙◌}
 use Rattle.std.specs.Prelude.{option_map}
 use Rattle.std.specs.Str.{is_utf8}
 use Rattle.std.proofs.lemmas.Bool.{cases_Bool}
 use Rattle.std.specs.declared.cmp.Ordering.TheVariants.{Equal}
-use Rattle.std.specs.Ordering.{nat_cmp}
+use Rattle.std.specs.Ordering.{nat_cmp, ordering_then}
+use Rattle.std.specs.Cmp.Lexicographic.{slice_cmp}
 use Rattle.std.proofs.lemmas.Cmp.{tied_itself, nat_cmp_total}
 use Rattle.std.proofs.lemmas.Map.Lookups.{exact_unsigned, exact_bytes}
 use Rattle.sqlite.specs.declared.types.Value.{Value}
@@ -12,8 +13,6 @@ use Rattle.sqlite.specs.declared.types.Value.TheVariants.{Null, Int, Real, Text,
 use Rattle.sqlite.specs.Order.{Row, column}
 use Rattle.sqlite_value.proofs.KeyLemmas.{then_tied}
 use Rattle.am_keeper.specs.declared.rows.PackageRow.{PackageRow}
-use Rattle.am_keeper.specs.declared.rows.GrantRow.{GrantRow}
-use Rattle.am_keeper.specs.declared.rows.LinkRow.{LinkRow}
 use Rattle.am_keeper.specs.declared.rows.Row.{Row as Kept}
 use Rattle.am_keeper.specs.declared.rows.Row.TheVariants.{Package, Grant, Link}
 use Rattle.am_keeper.specs.declared.rows.Rows.{Rows}
@@ -84,23 +83,11 @@ said-values values cells h = ap (λ o. o >>= row_in) h
 pub key-said : (values : Row) (row : Kept) → row_said values ≡ Some row → key values ≡ key_of row
 key-said values row h = ap key (values_for-said values row h) ∙ key-values_for row
 
--- two grants that tie are of one uid and permission
-same_grant : (x y : GrantRow) → by_grant x y ≡ Equal → (x.uid ≡ y.uid) × (x.permission ≡ y.permission)
-same_grant x y tie = let parts = then_tied (nat_cmp x.uid y.uid) _ tie in
-    (exact_unsigned x.uid y.uid parts.0, exact_bytes x.permission y.permission parts.1)
-
--- and those of one uid and permission tie
-grant_tie : (x y : GrantRow) → x.uid ≡ y.uid → x.permission ≡ y.permission → by_grant x y ≡ Equal
-grant_tie x y uid permission = let ties = tied_itself by_grant-total y in rw (uid, permission) ties
-
--- two links that tie are of one uid and host
-same_link : (x y : LinkRow) → by_link x y ≡ Equal → (x.uid ≡ y.uid) × (x.host ≡ y.host)
-same_link x y tie = let parts = then_tied (nat_cmp x.uid y.uid) _ tie in
-    (exact_unsigned x.uid y.uid parts.0, exact_bytes x.host y.host parts.1)
-
--- and those of one uid and host tie
-link_tie : (x y : LinkRow) → x.uid ≡ y.uid → x.host ≡ y.host → by_link x y ≡ Equal
-link_tie x y uid host = let ties = tied_itself by_link-total y in rw (uid, host) ties
+-- two rights that tie are of one uid and text
+same_right : (uid other : ℕ) (text words : List ℕ) → ordering_then (nat_cmp uid other) (slice_cmp nat_cmp text words)
+    ≡ Equal → (uid ≡ other) × (text ≡ words)
+same_right uid other text words tie = let parts = then_tied (nat_cmp uid other) _ tie in
+    (exact_unsigned uid other parts.0, exact_bytes text words parts.1)
 
 same_package : (x y : PackageRow) → by_uid x y ≡ Equal → key_of (Package x) ≡ key_of (Package y)
 same_package x y tie = let uid : x.uid ≡ y.uid = exact_unsigned x.uid y.uid tie in rw uid
@@ -111,10 +98,12 @@ pub with_row-apart : (rows : Rows) (a b : Kept) → (key_of a ≡ key_of b → �
 with_row-apart rows (Package x) (Package y) apart = ap (λ all. record rows { packages = all })
     (put_in-apart by_uid by_uid-total x y (λ tie. apart (same_package x y tie)) rows.packages)
 with_row-apart rows (Grant x) (Grant y) apart = ap (λ all. record rows { grants = all })
-    (put_in-apart by_grant by_grant-total x y (λ tie. let same = same_grant x y tie in apart (rw (same.0, same.1)))
+    (put_in-apart by_grant by_grant-total x y (λ tie.
+    let same = same_right x.uid y.uid x.permission y.permission tie in apart (rw (same.0, same.1)))
     rows.grants)
 with_row-apart rows (Link x) (Link y) apart = ap (λ all. record rows { links = all })
-    (put_in-apart by_link by_link-total x y (λ tie. let same = same_link x y tie in apart (rw (same.0, same.1)))
+    (put_in-apart by_link by_link-total x y (λ tie.
+    let same = same_right x.uid y.uid x.host y.host tie in apart (rw (same.0, same.1)))
     rows.links)
 with_row-apart rows (Package x) (Grant y) apart = refl
 with_row-apart rows (Package x) (Link y) apart = refl
@@ -130,10 +119,14 @@ with_row-tied rows (Package x) (Package y) same =
     let tie : by_uid x y ≡ Equal = rw (uid, tied_itself nat_cmp_total y.uid) in
     ap (λ all. record rows { packages = all }) (put_in-tied by_uid by_uid-total y x tie rows.packages)
 with_row-tied rows (Grant x) (Grant y) same =
-    let tie = grant_tie x y (let e = same in cc) (let e = same in cc) in
+    let uid : x.uid ≡ y.uid = (let e = same in cc) in
+    let permission : x.permission ≡ y.permission = (let e = same in cc) in
+    let tie : by_grant x y ≡ Equal = rw (uid, permission, tied_itself by_grant-total y) in
     ap (λ all. record rows { grants = all }) (put_in-tied by_grant by_grant-total y x tie rows.grants)
 with_row-tied rows (Link x) (Link y) same =
-    let tie = link_tie x y (let e = same in cc) (let e = same in cc) in
+    let uid : x.uid ≡ y.uid = (let e = same in cc) in
+    let host : x.host ≡ y.host = (let e = same in cc) in
+    let tie : by_link x y ≡ Equal = rw (uid, host, tied_itself by_link-total y) in
     ap (λ all. record rows { links = all }) (put_in-tied by_link by_link-total y x tie rows.links)
 with_row-tied rows (Package x) (Grant y) same = absurd (let e = same in cc)
 with_row-tied rows (Package x) (Link y) same = absurd (let e = same in cc)

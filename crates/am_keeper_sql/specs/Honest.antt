@@ -1,5 +1,5 @@
 -- What holds for a keeper's database.
-use Rattle.std.specs.Prelude.{◌≡◌, false, IsTrue, IsSome, unwrap_or, ⊤}
+use Rattle.std.specs.Prelude.{◌≡◌, false, IsTrue, IsSome, OnOk, OnErr, Result, unwrap_or, ⊤}
 use Rattle.sqlite.specs.Store.{Ghosts}
 use Rattle.sqlite.specs.Steps.{over_memory}
 use Rattle.sqlite.specs.Held.{state}
@@ -8,8 +8,10 @@ use Rattle.sqlite.specs.Effect.{Database, IsDatabase}
 use Rattle.sqlite.specs.Tree.{Trees}
 use Rattle.sqlite_trees.specs.View.{IsShaped}
 use Rattle.sqlite_trees.specs.declared.store.Shape.TheVariants as shape
+use Rattle.am_keeper.specs.declared.failure.KeepFail.{KeepFail}
+use Rattle.am_keeper.specs.declared.rows.Row.{Row}
 use Rattle.am_keeper.specs.declared.rows.Rows.{Rows}
-use Rattle.am_keeper.specs.Rows.{no_rows}
+use Rattle.am_keeper.specs.Rows.{no_rows, with_row}
 use Rattle.am_keeper_sql.specs.declared.database.Database.{Database as Connected}
 use Rattle.am_keeper_sql.specs.declared.database.Database.TheVariants.{Memory, File}
 use Rattle.am_keeper_sql.specs.Table.{kept_schema}
@@ -59,6 +61,14 @@ IsInMemory (File conn) = ⊥
 -- the rows that a keeper tells: those of its table, or none at all if one of them can't be read
 abbrev pub told_by : State → Rows
 told_by s = unwrap_or (told_in s.now.trees) no_rows
+
+-- a put that succeeds keeps the database, which then tells the row
+abbrev pub PutsInto : {X : Type 0} → State → State → Row → Result X KeepFail → Type 0
+PutsInto old new row r = IsHonest new → Keeps old → OnOk r (Keeps new × (told_by new ≡ with_row (told_by old) row))
+
+-- a call that fails leaves what is seen as it was
+abbrev pub FailsUnseen : {X : Type 0} → State → State → Result X KeepFail → Type 0
+FailsUnseen old new r = IsHonest new → IsSettled old → OnErr r (StaysSeen old new)
 
 -- the keeper is in memory, which returns what was written and isn't shut by any fault
 pub record IsHonestForGood {F : Type 0} (g : Ghosts F) (database : Connected F) : Type 0 where

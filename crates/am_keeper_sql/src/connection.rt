@@ -1,13 +1,13 @@
 //! What a keeper does with a connection, over any store.
-ghost use Rattle.std.specs.Prelude.{◌≡◌, ◌≢◌, ◌⊎◌, [], Some, Err, IsTrue, IfOk, IfErr, OnOk, OnErr};
+ghost use Rattle.std.specs.Prelude.{◌≡◌, ◌≢◌, ◌⊎◌, [], Some, Err, IsTrue, IfOk, IfErr, OnOk};
 ghost use Rattle.sqlite_disk.specs.Disk.{MoreFaults};
 ghost use Rattle.sqlite_trees.specs.View.{IsClean};
 ghost use Rattle.sqlite.specs.Held.{state};
 ghost use Rattle.sqlite.specs.State.{HasCleanDisk};
 ghost use Rattle.am_keeper.specs.declared.rows.Rows.{Rows as Told};
-ghost use Rattle.am_keeper.specs.Rows.{IsInOrder, with_row};
+ghost use Rattle.am_keeper.specs.Rows.{IsInOrder};
 ghost use Rattle.am_keeper_sql.specs.Table.{no_schema, kept_schema};
-ghost use Rattle.am_keeper_sql.specs.Honest.{IsHonest, IsSettled, HoldsTable, HasRisingRows, Keeps, StaysSeen, told_by};
+ghost use Rattle.am_keeper_sql.specs.Honest.{IsHonest, IsSettled, HoldsTable, HasRisingRows, Keeps, PutsInto, FailsUnseen};
 ghost use Rattle.am_keeper_sql.specs.Faults.{told_as};
 ghost use Rattle.am_keeper_sql.specs.Told.{told_in};
 ghost use Rattle.am_keeper_sql.specs.Image.{HasRows};
@@ -89,11 +89,8 @@ pub(crate) fn put<S: Alter>(
     row: &Row,
 ) -> Result<(), KeepFail>
     ensures honest { IsHonest (state S.Store conn.new) → IsHonest (state S.Store conn.old) }
-    ensures put { IsHonest (state S.Store conn.new) → Keeps (state S.Store conn.old)
-        → OnOk result (Keeps (state S.Store conn.new)
-        × (told_by (state S.Store conn.new) ≡ with_row (told_by (state S.Store conn.old)) row.now)) }
-    ensures failed { IsHonest (state S.Store conn.new) → IsSettled (state S.Store conn.old)
-        → OnErr result (StaysSeen (state S.Store conn.old) (state S.Store conn.new)) }
+    ensures put { PutsInto (state S.Store conn.old) (state S.Store conn.new) row.now result }
+    ensures failed { FailsUnseen (state S.Store conn.old) (state S.Store conn.new) result }
 {
     let Ok(cells) = row_cells(alloc, row) else {
         return Err(KeepFail::NoMemory);

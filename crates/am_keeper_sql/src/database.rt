@@ -1,7 +1,7 @@
 //! The database of a keeper, in memory or in a file.
-ghost use Rattle.std.specs.Prelude.{◌≡◌, ◌↔◌, Some, IfOk, OnOk, OnErr};
-ghost use Rattle.am_keeper.specs.Rows.{IsInOrder, with_row};
-ghost use Rattle.am_keeper_sql.specs.Honest.{IsHonest, IsSettled, HoldsTable, Keeps, StaysSeen, IsHonestForGood, state_of, told_by};
+ghost use Rattle.std.specs.Prelude.{◌≡◌, ◌↔◌, Some, IfOk};
+ghost use Rattle.am_keeper.specs.Rows.{IsInOrder};
+ghost use Rattle.am_keeper_sql.specs.Honest.{IsHonest, IsSettled, HoldsTable, PutsInto, FailsUnseen, StaysSeen, IsHonestForGood, state_of};
 ghost use Rattle.am_keeper_sql.specs.Told.{told_in};
 
 use crate::{connection, table};
@@ -20,11 +20,8 @@ impl<F: Alter> Database<F> {
     /// Puts a row. A failure leaves the rows as they were.
     pub fn put(&mut self, alloc: Global, row: &Row) -> Result<(), KeepFail>
         ensures honest { IsHonest (state_of F.Store self.new) → IsHonest (state_of F.Store self.old) }
-        ensures put { IsHonest (state_of F.Store self.new) → Keeps (state_of F.Store self.old)
-            → OnOk result (Keeps (state_of F.Store self.new)
-            × (told_by (state_of F.Store self.new) ≡ with_row (told_by (state_of F.Store self.old)) row.now)) }
-        ensures failed { IsHonest (state_of F.Store self.new) → IsSettled (state_of F.Store self.old)
-            → OnErr result (StaysSeen (state_of F.Store self.old) (state_of F.Store self.new)) }
+        ensures put { PutsInto (state_of F.Store self.old) (state_of F.Store self.new) row.now result }
+        ensures failed { FailsUnseen (state_of F.Store self.old) (state_of F.Store self.new) result }
         ensures for_good { IsHonestForGood F.Store self.new ↔ IsHonestForGood F.Store self.old }
     {
         match self {

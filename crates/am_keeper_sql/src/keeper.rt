@@ -78,9 +78,9 @@ impl<F: Alter> SqlKeeper<F> {
     }
 
     /// Puts a row.
-    fn put_row(&mut self, row: &Row) -> Result<(), KeepFail>
+    fn put_row(&mut self, row: Row) -> Result<(), KeepFail>
         ensures rows { IsHonest (state_of F.Store self.new.database)
-            → Puts (λ told. with_row told row.now) (Some (told_by (state_of F.Store self.old.database)))
+            → Puts (λ told. with_row told row) (Some (told_by (state_of F.Store self.old.database)))
             (Some (told_by (state_of F.Store self.new.database))) result }
         ensures honest { IsHonest (state_of F.Store self.new.database) → IsHonest (state_of F.Store self.old.database) }
         ensures for_good { IsHonestForGood F.Store self.new.database ↔ IsHonestForGood F.Store self.old.database }
@@ -90,7 +90,8 @@ impl<F: Alter> SqlKeeper<F> {
         ensures never_falls { self.old.faults ≤ self.new.faults }
         ensures only_failed { result ≢ Err KeepFail.Failed → self.new.faults ≡ self.old.faults }
     {
-        let done = self.database.put(self.alloc, row);
+        let done = self.database.put(self.alloc, &row);
+        drop(row);
         count_fault(&mut self.faults, &done);
         done
     }
@@ -113,26 +114,17 @@ impl<F: Alter + Drop> Keeper for SqlKeeper<F> {
 
     fn put_package(&mut self, row: &PackageRow) -> Result<(), KeepFail> {
         count_put(&mut self.puts);
-        let row = Row::Package(row.clone()?);
-        let done = self.put_row(&row);
-        drop(row);
-        done
+        self.put_row(Row::Package(row.clone()?))
     }
 
     fn put_grant(&mut self, row: &GrantRow) -> Result<(), KeepFail> {
         count_put(&mut self.puts);
-        let row = Row::Grant(row.clone()?);
-        let done = self.put_row(&row);
-        drop(row);
-        done
+        self.put_row(Row::Grant(row.clone()?))
     }
 
     fn put_link(&mut self, row: &LinkRow) -> Result<(), KeepFail> {
         count_put(&mut self.puts);
-        let row = Row::Link(row.clone()?);
-        let done = self.put_row(&row);
-        drop(row);
-        done
+        self.put_row(Row::Link(row.clone()?))
     }
 }
 

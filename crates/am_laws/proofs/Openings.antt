@@ -21,36 +21,31 @@ pub record IsSameElse (board after : Board) : Type 0 where
   pub packages : after.packages ≡ board.packages
   pub registered : after.registered ≡ board.registered
 
-pub grant_rows_else : (board : Board) (rows : List GrantRow) → IsSameElse board (fold after_grant board rows)
-grant_rows_else board [] = record { packages = refl; registered = refl }
-grant_rows_else board (row ∷ rows) =
-    let rest = grant_rows_else (after_grant board row) rows in
-    let one = by (is_package_uid board.packages row.uid) in
-    record { packages = rest.packages ∙ one.packages; registered = rest.registered ∙ one.registered }
-  where
-    by : (b : Bool) → IsSameElse board (cond b (record board {
-      grants = with_grant board.grants row.uid row.permission
-          row.held;
-    }) board)
-    by true = record { packages = refl; registered = refl }
-    by false = record { packages = refl; registered = refl }
+-- so rows that each change neither change neither together
+rows_else : {R : Type 0} (after : Board → R → Board) → ((board : Board) (row : R) → IsSameElse board (after board row))
+    → (board : Board) (rows : List R) → IsSameElse board (fold after board rows)
+rows_else after one board [] = record { packages = refl; registered = refl }
+rows_else after one board (row ∷ rows) =
+    let rest = rows_else after one (after board row) rows in
+    let first = one board row in
+    record { packages = rest.packages ∙ first.packages; registered = rest.registered ∙ first.registered }
 
-pub link_rows_else : (board : Board) (rows : List LinkRow) → IsSameElse board (fold after_link board rows)
-link_rows_else board [] = record { packages = refl; registered = refl }
-link_rows_else board (row ∷ rows) =
-    let rest = link_rows_else (after_link board row) rows in
-    let one = by (is_package_uid board.packages row.uid && is_same (lowered row.host) row.host) in
-    record { packages = rest.packages ∙ one.packages; registered = rest.registered ∙ one.registered }
-  where
-    by : (b : Bool) → IsSameElse board (cond b (record board {
-      links = with_link board.links row.uid row.host
-          row.approved;
-    }) board)
-    by true = record { packages = refl; registered = refl }
-    by false = record { packages = refl; registered = refl }
+if_else : (board after : Board) → IsSameElse board after → (b : Bool) → IsSameElse board (cond b after board)
+if_else board after same true = same
+if_else board after same false = record { packages = refl; registered = refl }
+
+grant_rows_else : (board : Board) (rows : List GrantRow) → IsSameElse board (fold after_grant board rows)
+grant_rows_else = rows_else after_grant (λ board row. if_else board (record board
+    { grants = with_grant board.grants row.uid row.permission row.held }) (record { packages = refl; registered = refl })
+    (is_package_uid board.packages row.uid))
+
+link_rows_else : (board : Board) (rows : List LinkRow) → IsSameElse board (fold after_link board rows)
+link_rows_else = rows_else after_link (λ board row. if_else board (record board
+    { links = with_link board.links row.uid row.host row.approved }) (record { packages = refl; registered = refl })
+    (is_package_uid board.packages row.uid && is_same (lowered row.host) row.host))
 
 -- and so do both
-rights_else : (board : Board) (rows : Rows) → IsSameElse board (with_rights board rows)
+pub rights_else : (board : Board) (rows : Rows) → IsSameElse board (with_rights board rows)
 rights_else board rows =
     let first = grant_rows_else board rows.grants in
     let second = link_rows_else (fold after_grant board rows.grants) rows.links in

@@ -95,34 +95,42 @@ module _ (f : ℕ → ℕ) (next : ℕ) where
       by b one true = one
       by b one false = one
 
+-- the deliveries of either queue are for their uids
+queue_held : (foreground : Bool) (all : Broadcasts) (has : HasHolders all)
+    → All (TurnFor has.holder all.next_delivery) (queue_of foreground all)
+queue_held true all has = has.held.foreground
+queue_held false all has = has.held.background
+
+-- and so are those of another queue in its place
+with_queue_held : (foreground : Bool) (queue : List InTurn) (all : Broadcasts) (next : ℕ) (has : HasHolders all)
+    → All (TurnFor has.holder all.next_delivery) queue
+    → HasHolders (with_queue foreground queue (record all { next_broadcast = next }))
+with_queue_held true queue all next has one = record {
+  holder = has.holder;
+  held = record {
+    normal = has.held.normal;
+    foreground = one;
+    background = has.held.background;
+    results = has.held.results;
+  };
+}
+with_queue_held false queue all next has one = record {
+  holder = has.holder;
+  held = record {
+    normal = has.held.normal;
+    foreground = has.held.foreground;
+    background = one;
+    results = has.held.results;
+  };
+}
+
 -- the passing of time
 expired_queue_held : (foreground : Bool) (now : ℕ) (all : Broadcasts) → HasHolders all
     → HasHolders (expired_queue foreground now all)
 expired_queue_held foreground now all has = after_deadline HasHolders foreground now all
-    (settle_held foreground now (with_queue foreground (late_head now (queue_of foreground all)) all) (late foreground))
-    has
-  where
-    late : (b : Bool) → HasHolders (with_queue b (late_head now (queue_of b all)) all)
-    late true = record {
-      holder = has.holder;
-      held = record {
-        normal = has.held.normal;
-        foreground = late_for has.holder all.next_delivery now all.foreground
-            has.held.foreground;
-        background = has.held.background;
-        results = has.held.results;
-      };
-    }
-    late false = record {
-      holder = has.holder;
-      held = record {
-        normal = has.held.normal;
-        foreground = has.held.foreground;
-        background = late_for has.holder
-            all.next_delivery now all.background has.held.background;
-        results = has.held.results;
-      };
-    }
+    (settle_held foreground now (with_queue foreground (late_head now (queue_of foreground all)) all)
+    (with_queue_held foreground (late_head now (queue_of foreground all)) all all.next_broadcast has
+    (late_for has.holder all.next_delivery now (queue_of foreground all) (queue_held foreground all has)))) has
 
 pub expired_held : (all : Broadcasts) (now : ℕ) → HasHolders all → HasHolders (expired all now)
 expired_held all now has =
@@ -245,30 +253,9 @@ sent_held all sent None has = record {
     by false = All-push (NormalFor to.holder more) all.normal (at_once all.next_broadcast all.next_delivery sent) old
         to.deliveries
 sent_held all sent (Some ordered) has = settle_held sent.foreground sent.now (with_last sent.foreground one all)
-    (by sent.foreground)
+    (with_queue_held sent.foreground (queue_of sent.foreground all ++ one ∷ []) all (all.next_broadcast + 1) has
+    (All-push (TurnFor has.holder all.next_delivery) (queue_of sent.foreground all) one
+    (queue_held sent.foreground all has) (none_for has.holder all.next_delivery sent.to)))
   where
     one : InTurn
     one = in_turn all.next_broadcast sent ordered
-
-    begun : TurnFor has.holder all.next_delivery one
-    begun = none_for has.holder all.next_delivery sent.to
-
-    by : (b : Bool) → HasHolders (with_last b one all)
-    by true = record {
-      holder = has.holder;
-      held = record {
-        normal = has.held.normal;
-        foreground = All-push (TurnFor has.holder all.next_delivery) all.foreground one has.held.foreground begun;
-        background = has.held.background;
-        results = has.held.results;
-      };
-    }
-    by false = record {
-      holder = has.holder;
-      held = record {
-        normal = has.held.normal;
-        foreground = has.held.foreground;
-        background = All-push (TurnFor has.holder all.next_delivery) all.background one has.held.background begun;
-        results = has.held.results;
-      };
-    }

@@ -222,28 +222,28 @@ others_stay test doing fails (b ∷ others) all =
     ∙ ap (λ (l : List InTurn). b ∷ l) (others_stay test doing fails others
     (All-tail (λ (b : InTurn). b.current ≡ None) b others all))
 
--- so a late head, or one that is answered, is a turn where that is due
+-- so if the head turns, it turns among all
+head_turns : (test : Option Current → Bool) (doing : Doing) → test None ≡ false → (head : InTurn) (others : List InTurn)
+    → OnlyHead (head ∷ others) → cond (test head.current) (turn doing head ∷ others) (head ∷ others)
+    ≡ map (turning test doing) (head ∷ others)
+head_turns test doing fails head others only =
+    by (test head.current) ∙ ap (λ (l : List InTurn). turning test doing head ∷ l)
+    (sym (others_stay test doing fails others only))
+  where
+    by : (b : Bool) → cond b (turn doing head ∷ others) (head ∷ others) ≡ cond b (turn doing head) head ∷ others
+    by true = refl
+    by false = refl
+
+-- a late head, or one that is answered, is a turn where that is due
 pub late_turns : (now : ℕ) (queue : List InTurn) → OnlyHead queue → late_head now queue
     ≡ map (turning (is_late now) Late) queue
 late_turns now [] only = refl
-late_turns now (head ∷ others) only =
-    by (is_late now head.current) ∙ ap (λ (l : List InTurn). turning (is_late now) Late head ∷ l)
-    (sym (others_stay (is_late now) Late refl others only))
-  where
-    by : (late : Bool) → cond late (turn Late head ∷ others) (head ∷ others) ≡ cond late (turn Late head) head ∷ others
-    by true = refl
-    by false = refl
+late_turns now (head ∷ others) only = head_turns (is_late now) Late refl head others only
 
 pub answer_turns : (number : ℕ) (doing : Doing) (queue : List InTurn) → OnlyHead queue
     → answered_head number doing queue ≡ map (turning (is_current number) doing) queue
 answer_turns number doing [] only = refl
-answer_turns number doing (head ∷ others) only =
-    by (is_current number head.current) ∙ ap (λ (l : List InTurn). turning (is_current number) doing head ∷ l)
-    (sym (others_stay (is_current number) doing refl others only))
-  where
-    by : (is : Bool) → cond is (turn doing head ∷ others) (head ∷ others) ≡ cond is (turn doing head) head ∷ others
-    by true = refl
-    by false = refl
+answer_turns number doing (head ∷ others) only = head_turns (is_current number) doing refl head others only
 
 -- the passing of time
 expired_queue_order : (foreground : Bool) (now : ℕ) (all : Broadcasts) → AreInOrder all

@@ -190,9 +190,9 @@ module _ (device : Device) (kept : Rows) (state : State) (sound : IsSound device
           same = same_parts read.system_key read.root_key
               (ap as_stopped (inserted_last new read.board.packages read_below) ∙ stopped_more read.board.packages new)
               (sym (granted_same read.board.packages (place_package new read.board.packages) read.board.grants
-              kept.grants grants_same))
+              kept.grants (rights_same (λ (r : GrantRow). r.uid) kept.grants (below_next device kept).grants)))
               (sym (approved_same read.board.packages (place_package new read.board.packages) read.board.links
-              kept.links links_same))
+              kept.links (rights_same (λ (r : LinkRow). r.uid) kept.links (below_next device kept).links)))
               (next_with_next device kept row (sym next))
               ∙ ap (λ (k : Kept). record k { packages = k.packages ++ new ∷ []; next_uid = k.next_uid + 1 })
               reading.same
@@ -255,18 +255,12 @@ module _ (device : Device) (kept : Rows) (state : State) (sound : IsSound device
                 (below (not_from_false (eqb uid no_uid) is)) in
                 ne_eqb state.next_uid uid (λ same. omega arith)
 
-        grants_same : AllByRecursion (λ (r : GrantRow). is_package_uid read.board.packages r.uid
-            ≡ is_package_uid (place_package new read.board.packages) r.uid) kept.grants
-        grants_same =
-            all_weaker (λ (r : GrantRow). not (r.uid == no_uid) ≡ true → r.uid < next_after device kept)
-            (λ (r : GrantRow). is_package_uid read.board.packages r.uid
-            ≡ is_package_uid (place_package new read.board.packages) r.uid)
-            (λ r below. other r.uid below) kept.grants (below_next device kept).grants
-
-        links_same : AllByRecursion (λ (r : LinkRow). is_package_uid read.board.packages r.uid
-            ≡ is_package_uid (place_package new read.board.packages) r.uid) kept.links
-        links_same =
-            all_weaker (λ (r : LinkRow). not (r.uid == no_uid) ≡ true → r.uid < next_after device kept)
-            (λ (r : LinkRow). is_package_uid read.board.packages r.uid
-            ≡ is_package_uid (place_package new read.board.packages) r.uid)
-            (λ r below. other r.uid below) kept.links (below_next device kept).links
+        rights_same : {R : Type 0} (uid_of : R → ℕ) (rights : List R)
+            → AllByRecursion (λ (r : R). not (uid_of r == no_uid) ≡ true → uid_of r < next_after device kept) rights
+            → AllByRecursion (λ (r : R). is_package_uid read.board.packages (uid_of r)
+            ≡ is_package_uid (place_package new read.board.packages) (uid_of r)) rights
+        rights_same {R} uid_of rights below =
+            all_weaker (λ (r : R). not (uid_of r == no_uid) ≡ true → uid_of r < next_after device kept)
+            (λ (r : R). is_package_uid read.board.packages (uid_of r)
+            ≡ is_package_uid (place_package new read.board.packages) (uid_of r))
+            (λ r one. other (uid_of r) one) rights below

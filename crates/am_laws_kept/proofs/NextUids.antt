@@ -199,14 +199,15 @@ module _ {R : Type 0} (order : R → R → Ordering) (uid_of : R → ℕ) (n : �
       (λ r tie less. subst (λ (u : ℕ). counts u ≡ true → u < n) (sym (ties r tie)) less) rows all
 
 -- rows have the same next uid where that of each is above what the others have
-same_next : (device : Device) (rows others : Rows) → AreBelow (next_after device rows) device others
-    → AreBelow (next_after device others) device rows
+same_next : (device : Device) (rows others : Rows)
+    → (AreBelow (next_after device rows) device rows → AreBelow (next_after device rows) device others)
+    → (AreBelow (next_after device others) device others → AreBelow (next_after device others) device rows)
     → next_after device others ≡ next_after device rows
 same_next device rows others there here =
     let low : next_after device others ≤ next_after device rows = next_is_least device others (next_after device rows)
-    (next_is_high device rows) there in
+    (next_is_high device rows) (there (below_next device rows)) in
     let high : next_after device rows ≤ next_after device others = next_is_least device rows (next_after device others)
-    (next_is_high device others) here in
+    (next_is_high device others) (here (below_next device others)) in
     omega arith
 
 -- all are below a number if the device's uids are and those of each kind of row
@@ -226,40 +227,33 @@ of_parts n device rows own packages grants links = record {
 pub next_with_package : (device : Device) (rows : Rows) (row : PackageRow) → row.uid < next_after device rows
     → next_after device (with_package rows row) ≡ next_after device rows
 next_with_package device rows row below =
-    let before = below_next device rows in
-    let after = below_next device (with_package rows row) in
     same_next device rows (with_package rows row)
-    (of_parts (next_after device rows) device (with_package rows row) before.own
+    (λ before. of_parts (next_after device rows) device (with_package rows row) before.own
     (all_put by_uid (λ (other : PackageRow). other.uid < next_after device rows) row rows.packages below
     before.packages) before.grants before.links)
-    (of_parts (next_after device (with_package rows row)) device rows after.own
+    (λ after. of_parts (next_after device (with_package rows row)) device rows after.own
     (of_others by_uid (λ (other : PackageRow). other.uid < next_after device (with_package rows row)) row
     (λ other tie less. subst (λ (u : ℕ). u < next_after device (with_package rows row))
-    (sym (exact_unsigned other.uid row.uid tie)) less) rows.packages after.packages)
-    after.grants after.links)
+    (sym (exact_unsigned other.uid row.uid tie)) less) rows.packages after.packages) after.grants after.links)
 
 pub next_with_grant : (device : Device) (rows : Rows) (row : GrantRow) → row.uid < next_after device rows
     → next_after device (with_grant rows row) ≡ next_after device rows
 next_with_grant device rows row below =
-    let before = below_next device rows in
-    let after = below_next device (with_grant rows row) in
     same_next device rows (with_grant rows row)
-    (of_parts (next_after device rows) device (with_grant rows row) before.own before.packages
+    (λ before. of_parts (next_after device rows) device (with_grant rows row) before.own before.packages
     (counted_put by_grant (λ (r : GrantRow). r.uid) (next_after device rows) row rows.grants below before.grants)
     before.links)
-    (of_parts (next_after device (with_grant rows row)) device rows after.own after.packages
+    (λ after. of_parts (next_after device (with_grant rows row)) device rows after.own after.packages
     (counted_others by_grant (λ (r : GrantRow). r.uid) (next_after device (with_grant rows row)) row rows.grants
     (λ r tie. right_tie row.uid r.uid row.permission r.permission tie) after.grants) after.links)
 
 pub next_with_link : (device : Device) (rows : Rows) (row : LinkRow) → row.uid < next_after device rows
     → next_after device (with_link rows row) ≡ next_after device rows
 next_with_link device rows row below =
-    let before = below_next device rows in
-    let after = below_next device (with_link rows row) in
     same_next device rows (with_link rows row)
-    (of_parts (next_after device rows) device (with_link rows row) before.own before.packages before.grants
+    (λ before. of_parts (next_after device rows) device (with_link rows row) before.own before.packages before.grants
     (counted_put by_link (λ (r : LinkRow). r.uid) (next_after device rows) row rows.links below before.links))
-    (of_parts (next_after device (with_link rows row)) device rows after.own after.packages after.grants
+    (λ after. of_parts (next_after device (with_link rows row)) device rows after.own after.packages after.grants
     (counted_others by_link (λ (r : LinkRow). r.uid) (next_after device (with_link rows row)) row rows.links
     (λ r tie. right_tie row.uid r.uid row.host r.host tie) after.links))
 

@@ -31,7 +31,7 @@ use Rattle.am_history.specs.Desks.{Origin, state_or, opening_of}
 use Rattle.am_history.proofs.OpeningLaws.{IfOpened, IsGoodRow, good_parts, rows_leave}
 use Rattle.am_history.proofs.Uids.{below_max, max_is_above, of_first, of_last}
 use Rattle.am_laws_state.specs.Sound.{IsSoundApp, AreSoundApps, AreSoundReceivers, IsSoundState}
-use Rattle.am_laws.proofs.Openings.{IsSameElse, grant_rows_else, link_rows_else}
+use Rattle.am_laws.proofs.Openings.{IsSameElse, rights_else}
 use Rattle.am_laws.proofs.Tests.{neither}
 use Rattle.am_laws_state.proofs.FreeNames.{name_is_free, key_is_free}
 use Rattle.am_laws_state.proofs.SoundPackages.{apps_inserted, apps_without}
@@ -257,10 +257,13 @@ few_of_each n (p ∷ ps) uid live few = by (eqb p.uid uid) refl live (few_of_eac
     by true is live rest = subst (λ u. n u ≤ 256) (eqb-true p.uid uid is) few.0
     by false is live rest = rest live few.1
 
+-- a package has few of these rights
+abbrev HasFewOf : List (ℕ × List ℕ) → Package → Type 0
+HasFewOf rights p = count_by (λ (right : ℕ × List ℕ). right.0 == p.uid) rights ≤ 256
+
 -- so no uid has more
 few_of_all : (packages : List Package) (rights : List (ℕ × List ℕ)) → All (IsHeld packages) rights
-    → AllByRecursion (λ (p : Package). count_by (λ (right : ℕ × List ℕ). right.0 == p.uid) rights ≤ 256) packages
-    → AreFew rights
+    → AllByRecursion (HasFewOf rights) packages → AreFew rights
 few_of_all packages rights held few uid = by (is_package_uid packages uid) refl
   where
     n : ℕ → ℕ
@@ -274,8 +277,8 @@ few_of_all packages rights held few uid = by (is_package_uid packages uid) refl
 
 -- a package that has not too many grants and links has few of each
 record HasFew (board : Board) (p : Package) : Type 0 where
-  pub grants : count_by (λ (right : ℕ × List ℕ). right.0 == p.uid) (rights_granted board.grants) ≤ 256
-  pub links : count_by (λ (right : ℕ × List ℕ). right.0 == p.uid) (rights_approved board.links) ≤ 256
+  pub grants : HasFewOf (rights_granted board.grants) p
+  pub links : HasFewOf (rights_approved board.links) p
 
 has_few : (board : Board) (p : Package) → has_too_many board p ≡ false → HasFew board p
 has_few board p few =
@@ -290,21 +293,11 @@ has_few board p few =
           ∙ sym (counted of_link p.uid board.links)) links;
     }
 
--- each package has few grants
-each_few_grants : (board : Board) (packages : List Package) → AllByRecursion
-    (λ (p : Package). has_too_many board p ≡ false) packages
-    → AllByRecursion (λ (p : Package). count_by (λ (right : ℕ × List ℕ). right.0 == p.uid) (rights_granted board.grants)
-    ≤ 256) packages
-each_few_grants board [] few = tt
-each_few_grants board (p ∷ ps) few = ((has_few board p few.0).grants, each_few_grants board ps few.1)
-
--- and few links
-each_few_links : (board : Board) (packages : List Package) → AllByRecursion
-    (λ (p : Package). has_too_many board p ≡ false) packages
-    → AllByRecursion (λ (p : Package). count_by (λ (right : ℕ × List ℕ). right.0 == p.uid) (rights_approved board.links)
-    ≤ 256) packages
-each_few_links board [] few = tt
-each_few_links board (p ∷ ps) few = ((has_few board p few.0).links, each_few_links board ps few.1)
+-- what having few means of a package holds of each
+each_few : (board : Board) (P : Package → Type 0) → ((p : Package) → HasFew board p → P p) → (packages : List Package)
+    → AllByRecursion (λ (p : Package). has_too_many board p ≡ false) packages → AllByRecursion P packages
+each_few board P own [] few = tt
+each_few board P own (p ∷ ps) few = (own p (has_few board p few.0), each_few board P own ps few.1)
 
 -- the state with all rights that were kept, if no package has too many
 completed_sound : (device : Device) (rows : Rows) (state : State) → IsOpening
@@ -318,13 +311,13 @@ completed_sound device rows state opens none = record {
     order = held.grants;
     holders = held.granted;
     few = few_of_all board.packages (rights_granted board.grants) held.granted
-        (each_few_grants board board.packages few);
+        (each_few board (HasFewOf (rights_granted board.grants)) (λ p own. own.grants) board.packages few);
   };
   links = record {
     order = held.links;
     holders = held.approved;
     few = few_of_all board.packages (rights_approved board.links) held.approved
-        (each_few_links board board.packages few);
+        (each_few board (HasFewOf (rights_approved board.links)) (λ p own. own.links) board.packages few);
   };
   registered = subst (λ (n : ℕ). AreSoundReceivers board.registered n) (sym opens.next)
       (subst (λ (registered : List Registration). AreSoundReceivers registered 1)
@@ -344,10 +337,7 @@ completed_sound device rows state opens none = record {
     held = link_rows_held granted rows.links (grant_rows_held state.board rows.grants opens.held)
 
     same : IsSameElse state.board board
-    same =
-        let first = grant_rows_else state.board rows.grants in
-        let second = link_rows_else granted rows.links in
-        record { packages = second.packages ∙ first.packages; registered = second.registered ∙ first.registered }
+    same = rights_else state.board rows
 
     few : AllByRecursion (λ (p : Package). has_too_many board p ≡ false) board.packages
     few = none_passes (has_too_many board) board.packages none

@@ -3,6 +3,7 @@
 
 mod activities;
 mod broadcasts;
+mod explaining;
 mod live;
 mod packages;
 mod pendings;

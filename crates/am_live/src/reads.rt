@@ -1,23 +1,19 @@
 //! What is read from the state.
-ghost use Rattle.std.specs.Prelude.{◌≡◌, ◌≤◌, length, option_copied, IfOk, OnOk, OnErr};
+ghost use Rattle.std.specs.Prelude.{◌≡◌, ◌≤◌, length, IfOk, OnOk, OnErr};
 ghost use Rattle.am_types.specs.declared.reply.Reply.TheVariants.{Components, Items, Services, Tasks};
 ghost use Rattle.am_model.specs.Candidates.{hits};
 ghost use Rattle.am_model.specs.Gates.{is_privileged};
 ghost use Rattle.am_model.specs.Sending.{inbox};
 ghost use Rattle.am_model.specs.Tasks.{views};
 ghost use Rattle.am_history.specs.Activities.{components_of};
-ghost use Rattle.am_history.specs.Explaining.{explain, told};
 ghost use Rattle.am_history.specs.Services.{services_of};
 ghost use Rattle.am_history.specs.Steps.{at_moment};
-ghost use Rattle.am_explain.specs.Asking.{question_of};
 
 use crate::Live;
-use am_explain::{Question, accounts};
 use am_gates::is_privileged;
-use am_installed::{caller_named, uid_named};
 use am_live_activities::components_of;
 use am_live_gate::Caller;
-use am_types::{Intent, Kind, NoMemory, Reply, Rule, Steps, Text};
+use am_types::{Intent, Kind, NoMemory, Reply, Steps};
 use std::sync::ledger::Ledger;
 
 impl Live {
@@ -38,54 +34,6 @@ impl Live {
             .query(self.alloc, kind, intent, default_only, steps)?;
         let names = components_of(self.alloc, found)?;
         Ok(Reply::Components(names))
-    }
-
-    /// Who is reached by an intent and why the others aren't. With `name`, the question is asked as the
-    /// package with the name, or as the system (`android`), which only the system and the root may do; with
-    /// `shown`, only what that package has is shown. Refused by `AdminOnly`, then by `NoPackage`. A step is
-    /// a full test of a filter.
-    #[tactic(auto, unfolding(am_history::specs::Explaining::explain))]
-    pub fn explain<L: Ledger>(
-        &self,
-        question: &Question,
-        name: Option<&Text>,
-        shown: Option<&Text>,
-        steps: &mut Steps<L>,
-    ) -> Result<Reply, NoMemory>
-        ensures { IfOk result (λ reply. reply ≡ explain self.now.board (question_of question.now)
-            (option_copied name.entry) (option_copied shown.entry)) }
-    {
-        let Some(name) = name else {
-            return self.told(question, shown, steps);
-        };
-        if !is_privileged(question.caller) {
-            return Ok(Reply::Refused(Rule::AdminOnly));
-        }
-        let Some(uid) = caller_named(self.board.packages(), name) else {
-            return Ok(Reply::Refused(Rule::NoPackage));
-        };
-        self.told(&question.of_caller(uid), shown, steps)
-    }
-
-    /// All accounts, or only those of what the package with the name has. Refused by `NoPackage`.
-    fn told<L: Ledger>(
-        &self,
-        question: &Question,
-        shown: Option<&Text>,
-        steps: &mut Steps<L>,
-    ) -> Result<Reply, NoMemory>
-        ensures { IfOk result
-            (λ reply. reply ≡ told self.now.board (question_of question.now) (option_copied shown.entry)) }
-    {
-        let Some(name) = shown else {
-            let told = accounts(self.alloc, &self.board, question, None, steps)?;
-            return Ok(Reply::Accounts(told));
-        };
-        let Some(uid) = uid_named(self.board.packages(), name) else {
-            return Ok(Reply::Refused(Rule::NoPackage));
-        };
-        let told = accounts(self.alloc, &self.board, question, Some(uid), steps)?;
-        Ok(Reply::Accounts(told))
     }
 
     /// The tasks that the caller sees, from front to back.

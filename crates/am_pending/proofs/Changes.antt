@@ -10,6 +10,7 @@ use Rattle.std.specs.Cmp.{nat_cmp_is, nat_eq_equiv, ranked, unsigned_tied, unsig
 use Rattle.std.proofs.lemmas.List.Elements.{All-head, All-tail}
 use Rattle.std.proofs.lemmas.Bool.{or_parts}
 use Rattle.std.proofs.lemmas.Bool.Decides.{nat_tests}
+use Rattle.std.proofs.lemmas.Map.Steps.{set_value_same}
 use Rattle.std.proofs.lemmas.Option.{same_Some}
 use Rattle.am_types.specs.declared.intent.Named.{Named}
 use Rattle.am_model.specs.Pendings.{Pending, updated, with_holder, without_holder, without_token}
@@ -68,7 +69,7 @@ inserted t v (e ∷ es) h =
     (pending_of e.0 e.1) (pendings_of es) h))
 
 -- the record of a token is removed, and none is left under it
-pub removed : (t : ℕ) (es : List (ℕ × Kept)) → lookup (is_at (nat_cmp t)) (remove_entry (is_at (nat_cmp t)) es) ≡ None
+removed : (t : ℕ) (es : List (ℕ × Kept)) → lookup (is_at (nat_cmp t)) (remove_entry (is_at (nat_cmp t)) es) ≡ None
     → pendings_of (remove_entry (is_at (nat_cmp t)) es) ≡ without_token (pendings_of es) t
 removed t [] h = refl
 removed t (e ∷ es) h =
@@ -87,6 +88,21 @@ removed t (e ∷ es) h =
         (any-none (is_token t) (pendings_of es) (sym (lookup-records t es) ∙ ap (option_map (pending_of t)) k)))
     by false k at rest = ap (λ l. pending_of e.0 e.1 ∷ l) (rest (ap
         (λ b. cond b (Some e.1) (lookup (is_at (nat_cmp t)) left)) (sym at) ∙ k))
+
+-- what a removal by token leaves
+pub taken_away : (t : ℕ) (es left : List (ℕ × Kept)) (records : List Pending)
+    → left ≡ remove_entry (is_at (nat_cmp t)) es → lookup (is_at (nat_cmp t)) left ≡ None → pendings_of es ≡ records
+    → pendings_of left ≡ without_token records t
+taken_away t es left records is none view =
+    ap pendings_of is ∙ removed t es (ap (lookup (is_at (nat_cmp t))) (sym is) ∙ none)
+    ∙ ap (λ (all : List Pending). without_token all t) view
+
+-- a record that was looked up and not changed leaves all as they were
+pub left_alone : (t : ℕ) (es after : List (ℕ × Kept)) (kept : Kept) (records : List Pending)
+    → after ≡ set_value (is_at (nat_cmp t)) es kept → lookup (is_at (nat_cmp t)) es ≡ Some kept
+    → pendings_of es ≡ records → pendings_of after ≡ records
+left_alone t es after kept records is at view =
+    ap pendings_of (is ∙ set_value_same (is_at (nat_cmp t)) es kept at) ∙ view
 
 -- a change of the record of a token, as an entry has it and as the definitions have it
 abbrev pub Changes : ℕ → (Kept → Kept) → (Pending → Pending) → Type 0

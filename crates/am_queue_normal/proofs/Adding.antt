@@ -3,14 +3,26 @@ use Rattle.std.proofs.Common.{◌≡◌, ℕ, ◌+◌, ◌<◌, ◌≤◌, Bool,
 use Rattle.std.proofs.lemmas.Bool.Decides.{nat_tests}
 use Rattle.std.specs.Prelude.{◌==◌}
 use Rattle.std.specs.List.{AllByRecursion}
+use Rattle.am_types.specs.declared.broadcast.Sending.{Sending}
 use Rattle.am_types.specs.declared.broadcast.Spot.{Spot}
 use Rattle.am_model.specs.Filters.{is_empty}
 use Rattle.am_model.specs.Broadcasts.{Normal}
 use Rattle.am_model.specs.Sending.{deliveries_from}
 use Rattle.am_queue_normal.specs.declared.delivery.Sent.{Sent}
+use Rattle.am_queue_normal.specs.declared.normals.Begin.{Begin}
 use Rattle.am_queue_normal.specs.Posted.{AreInOrder, IsBefore, IsWithin, begin_with, broadcast_of, delivery_of, grouped, joined, posted_as, posted_to}
 use Rattle.am_queue_normal.proofs.Ordered.{Entry, all_of_both, all_so}
 use Rattle.am_queue_normal.proofs.Grouping.{joined_first}
+
+-- what is kept of a broadcast that is sent, if its deliveries end before a number
+abbrev pub sent_with : Begin → Sending → ℕ → Sent
+sent_with begin sending end = record {
+  number = begin.number;
+  sender = sending.sender;
+  intent = sending.intent;
+  first = begin.first;
+  end = end;
+}
 
 -- a later end serves too
 pub raised : (end end' : ℕ) (es : List Entry) → end ≤ end' → AreInOrder end es → AreInOrder end' es

@@ -150,43 +150,22 @@ fn has_word_alone(texts: &Texts<'_>) -> bool
         && texts.manifest.as_str().is_empty()
 }
 
-/// The grant row whose permission is the word.
-fn grant_row(numbers: &Numbers, texts: &Texts<'_>) -> Result<GrantRow, AllocError>
-    ensures { IfOk result (λ row. row ≡ record {
-      uid = numbers.now.uid;
-      permission = (texts_of texts.now).word;
-      held = numbers.now.truth;
-    }) }
-{
-    Ok(GrantRow {
-        uid: numbers.uid,
-        permission: copy(texts.word)?,
-        held: numbers.truth,
-    })
-}
-
-/// The link row whose host is the word.
-fn link_row(numbers: &Numbers, texts: &Texts<'_>) -> Result<LinkRow, AllocError>
-    ensures { IfOk result (λ row. row ≡ record {
-      uid = numbers.now.uid;
-      host = (texts_of texts.now).word;
-      approved = numbers.now.truth;
-    }) }
-{
-    Ok(LinkRow {
-        uid: numbers.uid,
-        host: copy(texts.word)?,
-        approved: numbers.truth,
-    })
-}
-
+/// The row of this kind. A right has only its word as a text.
 fn row_from(numbers: &Numbers, texts: &Texts<'_>) -> Result<Row, RowFault>
     ensures { IsReading (row_from numbers.now.kind numbers.now.uid numbers.now.truth (texts_of texts.now)) result }
 {
     match numbers.kind {
         0 => package_row(numbers.uid, numbers.truth, texts),
-        1 if has_word_alone(texts) => Ok(Row::Grant(grant_row(numbers, texts)?)),
-        2 if has_word_alone(texts) => Ok(Row::Link(link_row(numbers, texts)?)),
+        1 if has_word_alone(texts) => Ok(Row::Grant(GrantRow {
+            uid: numbers.uid,
+            permission: copy(texts.word)?,
+            held: numbers.truth,
+        })),
+        2 if has_word_alone(texts) => Ok(Row::Link(LinkRow {
+            uid: numbers.uid,
+            host: copy(texts.word)?,
+            approved: numbers.truth,
+        })),
         _ => Err(RowFault::Shape),
     }
 }

@@ -2,6 +2,7 @@ pub mod Backs
 pub mod Carrying
 pub mod Finding
 pub mod Fullness
+pub mod Held
 pub mod Mapping
 pub mod MarkLemmas
 pub mod NumberLemmas

@@ -31,65 +31,54 @@ bit_low w a = grind arith
 from_half : (x h l : ℕ) → x / 2 ≡ h → x % 2 ≡ l → x ≡ h * 2 + l
 from_half x h l half low = omega arith
 
-word_both : (p q : Element → Bool) (elements : List Element) → bit_and (word_where p elements) (word_where q elements)
-    ≡ word_where (λ e. p e && q e) elements
-word_both p q [] = refl
-word_both p q (e ∷ others) = from_half _ _ _
-    (half_and (word_where p (e ∷ others)) (word_where q (e ∷ others))
-    ∙ rw (half_where (word_where p others) (p e), half_where (word_where q others) (q e)) (word_both p q others))
-    (low_and (word_where p (e ∷ others)) (word_where q (e ∷ others))
-    ∙ rw (bit_low (word_where p others) (p e), bit_low (word_where q others) (q e)) (bit_both (p e) (q e)))
-
-word_either : (p q : Element → Bool) (elements : List Element) → bit_or (word_where p elements) (word_where q elements)
-    ≡ word_where (λ e. p e || q e) elements
-word_either p q [] = refl
-word_either p q (e ∷ others) = from_half _ _ _
-    (half_or (word_where p (e ∷ others)) (word_where q (e ∷ others))
-    ∙ rw (half_where (word_where p others) (p e), half_where (word_where q others) (q e)) (word_either p q others))
-    (low_or (word_where p (e ∷ others)) (word_where q (e ∷ others))
-    ∙ rw (bit_low (word_where p others) (p e), bit_low (word_where q others) (q e)) (bit_either (p e) (q e)))
-
 low_without : (x y : ℕ) → bit_xor x (bit_and x y) % 2 ≡ (x % 2 + min (x % 2) (y % 2)) % 2
 low_without x y = simp (low_xor, low_and)
 
 half_without : (x y : ℕ) → bit_xor x (bit_and x y) / 2 ≡ bit_xor (x / 2) (bit_and (x / 2) (y / 2))
 half_without x y = simp (half_xor, half_and)
 
-word_without : (p q : Element → Bool) (elements : List Element) → bit_xor (word_where p elements)
-    (bit_and (word_where p elements) (word_where q elements)) ≡ word_where (λ e. p e && not (q e)) elements
-word_without p q [] = refl
-word_without p q (e ∷ others) = from_half _ _ _
-    (half_without (word_where p (e ∷ others)) (word_where q (e ∷ others))
-    ∙ rw (half_where (word_where p others) (p e), half_where (word_where q others) (q e)) (word_without p q others))
-    (low_without (word_where p (e ∷ others)) (word_where q (e ∷ others))
-    ∙ rw (bit_low (word_where p others) (p e), bit_low (word_where q others) (q e)) (bit_without (p e) (q e)))
+-- an operation on numbers that joins their bits joins the tests of two words, and of two rows of words
+module _ (op low : ℕ → ℕ → ℕ) (joined : Bool → Bool → Bool) (none : op 0 0 ≡ 0)
+    (halves : (x y : ℕ) → op x y / 2 ≡ op (x / 2) (y / 2)) (lows : (x y : ℕ) → op x y % 2 ≡ low (x % 2) (y % 2))
+    (bits : (a b : Bool) → low (cond a 1 0) (cond b 1 0) ≡ cond (joined a b) 1 0)
+  where
+    word_joined : (p q : Element → Bool) (elements : List Element)
+        → op (word_where p elements) (word_where q elements) ≡ word_where (λ e. joined (p e) (q e)) elements
+    word_joined p q [] = none
+    word_joined p q (e ∷ others) = from_half _ _ _
+        (halves (word_where p (e ∷ others)) (word_where q (e ∷ others))
+        ∙ rw (half_where (word_where p others) (p e), half_where (word_where q others) (q e)) (word_joined p q others))
+        (lows (word_where p (e ∷ others)) (word_where q (e ∷ others))
+        ∙ rw (bit_low (word_where p others) (p e), bit_low (word_where q others) (q e)) (bits (p e) (q e)))
+
+    words_joined : (rows : List ℕ → List ℕ → List ℕ) → rows [] [] ≡ []
+        → ((r word : ℕ) (row words : List ℕ) → rows (r ∷ row) (word ∷ words) ≡ op word r ∷ rows row words)
+        → (p q : Element → Bool) (n count : ℕ) (elements : List Element)
+        → rows (words_where n q count elements) (words_where n p count elements)
+        ≡ words_where n (λ e. joined (p e) (q e)) count elements
+    words_joined rows empty more p q n zero elements = empty
+    words_joined rows empty more p q n (suc count) elements =
+        more (word_where q (take n elements)) (word_where p (take n elements)) (words_where n q count (drop n elements))
+        (words_where n p count (drop n elements))
+        ∙ rw (word_joined p q (take n elements), words_joined rows empty more p q n count (drop n elements)) refl
 
 words_both : (p q : Element → Bool) (n count : ℕ) (elements : List Element)
     → both (words_where n q count elements) (words_where n p count elements)
     ≡ words_where n (λ e. p e && q e) count elements
-words_both p q n zero elements = refl
-words_both p q n (suc count) elements = rw (word_both p q (take n elements), words_both p q n count (drop n elements))
-    refl
+words_both = words_joined bit_and min (λ a b. a && b) refl half_and low_and bit_both both refl
+    (λ r word row words. refl)
 
 words_either : (p q : Element → Bool) (n count : ℕ) (elements : List Element)
     → either (words_where n q count elements) (words_where n p count elements)
     ≡ words_where n (λ e. p e || q e) count elements
-words_either p q n zero elements = refl
-words_either p q n (suc count) elements = rw (
-  word_either p q (take n elements),
-  words_either p q n count
-      (drop n elements),
-) refl
+words_either = words_joined bit_or max (λ a b. a || b) refl half_or low_or bit_either either refl
+    (λ r word row words. refl)
 
 words_without : (p q : Element → Bool) (n count : ℕ) (elements : List Element)
     → without (words_where n q count elements) (words_where n p count elements)
     ≡ words_where n (λ e. p e && not (q e)) count elements
-words_without p q n zero elements = refl
-words_without p q n (suc count) elements = rw (
-  word_without p q (take n elements),
-  words_without p q n count
-      (drop n elements),
-) refl
+words_without = words_joined (λ x y. bit_xor x (bit_and x y)) (λ x y. (x + min x y) % 2) (λ a b. a && not b) refl
+    half_without low_without bit_without without refl (λ r word row words. refl)
 
 -- tests that agree mark the same elements
 word_same : (p q : Element → Bool) (elements : List Element) → ((e : Element) → p e ≡ q e) → word_where p elements

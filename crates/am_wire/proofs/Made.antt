@@ -24,7 +24,7 @@ use Rattle.am_wire_fields.specs.Texts.{required_text, optional_text}
 use Rattle.am_wire_intents.specs.Components.{component_in}
 use Rattle.am_wire_intents.specs.Intents.{required_intent, optional_intent}
 use Rattle.am_wire.specs.Accounts.{asks_receivers, explain_fields, permission_for, asked_with, explain_in}
-use Rattle.am_wire.specs.Activities.{fields_of, number_in, greatest_advance, advance_in, query_in, start_in, start_service_in, stop_service_in, plain_in}
+use Rattle.am_wire.specs.Activities.{fields_of, two_in, number_in, greatest_advance, advance_in, query_in, start_in, start_service_in, stop_service_in, plain_in}
 use Rattle.am_wire.specs.Broadcasts.{is_ordered, send_fields, ordered_if, sets_outcome, finish_fields, outcome_if, send_in, sent_with, required_filter, register_in, finish_in}
 use Rattle.am_wire.specs.Pendings.{pending_get_in, pending_send_in, pending_give_in}
 use Rattle.am_wire.specs.Packages.{package_in, key_of, key_in, install_in, grant_fields, grant_in, link_in}
@@ -47,6 +47,16 @@ bound : {A : Type 0} (endpoint : Endpoint) (read : Result A WireFault) (next : A
     → IfOk (read >>= next) (IsMade endpoint)
 bound endpoint (Ok x) next h = h x
 bound endpoint (Err fault) next h = tt
+
+-- a request that is made of two fields, if what their values make is made so
+two_is_made : {A B : Type 0} (endpoint : Endpoint) (first : List ℕ) (read_first : List ℕ → Data → Result A WireFault)
+    (second : List ℕ) (read_second : List ℕ → Data → Result B WireFault) (make : A → B → Request) (value : Data)
+    → ((x : A) (y : B) → IsMade endpoint (make x y))
+    → IfOk (two_in first read_first second read_second make value) (IsMade endpoint)
+two_is_made endpoint first read_first second read_second make value made =
+    bound endpoint (fields_of (first ∷ second ∷ []) value) _
+    (λ known. bound endpoint (read_first first value) _
+    (λ x. bound endpoint (read_second second value) _ (λ y. made x y)))
 
 -- what is in lower case stays as it is
 pub lowered_again : (text : List ℕ) → lowered (lowered text) ≡ lowered text
@@ -102,13 +112,11 @@ value_is_made at.Explain value =
     (λ x3. bound at.Explain (permission_for x1 value) _ (λ x4. bound at.Explain
     (optional_text Any 1024 (codes "of") value) _ (λ x5. (refl, tt)))))))
 value_is_made at.Start value =
-    bound at.Start (fields_of (codes "intent" ∷ codes "source" ∷ []) value) _
-    (λ x0. bound at.Start (required_intent (codes "intent") value) _
-    (λ x1. bound at.Start (optional_natural (codes "source") value) _ (λ x2. (refl, tt))))
+    two_is_made at.Start (codes "intent") required_intent (codes "source") optional_natural asks.Start value
+    (λ x y. (refl, tt))
 value_is_made at.FinishActivity value =
     bound at.FinishActivity (number_in (codes "instance") value) _ (λ x0. (refl, tt))
-value_is_made at.Back value =
-    bound at.Back (fields_of [] value) _ (λ x0. (refl, tt))
+value_is_made at.Back value = bound at.Back (fields_of [] value) _ (λ x0. (refl, tt))
 value_is_made at.ListTasks value = (refl, tt)
 value_is_made at.StartService value =
     bound at.StartService (fields_of (codes "intent" ∷ []) value) _
@@ -124,11 +132,9 @@ value_is_made at.Send value =
     (λ x2. bound at.Send (optional_truth (codes "ordered") value) _
     (λ x3. bound at.Send (ordered_if x3 value) _ (λ x4. (refl, tt))))))
 value_is_made at.Register value =
-    bound at.Register (fields_of (codes "filter" ∷ codes "permission" ∷ []) value) _
-    (λ x0. bound at.Register (required_filter (codes "filter") value) _
-    (λ x1. bound at.Register (optional_text Any 1024 (codes "permission") value) _ (λ x2. (refl, tt))))
-value_is_made at.Unregister value =
-    bound at.Unregister (number_in (codes "number") value) _ (λ x0. (refl, tt))
+    two_is_made at.Register (codes "filter") required_filter (codes "permission") (optional_text Any 1024)
+    asks.Register value (λ x y. (refl, tt))
+value_is_made at.Unregister value = bound at.Unregister (number_in (codes "number") value) _ (λ x0. (refl, tt))
 value_is_made at.Inbox value = (refl, tt)
 value_is_made at.Finish value =
     bound at.Finish (fields_of (finish_fields (sets_outcome value)) value) _
@@ -141,21 +147,17 @@ value_is_made at.PendingGet value =
     (required_whole (codes "code") value) _ (λ x2. bound at.PendingGet (required_intent (codes "intent") value) _
     (λ x3. bound at.PendingGet (pending_flags_of value) _ (λ x4. (refl, tt))))))
 value_is_made at.PendingSend value =
-    bound at.PendingSend (fields_of (codes "token" ∷ codes "fill" ∷ []) value) _
-    (λ x0. bound at.PendingSend (required_natural (codes "token") value) _
-    (λ x1. bound at.PendingSend (optional_intent (codes "fill") value) _ (λ x2. (refl, tt))))
-value_is_made at.PendingCancel value =
-    bound at.PendingCancel (number_in (codes "token") value) _ (λ x0. (refl, tt))
+    two_is_made at.PendingSend (codes "token") required_natural (codes "fill") optional_intent asks.PendingSend value
+    (λ x y. (refl, tt))
+value_is_made at.PendingCancel value = bound at.PendingCancel (number_in (codes "token") value) _ (λ x0. (refl, tt))
 value_is_made at.PendingGive value =
-    bound at.PendingGive (fields_of (codes "token" ∷ codes "package" ∷ []) value) _
-    (λ x0. bound at.PendingGive (required_natural (codes "token") value) _
-    (λ x1. bound at.PendingGive (required_text Any 1024 (codes "package") value) _ (λ x2. (refl, tt))))
+    two_is_made at.PendingGive (codes "token") required_natural (codes "package") (required_text Any 1024)
+    asks.PendingGive value (λ x y. (refl, tt))
 value_is_made at.Install value =
     bound at.Install (fields_of (codes "manifest" ∷ codes "key" ∷ []) value) _
     (λ x0. bound at.Install (required_text Any 65536 (codes "manifest") value) _
     (λ x1. install_is_made x1 (required (codes "key") value)))
-value_is_made at.Uninstall value =
-    bound at.Uninstall (package_in value) _ (λ x0. (refl, tt))
+value_is_made at.Uninstall value = bound at.Uninstall (package_in value) _ (λ x0. (refl, tt))
 value_is_made at.Grant value =
     bound at.Grant (fields_of grant_fields value) _ (λ x0. bound at.Grant
     (required_text Any 1024 (codes "package") value) _ (λ x1. bound at.Grant
@@ -166,15 +168,12 @@ value_is_made at.Link value =
     (λ x0. bound at.Link (required_text Any 1024 (codes "package") value) _
     (λ x1. bound at.Link (required_text Any 1024 (codes "host") value) _
     (λ x2. bound at.Link (required_truth (codes "approved") value) _ (λ x3. (refl, lowered_again x2)))))
-value_is_made at.ForceStop value =
-    bound at.ForceStop (package_in value) _ (λ x0. (refl, tt))
-value_is_made at.Tick value =
-    bound at.Tick (fields_of [] value) _ (λ x0. (refl, tt))
+value_is_made at.ForceStop value = bound at.ForceStop (package_in value) _ (λ x0. (refl, tt))
+value_is_made at.Tick value = bound at.Tick (fields_of [] value) _ (λ x0. (refl, tt))
 value_is_made at.Advance value =
     bound at.Advance (fields_of (codes "by" ∷ []) value) _ (λ x0. bound at.Advance
     (required_up_to greatest_advance (codes "by") value) _ (λ x1. (refl, tt)))
-value_is_made at.History value =
-    bound at.History (number_in (codes "from") value) _ (λ x0. (refl, tt))
+value_is_made at.History value = bound at.History (number_in (codes "from") value) _ (λ x0. (refl, tt))
 value_is_made at.Status value = (refl, tt)
 
 -- the request that a body makes whose value is read

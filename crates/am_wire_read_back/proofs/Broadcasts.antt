@@ -96,40 +96,44 @@ truth_is : (es : List Entry) (b : Bool) → are_apart es ≡ true → value_at (
     → optional_truth (codes "ordered") (object (members_with es)) ≡ Ok b
 truth_is es b apart is = truth_field (codes "ordered") b es apart is
 
+-- a broadcast is read of fields that have its intent, its permission, whether it is ordered, and how it starts
+sent_again : (value : Data) (intent : Intent) (permission : Option (List ℕ)) (b : Bool) (ordered : Option Ordered)
+    (es : List Entry) → IsKept value → required_intent (codes "intent") value ≡ Ok intent
+    → optional_text Any 1024 (codes "permission") value ≡ Ok permission → are_apart es ≡ true
+    → value_at (codes "intent") es ≡ Some (intent_data intent)
+    → value_at (codes "permission") es ≡ option_map string permission → value_at (codes "ordered") es ≡ some_truth b
+    → fields_of (send_fields (is_ordered (object (members_with es)))) (object (members_with es)) ≡ Ok tt
+    → ordered_if b (object (members_with es)) ≡ Ok ordered
+    → send_in (object (members_with es)) ≡ Ok (asks.Send intent permission ordered)
+unfolding send_in sent_with
+sent_again value intent permission b ordered es k one two apart intent_at permission_at ordered_at known starts =
+    let got = asks.Send intent permission ordered in
+    steps (fields_of (send_fields (is_ordered (object (members_with es)))) (object (members_with es))) _ tt got known
+    (steps (required_intent (codes "intent") (object (members_with es))) _ intent got
+    (required_intent_again (codes "intent") value intent es k one apart intent_at)
+    (steps (optional_text Any 1024 (codes "permission") (object (members_with es))) _ permission got
+    (text_field Any 1024 (codes "permission") value permission es k two apart permission_at)
+    (steps (optional_truth (codes "ordered") (object (members_with es))) _ b got (truth_is es b apart ordered_at)
+    (steps (ordered_if b (object (members_with es))) _ ordered got starts refl))))
+
 send_of_again : (value : Data) (intent : Intent) (permission : Option (List ℕ)) (b : Bool) (ordered : Option Ordered)
     → IsKept value
     → required_intent (codes "intent") value ≡ Ok intent → optional_text Any 1024 (codes "permission") value
     ≡ Ok permission → ordered_if b value ≡ Ok ordered
     → send_in (send_data intent permission ordered) ≡ Ok (asks.Send intent permission ordered)
-unfolding send_in sent_with send_data with_ordered with_outcome send_fields ordered_if
+unfolding send_data with_ordered with_outcome send_fields ordered_if
 send_of_again value intent permission b None k one two three =
     let es = plain_entries intent permission in
-    let got = asks.Send intent permission None in
-    let known : fields_of (send_fields (is_ordered (object (members_with es)))) (object (members_with es)) ≡ Ok tt =
-    ap (λ b. fields_of (send_fields b) (object (members_with es))) (is_plain es refl refl)
-    ∙ fields_known (send_fields false) es refl in
-    steps (fields_of (send_fields (is_ordered (object (members_with es)))) (object (members_with es))) _ tt got known
-    (steps (required_intent (codes "intent") (object (members_with es))) _ intent got
-    (required_intent_again (codes "intent") value intent es k one refl refl)
-    (steps (optional_text Any 1024 (codes "permission") (object (members_with es))) _ permission got
-    (text_field Any 1024 (codes "permission") value permission es k two refl refl)
-    (steps (optional_truth (codes "ordered") (object (members_with es))) _ false got (truth_is es false refl refl)
-    refl)))
+    sent_again value intent permission false None es k one two refl refl refl refl
+    (ap (λ b. fields_of (send_fields b) (object (members_with es))) (is_plain es refl refl)
+    ∙ fields_known (send_fields false) es refl) refl
 send_of_again value intent permission b (Some o) k one two three =
     let es = ordered_entries intent permission o in
-    let got = asks.Send intent permission (Some o) in
-    let known : fields_of (send_fields (is_ordered (object (members_with es)))) (object (members_with es)) ≡ Ok tt =
-    ap (λ b. fields_of (send_fields b) (object (members_with es))) (is_so es refl refl)
-    ∙ fields_known (send_fields true) es refl in
-    steps (fields_of (send_fields (is_ordered (object (members_with es)))) (object (members_with es))) _ tt got known
-    (steps (required_intent (codes "intent") (object (members_with es))) _ intent got
-    (required_intent_again (codes "intent") value intent es k one refl refl)
-    (steps (optional_text Any 1024 (codes "permission") (object (members_with es))) _ permission got
-    (text_field Any 1024 (codes "permission") value permission es k two refl refl)
-    (steps (optional_truth (codes "ordered") (object (members_with es))) _ true got (truth_is es true refl refl)
-    (steps (ordered_if true (object (members_with es))) _ (Some o) got
+    sent_again value intent permission true (Some o) es k one two refl refl refl refl
+    (ap (λ b. fields_of (send_fields b) (object (members_with es))) (is_so es refl refl)
+    ∙ fields_known (send_fields true) es refl)
     (steps (ordered_in (object (members_with es))) (λ ordered. Ok (Some ordered)) o (Some o)
-    (ordered_again value o es k (ordered_is b value o three) refl refl refl refl refl) refl) refl))))
+    (ordered_again value o es k (ordered_is b value o three) refl refl refl refl refl) refl)
 
 pub send_again : (value : Data) (r : Request) → IsKept value → send_in value ≡ Ok r → send_in (request_data r) ≡ Ok r
 unfolding send_in sent_with request_data

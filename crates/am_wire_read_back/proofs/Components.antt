@@ -18,6 +18,7 @@ use Rattle.am_model.specs.Sound.{has_slash, is_name, is_package_name, starts_wit
 use Rattle.am_model.specs.Uris.{has_scheme, is_port_good, is_escaped, path_text, rest_in, parts_of as uri_parts, uri_of}
 use Rattle.am_uri.specs.declared.text.Form.{Form}
 use Rattle.am_uri.specs.declared.text.Form.TheVariants.{Any}
+use Rattle.am_wire_fields.specs.declared.fault.WireFault.{WireFault}
 use Rattle.am_wire_fields.specs.declared.fault.WireFault.TheVariants.{WrongKind, TooLong}
 use Rattle.am_types.specs.Reading.{◌>>=◌}
 use Rattle.am_wire_fields.specs.Fields.{required_by}
@@ -30,6 +31,17 @@ use Rattle.am_wire_read_back.proofs.Objects.{Entry, members_with, value_at, are_
 use Rattle.am_wire_read_back.proofs.Options.{IsReread, option_field}
 use Rattle.am_wire_read_back.proofs.Steps.{step, steps, same_ok}
 use Rattle.am_wire_read_back.proofs.Texts.{if_read, else_read, read_if, read_else, text_again, field_again}
+
+-- what is made of a text, and written as that text, is made of it again
+of_text_again : {X : Type 0} (form : Form) (name : List ℕ) (make : List ℕ → Result X WireFault) (write : X → Data)
+    (text_of : X → List ℕ) → ((x : X) → write x ≡ string (text_of x))
+    → ((text : List ℕ) (x : X) → make text ≡ Ok x → text_of x ≡ text)
+    → IsReread (λ value. text_in form 1024 name value >>= make) write
+of_text_again form name make write text_of written is value x k h =
+    let s = step (text_in form 1024 name value) make x h in
+    ap (λ d. text_in form 1024 name d >>= make) (written x ∙ ap string (is s.value x s.later))
+    ∙ steps (text_in form 1024 name (string s.value)) make s.value x (text_again form 1024 name value s.value k s.first)
+    s.later
 
 -- ---- MIME types
 
@@ -89,12 +101,8 @@ mime_is (Err f) mime h = absurd (cc)
 
 pub mime_again : (form : Form) (name : List ℕ) → IsReread (mime_in form name) mime_data
 unfolding mime_in
-mime_again form name value mime k h =
-    let s = step (text_in form 1024 name value) (λ text. mime_or_fault (mime_of text)) mime h in
-    let same = mime_text s.value mime (mime_is (mime_of s.value) mime s.later) in
-    ap (λ t. text_in form 1024 name (string t) >>= λ text. mime_or_fault (mime_of text)) same
-    ∙ steps (text_in form 1024 name (string s.value)) (λ text. mime_or_fault (mime_of text)) s.value mime
-    (text_again form 1024 name value s.value k s.first) s.later
+mime_again form name = of_text_again form name (λ text. mime_or_fault (mime_of text)) mime_data
+    (λ m. (m.main ++ codes "/") ++ m.sub) (λ m. refl) (λ text mime h. mime_text text mime (mime_is (mime_of text) mime h))
 
 pub mime_field : (name : List ℕ) (value : Data) (o : Option Mime) (es : List Entry) → IsKept value
     → optional_mime Any name value ≡ Ok o
@@ -129,12 +137,8 @@ uri_is (Err f) uri h = absurd (cc)
 
 pub uri_again : (name : List ℕ) → IsReread (uri_in name) uri_data
 unfolding uri_in
-uri_again name value uri k h =
-    let s = step (text_in Any 1024 name value) (λ text. uri_or_fault (uri_of text)) uri h in
-    let same = uri_text s.value uri (uri_is (uri_of s.value) uri s.later) in
-    ap (λ t. text_in Any 1024 name (string t) >>= λ text. uri_or_fault (uri_of text)) same
-    ∙ steps (text_in Any 1024 name (string s.value)) (λ text. uri_or_fault (uri_of text)) s.value uri
-    (text_again Any 1024 name value s.value k s.first) s.later
+uri_again name = of_text_again Any name (λ text. uri_or_fault (uri_of text)) uri_data (λ u. u.text) (λ u. refl)
+    (λ text uri h. uri_text text uri (uri_is (uri_of text) uri h))
 
 pub uri_field : (name : List ℕ) (value : Data) (o : Option Uri) (es : List Entry) → IsKept value
     → optional_uri name value ≡ Ok o

@@ -70,13 +70,7 @@ one_path rules (Suffix text) = simp append-nil
 one_path rules (Pattern text) = simp append-nil
 
 one_scheme : (rows : DataRows) (text : List ℕ) → with_row rows (row_with_scheme text)
-    ≡ record {
-      schemes = with_text rows.schemes text;
-      authorities = rows.authorities;
-      paths = rows.paths;
-      types =
-          rows.types;
-    }
+    ≡ record rows { schemes = with_text rows.schemes text }
 one_scheme rows text = λ i. record {
   schemes = with_text rows.schemes text;
   authorities = append-nil rows.authorities i;
@@ -85,151 +79,62 @@ one_scheme rows text = λ i. record {
 }
 
 one_authority : (rows : DataRows) (a : Authority) → with_row rows (row_with_authority a)
-    ≡ record {
-      schemes = rows.schemes;
-      authorities = rows.authorities ++ a
-          ∷ [];
-      paths = rows.paths;
-      types = rows.types;
-    }
-one_authority rows a = λ i. record {
-  schemes = rows.schemes;
-  authorities = rows.authorities ++ a
-      ∷ [];
+    ≡ record rows { authorities = rows.authorities ++ a ∷ [] }
+one_authority rows a = λ i. record rows {
+  authorities = rows.authorities ++ a ∷ [];
   paths = four_nils rows.paths i;
   types = append-nil rows.types i;
 }
 
 one_rule : (rows : DataRows) (rule : PathRule) → with_row rows (row_with_path rule)
-    ≡ record {
-      schemes = rows.schemes;
-      authorities = rows.authorities;
-      paths = rows.paths ++ rule
-          ∷ [];
-      types = rows.types;
-    }
-one_rule rows rule = λ i. record {
-  schemes = rows.schemes;
+    ≡ record rows { paths = rows.paths ++ rule ∷ [] }
+one_rule rows rule = λ i. record rows {
   authorities = append-nil rows.authorities i;
-  paths = one_path
-      rows.paths rule i;
+  paths = one_path rows.paths rule i;
   types = append-nil rows.types i;
 }
 
 one_type : (rows : DataRows) (mime : Mime) → with_row rows (row_with_type mime)
-    ≡ record {
-      schemes = rows.schemes;
-      authorities = rows.authorities;
-      paths = rows.paths;
-      types = rows.types ++ mime
-          ∷ [];
-    }
-one_type rows mime = λ i. record {
-  schemes = rows.schemes;
+    ≡ record rows { types = rows.types ++ mime ∷ [] }
+one_type rows mime = λ i. record rows {
   authorities = append-nil rows.authorities i;
-  paths =
-      four_nils rows.paths i;
+  paths = four_nils rows.paths i;
   types = rows.types ++ mime ∷ [];
 }
+
+merge_schemes : (texts : List (List ℕ)) (rows : DataRows) → fold with_row rows (map row_with_scheme texts)
+    ≡ record rows { schemes = fold with_text rows.schemes texts }
+merge_schemes [] rows = refl
+merge_schemes (text ∷ texts) rows =
+    ap (λ (r : DataRows). fold with_row r (map row_with_scheme texts)) (one_scheme rows text)
+    ∙ merge_schemes texts (record rows { schemes = with_text rows.schemes text })
 
 grouped : {A : Type 0} (xs : List A) (y : A) (ys : List A) → (xs ++ y ∷ []) ++ ys ≡ xs ++ y ∷ ys
 grouped xs y ys = simp append_assoc
 
-merge_schemes : (texts : List (List ℕ)) (rows : DataRows) → fold with_row rows (map row_with_scheme texts)
-    ≡ record {
-      schemes = fold with_text rows.schemes texts;
-      authorities = rows.authorities;
-      paths = rows.paths;
-      types =
-          rows.types;
-    }
-merge_schemes [] rows = refl
-merge_schemes (text ∷ texts) rows =
-    ap (λ (r : DataRows). fold with_row r (map row_with_scheme texts)) (one_scheme rows text)
-    ∙ merge_schemes texts (record {
-      schemes = with_text rows.schemes text;
-      authorities = rows.authorities;
-      paths =
-          rows.paths;
-      types = rows.types;
-    })
+-- rows that each add one to a list add all to it
+merge_by : {A : Type 0} (row_with : A → DataRow) (with_these : List A → DataRows)
+    → ((xs : List A) (x : A) → with_row (with_these xs) (row_with x) ≡ with_these (xs ++ x ∷ [])) → (xs ys : List A)
+    → fold with_row (with_these xs) (map row_with ys) ≡ with_these (xs ++ ys)
+merge_by row_with with_these one xs [] = ap with_these (sym (append-nil xs))
+merge_by row_with with_these one xs (y ∷ ys) =
+    ap (λ (r : DataRows). fold with_row r (map row_with ys)) (one xs y)
+    ∙ (merge_by row_with with_these one (xs ++ y ∷ []) ys ∙ ap with_these (grouped xs y ys))
 
 merge_authorities : (all : List Authority) (rows : DataRows) → fold with_row rows (map row_with_authority all)
-    ≡ record { schemes = rows.schemes; authorities = rows.authorities ++ all; paths = rows.paths; types = rows.types }
-merge_authorities [] rows = ap (λ (all : List Authority). record {
-  schemes = rows.schemes;
-  authorities = all;
-  paths =
-      rows.paths;
-  types = rows.types;
-}) (sym (append-nil rows.authorities))
-merge_authorities (a ∷ all) rows =
-    ap (λ (r : DataRows). fold with_row r (map row_with_authority all)) (one_authority rows a)
-    ∙ (merge_authorities all (record {
-      schemes = rows.schemes;
-      authorities = rows.authorities ++ a
-          ∷ [];
-      paths = rows.paths;
-      types = rows.types;
-    })
-    ∙ λ i. record {
-      schemes = rows.schemes;
-      authorities = grouped rows.authorities a all i;
-      paths = rows.paths;
-      types =
-          rows.types;
-    })
+    ≡ record rows { authorities = rows.authorities ++ all }
+merge_authorities all rows = merge_by row_with_authority (λ xs. record rows { authorities = xs })
+    (λ xs a. one_authority (record rows { authorities = xs }) a) rows.authorities all
 
 merge_paths : (rules : List PathRule) (rows : DataRows) → fold with_row rows (map row_with_path rules)
-    ≡ record { schemes = rows.schemes; authorities = rows.authorities; paths = rows.paths ++ rules; types = rows.types }
-merge_paths [] rows = ap (λ (ps : List PathRule). record {
-  schemes = rows.schemes;
-  authorities = rows.authorities;
-  paths
-      = ps;
-  types = rows.types;
-}) (sym (append-nil rows.paths))
-merge_paths (rule ∷ rules) rows =
-    ap (λ (r : DataRows). fold with_row r (map row_with_path rules)) (one_rule rows rule)
-    ∙ (merge_paths rules (record {
-      schemes = rows.schemes;
-      authorities = rows.authorities;
-      paths = rows.paths ++ rule
-          ∷ [];
-      types = rows.types;
-    })
-    ∙ λ i. record {
-      schemes = rows.schemes;
-      authorities = rows.authorities;
-      paths = grouped rows.paths rule rules i;
-      types = rows.types;
-    })
+    ≡ record rows { paths = rows.paths ++ rules }
+merge_paths rules rows = merge_by row_with_path (λ xs. record rows { paths = xs })
+    (λ xs rule. one_rule (record rows { paths = xs }) rule) rows.paths rules
 
 merge_types : (mimes : List Mime) (rows : DataRows) → fold with_row rows (map row_with_type mimes)
-    ≡ record { schemes = rows.schemes; authorities = rows.authorities; paths = rows.paths; types = rows.types ++ mimes }
-merge_types [] rows = ap (λ (ms : List Mime). record {
-  schemes = rows.schemes;
-  authorities = rows.authorities;
-  paths =
-      rows.paths;
-  types = ms;
-}) (sym (append-nil rows.types))
-merge_types (mime ∷ mimes) rows =
-    ap (λ (r : DataRows). fold with_row r (map row_with_type mimes)) (one_type rows mime)
-    ∙ (merge_types mimes (record {
-      schemes = rows.schemes;
-      authorities = rows.authorities;
-      paths = rows.paths;
-      types =
-          rows.types ++ mime ∷ [];
-    })
-    ∙ λ i. record {
-      schemes = rows.schemes;
-      authorities = rows.authorities;
-      paths = rows.paths;
-      types = grouped
-          rows.types mime mimes i;
-    })
+    ≡ record rows { types = rows.types ++ mimes }
+merge_types mimes rows = merge_by row_with_type (λ xs. record rows { types = xs })
+    (λ xs mime. one_type (record rows { types = xs }) mime) rows.types mimes
 
 -- what a filter lists, as merged rows
 abbrev pub listed_by : Filter → DataRows

@@ -1,11 +1,14 @@
 -- What a worker does: it serves the links of its gate, one after the other, on its desk, and parks those that are idle.
-use Rattle.std.specs.Prelude.{◌≡◌, ℕ, ◌+◌, ◌-◌, ◌≤◌, ◌<◌, ◌⊎◌, Bool, true, false, if◌then◌else◌, List, [], ◌∷◌, ◌++◌, length, drop, min, Option, Some, None, IfSome, ⊤, Err, Ok, Result}
+use Rattle.std.specs.Prelude.{◌≡◌, ℕ, ◌+◌, ◌-◌, ◌≤◌, ◌<◌, ◌⊎◌, Bool, true, false, if◌then◌else◌, List, [], ◌∷◌, length, drop, min, Option, Some, None, IfSome, ⊤, Err, Ok, Result}
 use Rattle.std.specs.List.{flat_map, AllByRecursion}
 use Rattle.am_types.specs.declared.history.Entry.{Entry}
 use Rattle.am_outside.specs.Counts.{HasRisen}
 use Rattle.am_outside.specs.Memory.{one_more}
+use Rattle.am_outside.specs.declared.clock.Clock.{Ghosts as ClockGhosts}
 use Rattle.am_outside.specs.declared.failure.Failed.{Failed}
+use Rattle.am_network.specs.declared.network.Acceptor.{Ghosts as AcceptorGhosts}
 use Rattle.am_network.specs.Links.{GateView, HandsOn, IsClosed, LinkView, Links, Parks, Stand, failed, set_aside, taken_back}
+use Rattle.am_desk.specs.declared.Desk.{Ghosts as DeskGhosts}
 use Rattle.am_history.specs.State.{State}
 use Rattle.am_history.specs.Desks.{DeskView, start_of}
 use Rattle.am_history.specs.History.{Extends, entries_of}
@@ -93,11 +96,19 @@ AreOfGate old new (service ∷ others) =
 abbrev pub moments_of_all : List Service → List ℕ
 moments_of_all services = moments_of (exchanges_of services)
 
+-- the view of a gate
+abbrev pub gate_of : {A R W : Type 0} → AcceptorGhosts A R W → A → GateView
+gate_of g gate = record { links = g.links gate; faults = g.faults gate }
+
 -- a worker: its desk, its gate, and the moments that its clock will answer, if it tells them
 pub record WorkerView : Type 0 where
   pub desk : DeskView
   pub gate : GateView
   pub clock : Moments
+
+abbrev pub worker_of : {D A R W C : Type 0} → DeskGhosts D → AcceptorGhosts A R W → ClockGhosts C → D → A → C
+    → WorkerView
+worker_of d a c desk gate clock = record { desk = d.view desk; gate = gate_of a gate; clock = c.moments clock }
 
 -- a worker served these links: the moments of their calls are those that its clock answered, one after the other
 pub record HasServed (old new : WorkerView) (services : List Service) : Type 0 where

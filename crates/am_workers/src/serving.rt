@@ -1,6 +1,7 @@
 //! A manager that many workers serve.
 ghost use Rattle.std.specs.Prelude.{◌≡◌, ◌≤◌, ℕ, Some, IfOk, IfSome, OnErr, slice_get, vec_len};
 ghost use Rattle.am_network.specs.Links.{IsNewGate};
+ghost use Rattle.am_workers.specs.Work.{gate_of};
 ghost use Rattle.am_workers.specs.Serving.{IsUnserved, MayReleaseAll, ServesAll, network_of};
 
 use crate::worker::{Rooms, dismiss, dismiss_unserved, hire, rooms_for, totals_of, work_all};
@@ -39,7 +40,7 @@ where
     requires some { 1 ≤ vec_len gates }
     requires few { vec_len gates ≤ 64 }
     requires new { (k : ℕ) (gate : N.Gate) → slice_get gates.items k ≡ Some gate
-        → IsNewGate (record { links = N.Gate.links gate; faults = N.Gate.faults gate }) }
+        → IsNewGate (gate_of N.Gate.Acceptor gate) }
     requires may { MayReleaseAll (N.listening network.old) (vec_len gates) }
     requires most { IfSome most (λ m. 1 ≤ m) }
     ensures serves { IfOk result (λ done. ServesAll most (vec_len gates)

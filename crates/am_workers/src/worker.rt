@@ -3,7 +3,7 @@ ghost use Rattle.std.specs.Prelude.{◌≡◌, ◌+◌, ◌<◌, ◌≤◌, ◌+
 ghost use Rattle.std.specs.List.{list_any};
 ghost use Rattle.am_network.specs.Links.{AreBack, GateView, IsNewGate};
 ghost use Rattle.am_workers.specs.declared.worker.Worker.{Worker};
-ghost use Rattle.am_workers.specs.Work.{Works};
+ghost use Rattle.am_workers.specs.Work.{Works, gate_of, worker_of};
 ghost use Rattle.am_workers.specs.Serving.{IsUnserved, MayReleaseAll, all_released, faults_raised, network_of};
 
 use crate::working::{Worked, work};
@@ -113,24 +113,11 @@ pub(crate) fn work_all<R: Threads + Wait + Sync, D: Desk + Drop + Send, A: Accep
     requires back { All (λ (w : Worker D A C). IfSome (A.links w.gate) AreBack) workers.old }
     requires some { IfSome most (λ m. 1 ≤ m) }
     ensures count { length workers.new ≡ length workers.old }
-    ensures works { (i : ℕ) (other : Worker D A C) → i < length workers.old → Works most
-        (record {
-          desk = D.view (slice_index_or workers.old i other).desk;
-          gate = record {
-            links = A.links (slice_index_or workers.old i other).gate;
-            faults = A.faults (slice_index_or workers.old i other).gate;
-          };
-          clock = C.moments (slice_index_or workers.old i other).clock;
-        })
-        (record {
-          desk = D.view (slice_index_or workers.new i other).desk;
-          gate = record {
-            links = A.links (slice_index_or workers.new i other).gate;
-            faults = A.faults (slice_index_or workers.new i other).gate;
-          };
-          clock = C.moments (slice_index_or workers.new i other).clock;
-        })
-        (slice_index_or workers.new i other).worked }
+    ensures works { (i : ℕ) (other : Worker D A C) → i < length workers.old →
+        let old = slice_index_or workers.old i other in
+        let new = slice_index_or workers.new i other in
+        Works most (worker_of D.Desk A.Acceptor C.Clock old.desk old.gate old.clock)
+        (worker_of D.Desk A.Acceptor C.Clock new.desk new.gate new.clock) new.worked }
 {
     thread::for_each_mut(
         rt,
@@ -139,16 +126,8 @@ pub(crate) fn work_all<R: Threads + Wait + Sync, D: Desk + Drop + Send, A: Accep
         &|_: usize, worker: &mut Worker<D, A, C>|
             requires { IfSome (A.links worker.old.gate) AreBack × IfSome most (λ m. 1 ≤ m) }
             ensures { Works most
-                (record {
-                  desk = D.view worker.old.desk;
-                  gate = record { links = A.links worker.old.gate; faults = A.faults worker.old.gate };
-                  clock = C.moments worker.old.clock;
-                })
-                (record {
-                  desk = D.view worker.new.desk;
-                  gate = record { links = A.links worker.new.gate; faults = A.faults worker.new.gate };
-                  clock = C.moments worker.new.clock;
-                })
+                (worker_of D.Desk A.Acceptor C.Clock worker.old.desk worker.old.gate worker.old.clock)
+                (worker_of D.Desk A.Acceptor C.Clock worker.new.desk worker.new.gate worker.new.clock)
                 worker.new.worked }
         {
             let worked = work(
@@ -198,13 +177,11 @@ pub(crate) fn dismiss<N: Network, D: Drop, C: Drop>(
     requires may { MayReleaseAll (N.listening network.old) (length workers.items) }
     ensures desks { result.items ≡ desks.items ++ map (λ (w : Worker D N.Gate C). w.desk) workers.items }
     ensures told { N.listening network.new ≡ all_released (N.listening network.old)
-        (map (λ (w : Worker D N.Gate C). record { links = N.Gate.links w.gate; faults = N.Gate.faults w.gate })
-        workers.items) }
+        (map (λ (w : Worker D N.Gate C). gate_of N.Gate.Acceptor w.gate) workers.items) }
     ensures listens { N.listens network.new ≡ N.listens network.old }
     ensures faults { N.faults network.new ≡ N.faults network.old }
     ensures gate_faults { N.gate_faults network.new ≡ faults_raised (N.gate_faults network.old)
-        (map (λ (w : Worker D N.Gate C). record { links = N.Gate.links w.gate; faults = N.Gate.faults w.gate })
-        workers.items) }
+        (map (λ (w : Worker D N.Gate C). gate_of N.Gate.Acceptor w.gate) workers.items) }
 {
     while let Some(worker) = workers.pop_front() {
         let Worker {
@@ -223,7 +200,7 @@ pub(crate) fn dismiss<N: Network, D: Drop, C: Drop>(
 // Hands gates that no worker served back to the network, in their order, and answers that memory ran out.
 pub(crate) fn dismiss_unserved<N: Network>(network: &mut N, gates: Vec<N::Gate>) -> NoMemory
     requires new { (k : ℕ) (gate : N.Gate) → slice_get gates.items k ≡ Some gate
-        → IsNewGate (record { links = N.Gate.links gate; faults = N.Gate.faults gate }) }
+        → IsNewGate (gate_of N.Gate.Acceptor gate) }
     requires may { MayReleaseAll (N.listening network.old) (vec_len gates) }
     ensures { IsUnserved (vec_len gates) (network_of N.Network network.old) (network_of N.Network network.new) }
 {

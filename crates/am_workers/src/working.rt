@@ -2,7 +2,7 @@
 ghost use Rattle.std.specs.Prelude.{◌≡◌, ◌+◌, ◌≤◌, IfSome};
 ghost use Rattle.am_network.specs.Links.{AreBack, MayTakeBack, link_of};
 ghost use Rattle.am_http.specs.Links.{GoesOn};
-ghost use Rattle.am_workers.specs.Work.{IsBack, TellsEnough, TriesNext, Works};
+ghost use Rattle.am_workers.specs.Work.{IsBack, TellsEnough, TriesNext, Works, worker_of};
 
 use am_desk::Desk;
 use am_http::{Buffers, End, Served, serve_link};
@@ -65,16 +65,8 @@ fn serve_next<D: Desk, A: Acceptor, C: Clock>(
 ) -> Result<Option<u64>, Failed>
     requires back { IfSome (A.links gate.old) AreBack }
     ensures next { TriesNext
-        (record {
-          desk = D.view desk.old;
-          gate = record { links = A.links gate.old; faults = A.faults gate.old };
-          clock = C.moments clock.old;
-        })
-        (record {
-          desk = D.view desk.new;
-          gate = record { links = A.links gate.new; faults = A.faults gate.new };
-          clock = C.moments clock.new;
-        })
+        (worker_of D.Desk A.Acceptor C.Clock desk.old gate.old clock.old)
+        (worker_of D.Desk A.Acceptor C.Clock desk.new gate.new clock.new)
         result }
     ensures desk { GoesOn (D.view desk.old) (D.view desk.new) }
     ensures never_falls { A.faults gate.old ≤ A.faults gate.new }
@@ -112,16 +104,8 @@ pub fn work<R: Wait, D: Desk, A: Acceptor, C: Clock>(
     requires back { IfSome (A.links gate.old) AreBack }
     requires some { IfSome most (λ m. 1 ≤ m) }
     ensures works { Works most
-        (record {
-          desk = D.view desk.old;
-          gate = record { links = A.links gate.old; faults = A.faults gate.old };
-          clock = C.moments clock.old;
-        })
-        (record {
-          desk = D.view desk.new;
-          gate = record { links = A.links gate.new; faults = A.faults gate.new };
-          clock = C.moments clock.new;
-        })
+        (worker_of D.Desk A.Acceptor C.Clock desk.old gate.old clock.old)
+        (worker_of D.Desk A.Acceptor C.Clock desk.new gate.new clock.new)
         result }
     ensures back { IfSome (A.links gate.new) AreBack }
 {

@@ -1,5 +1,8 @@
-use Rattle.std.proofs.Common.{◌∙◌, ℤ, w64, ap, refl, subst, sym}
+use Rattle.std.proofs.Common.{◌∙◌, ℕ, ℤ, w64, ap, refl, subst, sym}
 use Rattle.std.proofs.lemmas.Int.{to_z-of_z}
+use Rattle.am_types.specs.declared.intent.Intent.{Intent}
+use Rattle.am_types.specs.declared.manifest.Kind.{Kind}
+use Rattle.am_types.specs.declared.pending.PendingFlags.{PendingFlags}
 use Rattle.am_model.specs.Pendings.{Asked, Pendings, get}
 use Rattle.am_history.specs.PendingCalls.{after_get, pending_get}
 use Rattle.am_history.specs.State.{State}
@@ -7,17 +10,20 @@ use Rattle.am_pending.specs.Answers.{IsRefusal}
 use Rattle.am_live_pendings.proofs.PendingLemmas.{refused_is}
 use Rattle.am_live_pendings.proofs.pendings.get.Goals as goal
 
+-- what is asked for, with this code
+abbrev asked_by : ℕ → Kind → Intent → PendingFlags → ℤ → Asked
+asked_by caller kind intent flags code = record {
+  creator = caller;
+  kind = kind;
+  code = code;
+  intent = intent;
+  flags = flags;
+}
+
 pub returns-in-Ok-clause-done : goal.returns-in-Ok-clause-done
 unfolding pending_get
 returns-in-Ok-clause-done g c = λ (state : State).
-    let asked : ℤ → Asked = λ code. record {
-      creator = c.args.caller;
-      kind = c.args.kind;
-      code = code;
-      intent =
-          c.args.intent;
-      flags = c.args.flags;
-    } in
+    let asked = asked_by c.args.caller c.args.kind c.args.intent c.args.flags in
     ap (after_get (record state { pendings = c.args.pending.now }))
     (ap (λ (code : ℤ). get c.args.pending.now (asked code)) (sym (to_z-of_z w64 c.args.code c.ranges.code))
     ∙ c.in-Ok.ensures.answer)
@@ -25,14 +31,7 @@ returns-in-Ok-clause-done g c = λ (state : State).
 pub returns-in-Err-clause-done : goal.returns-in-Err-clause-done
 unfolding pending_get
 returns-in-Err-clause-done g c =
-    let asked : ℤ → Asked = λ code. record {
-      creator = c.args.caller;
-      kind = c.args.kind;
-      code = code;
-      intent =
-          c.args.intent;
-      flags = c.args.flags;
-    } in
+    let asked = asked_by c.args.caller c.args.kind c.args.intent c.args.flags in
     refused_is (λ (state : State). after_get (record state { pendings = c.args.pending.now }))
     (λ (state : State) (left : Pendings). record state { pendings = left })
     (get c.args.pending.now (asked c.args.code)) c.in-Err.fault c.args.pending.now c.get.new.self c.refused.result

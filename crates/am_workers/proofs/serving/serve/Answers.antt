@@ -4,6 +4,7 @@ use Rattle.std.specs.List.{list_any}
 use Rattle.std.proofs.lemmas.List.{length-map}
 use Rattle.am_history.specs.Desks.{opening_of}
 use Rattle.am_history.specs.History.{IsLegal}
+use Rattle.am_workers.specs.Work.{gate_of}
 use Rattle.am_workers.specs.Serving.{MayReleaseAll, all_released, faults_raised}
 use Rattle.am_workers.proofs.CrewLemmas.{all_back, all_desks, back_written, clocks_of, crew, same_origin, serves}
 use Rattle.am_workers.proofs.serving.serve.Goals as goal
@@ -78,13 +79,11 @@ returns g c =
           (c.totals_of-totals.ensures.failed ∙ ap (λ ws. list_any (λ w. w.worked.failed) ws)
           (c.as_slice.ensures.value ∙ back))
           (out.told ∙ ap (λ ws. all_released (g.N.Network.listening c.args.network.now)
-          (map (λ w. record { links = g.N.Gate.Acceptor.links w.gate; faults = g.N.Gate.Acceptor.faults w.gate })
-          ws)) (c.from_vec.ensures.items ∙ back))
+          (map (λ w. gate_of g.N.Gate.Acceptor w.gate) ws)) (c.from_vec.ensures.items ∙ back))
           out.listens
           out.faults
           (out.gate_faults ∙ ap (λ ws. faults_raised (g.N.Network.gate_faults c.args.network.now)
-          (map (λ w. record { links = g.N.Gate.Acceptor.links w.gate; faults = g.N.Gate.Acceptor.faults w.gate })
-          ws)) (c.from_vec.ensures.items ∙ back));
+          (map (λ w. gate_of g.N.Gate.Acceptor w.gate) ws)) (c.from_vec.ensures.items ∙ back));
       origin = one;
       unserved = tt;
     }

@@ -1,6 +1,7 @@
 use Rattle.std.proofs.Common.{◌≡◌, ℕ, vec_len, ◌++◌, ◌∷◌, [], Some, refl, ap, sym, ◌∙◌, subst, suc, length, arith, length-append, slice_get}
 use Rattle.am_network.specs.Links.{GateView, IsNewGate, released}
 use Rattle.am_http.proofs.ExchangeLemmas.{all_more}
+use Rattle.am_workers.specs.Work.{gate_of}
 use Rattle.am_workers.specs.Serving.{MayReleaseAll}
 use Rattle.am_workers.proofs.ServingLemmas.{may_rest, released_more}
 use Rattle.am_workers.proofs.worker.dismiss_unserved.Goals as goal
@@ -16,7 +17,7 @@ loop-unserved-init g c =
       faults = refl;
       gate_faults = refl;
       new = subst (λ gs. (k : ℕ) (gate : g.row.N-Gate.Denot) → slice_get gs k ≡ Some gate
-          → IsNewGate (record { links = g.N.Gate.Acceptor.links gate; faults = g.N.Gate.Acceptor.faults gate }))
+          → IsNewGate (gate_of g.N.Gate.Acceptor gate))
           (sym c.from_vec-left.ensures.items) c.requires.new;
       may = subst (MayReleaseAll (g.N.Network.listening c.args.network.now))
           (c.args.gates.ok.0 ∙ sym (ap length c.from_vec-left.ensures.items)) c.requires.may;
@@ -29,7 +30,7 @@ loop-unserved-preserved g c =
     let out = c.release.ensures in
     let gate = c.in-Some.unserved in
     let rest = c.pop_front.new.self.items in
-    let seen : GateView = record { links = g.N.Gate.Acceptor.links gate; faults = g.N.Gate.Acceptor.faults gate } in
+    let seen : GateView = gate_of g.N.Gate.Acceptor gate in
     let fresh : IsNewGate seen = inv.new 0 gate (ap (λ gs. slice_get gs 0) begins) in
     record {
       done = inv.done ++ seen ∷ [];

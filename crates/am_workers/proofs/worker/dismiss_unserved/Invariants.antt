@@ -1,6 +1,7 @@
 use Rattle.std.proofs.Common.{◌≡◌, ◌+◌, ℕ, List, length, slice_get, Some}
 use Rattle.std.specs.List.{AllByRecursion}
 use Rattle.am_network.specs.Links.{GateView, IsNewGate}
+use Rattle.am_workers.specs.Work.{gate_of}
 use Rattle.am_workers.specs.Serving.{MayReleaseAll, all_released}
 use Rattle.am_workers.proofs.worker.dismiss_unserved.Given as goal
 
@@ -16,7 +17,7 @@ invariant-loop-unserved g l =
       faults : g.N.Network.faults l.network ≡ g.N.Network.faults l.initial.network;
       gate_faults : g.N.Network.gate_faults l.network ≡ g.N.Network.gate_faults l.initial.network;
       new : (k : ℕ) (gate : g.row.N-Gate.Denot) → slice_get l.left.items k ≡ Some gate
-          → IsNewGate (record { links = g.N.Gate.Acceptor.links gate; faults = g.N.Gate.Acceptor.faults gate });
+          → IsNewGate (gate_of g.N.Gate.Acceptor gate);
       may : MayReleaseAll (g.N.Network.listening l.network) (length l.left.items);
     }
 

@@ -1,23 +1,15 @@
 use Rattle.std.proofs.Common.{◌≡◌, List, min}
 use Rattle.std.specs.Prelude.{IfSome}
 use Rattle.am_network.specs.Links.{AreBack}
-use Rattle.am_workers.specs.Work.{HasServed, Service, WorkerView, ended_in}
+use Rattle.am_workers.specs.Work.{HasServed, Service, WorkerView, ended_in, worker_of}
 use Rattle.am_workers.proofs.WorkLemmas.{IsShort}
 use Rattle.am_workers.proofs.working.work.Given as goal
 
 -- the links so far were served and are back, fewer were ended than are asked for, and no call of the gate failed
 abbrev pub invariant-loop : goal.invariant-loop
 invariant-loop g l =
-    let first : WorkerView = record {
-      desk = g.D.Desk.view l.initial.desk;
-      gate = record { links = g.A.Acceptor.links l.initial.gate; faults = g.A.Acceptor.faults l.initial.gate };
-      clock = g.C.Clock.moments l.initial.clock;
-    } in
-    let now : WorkerView = record {
-      desk = g.D.Desk.view l.desk;
-      gate = record { links = g.A.Acceptor.links l.gate; faults = g.A.Acceptor.faults l.gate };
-      clock = g.C.Clock.moments l.clock;
-    } in
+    let first : WorkerView = worker_of g.D.Desk g.A.Acceptor g.C.Clock l.initial.desk l.initial.gate l.initial.clock in
+    let now : WorkerView = worker_of g.D.Desk g.A.Acceptor g.C.Clock l.desk l.gate l.clock in
     record {
       services : List Service;
       has : HasServed first now services;

@@ -1,8 +1,13 @@
 use Rattle.std.proofs.Common.{OnErr, sym, subst}
 use Rattle.sqlite.specs.Held.{state}
 use Rattle.sqlite.specs.Steps.{over_memory}
-use Rattle.am_keeper_sql.specs.Honest.{IsSettled, StaysSeen, state_of}
+use Rattle.am_keeper_sql.specs.Honest.{IsSettled, PutsInto, StaysSeen, state_of}
 use Rattle.am_keeper_sql.proofs.database.Database.put.Goals as goal
+
+pub returns-in-Memory-clause-put : goal.returns-in-Memory-clause-put
+returns-in-Memory-clause-put g c =
+    subst (λ d. PutsInto (state_of g.F.Store d) (state over_memory c.put.new.conn) c.args.row.now c.put.result)
+    (sym c.in-Memory.is) c.put.ensures.put
 
 pub returns-in-Memory-clause-failed : goal.returns-in-Memory-clause-failed
 returns-in-Memory-clause-failed g c honest was =

@@ -1,16 +1,12 @@
 use Rattle.std.proofs.Common.{◌≡◌, refl, subst, Some, None}
 use Rattle.am_model.specs.Tasks.{Tasks, seen}
 use Rattle.am_tasks.proofs.Backs.{seen_number, nothing_seen, ends_seen}
+use Rattle.am_tasks.proofs.Held.{held}
 use Rattle.am_tasks.proofs.tasks.Tasks.back.Goals as goal
 
 pub returns-in_err-seen-clause-none : goal.returns-in_err-seen-clause-none
 returns-in_err-seen-clause-none c =
-    let all : Tasks = record {
-      tasks = c.self.inside.tasks.items;
-      next_task = c.self.inside.next_task;
-      next_instance =
-          c.self.inside.next_instance;
-    } in
+    let all : Tasks = held c.self.inside in
     let none : None ≡ seen_number (seen all.tasks) = rw c.deref.ensures.value at c.in_err-seen.ensures in
     (λ _. rw (← c.self.view_is) (nothing_seen all c.self.invariant none), λ _. rw c.from_residual.ensures refl)
 

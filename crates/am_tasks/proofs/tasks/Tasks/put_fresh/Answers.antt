@@ -1,4 +1,4 @@
-use Rattle.std.proofs.Common.{◌+◌, ◌<◌, ◌≤◌, ◌∷◌, [], ◌++◌, List, length, get_or, take, ap, sym, ◌∙◌, subst}
+use Rattle.std.proofs.Common.{◌+◌, ◌≤◌, ◌∷◌, [], ◌++◌, List, length, get_or, take, ap, sym, ◌∙◌, subst}
 use Rattle.std.specs.List.{remove}
 use Rattle.am_types.specs.declared.task.Landed.{Landed}
 use Rattle.am_types.specs.declared.task.Placed.TheVariants.{Fresh}
@@ -6,18 +6,13 @@ use Rattle.am_model.specs.Tasks.{Instance, Task, Tasks}
 use Rattle.am_model.specs.Placement.{fresh}
 use Rattle.am_tasks.proofs.Finding.{at_there}
 use Rattle.am_tasks.proofs.Carrying.{brought, sound_put, pair_of}
+use Rattle.am_tasks.proofs.Held.{held, within_held}
 use Rattle.am_tasks.proofs.tasks.Tasks.put_fresh.Goals as goal
 
 pub invariant_of-self-2 : goal.invariant_of-self-2
 invariant_of-self-2 c =
-    let all : Tasks = record {
-      tasks = c.self.inside.tasks.items;
-      next_task = c.self.inside.next_task;
-      next_instance =
-          c.self.inside.next_instance;
-    } in
-    let low : c.args.place < length all.tasks = subst (λ (t : Tasks). c.args.place < length t.tasks)
-    (sym c.self.view_is) c.requires.within in
+    let all : Tasks = held c.self.inside in
+    let low = within_held c.args.place c.self.view_is c.requires.within in
     let d : Task = (at_there all.tasks c.args.place low).0 in
     let fits : c.args.kept ≤ length (get_or all.tasks c.args.place d).instances =
     subst (λ (t : Tasks). c.args.kept ≤ length (get_or t.tasks c.args.place d).instances) (sym c.self.view_is)
@@ -28,14 +23,8 @@ invariant_of-self-2 c =
 pub returns-clause-done : goal.returns-clause-done
 returns-clause-done c =
     λ d.
-    let all : Tasks = record {
-      tasks = c.self.inside.tasks.items;
-      next_task = c.self.inside.next_task;
-      next_instance =
-          c.self.inside.next_instance;
-    } in
-    let low : c.args.place < length all.tasks = subst (λ (t : Tasks). c.args.place < length t.tasks)
-    (sym c.self.view_is) c.requires.within in
+    let all : Tasks = held c.self.inside in
+    let low = within_held c.args.place c.self.view_is c.requires.within in
     let task : Task = get_or all.tasks c.args.place d in
     let kept : List Instance = take c.args.kept task.instances in
     let ok = c.in_ok-task.ensures.ok d in

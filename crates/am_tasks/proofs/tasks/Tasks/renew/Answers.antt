@@ -7,30 +7,19 @@ use Rattle.am_tasks.specs.Plans.{kept_by, number_at}
 use Rattle.am_tasks.proofs.Finding.{at_there}
 use Rattle.am_tasks.proofs.Soundness.{instances_stand_once}
 use Rattle.am_tasks.proofs.Carrying.{brought, sound_renewed, pair_of}
+use Rattle.am_tasks.proofs.Held.{held, within_held}
 use Rattle.am_tasks.proofs.tasks.Tasks.renew.Goals as goal
 
 pub renew_in-task-requires-clause-once : goal.renew_in-task-requires-clause-once
 renew_in-task-requires-clause-once c =
-    let all : Tasks = record {
-      tasks = c.self.inside.tasks.items;
-      next_task = c.self.inside.next_task;
-      next_instance =
-          c.self.inside.next_instance;
-    } in
-    let low : c.args.place < length all.tasks = subst (λ (t : Tasks). c.args.place < length t.tasks)
-    (sym c.self.view_is) c.requires.within in
+    let all : Tasks = held c.self.inside in
+    let low = within_held c.args.place c.self.view_is c.requires.within in
     λ d n. (instances_stand_once all c.args.place d c.self.invariant low).once n
 
 pub invariant_of-self : goal.invariant_of-self
 invariant_of-self c =
-    let all : Tasks = record {
-      tasks = c.self.inside.tasks.items;
-      next_task = c.self.inside.next_task;
-      next_instance =
-          c.self.inside.next_instance;
-    } in
-    let low : c.args.place < length all.tasks = subst (λ (t : Tasks). c.args.place < length t.tasks)
-    (sym c.self.view_is) c.requires.within in
+    let all : Tasks = held c.self.inside in
+    let low = within_held c.args.place c.self.view_is c.requires.within in
     let d : Task = (at_there all.tasks c.args.place low).0 in
     let there : c.args.instance < length (get_or all.tasks c.args.place d).instances =
     subst (λ (t : Tasks). c.args.instance < length (get_or t.tasks c.args.place d).instances) (sym c.self.view_is)
@@ -41,14 +30,8 @@ invariant_of-self c =
 pub returns : goal.returns
 returns c =
     λ start same d.
-    let all : Tasks = record {
-      tasks = c.self.inside.tasks.items;
-      next_task = c.self.inside.next_task;
-      next_instance =
-          c.self.inside.next_instance;
-    } in
-    let low : c.args.place < length all.tasks = subst (λ (t : Tasks). c.args.place < length t.tasks)
-    (sym c.self.view_is) c.requires.within in
+    let all : Tasks = held c.self.inside in
+    let low = within_held c.args.place c.self.view_is c.requires.within in
     let task : Task = get_or all.tasks c.args.place d in
     let kept : List Instance = kept_by c.args.keeping c.args.instance task.instances in
     let done = c.renew_in-task.ensures d in
