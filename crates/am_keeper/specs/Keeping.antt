@@ -45,6 +45,24 @@ pub record IsAsked {X : Type 0} (row : Row) (old new : Seen) (answer : Result X 
   pub failed : answer ≡ Err Failed → HasRisen old.faults new.faults
   pub only_failed : answer ≢ Err Failed → new.faults ≡ old.faults
 
+-- what a keeper tells at a moment: its ghosts, in the order of the parts
+abbrev pub seen_by : {K : Type 0} → (K → Option Rows) → (K → Option (List ℕ)) → (K → Type 0) → (K → Type 0)
+    → (K → ℕ) → (K → ℕ) → K → Seen
+seen_by rows place honest for_good faults puts keeper = record {
+  rows = rows keeper;
+  place = place keeper;
+  honest = honest keeper;
+  for_good = for_good keeper;
+  faults = faults keeper;
+  puts = puts keeper;
+}
+
+-- by what it tells before and after, a keeper was asked once to put a row, and gave this answer
+abbrev pub IsAskedBy : {K X : Type 0} → (K → Option Rows) → (K → Option (List ℕ)) → (K → Type 0) → (K → Type 0)
+    → (K → ℕ) → (K → ℕ) → Row → K → K → Result X KeepFail → Type 0
+IsAskedBy rows place honest for_good faults puts row old new =
+    IsAsked row (seen_by rows place honest for_good faults puts old) (seen_by rows place honest for_good faults puts new)
+
 -- two texts have the same bytes
 abbrev pub same_text : List ℕ → List ℕ → Bool
 same_text = pointwise nat_eq

@@ -1,4 +1,5 @@
 pub mod Rows
+pub mod Ranking
 pub mod Places
 pub mod Keeping
 pub mod Memory

@@ -5,7 +5,7 @@ ghost use Rattle.am_outside.specs.Counts.{HasRisen};
 ghost use Rattle.am_keeper.specs.declared.rows.Rows.{Rows as Told};
 ghost use Rattle.am_keeper.specs.declared.rows.Row.TheVariants.{Package, Grant, Link};
 ghost use Rattle.am_keeper.specs.Rows.{IsInOrder, no_rows};
-ghost use Rattle.am_keeper.specs.Keeping.{IsAsked, raised_by, rows_after};
+ghost use Rattle.am_keeper.specs.Keeping.{IsAskedBy, raised_by, rows_after};
 
 use crate::{GrantRow, KeepFail, LinkRow, PackageRow, Rows};
 use am_types::Text;
@@ -33,63 +33,15 @@ pub trait Keeper: Drop {
 
     /// Replaces the row with the same uid, or adds this one.
     fn put_package(&mut self, row: &PackageRow) -> Result<(), KeepFail>
-        ensures asked { IsAsked (Package row.now)
-            (record {
-              rows = rows self.old;
-              place = place self.old;
-              honest = is_honest self.old;
-              for_good = stays_honest self.old;
-              faults = faults self.old;
-              puts = puts self.old;
-            })
-            (record {
-              rows = rows self.new;
-              place = place self.new;
-              honest = is_honest self.new;
-              for_good = stays_honest self.new;
-              faults = faults self.new;
-              puts = puts self.new;
-            }) result };
+        ensures asked { IsAskedBy rows place is_honest stays_honest faults puts (Package row.now) self.old self.new result };
 
     /// Replaces the row with the same uid and permission, or adds this one.
     fn put_grant(&mut self, row: &GrantRow) -> Result<(), KeepFail>
-        ensures asked { IsAsked (Grant row.now)
-            (record {
-              rows = rows self.old;
-              place = place self.old;
-              honest = is_honest self.old;
-              for_good = stays_honest self.old;
-              faults = faults self.old;
-              puts = puts self.old;
-            })
-            (record {
-              rows = rows self.new;
-              place = place self.new;
-              honest = is_honest self.new;
-              for_good = stays_honest self.new;
-              faults = faults self.new;
-              puts = puts self.new;
-            }) result };
+        ensures asked { IsAskedBy rows place is_honest stays_honest faults puts (Grant row.now) self.old self.new result };
 
     /// Replaces the row with the same uid and host, or adds this one.
     fn put_link(&mut self, row: &LinkRow) -> Result<(), KeepFail>
-        ensures asked { IsAsked (Link row.now)
-            (record {
-              rows = rows self.old;
-              place = place self.old;
-              honest = is_honest self.old;
-              for_good = stays_honest self.old;
-              faults = faults self.old;
-              puts = puts self.old;
-            })
-            (record {
-              rows = rows self.new;
-              place = place self.new;
-              honest = is_honest self.new;
-              for_good = stays_honest self.new;
-              faults = faults self.new;
-              puts = puts self.new;
-            }) result };
+        ensures asked { IsAskedBy rows place is_honest stays_honest faults puts (Link row.now) self.old self.new result };
 
     ghost honest_by_nature: { (keeper : Self) → stays_honest keeper → is_honest keeper };
 }

@@ -4,6 +4,7 @@
 
 mod asking;
 mod builder;
+mod clones;
 mod failure;
 mod keeper;
 mod logged;

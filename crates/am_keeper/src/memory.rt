@@ -6,7 +6,7 @@ ghost use Rattle.am_keeper.specs.Memory.{IsPut, fails_at, one_more, fresh_keeper
 
 use crate::logged::Logged;
 use crate::{GrantRow, KeepFail, Keeper, LinkRow, PackageRow, Row, Rows};
-use am_outside::is_failing;
+use am_outside::Calls;
 use am_types::{List, NoMemory, Text};
 use std::alloc::Global;
 use std::marker::Model;
@@ -16,9 +16,7 @@ use std::marker::Model;
 pub struct MemoryKeeper {
     rows: Logged,
     place: Option<Text>,
-    failing: List<u32>,
-    calls: u64,
-    faults: u64,
+    calls: Calls,
 }
 
 impl Model for MemoryKeeper {
@@ -26,7 +24,7 @@ impl Model for MemoryKeeper {
 
     ghost Value = { InMemory };
 
-    ghost view = { λ k. record { told = k.rows; place = k.place; failing = k.failing; calls = k.calls; faults = k.faults } };
+    ghost view = { λ k. record { told = k.rows; place = k.place; failing = k.calls.failing; calls = k.calls.made; faults = k.calls.faults } };
 }
 
 impl MemoryKeeper {
@@ -39,9 +37,7 @@ impl MemoryKeeper {
         MemoryKeeper {
             rows: Logged::new(alloc, rows),
             place: None,
-            failing,
-            calls: 0,
-            faults: 0,
+            calls: Calls::new(failing),
         }
     }
 
@@ -53,9 +49,7 @@ impl MemoryKeeper {
         MemoryKeeper {
             rows: Logged::new(alloc, rows),
             place,
-            failing: List::new(Vec::new(alloc)),
-            calls: 0,
-            faults: 0,
+            calls: Calls::new(List::new(Vec::new(alloc))),
         }
     }
 
@@ -71,14 +65,8 @@ impl MemoryKeeper {
     pub(crate) fn into_parts(self) -> (Logged, Option<Text>, u64)
         ensures { result ≡ (self.told, self.place, self.faults) }
     {
-        let MemoryKeeper {
-            rows,
-            place,
-            failing: _,
-            calls: _,
-            faults,
-        } = self;
-        (rows, place, faults)
+        let MemoryKeeper { rows, place, calls } = self;
+        (rows, place, calls.faults)
     }
 
     /// Counts a call, and tells whether it is to fail.
@@ -88,9 +76,7 @@ impl MemoryKeeper {
         ensures never_falls { self.old.faults ≤ self.new.faults }
         ensures only_failed { result ≢ Err KeepFail.Failed → self.new.faults ≡ self.old.faults }
     {
-        self.calls = self.calls.saturating_add(1);
-        if is_failing(&self.failing, self.calls) {
-            self.faults = self.faults.saturating_add(1);
+        if self.calls.next_fails() {
             return Err(KeepFail::Failed);
         }
         Ok(())

@@ -10,25 +10,19 @@ use std::cmp::Ordering;
 /// Rows of one kind, which have an order.
 pub(crate) trait Ranked: Drop {
     ghost use Rattle.std.specs.Prelude.{◌≡◌};
-    ghost use Rattle.std.specs.declared.cmp.Ordering.{Ordering as Order};
-    ghost use Rattle.std.specs.Cmp.{IsTotalOrder};
+    ghost use Rattle.am_keeper.specs.Ranking.{Ranking};
 
-    ghost order: { Self → Self → Order };
+    ghost ranking: { Ranking Self };
 
     /// How this row compares with another one.
     fn rank(&self, other: &Self) -> Ordering
-        ensures { result ≡ order self.now other.now };
-
-    ghost total: { IsTotalOrder order };
+        ensures { result ≡ ranking.order self.now other.now };
 }
 
 impl Ranked for PackageRow {
-    ghost use Rattle.std.specs.Cmp.{on_total, nat_cmp_total};
-    ghost use Rattle.am_keeper.specs.Rows.{by_uid};
+    ghost use Rattle.am_keeper.specs.Ranking.{packages};
 
-    ghost order = { by_uid };
-
-    ghost total = { on_total (λ row. row.uid) nat_cmp_total };
+    ghost ranking = { packages };
 
     fn rank(&self, other: &Self) -> Ordering {
         self.uid.cmp(&other.uid)
@@ -36,56 +30,40 @@ impl Ranked for PackageRow {
 }
 
 impl Ranked for GrantRow {
-    ghost use Rattle.std.specs.Cmp.{on_total, then_total, nat_cmp_total};
-    ghost use Rattle.std.specs.Cmp.Lexicographic.{nat_list_cmp_total};
-    ghost use Rattle.am_keeper.specs.Rows.{by_grant};
+    ghost use Rattle.am_keeper.specs.Ranking.{grants};
 
-    ghost order = { by_grant };
+    ghost ranking = { grants };
 
-    ghost total = { then_total (on_total (λ row. row.uid) nat_cmp_total) (on_total (λ row. row.permission) nat_list_cmp_total) };
-
-    // The permissions are compared only if the uids are the same.
     fn rank(&self, other: &Self) -> Ordering {
-        match self.uid.cmp(&other.uid) {
-            Ordering::Equal => self.permission.cmp(&other.permission),
-            decided => decided,
-        }
+        (self.uid, &self.permission).cmp(&(other.uid, &other.permission))
     }
 }
 
 impl Ranked for LinkRow {
-    ghost use Rattle.std.specs.Cmp.{on_total, then_total, nat_cmp_total};
-    ghost use Rattle.std.specs.Cmp.Lexicographic.{nat_list_cmp_total};
-    ghost use Rattle.am_keeper.specs.Rows.{by_link};
+    ghost use Rattle.am_keeper.specs.Ranking.{links};
 
-    ghost order = { by_link };
+    ghost ranking = { links };
 
-    ghost total = { then_total (on_total (λ row. row.uid) nat_cmp_total) (on_total (λ row. row.host) nat_list_cmp_total) };
-
-    // The hosts are compared only if the uids are the same.
     fn rank(&self, other: &Self) -> Ordering {
-        match self.uid.cmp(&other.uid) {
-            Ordering::Equal => self.host.cmp(&other.host),
-            decided => decided,
-        }
+        (self.uid, &self.host).cmp(&(other.uid, &other.host))
     }
 }
 
 /// The place of the row that ties with this one, or the place where this one would go.
 fn place_of<T: Ranked>(rows: &[T], row: &T) -> Result<usize, usize>
-    requires { IsTrue (rises T.order rows.now) }
-    ensures found { IfOk result (IsPlaceOf T.order row.now rows.now) }
-    ensures absent { IfErr result (IsGapFor T.order row.now rows.now) }
+    requires { IsTrue (rises T.ranking.order rows.now) }
+    ensures found { IfOk result (IsPlaceOf T.ranking.order row.now rows.now) }
+    ensures absent { IfErr result (IsGapFor T.ranking.order row.now rows.now) }
 {
     rows.binary_search_by(|kept| kept.rank(row))
 }
 
 /// Replaces the row that ties with this one, or adds this one. If memory runs out, nothing changes.
 pub(crate) fn put_in<T: Ranked>(rows: &mut Vec<T>, row: T) -> Result<(), AllocError>
-    requires { IsTrue (rises T.order rows.old.items) }
-    ensures ok { OnOk result (rows.new.items ≡ put_in T.order row rows.old.items) }
+    requires { IsTrue (rises T.ranking.order rows.old.items) }
+    ensures ok { OnOk result (rows.new.items ≡ put_in T.ranking.order row rows.old.items) }
     ensures err { OnErr result (rows.new.items ≡ rows.old.items) }
-    ensures rises { IsTrue (rises T.order rows.new.items) }
+    ensures rises { IsTrue (rises T.ranking.order rows.new.items) }
 {
     match place_of(rows, &row) {
         Ok(at) => {

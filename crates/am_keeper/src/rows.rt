@@ -1,8 +1,5 @@
 //! The rows that are kept.
-ghost use Rattle.std.specs.Prelude.{◌≡◌};
-
-use am_types::{List, Text, copy_parts};
-use std::alloc::AllocError;
+use am_types::{List, Text};
 
 /// An installed package, or one that is gone.
 #[derive(Drop)]
@@ -17,14 +14,6 @@ pub struct PackageRow {
     pub gone: bool,
 }
 
-impl Clone for PackageRow {
-    ghost is_clone = { λ x y. y ≡ x };
-
-    fn clone(&self) -> Result<PackageRow, AllocError> {
-        copy_parts!(self, PackageRow: value(name key text); uid gone)
-    }
-}
-
 /// A permission that was given to a uid, or taken away.
 #[derive(Drop)]
 pub struct GrantRow {
@@ -32,14 +21,6 @@ pub struct GrantRow {
     pub permission: Text,
     /// Whether the uid holds it.
     pub held: bool,
-}
-
-impl Clone for GrantRow {
-    ghost is_clone = { λ x y. y ≡ x };
-
-    fn clone(&self) -> Result<GrantRow, AllocError> {
-        copy_parts!(self, GrantRow: value(permission); uid held)
-    }
 }
 
 /// A host whose web links a uid is approved for, or is no longer approved for.
@@ -51,32 +32,12 @@ pub struct LinkRow {
     pub approved: bool,
 }
 
-impl Clone for LinkRow {
-    ghost is_clone = { λ x y. y ≡ x };
-
-    fn clone(&self) -> Result<LinkRow, AllocError> {
-        copy_parts!(self, LinkRow: value(host); uid approved)
-    }
-}
-
 /// One row of any kind.
 #[derive(Drop)]
 pub enum Row {
     Package(PackageRow),
     Grant(GrantRow),
     Link(LinkRow),
-}
-
-impl Clone for Row {
-    ghost is_clone = { λ x y. y ≡ x };
-
-    fn clone(&self) -> Result<Row, AllocError> {
-        match self {
-            Row::Package(row) => Ok(Row::Package(row.clone()?)),
-            Row::Grant(row) => Ok(Row::Grant(row.clone()?)),
-            Row::Link(row) => Ok(Row::Link(row.clone()?)),
-        }
-    }
 }
 
 /// All rows, ordered by uid, then by the bytes of the permission or host. There is at most one
@@ -86,12 +47,4 @@ pub struct Rows {
     pub packages: List<PackageRow>,
     pub grants: List<GrantRow>,
     pub links: List<LinkRow>,
-}
-
-impl Clone for Rows {
-    ghost is_clone = { λ x y. y ≡ x };
-
-    fn clone(&self) -> Result<Rows, AllocError> {
-        copy_parts!(self, Rows: list(packages grants links))
-    }
 }

@@ -10,7 +10,7 @@ ghost use Rattle.am_keeper.specs.Shelf.{ArePlaces, rows_in_places, rows_in_slots
 
 use crate::logged::Logged;
 use crate::{Attached, KeepFail, Keeper, MemoryKeeper, Rows, RowsBuilder, Store};
-use am_outside::is_failing;
+use am_outside::Calls;
 use am_types::{List, Text};
 use std::alloc::{AllocError, Global};
 use std::marker::Model;
@@ -105,24 +105,20 @@ fn keep(slots: &mut Vec<Slot>, place: &Text, rows: Logged)
 pub struct MemoryStore {
     places: List<StoredRows>,
     slots: Vec<Slot>,
-    failing: List<u32>,
-    attaches: u64,
-    failed_attaches: u64,
+    attaches: Calls,
     keeper_faults: u64,
     alloc: Global,
 }
 
 impl Model for MemoryStore {
-    ghost use Rattle.am_keeper.specs.Shelf.{ArePlaces, Shelf};
+    ghost use Rattle.am_keeper.specs.Shelf.{ArePlaces, Shelf, fresh_shelf};
 
     ghost Value = { Shelf };
 
-    ghost view = { λ s. record {
-      places = s.places;
+    ghost view = { λ s. record (fresh_shelf s.places s.attaches.failing) {
       slots = s.slots.items;
-      failing = s.failing;
-      attaches = s.attaches;
-      failed_attaches = s.failed_attaches;
+      attaches = s.attaches.made;
+      failed_attaches = s.attaches.faults;
       keeper_faults = s.keeper_faults;
     } };
 
@@ -139,9 +135,7 @@ impl MemoryStore {
         MemoryStore {
             places,
             slots: Vec::new(alloc),
-            failing,
-            attaches: 0,
-            failed_attaches: 0,
+            attaches: Calls::new(failing),
             keeper_faults: 0,
             alloc,
         }
@@ -155,9 +149,7 @@ impl MemoryStore {
         ensures never_falls { self.old.failed_attaches ≤ self.new.failed_attaches }
         ensures only_failed { result ≢ Err KeepFail.Failed → self.new.failed_attaches ≡ self.old.failed_attaches }
     {
-        self.attaches = self.attaches.saturating_add(1);
-        if is_failing(&self.failing, self.attaches) {
-            self.failed_attaches = self.failed_attaches.saturating_add(1);
+        if self.attaches.next_fails() {
             return Err(KeepFail::Failed);
         }
         Ok(())

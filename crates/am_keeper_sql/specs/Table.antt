@@ -14,15 +14,7 @@ use Rattle.sqlite_catalog.specs.Listing.{automatic}
 
 -- a column of this type that is never NULL
 abbrev pub column_of : List ℕ → Kind → Column
-column_of name kind = record {
-  name = name;
-  kind = kind;
-  is_strict = true;
-  not_null = true;
-  default = Null;
-  collation =
-      Binary;
-}
+column_of name kind = record { name = name; kind = kind; is_strict = true; not_null = true; default = Null; collation = Binary }
 
 -- the table of the kept rows, whose key is kind, uid and word
 abbrev pub kept : Table

@@ -1,5 +1,5 @@
 -- Readers in memory that aren't ready now and then, as their calls see them.
-use Rattle.std.specs.Prelude.{ℕ, Bool, true, false}
+use Rattle.std.specs.Prelude.{Bool, true, false}
 use Rattle.am_outside.specs.Memory.{one_more}
 use Rattle.am_network.specs.declared.resting_reader.RestingReader.{RestingReader}
 

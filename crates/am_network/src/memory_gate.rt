@@ -7,7 +7,7 @@ ghost use Rattle.am_network.specs.Memory.{AreUnused, IsUnused, after_accept, cou
 
 use crate::memory_link::{LinkPlan, MemoryLink, MemoryReader, MemoryWriter};
 use crate::network::Acceptor;
-use am_outside::{Failed, is_failing};
+use am_outside::{Calls, Failed};
 use am_types::List;
 use std::alloc::{AllocError, Global};
 use std::collections::VecDeque;
@@ -33,26 +33,22 @@ pub struct MemoryGate {
     handed: u64,
     // It has room for every link.
     ended: Vec<MemoryLink>,
-    failing: List<u32>,
-    accepts: u64,
-    faults: u64,
+    accepts: Calls,
     // How many links had been handed out when a call failed last.
     failed_at: Option<u64>,
 }
 
 impl Model for MemoryGate {
     ghost use Rattle.std.specs.Prelude.{◌≡◌, ◌≤◌, drop, length, vec_capacity};
-    ghost use Rattle.am_network.specs.Memory.{AreUnused, GateInMemory};
+    ghost use Rattle.am_network.specs.Memory.{AreUnused, GateInMemory, new_gate};
 
     ghost Value = { GateInMemory };
 
-    ghost view = { λ g. record {
-      plan = g.plan.value;
+    ghost view = { λ g. record (new_gate (record { links = g.plan.value; failing = g.accepts.failing })) {
       handed = g.handed;
       ended = g.ended.items;
-      failing = g.failing;
-      accepts = g.accepts;
-      faults = g.faults;
+      accepts = g.accepts.made;
+      faults = g.accepts.faults;
       failed_at = g.failed_at;
     } };
 
@@ -99,9 +95,7 @@ impl MemoryGate {
             coming: VecDeque::from_vec(plan.links.into_items()),
             handed: 0,
             ended: room.links,
-            failing: plan.failing,
-            accepts: 0,
-            faults: 0,
+            accepts: Calls::new(plan.failing),
             failed_at: None,
         }
     }
@@ -117,7 +111,7 @@ impl MemoryGate {
     pub fn faults(&self) -> u64
         ensures { result ≡ self.now.faults }
     {
-        self.faults
+        self.accepts.faults
     }
 
     // Counts a call of `accept`, and tells whether it is to fail.
@@ -126,9 +120,7 @@ impl MemoryGate {
         ensures fails { IsErr result ↔ IsTrue (fails self.old.failing (one_more self.old.accepts)) }
         ensures never_falls { self.old.faults ≤ self.new.faults }
     {
-        self.accepts = self.accepts.saturating_add(1);
-        if is_failing(&self.failing, self.accepts) {
-            self.faults = self.faults.saturating_add(1);
+        if self.accepts.next_fails() {
             self.failed_at = Some(self.handed);
             return Err(Failed);
         }

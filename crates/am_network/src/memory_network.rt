@@ -7,7 +7,7 @@ ghost use Rattle.am_network.specs.Memory.{ArePlans, AreUnused, GateInMemory, aft
 
 use crate::memory_gate::{GatePlan, MemoryGate, Room};
 use crate::network::{ListenFail, Network};
-use am_outside::is_failing;
+use am_outside::Calls;
 use am_types::List;
 use std::alloc::{AllocError, Global};
 use std::collections::VecDeque;
@@ -23,26 +23,22 @@ pub struct MemoryNetwork {
     gates: u32,
     // It has room for every gate that was answered last.
     released: Vec<MemoryGate>,
-    failing: List<u32>,
-    listens: u64,
-    faults: u64,
+    listens: Calls,
     gate_faults: u64,
 }
 
 impl Model for MemoryNetwork {
     ghost use Rattle.std.specs.Prelude.{◌≤◌, vec_capacity};
-    ghost use Rattle.am_network.specs.Memory.{ArePlans, NetworkInMemory};
+    ghost use Rattle.am_network.specs.Memory.{ArePlans, NetworkInMemory, new_network};
 
     ghost Value = { NetworkInMemory };
 
-    ghost view = { λ n. record {
-      coming = n.coming.items;
+    ghost view = { λ n. record (new_network n.coming.items n.listens.failing) {
       port = n.port;
       gates = n.gates;
       released = n.released.items;
-      failing = n.failing;
-      listens = n.listens;
-      faults = n.faults;
+      listens = n.listens.made;
+      faults = n.listens.faults;
       gate_faults = n.gate_faults;
     } };
 
@@ -127,9 +123,7 @@ impl MemoryNetwork {
             port: 0,
             gates: 0,
             released: Vec::new(alloc),
-            failing,
-            listens: 0,
-            faults: 0,
+            listens: Calls::new(failing),
             gate_faults: 0,
         }
     }
@@ -145,7 +139,7 @@ impl MemoryNetwork {
     pub fn faults(&self) -> u64
         ensures { result ≡ self.now.faults }
     {
-        self.faults
+        self.listens.faults
     }
 
     /// How many faults the released gates had. Takes no memory.
@@ -162,9 +156,7 @@ impl MemoryNetwork {
         ensures never_falls { self.old.faults ≤ self.new.faults }
         ensures failed { result ≡ Err ListenFail.Failed → HasRisen self.old.faults self.new.faults }
     {
-        self.listens = self.listens.saturating_add(1);
-        if is_failing(&self.failing, self.listens) {
-            self.faults = self.faults.saturating_add(1);
+        if self.listens.next_fails() {
             return Err(ListenFail::Failed);
         }
         Ok(())

@@ -1,7 +1,5 @@
 //! A network in memory of gates that park links.
 ghost use Rattle.std.specs.Prelude.{◌≡◌, IfOk, length};
-ghost use Rattle.am_outside.specs.Memory.{one_more};
-ghost use Rattle.am_network.specs.Links.{raised_by};
 ghost use Rattle.am_network_resting.specs.Gates.{AreNew, IsNew};
 
 use crate::resting_gate::RestingGate;

@@ -1,6 +1,7 @@
 //! The traits of the outside: sources, sinks, files and clocks; and their objects in memory.
 #![tactic(auto)]
 
+mod calls;
 mod clock;
 mod failure;
 mod files;
@@ -8,6 +9,7 @@ mod memory;
 mod memory_files;
 mod outside;
 
+pub use calls::Calls;
 pub use clock::{Clock, StepClock};
 pub use failure::Failed;
 pub use files::{FileBytes, FileFail, Files};

@@ -1,6 +1,7 @@
 //! The calls on pending intents.
 ghost use Rattle.std.specs.Prelude.{◌≡◌, ◌≤◌, ◌<◌, ◌+◌, IfOk, IsOk, None, Some, Ok, Err, OnOk, OnErr};
 ghost use Rattle.std.specs.Option.{option_copied};
+ghost use Rattle.am_types.specs.Bounds.{greatest_number};
 ghost use Rattle.am_model.specs.Pendings.{cancel, count_of, forget_uid, get, give, is_clear, no_pendings, no_record, use_token, without_token};
 ghost use Rattle.am_pending.specs.Answers.{IsAnswer, IsChange, IsUse};
 ghost use Rattle.am_pending.specs.Records.{kept_at, lent_by, made_for, renewed_for, token_in, with_fresh, without};
@@ -115,7 +116,7 @@ impl Pending {
         flags: PendingFlags,
         steps: &mut Steps<L>,
     ) -> Result<Option<u64>, PendingFault>
-        requires { self.old.next ≤ 1125899906842624 }
+        requires { self.old.next ≤ greatest_number }
         ensures answer { IsAnswer result self.old self.new (get self.old
             (record { creator = creator; kind = kind; code = code; intent = intent; flags = flags })) }
         ensures wanting { result ≡ Err PendingFault.NoMemory
@@ -162,7 +163,7 @@ impl Pending {
 
     /// Makes a record for a key that has none, unless none is to be made.
     fn make(&mut self, key: Key, no_create: bool) -> Result<Option<u64>, PendingFault>
-        requires next { self.old.next ≤ 1125899906842624 }
+        requires next { self.old.next ≤ greatest_number }
         requires absent { token_in key self.old.records ≡ None }
         ensures answer { IsAnswer result self.old self.new (made_for self.old no_create key) }
         ensures wanting { result ≡ Err PendingFault.NoMemory → IsOk (made_for self.old no_create key) }
@@ -190,7 +191,7 @@ impl Pending {
         no_create: bool,
         steps: &mut Steps<L>,
     ) -> Result<Option<u64>, PendingFault>
-        requires next { self.old.next ≤ 1125899906842624 }
+        requires next { self.old.next ≤ greatest_number }
         requires found { token_in key self.old.records ≡ Some old }
         ensures answer { IsAnswer result self.old self.new (renewed_for self.old old no_create key) }
         ensures wanting { result ≡ Err PendingFault.NoMemory → IsOk (renewed_for self.old old no_create key) }
@@ -229,7 +230,7 @@ impl Pending {
 
     /// Adds a record without holders under the next token, which it returns. If memory runs out, nothing changes.
     fn add(&mut self, key: Key) -> Result<u64, AllocError>
-        requires next { self.old.next ≤ 1125899906842624 }
+        requires next { self.old.next ≤ greatest_number }
         requires absent { token_in key self.old.records ≡ None }
         requires few { count_of self.old.records key.creator < 1024 }
         ensures token { IfOk result (λ token. token ≡ self.old.next) }
@@ -248,7 +249,7 @@ impl Pending {
     /// Adds a record without holders under the next token, which it returns, with a copy of its key for the table of
     /// tokens. If memory runs out, nothing changes.
     fn put(&mut self, key: Key, other: Key) -> Result<u64, AllocError>
-        requires next { self.old.next ≤ 1125899906842624 }
+        requires next { self.old.next ≤ greatest_number }
         requires absent { token_in key self.old.records ≡ None }
         requires few { count_of self.old.records key.creator < 1024 }
         requires same { other ≡ key }
@@ -284,7 +285,7 @@ impl Pending {
         key: Key,
         steps: &mut Steps<L>,
     ) -> Result<u64, AllocError>
-        requires next { self.old.next ≤ 1125899906842624 }
+        requires next { self.old.next ≤ greatest_number }
         requires found { token_in key self.old.records ≡ Some old }
         ensures token { IfOk result (λ token. token ≡ self.old.next) }
         ensures ok { OnOk result (self.new ≡ with_fresh self.old (without_token self.old.records old) key) }
@@ -350,7 +351,8 @@ impl Pending {
         ensures next { self.new.next ≡ self.old.next }
         ensures steps { steps.new ≤ steps.old + 1 }
     {
-        self.records.give(token, uid, to, steps)
+        steps.tick();
+        self.records.give(token, uid, to)
     }
 
     /// What a uid gets by using a token: a mutable record takes the uid's fill-in. Nothing changes, even if the token

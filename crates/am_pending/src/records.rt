@@ -115,21 +115,14 @@ impl Records {
         kept.set_extras(extras);
     }
 
-    /// Gives a token to another uid, by its creator. Looks the record up once. If memory runs out, nothing changes.
-    pub fn give<L: Ledger>(
-        &mut self,
-        token: u64,
-        uid: u32,
-        to: u32,
-        steps: &mut Steps<L>,
-    ) -> Result<(), PendingFault>
+    /// Gives a token to another uid, by its creator. Looks the record up once, and leaves the
+    /// step to the caller. If memory runs out, nothing changes.
+    pub fn give(&mut self, token: u64, uid: u32, to: u32) -> Result<(), PendingFault>
         ensures answer { (next : ℕ) → IsChange result (before self.old next) (before self.new next)
             (give (before self.old next) token uid to) }
         ensures wanting { result ≡ Err PendingFault.NoMemory
             → (next : ℕ) → IsOk (give (before self.old next) token uid to) }
-        ensures steps { steps.new ≡ steps.old + 1 }
     {
-        steps.tick();
         let Some(kept) = self.by_token.get_mut(&token) else {
             return Err(PendingFault::NoToken);
         };

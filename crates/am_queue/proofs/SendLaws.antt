@@ -4,6 +4,7 @@ use Rattle.std.proofs.lemmas.List.Sums.{sum_by-append}
 use Rattle.std.proofs.lemmas.List.Folds.{list_any-append}
 use Rattle.std.proofs.lemmas.Bool.Decides.{nat_tests}
 use Rattle.std.specs.Prelude.{Option, Some, None, IsSome, IfSome, Ok, Err, ◌==◌, nat_le, nat_lt}
+use Rattle.am_types.specs.Bounds.{greatest_number}
 use Rattle.am_types.specs.declared.broadcast.SendFault.{SendFault}
 use Rattle.am_types.specs.declared.broadcast.SendFault.TheVariants.{Full, TooMany}
 use Rattle.am_queue.specs.Taken.{refusal_of}
@@ -34,7 +35,7 @@ numbered next bound bound' count one other more share = record {
 }
 
 pub sound_numbered : (all : Broadcasts) (normal : List Normal) (count : ℕ) → IsSound all
-    → all.next_broadcast ≤ 1125899906842624 → count ≤ 1024
+    → all.next_broadcast ≤ greatest_number → count ≤ 1024
     → IsSound (all_of normal all.foreground all.background all.results (all.next_broadcast + 1)
     (all.next_delivery + count))
 sound_numbered all normal count sound few short = record {
@@ -46,7 +47,7 @@ sound_numbered all normal count sound few short = record {
 
 -- a normal broadcast that is sent
 pub at_once_sound : {end room : ℕ} (first : ℕ) {counts counts' : List (ℕ × ℕ)} {all : Broadcasts} (sending : Sending)
-    → AreSound end room counts all → all.next_broadcast ≤ 1125899906842624
+    → AreSound end room counts all → all.next_broadcast ≤ greatest_number
     → length sending.to ≤ 1024 → ((uid : ℕ) → count_of counts' uid ≡ count_of counts uid + one_for sending.sender uid)
     → AreSound (all.next_delivery + length sending.to) room counts'
     (all_of (all.normal ++ at_once all.next_broadcast first sending ∷ []) all.foreground all.background all.results
@@ -68,7 +69,7 @@ at_once_sound first {all = all} sending sound few short counted = record {
 
 -- a number that no delivery has
 pub passed_sound : (end room : ℕ) (counts : List (ℕ × ℕ)) (all : Broadcasts) → AreSound end room counts all
-    → all.next_broadcast ≤ 1125899906842624
+    → all.next_broadcast ≤ greatest_number
     → AreSound end room counts (all_of all.normal all.foreground all.background all.results (all.next_broadcast + 1)
     all.next_delivery)
 passed_sound end room counts all sound few = record {
@@ -126,7 +127,7 @@ one_put next bound bound' one other number sending ordered more share = record {
 
 -- an ordered broadcast that is sent, in the foreground queue
 first_sent : (end room room' : ℕ) (counts counts' : List (ℕ × ℕ)) (all : Broadcasts)
-    (sending : Sending) (ordered : Ordered) → AreSound end room counts all → all.next_broadcast ≤ 1125899906842624
+    (sending : Sending) (ordered : Ordered) → AreSound end room counts all → all.next_broadcast ≤ greatest_number
     → length sending.to ≤ 1024 → ((uid : ℕ) → count_of counts' uid ≡ count_of counts uid + one_for sending.sender uid)
     → length all.foreground + length all.background + 1 ≤ room'
     → AreSound end room' counts' (with_last true (in_turn all.next_broadcast sending ordered) all)
@@ -150,7 +151,7 @@ first_sent end room room' counts counts' all sending ordered sound few short cou
 
 -- or in either queue
 last_sent : (foreground : Bool) (end room room' : ℕ) (counts counts' : List (ℕ × ℕ)) (all : Broadcasts)
-    (sending : Sending) (ordered : Ordered) → AreSound end room counts all → all.next_broadcast ≤ 1125899906842624
+    (sending : Sending) (ordered : Ordered) → AreSound end room counts all → all.next_broadcast ≤ greatest_number
     → length sending.to ≤ 1024 → ((uid : ℕ) → count_of counts' uid ≡ count_of counts uid + one_for sending.sender uid)
     → length all.foreground + length all.background + 1 ≤ room'
     → AreSound end room' counts' (with_last foreground (in_turn all.next_broadcast sending ordered) all)
@@ -166,7 +167,7 @@ pub last_put : (foreground : Bool) (end room room' : ℕ) (counts counts' : List
     → IsSome ordered
     → IfSome ordered (λ ordered. queue ≡ queue_of foreground all ++ in_turn all.next_broadcast sending ordered ∷ [])
     → results ≡ all.results
-    → AreSound end room counts all → all.next_broadcast ≤ 1125899906842624 → length sending.to ≤ 1024
+    → AreSound end room counts all → all.next_broadcast ≤ greatest_number → length sending.to ≤ 1024
     → ((uid : ℕ) → count_of counts' uid ≡ count_of counts uid + one_for sending.sender uid)
     → length all.foreground + length all.background + 1 ≤ room'
     → AreSound end room' counts' (with_queue foreground queue (record all

@@ -132,10 +132,7 @@ impl Clone for Current {
     ghost is_clone = { λ x y. y ≡ x };
 
     fn clone(&self) -> Result<Current, AllocError> {
-        Ok(Current {
-            number: self.number,
-            deadline: self.deadline,
-        })
+        copy_parts!(self, Current: ; number deadline)
     }
 }
 

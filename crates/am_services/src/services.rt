@@ -1,6 +1,7 @@
 //! All running services, in the order of their first start.
 ghost use Rattle.std.specs.Prelude.{◌≡◌, ◌+◌, ◌<◌, ◌≤◌, ◌||◌, ◌==◌, not, filter, slice_set, List as Items, [], All, IfOk, OnOk, OnErr, is_some, option_copied, vec_len};
 ghost use Rattle.std.specs.List.{position, HoldsAt};
+ghost use Rattle.am_types.specs.Bounds.{greatest_number};
 ghost use Rattle.am_model.specs.Gates.{is_privileged};
 ghost use Rattle.am_history.specs.State.{Service};
 ghost use Rattle.am_history.specs.Services.{is_service, is_too_many, running, services_of, starts_with, view_of, with_start};
@@ -97,7 +98,7 @@ impl Services {
         owner: u32,
         intent: &Intent,
     ) -> Result<u64, NoMemory>
-        requires { All (λ (service : Service). service.starts ≤ 1125899906842624) self.old }
+        requires { All (λ (service : Service). service.starts ≤ greatest_number) self.old }
         ensures starts { IfOk result (λ starts. starts ≡ starts_with (running self.old component.now)) }
         ensures started { OnOk result (self.new
             ≡ with_start self.old component.now owner intent.now (running self.old component.now)) }
@@ -172,7 +173,7 @@ fn fresh(component: &Component, owner: u32, intent: &Intent) -> Result<Running, 
 /// Starts the service at the index once more, with an intent. Returns how often it was started.
 fn start_again(services: &mut Vec<Running>, place: usize, intent: Intent) -> u64
     requires within { place < vec_len services.old }
-    requires bound { HoldsAt (λ (service : Service). service.starts ≤ 1125899906842624) services.old.items place }
+    requires bound { HoldsAt (λ (service : Service). service.starts ≤ greatest_number) services.old.items place }
     ensures { HoldsAt (λ (service : Service). (result ≡ service.starts + 1)
         × (services.new.items ≡ slice_set services.old.items place (again intent service))) services.old.items place }
 {
@@ -181,7 +182,7 @@ fn start_again(services: &mut Vec<Running>, place: usize, intent: Intent) -> u64
 
 /// Starts the service once more, with an intent. Returns how often it was started.
 fn start_once_more(service: &mut Running, intent: Intent) -> u64
-    requires { service.old.starts ≤ 1125899906842624 }
+    requires { service.old.starts ≤ greatest_number }
     ensures starts { result ≡ service.old.starts + 1 }
     ensures changed { service.new ≡ again intent service.old }
 {

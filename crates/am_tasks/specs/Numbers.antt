@@ -1,10 +1,11 @@
 -- The numbers of tasks and of instances.
 use Rattle.std.specs.Prelude.{◌≤◌, ◌+◌}
+use Rattle.am_types.specs.Bounds.{greatest_number}
 use Rattle.am_model.specs.Tasks.{Tasks}
 
 -- there are numbers left: neither of the next ones is above the last
 abbrev pub HasNumbers : Tasks → Type 0
-HasNumbers all = (all.next_task ≤ 1125899906842624) × (all.next_instance ≤ 1125899906842624)
+HasNumbers all = (all.next_task ≤ greatest_number) × (all.next_instance ≤ greatest_number)
 
 -- the next numbers rise by at most one
 abbrev pub NumbersRise : Tasks → Tasks → Type 0

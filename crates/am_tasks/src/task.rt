@@ -25,12 +25,7 @@ impl Model for Instance {
 
     ghost Value = { Kept };
 
-    ghost view = { λ i. record {
-      number = i.number;
-      component = i.component;
-      owner = i.owner;
-      intent = i.intent.value;
-    } };
+    ghost view = { λ i. record { number = i.number; component = i.component; owner = i.owner; intent = i.intent.value } };
 
     ghost invariant = { λ i. i.mark ≡ mark_of i.component };
 }
@@ -70,10 +65,5 @@ impl Model for Task {
 
     ghost Value = { Kept };
 
-    ghost view = { λ t. record {
-      number = t.number;
-      affinity = t.affinity;
-      single = t.single;
-      instances = t.instances.items;
-    } };
+    ghost view = { λ t. record { number = t.number; affinity = t.affinity; single = t.single; instances = t.instances.items } };
 }

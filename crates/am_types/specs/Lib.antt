@@ -1,3 +1,4 @@
+pub mod Bounds
 pub mod Intents
 pub mod Printing
 pub mod Reading

@@ -1,7 +1,4 @@
-ghost use Rattle.std.specs.Prelude.{◌≡◌};
-
-use crate::{Component, Intent, List, Named, Rule, Text, copy_parts};
-use std::alloc::AllocError;
+use crate::{Component, Intent, List, Named, Rule, Text};
 
 /// The result of an ordered broadcast so far.
 #[derive(Drop)]
@@ -11,27 +8,11 @@ pub struct Outcome {
     pub extras: List<Named>,
 }
 
-impl Clone for Outcome {
-    ghost is_clone = { λ x y. y ≡ x };
-
-    fn clone(&self) -> Result<Outcome, AllocError> {
-        copy_parts!(self, Outcome: option(text) list(extras); code)
-    }
-}
-
 /// How an ordered broadcast starts, and whether its sender wants the result.
 #[derive(Drop)]
 pub struct Ordered {
     pub initial: Outcome,
     pub wanted: bool,
-}
-
-impl Clone for Ordered {
-    ghost is_clone = { λ x y. y ≡ x };
-
-    fn clone(&self) -> Result<Ordered, AllocError> {
-        copy_parts!(self, Ordered: value(initial); wanted)
-    }
 }
 
 /// What a receiver answers when it finishes a delivery.
@@ -42,30 +23,11 @@ pub struct Answer {
     pub abort: bool,
 }
 
-impl Clone for Answer {
-    ghost is_clone = { λ x y. y ≡ x };
-
-    fn clone(&self) -> Result<Answer, AllocError> {
-        copy_parts!(self, Answer: option(set); abort)
-    }
-}
-
 /// Which receiver: one of a manifest, or a registered one by its number.
 #[derive(Drop)]
 pub enum Aim {
     Declared(Component),
     Registered(u64),
-}
-
-impl Clone for Aim {
-    ghost is_clone = { λ x y. y ≡ x };
-
-    fn clone(&self) -> Result<Aim, AllocError> {
-        match self {
-            Aim::Declared(value) => Ok(Aim::Declared(value.clone()?)),
-            Aim::Registered(value) => Ok(Aim::Registered(*value)),
-        }
-    }
 }
 
 /// A receiver that a broadcast was offered to.
@@ -107,14 +69,6 @@ pub enum ItemKind {
 pub struct Spot {
     pub uid: u32,
     pub aim: Aim,
-}
-
-impl Clone for Spot {
-    ghost is_clone = { λ x y. y ≡ x };
-
-    fn clone(&self) -> Result<Spot, AllocError> {
-        copy_parts!(self, Spot: value(aim); uid)
-    }
 }
 
 /// A broadcast that is to be sent.

@@ -1,7 +1,4 @@
-ghost use Rattle.std.specs.Prelude.{◌≡◌};
-
-use crate::{Decl, List, Text, copy_parts, drop_parts};
-use std::alloc::AllocError;
+use crate::{Decl, List, Text, drop_parts};
 
 /// An installed package.
 pub struct Package {
@@ -17,14 +14,6 @@ pub struct Package {
 impl Drop for Package {
     fn drop(self) {
         drop_parts!(self, Package: uid name key stopped decls);
-    }
-}
-
-impl Clone for Package {
-    ghost is_clone = { λ x y. y ≡ x };
-
-    fn clone(&self) -> Result<Package, AllocError> {
-        copy_parts!(self, Package: value(name key) list(decls); uid stopped)
     }
 }
 

@@ -1,7 +1,4 @@
-ghost use Rattle.std.specs.Prelude.{◌≡◌};
-
-use crate::{Glob, List, Mime, Text, copy_parts, drop_parts};
-use std::alloc::AllocError;
+use crate::{Glob, List, Mime, Text, drop_parts};
 
 /// A host, and the port that goes with it, as a filter lists them.
 #[derive(Drop)]
@@ -9,14 +6,6 @@ pub struct Authority {
     pub host: Text,
     /// From 0 to 99,999.
     pub port: Option<u32>,
-}
-
-impl Clone for Authority {
-    ghost is_clone = { λ x y. y ≡ x };
-
-    fn clone(&self) -> Result<Authority, AllocError> {
-        copy_parts!(self, Authority: value(host); port)
-    }
 }
 
 /// A rule on the decoded path of a URI.
@@ -30,19 +19,6 @@ pub enum PathRule {
     Suffix(Text),
     /// The path matches this pattern.
     Pattern(Glob),
-}
-
-impl Clone for PathRule {
-    ghost is_clone = { λ x y. y ≡ x };
-
-    fn clone(&self) -> Result<PathRule, AllocError> {
-        match self {
-            PathRule::Literal(value) => Ok(PathRule::Literal(value.clone()?)),
-            PathRule::Prefix(value) => Ok(PathRule::Prefix(value.clone()?)),
-            PathRule::Suffix(value) => Ok(PathRule::Suffix(value.clone()?)),
-            PathRule::Pattern(value) => Ok(PathRule::Pattern(value.clone()?)),
-        }
-    }
 }
 
 /// An intent filter: what a component, or a registered receiver, is willing to receive.
@@ -65,14 +41,6 @@ pub struct Filter {
 impl Drop for Filter {
     fn drop(self) {
         drop_parts!(self, Filter: actions categories schemes authorities paths types priority);
-    }
-}
-
-impl Clone for Filter {
-    ghost is_clone = { λ x y. y ≡ x };
-
-    fn clone(&self) -> Result<Filter, AllocError> {
-        copy_parts!(self, Filter: list(actions categories schemes authorities paths types); priority)
     }
 }
 

@@ -1,7 +1,4 @@
-ghost use Rattle.std.specs.Prelude.{◌≡◌};
-
-use crate::{Reply, Request, copy_parts, drop_parts};
-use std::alloc::AllocError;
+use crate::{Reply, Request, drop_parts};
 
 /// A stored call in the history.
 pub struct Entry {
@@ -19,14 +16,6 @@ pub struct Entry {
 impl Drop for Entry {
     fn drop(self) {
         drop_parts!(self, Entry: desk uid now weight request kept);
-    }
-}
-
-impl Clone for Entry {
-    ghost is_clone = { λ x y. y ≡ x };
-
-    fn clone(&self) -> Result<Entry, AllocError> {
-        copy_parts!(self, Entry: value(request); desk uid now weight kept)
     }
 }
 

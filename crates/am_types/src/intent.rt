@@ -1,7 +1,7 @@
 ghost use Rattle.std.specs.Prelude.{◌≡◌};
 
-use crate::{List, Mime, Text, Uri, copy_parts, drop_parts};
-use std::alloc::{AllocError, Global};
+use crate::{List, Mime, Text, Uri, drop_parts};
+use std::alloc::Global;
 
 /// The name of an app component.
 #[derive(PartialEq, Eq, Hash)]
@@ -18,14 +18,6 @@ impl Drop for Component {
     }
 }
 
-impl Clone for Component {
-    ghost is_clone = { λ x y. y ≡ x };
-
-    fn clone(&self) -> Result<Component, AllocError> {
-        copy_parts!(self, Component: value(package class))
-    }
-}
-
 /// The value of an extra.
 #[derive(Drop)]
 pub enum Extra {
@@ -34,31 +26,11 @@ pub enum Extra {
     Truth(bool),
 }
 
-impl Clone for Extra {
-    ghost is_clone = { λ x y. y ≡ x };
-
-    fn clone(&self) -> Result<Extra, AllocError> {
-        match self {
-            Extra::Word(value) => Ok(Extra::Word(value.clone()?)),
-            Extra::Whole(value) => Ok(Extra::Whole(*value)),
-            Extra::Truth(value) => Ok(Extra::Truth(*value)),
-        }
-    }
-}
-
 /// An extra under its key.
 #[derive(Drop)]
 pub struct Named {
     pub key: Text,
     pub value: Extra,
-}
-
-impl Clone for Named {
-    ghost is_clone = { λ x y. y ≡ x };
-
-    fn clone(&self) -> Result<Named, AllocError> {
-        copy_parts!(self, Named: value(key value))
-    }
 }
 
 /// The flags of an intent.
@@ -135,13 +107,5 @@ impl Intent {
             extras,
         } = self;
         extras
-    }
-}
-
-impl Clone for Intent {
-    ghost is_clone = { λ x y. y ≡ x };
-
-    fn clone(&self) -> Result<Intent, AllocError> {
-        copy_parts!(self, Intent: option(action uri mime identifier package component) list(categories extras); flags)
     }
 }

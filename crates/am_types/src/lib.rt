@@ -3,6 +3,7 @@
 
 mod account;
 mod broadcast;
+mod clones;
 pub mod copies;
 mod device;
 mod failure;

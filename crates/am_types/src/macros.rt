@@ -21,3 +21,15 @@ macro_rules! copy_parts {
         })
     };
 }
+
+/// A copy of an enum's value whose variants hold one value each: the body of a `clone` that gives an equal value. The
+/// variants are listed as the fields are in `copy_parts!`, as in `copy_variants!(self, Extra: value(Word); Whole Truth)`.
+#[macro_export]
+macro_rules! copy_variants {
+    ($value:ident, $kind:ident: $($how:ident($($variant:ident)*))* $(; $($same:ident)*)?) => {
+        match $value {
+            $($($kind::$variant(held) => Ok($kind::$variant($crate::copies::$how(held)?)),)*)*
+            $($($kind::$same(held) => Ok($kind::$same(*held)),)*)?
+        }
+    };
+}

@@ -1,7 +1,4 @@
-ghost use Rattle.std.specs.Prelude.{◌≡◌};
-
-use crate::{Filter, List, Text, copy_parts, drop_parts};
-use std::alloc::AllocError;
+use crate::{Filter, List, Text, drop_parts};
 use std::fmt;
 
 /// The kind of a component.
@@ -42,14 +39,6 @@ pub struct Decl {
 impl Drop for Decl {
     fn drop(self) {
         drop_parts!(self, Decl: kind class exported enabled permission mode affinity filters);
-    }
-}
-
-impl Clone for Decl {
-    ghost is_clone = { λ x y. y ≡ x };
-
-    fn clone(&self) -> Result<Decl, AllocError> {
-        copy_parts!(self, Decl: value(class affinity) option(permission) list(filters); kind exported enabled mode)
     }
 }
 

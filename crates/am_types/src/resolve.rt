@@ -1,7 +1,4 @@
-ghost use Rattle.std.specs.Prelude.{◌≡◌};
-
-use crate::{Component, Filter, List, Text, copy_parts, drop_parts};
-use std::alloc::AllocError;
+use crate::{Component, Filter, List, Text, drop_parts};
 
 /// A component that an intent finds.
 #[derive(Drop)]
@@ -11,14 +8,6 @@ pub struct Hit {
     /// Its position among the components of its kind in the manifest, from 0.
     pub place: u32,
     pub priority: i32,
-}
-
-impl Clone for Hit {
-    ghost is_clone = { λ x y. y ≡ x };
-
-    fn clone(&self) -> Result<Hit, AllocError> {
-        copy_parts!(self, Hit: value(component); uid place priority)
-    }
 }
 
 /// Which component a start of an activity reaches.

@@ -1,7 +1,4 @@
-ghost use Rattle.std.specs.Prelude.{◌≡◌};
-
-use crate::{Text, copy_parts, drop_parts};
-use std::alloc::AllocError;
+use crate::{Text, drop_parts};
 
 /// A URI with its parts.
 pub struct Uri {
@@ -23,14 +20,6 @@ impl Drop for Uri {
     }
 }
 
-impl Clone for Uri {
-    ghost is_clone = { λ x y. y ≡ x };
-
-    fn clone(&self) -> Result<Uri, AllocError> {
-        copy_parts!(self, Uri: value(text scheme path) option(host); port)
-    }
-}
-
 /// A MIME type.
 #[derive(Drop, PartialEq, Eq, Hash)]
 pub struct Mime {
@@ -38,14 +27,6 @@ pub struct Mime {
     pub main: Text,
     /// The part after the slash.
     pub sub: Text,
-}
-
-impl Clone for Mime {
-    ghost is_clone = { λ x y. y ≡ x };
-
-    fn clone(&self) -> Result<Mime, AllocError> {
-        copy_parts!(self, Mime: value(main sub))
-    }
 }
 
 /// Why a text isn't a URI: the first reason that applies, its length first, then from left to right.

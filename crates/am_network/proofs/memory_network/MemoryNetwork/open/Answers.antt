@@ -1,5 +1,5 @@
 use Rattle.std.proofs.Common.{◌≡◌, ◌++◌, drop, length, arith, ap, ◌∙◌}
-use Rattle.am_network.specs.Memory.{NetworkInMemory, gates_of, listening_again}
+use Rattle.am_network.specs.Memory.{NetworkInMemory, gates_of, listening_again, new_network}
 use Rattle.am_network.proofs.Opening.{rooms_are}
 use Rattle.am_network.proofs.memory_network.MemoryNetwork.open.Goals as goal
 
@@ -24,14 +24,12 @@ returns-clause-exact c =
     let count = (rooms_are c.args.gates coming _ _ c.from_vec.ensures.items c.in_ok-rooms.ensures).1 in
     let rest : c.open_gates.new.coming.items ≡ drop c.args.gates coming = c.open_gates.ensures.rest
     ∙ ap (λ n. drop n coming) count in
-    let seen : _ → _ → NetworkInMemory = λ left released. record {
-      coming = left;
+    let seen : _ → _ → NetworkInMemory = λ left released. record (new_network left inside.listens.failing) {
       port = c.args.port;
       gates = c.args.gates;
       released = released;
-      failing = inside.failing;
-      listens = inside.listens;
-      faults = inside.faults;
+      listens = inside.listens.made;
+      faults = inside.listens.faults;
       gate_faults = inside.gate_faults;
     } in
     ap (λ left. seen left c.in_ok-self-inside.field-0.items) rest
