@@ -1,5 +1,6 @@
 -- The data rows of a filter, merged.
-use Rattle.std.specs.Prelude.{List, [], ◌∷◌, ◌++◌, Option, Some, None, option_map}
+use Rattle.std.specs.Prelude.{ℕ, ℤ, List, [], ◌∷◌, ◌++◌, Option, Some, None, option_map}
+use Rattle.am_types.specs.declared.filter.Filter.{Filter}
 use Rattle.am_types.specs.declared.filter.PathRule.{PathRule}
 use Rattle.am_types.specs.declared.filter.PathRule.TheVariants.{Literal, Prefix, Suffix, Pattern}
 use Rattle.am_filter.specs.declared.rows.Merging.{Merging}
@@ -33,6 +34,18 @@ with_row rows row =
 -- no rows
 abbrev pub no_rows : DataRows
 no_rows = record { schemes = []; authorities = []; paths = []; types = [] }
+
+-- a filter of these actions, categories and rows
+abbrev pub filter_with : List (List ℕ) → List (List ℕ) → DataRows → ℤ → Filter
+filter_with actions categories rows priority = record {
+  actions = actions;
+  categories = categories;
+  schemes = rows.schemes;
+  authorities = rows.authorities;
+  paths = rows.paths;
+  types = rows.types;
+  priority = priority;
+}
 
 -- rows that are being merged, as the rows that they represent
 abbrev pub merged : Merging → DataRows

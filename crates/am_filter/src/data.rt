@@ -94,14 +94,14 @@ fn passes_uri(filter: &Filter, uri: &Uri) -> Result<(), Why>
 fn passes_authorities(authorities: &List<Authority>, uri: &Uri) -> bool
     ensures { result ≡ passes_authorities authorities.now uri.now }
 {
-    authorities.as_slice().is_empty() || some_authority_passes(authorities, uri)
+    let authorities = authorities.as_slice();
+    authorities.is_empty() || some_authority_passes(authorities, uri)
 }
 
-fn some_authority_passes(authorities: &List<Authority>, uri: &Uri) -> bool
+fn some_authority_passes(authorities: &[Authority], uri: &Uri) -> bool
     ensures { result ≡ list_any (λ authority. passes_authority authority uri.now.host uri.now.port) authorities.now }
 {
     authorities
-        .as_slice()
         .iter()
         .any(|authority| passes_authority(authority, uri))
 }

@@ -1,5 +1,6 @@
 -- Worked examples of calls on a small device.
 use Rattle.std.specs.Prelude.{◌≡◌, ℕ, ℤ, pos, negsuc, true, false, codes, List, [], ◌∷◌, Option, Some, None, refl}
+use Rattle.am_types.specs.Bounds.{latest_moment}
 use Rattle.am_types.specs.declared.account.Standing.TheVariants.{Tied, Refused, Reached}
 use Rattle.am_types.specs.declared.device.Package.{Package}
 use Rattle.am_types.specs.declared.intent.Intent.{Intent}
@@ -10,7 +11,6 @@ use Rattle.am_types.specs.declared.broadcast.Aim.TheVariants.{Declared, Register
 use Rattle.am_types.specs.declared.broadcast.Receiving.{Receiving}
 use Rattle.am_types.specs.declared.broadcast.ItemKind.TheVariants as items
 use Rattle.am_types.specs.declared.broadcast.Ordered.{Ordered}
-use Rattle.am_types.specs.declared.pending.PendingFlags.{PendingFlags}
 use Rattle.am_types.specs.declared.request.Request.TheVariants as asks
 use Rattle.am_types.specs.declared.reply.Reply.TheVariants as replies
 use Rattle.am_types.specs.declared.rule.Limit.TheVariants as limits
@@ -20,6 +20,7 @@ use Rattle.am_types.specs.Intents.{no_flags}
 use Rattle.am_model.specs.Placement.{place}
 use Rattle.am_model.specs.Sending as sending
 use Rattle.am_model.specs.Pendings as pendings
+use Rattle.am_model.proofs.Samples.{mutable, immutable}
 use Rattle.am_history.specs.State.{opening}
 use Rattle.am_history.specs.Activities.{start}
 use Rattle.am_history.specs.Services.{start_service, stop_service}
@@ -30,13 +31,13 @@ use Rattle.am_history.specs.Explaining.{explain}
 use Rattle.am_history.specs.Steps.{act, advance}
 use Rattle.am_history.proofs.Samples.{listing, component, app, device, act_on, entry, replies_of, outcome, plainly}
 
--- two apps with an activity each for the same action, of priorities 0 and -5
-abbrev two_apps : List Package
-two_apps =
+-- two apps with an activity each for the same action, of those priorities
+abbrev two_of : ℤ → ℤ → List Package
+two_of first second =
     app 10000 (codes "com.one") (codes "k1") (component Activity (codes "com.one.Main") None
-    (listing (codes "x.A") (pos 0)) ∷ [])
+    (listing (codes "x.A") first) ∷ [])
     ∷ app 10001 (codes "com.two") (codes "k2") (component Activity (codes "com.two.Main") None
-    (listing (codes "x.A") (negsuc 4)) ∷ [])
+    (listing (codes "x.A") second) ∷ [])
     ∷ []
 
 -- an action, in a new task
@@ -45,19 +46,14 @@ in_new_task action = act_on action (record no_flags { new_task = true })
 
 -- a start reaches the activity of greatest priority
 pub a_start_is_placed :
-    (act (opening (device two_apps)) [] 10001 (asks.Start (in_new_task (codes "x.A")) None)).0
+    (act (opening (device (two_of (pos 0) (negsuc 4)))) [] 10001 (asks.Start (in_new_task (codes "x.A")) None)).0
     ≡ replies.Placed (record { how = Fresh; task = 1; instance = 1 })
 unfolding act start place
 a_start_is_placed = refl
 
--- the same two apps, with priorities above 0, which both count as 0
+-- the two apps with priorities above 0, which both count as 0
 abbrev two_equals : List Package
-two_equals =
-    app 10000 (codes "com.one") (codes "k1") (component Activity (codes "com.one.Main") None
-    (listing (codes "x.A") (pos 2147483647)) ∷ [])
-    ∷ app 10001 (codes "com.two") (codes "k2") (component Activity (codes "com.two.Main") None
-    (listing (codes "x.A") (pos 5)) ∷ [])
-    ∷ []
+two_equals = two_of (pos 2147483647) (pos 5)
 
 -- among equals the user must choose
 pub a_tie_is_a_choice :
@@ -319,30 +315,18 @@ pub a_registered_receiver :
 unfolding act register unregister send sending.send
 a_registered_receiver = refl
 
--- the flags of a pending intent: one use, one of immutable and mutable
-abbrev lasting : PendingFlags
-lasting = record {
-  one_shot = false;
-  no_create = false;
-  cancel_current = false;
-  update_current = false;
-  immutable =
-      false;
-  mutable = true;
-}
-
 -- a token is its creator's and those' to whom it was given; one that is for one use is used up by it
 pub a_token_is_lent :
     replies_of service_app
-    (entry 10000 0 (asks.PendingGet Service (pos 0) to_one lasting)
+    (entry 10000 0 (asks.PendingGet Service (pos 0) to_one mutable)
     ∷ entry 10001 0 (asks.PendingSend 1 None)
     ∷ entry 10000 0 (asks.PendingGive 1 (codes "com.two"))
     ∷ entry 10001 0 (asks.PendingSend 1 None)
-    ∷ entry 10000 0 (asks.PendingGet Service (pos 0) to_one (record lasting { one_shot = true }))
+    ∷ entry 10000 0 (asks.PendingGet Service (pos 0) to_one (record mutable { one_shot = true }))
     ∷ entry 10000 0 (asks.PendingSend 2 None)
     ∷ entry 10000 0 (asks.PendingSend 2 None)
     ∷ entry 10000 0 (asks.PendingSend 99 None)
-    ∷ entry 10000 0 (asks.PendingGet Service (pos 0) to_one (record lasting { immutable = true })) ∷ [])
+    ∷ entry 10000 0 (asks.PendingGet Service (pos 0) to_one (record mutable { immutable = true })) ∷ [])
     ≡ replies.Token (Some 1)
     ∷ replies.Refused rules.NotHolder
     ∷ replies.Plain
@@ -361,14 +345,7 @@ pub a_refused_use_counts :
     replies_of hidden_app
     (entry 10000 0 (asks.PendingGet Activity (pos 0) (naming (record
     { «package» = codes "com.one"; class = codes "com.one.None" }))
-    (record {
-      one_shot = true;
-      no_create = false;
-      cancel_current = false;
-      update_current = false;
-      immutable = true;
-      mutable = false;
-    }))
+    (record immutable { one_shot = true }))
     ∷ entry 10000 0 (asks.PendingSend 1 None)
     ∷ entry 10000 0 (asks.PendingSend 1 None) ∷ [])
     ≡ replies.Token (Some 1) ∷ replies.Refused rules.NoComponent ∷ replies.Refused rules.Canceled ∷ []
@@ -425,10 +402,10 @@ the_moment_moves = refl
 pub the_moment_stays :
     replies_of one_receiver
     (entry 10000 1 (asks.Advance 5)
-    ∷ entry 1000 1 (asks.Advance 4611686018427387904)
+    ∷ entry 1000 1 (asks.Advance latest_moment)
     ∷ entry 0 1 (asks.Advance 4611686018427387903) ∷ [])
     ≡ replies.Refused rules.AdminOnly
     ∷ replies.Refused (rules.OverLimit limits.Moment)
-    ∷ replies.Advanced None 4611686018427387904 ∷ []
+    ∷ replies.Advanced None latest_moment ∷ []
 unfolding act advance
 the_moment_stays = refl

@@ -1,5 +1,6 @@
 -- How far the numbers of a state have come.
 use Rattle.std.specs.Prelude.{ℕ, ◌≤◌, ◌<◌, All}
+use Rattle.am_types.specs.Bounds.{greatest_number}
 use Rattle.am_types.specs.declared.resolve.Registration.{Registration}
 use Rattle.am_history.specs.State.{State, Service}
 
@@ -16,4 +17,4 @@ pub record HasNumbersTo (n : ℕ) (state : State) : Type 0 where
 
 -- there are numbers left for a call: none is greater than 2^50
 abbrev pub HasNumbers : State → Type 0
-HasNumbers state = HasNumbersTo 1125899906842624 state
+HasNumbers state = HasNumbersTo greatest_number state

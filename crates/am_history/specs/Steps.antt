@@ -1,5 +1,6 @@
 -- What one call does to the state, and its answer.
 use Rattle.std.specs.Prelude.{ℕ, ◌+◌, Bool, true, false, List, length, max, min, nat_le, drop, take, is_none, if◌then◌else◌}
+use Rattle.am_types.specs.Bounds.{latest_moment}
 use Rattle.am_types.specs.declared.broadcast.Answer.{Answer}
 use Rattle.am_types.specs.declared.history.Entry.{Entry}
 use Rattle.am_types.specs.declared.request.Request.{Request}
@@ -34,7 +35,7 @@ pub record Call : Type 0 where
 
 -- the moment of a call: never before the last one, and 2^62 at most
 abbrev pub moment_after : State → ℕ → ℕ
-moment_after state now = max state.moment (min now 4611686018427387904)
+moment_after state now = max state.moment (min now latest_moment)
 
 -- some deadline is at the moment of a call or before it
 abbrev pub due : State → ℕ → Bool
@@ -56,7 +57,7 @@ advanced state = (replies.Advanced (broadcasts.earliest_deadline state.broadcast
 -- the moment moves so many milliseconds ahead, to 2^62 at most, and the deadlines that are due then are handled
 unfoldable pub advance : State → ℕ → Reply × State
 advance state by =
-    if nat_le (state.moment + by) 4611686018427387904
+    if nat_le (state.moment + by) latest_moment
     then advanced (at_moment state (state.moment + by))
     else refused state (OverLimit limits.Moment)
 

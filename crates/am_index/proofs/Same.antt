@@ -129,14 +129,9 @@ both false b e = absurd (false≢true e)
 -- kinds are compared as the definition says
 kinds_are : (a b : Kind) → kinds.ghosts.eq a b ≡ is_kind a b
 kinds_are Activity Activity = refl
-kinds_are Activity Service = refl
-kinds_are Activity Receiver = refl
-kinds_are Service Activity = refl
 kinds_are Service Service = refl
-kinds_are Service Receiver = refl
-kinds_are Receiver Activity = refl
-kinds_are Receiver Service = refl
 kinds_are Receiver Receiver = refl
+kinds_are _ _ = refl
 
 -- keys are the same if their parts are
 pub same_parts : (a b : Key) → same_key a b ≡ (is_kind a.kind b.kind &&

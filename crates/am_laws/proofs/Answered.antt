@@ -1,5 +1,5 @@
 -- What holds of the state that an answer leaves, by the form of the answer.
-use Rattle.std.proofs.Common.{◌≡◌, ℕ, Bool, true, false, cond, List, refl}
+use Rattle.std.proofs.Common.{◌≡◌, ℕ, Bool, cond, List, refl}
 use Rattle.std.specs.Prelude.{Option, Some, None}
 use Rattle.am_types.specs.declared.device.Package.{Package}
 use Rattle.am_types.specs.declared.reply.Reply.{Reply}
@@ -9,12 +9,12 @@ use Rattle.am_model.specs.Boards.{package_named}
 use Rattle.am_model.specs.Gates.{is_privileged}
 use Rattle.am_history.specs.State.{State}
 use Rattle.am_history.specs.Answers.{refused, unless_refused, for_admin, for_found, for_package}
+use Rattle.am_laws.proofs.Tests.{either_holds}
 
 -- either of two answers
 pub either_leaves : (P : State → Type 0) (test : Bool) (first second : Reply × State) → P first.1 → P second.1
     → P (cond test first second).1
-either_leaves P true first second one other = one
-either_leaves P false first second one other = other
+either_leaves P = either_holds (λ next. P next.1)
 
 -- an answer that a rule may refuse
 pub unless_leaves : (P : State → Type 0) (state : State) (rule : Option Rule) (next : Reply × State) → P state

@@ -1,15 +1,12 @@
 -- What starts, sendings, uses of tokens and ends of deliveries leave, by cases: the state as it was, or what was
 -- admitted.
-use Rattle.std.proofs.Common.{◌≡◌, ℕ, Bool, true, false, not, ◌&&◌, cond, List, [], ◌∷◌, refl}
+use Rattle.std.proofs.Common.{◌≡◌, ℕ, Bool, true, false, not, ◌&&◌, cond, List, refl}
 use Rattle.std.specs.Prelude.{Option, Some, None, Result, Ok, Err, ◌==◌, nat_le, nat_lt, length}
 use Rattle.std.proofs.lemmas.Bool.{eqb-true}
 use Rattle.am_types.specs.declared.intent.Intent.{Intent}
 use Rattle.am_types.specs.declared.intent.Component.{Component}
 use Rattle.am_types.specs.declared.manifest.Decl.{Decl}
 use Rattle.am_types.specs.declared.manifest.Kind.TheVariants as kinds
-use Rattle.am_types.specs.declared.resolve.Hit.{Hit}
-use Rattle.am_types.specs.declared.resolve.Target.{Target}
-use Rattle.am_types.specs.declared.resolve.Target.TheVariants.{Nothing, One, Choose}
 use Rattle.am_types.specs.declared.broadcast.Answer.{Answer}
 use Rattle.am_types.specs.declared.broadcast.FinishFault.{FinishFault}
 use Rattle.am_types.specs.declared.broadcast.FinishFault.TheVariants as ends
@@ -23,14 +20,10 @@ use Rattle.am_types.specs.declared.pending.Used.{Used}
 use Rattle.am_types.specs.declared.reply.Reply.{Reply}
 use Rattle.am_types.specs.declared.rule.Rule.{Rule}
 use Rattle.am_types.specs.declared.rule.Rule.TheVariants as rules
-use Rattle.am_types.specs.declared.rule.Limit.TheVariants as limits
 use Rattle.am_types.specs.declared.task.Landed.{Landed}
-use Rattle.am_types.specs.declared.task.PlaceFault.{PlaceFault}
 use Rattle.am_model.specs.Boards.{with_stopped}
-use Rattle.am_model.specs.Candidates.{hits}
-use Rattle.am_model.specs.Gates.{Verdict, Admit, NotExported, NeedsPermission, verdict, is_privileged}
-use Rattle.am_model.specs.Receivers.{declared, rule_of, or_rule, receivers, is_protected}
-use Rattle.am_model.specs.Targets.{target}
+use Rattle.am_model.specs.Gates.{Admit, verdict, is_privileged}
+use Rattle.am_model.specs.Receivers.{declared, receivers, is_protected}
 use Rattle.am_model.specs.Tasks.{Tasks}
 use Rattle.am_model.specs.Placement.{place}
 use Rattle.am_model.specs.Broadcasts.{Broadcasts}
@@ -39,32 +32,14 @@ use Rattle.am_model.specs.Sending.{Held, held, live, with_sent, finished, finish
 use Rattle.am_model.specs.Pendings as pendings
 use Rattle.am_model.specs.Pendings.{Pendings}
 use Rattle.am_history.specs.State.{State, with_packages}
-use Rattle.am_history.specs.Answers.{refused, done, unless_refused}
-use Rattle.am_history.specs.Activities as activities
-use Rattle.am_history.specs.Activities.{start_call, after_place, source_rule, caller_rule, start_target, start}
-use Rattle.am_history.specs.Services as services
-use Rattle.am_history.specs.Services.{running, is_too_many, with_start, started, gate_rule, start_first, start_service}
+use Rattle.am_history.specs.Answers.{refused, done}
+use Rattle.am_history.specs.Activities.{start_call, start}
+use Rattle.am_history.specs.Services.{running, with_start, start_service}
 use Rattle.am_history.specs.BroadcastCalls.{sending_of, after_send, send_to, send, after_finish, finish}
 use Rattle.am_history.specs.PendingCalls.{lend, left_of, used_up, after_use, pending_send}
-use Rattle.am_laws.proofs.Answered.{either_leaves, unless_leaves}
+use Rattle.am_laws.proofs.Answered.{either_leaves}
 use Rattle.am_laws.proofs.NextTokens.{cancel_keeps, used_up_keeps}
-
--- a gate without a rule admits
-pub admitted_by : (found : Verdict) → rule_of found ≡ None → found ≡ Admit
-admitted_by Admit none = refl
-admitted_by NotExported none = absurd cc
-admitted_by (NeedsPermission permission) none = absurd cc
-
--- where neither of two rules is there, the second isn't
-pub second_none : (first second : Option Rule) → or_rule first second ≡ None → second ≡ None
-second_none None second none = none
-second_none (Some rule) second none = absurd cc
-
--- an answer that a rule may refuse, and what follows without it
-unless_cases : (P : State → Type 0) (state : State) (rule : Option Rule) (next : Reply × State) → P state
-    → (rule ≡ None → P next.1) → P (unless_refused state rule next).1
-unless_cases P state None next here after = after refl
-unless_cases P state (Some rule) next here after = here
+use Rattle.am_laws.proofs.Starts.{StartComes, start_refused, start_left, start_lands, start_comes, ServiceComes, service_refused, service_runs, service_comes}
 
 module _ (P : State → Type 0) (state : State) (caller : ℕ) (intent : Intent) (here : P state) where
   -- what holds after every placement that the gate admits holds after a start
@@ -75,39 +50,12 @@ module _ (P : State → Type 0) (state : State) (caller : ℕ) (intent : Intent)
       → place state.tasks (start_call caller intent source component found) ≡ Ok landed
       → P (record (with_packages state (with_stopped state.board.packages found.0 false)) { tasks = landed.1 }))
       → P (start state caller intent source).1
-  unfolding start
-  start_cases source after = by intent.component
+  start_cases source after = by (start state caller intent source) (start_comes state caller intent source)
     where
-      placed : (component : Component) (found : ℕ × Decl) (result : Result (Landed × Tasks) PlaceFault)
-          → declared state.board.packages kinds.Activity component ≡ Some found
-          → verdict state.board.grants caller found.0 found.1.exported found.1.permission ≡ Admit
-          → place state.tasks (start_call caller intent source component found) ≡ result
-          → P (after_place state found.0 result).1
-      placed component found (Err fault) is admits done = here
-      placed component found (Ok landed) is admits done = after component found landed is admits done
-
-      maybe : (component : Component) (rule : Rule) (found : Option (ℕ × Decl))
-          → declared state.board.packages kinds.Activity component ≡ found
-          → P (activities.start_maybe state caller intent source component rule found).1
-      maybe component rule None is = here
-      maybe component rule (Some found) is =
-          let gate = verdict state.board.grants caller found.0 found.1.exported found.1.permission in
-          let call = start_call caller intent source component found in
-          unless_cases P state (or_rule (source_rule state.tasks source) (rule_of gate))
-          (after_place state found.0 (place state.tasks call)) here
-          (λ none. placed component found (place state.tasks call) is
-          (admitted_by gate (second_none (source_rule state.tasks source) (rule_of gate) none)) refl)
-
-      targeted : (found : Target) → P (start_target state caller intent source found).1
-      targeted Nothing = here
-      targeted (One hit) = maybe hit.component rules.NoActivity (declared state.board.packages kinds.Activity
-          hit.component) refl
-      targeted (Choose found) = unless_leaves P state (caller_rule state.tasks caller intent source) _ here here
-
-      by : (aim : Option Component) → P (activities.start_aimed state caller intent source aim).1
-      by (Some component) = maybe component rules.NoComponent (declared state.board.packages kinds.Activity component)
-          refl
-      by None = targeted (target state.board intent)
+      by : (next : Reply × State) → StartComes state caller intent source next → P next.1
+      by next (start_refused rule other) = here
+      by next (start_left choice) = here
+      by next (start_lands component found landed is admits lands) = after component found landed is admits lands
 
   -- and so for services
   pub service_cases : ((component : Component) (found : ℕ × Decl) → declared state.board.packages kinds.Service
@@ -117,31 +65,11 @@ module _ (P : State → Type 0) (state : State) (caller : ℕ) (intent : Intent)
         services = with_start state.services component found.0 intent (running state.services component);
       }))
       → P (start_service state caller intent).1
-  unfolding start_service
-  service_cases after = by intent.component intent.«package»
+  service_cases after = by (start_service state caller intent) (service_comes state caller intent)
     where
-      maybe : (component : Component) (rule : Rule) (found : Option (ℕ × Decl))
-          → declared state.board.packages kinds.Service component ≡ found
-          → P (services.start_maybe state caller intent component rule found).1
-      maybe component rule None is = here
-      maybe component rule (Some found) is =
-          let gate = verdict state.board.grants caller found.0 found.1.exported found.1.permission in
-          unless_cases P state (rule_of gate) (started state intent component found.0
-          (running state.services component)) here
-          (λ none. either_leaves P (is_too_many state.services (running state.services component))
-          (refused state (rules.OverLimit limits.Services)) _ here
-          (after component found is (admitted_by gate none)))
-
-      first : (found : List Hit) → P (start_first state caller intent found).1
-      first [] = here
-      first (hit ∷ others) = maybe hit.component rules.NoService (declared state.board.packages kinds.Service
-          hit.component) refl
-
-      by : (aim : Option Component) (name : Option (List ℕ)) → P (services.start_aimed state caller intent aim name).1
-      by (Some component) name = maybe component rules.NoComponent
-          (declared state.board.packages kinds.Service component) refl
-      by None (Some name) = first (hits state.board.packages kinds.Service intent false)
-      by None None = here
+      by : (next : Reply × State) → ServiceComes state caller intent next → P next.1
+      by next (service_refused rule other) = here
+      by next (service_runs component found is admits) = after component found is admits
 
   -- what holds after every broadcast whose action isn't kept from its sender holds after a sending
   pub send_cases : (permission : Option (List ℕ)) (ordered : Option Ordered)

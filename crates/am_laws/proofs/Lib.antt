@@ -1,8 +1,9 @@
-pub mod Answered
 pub mod Tests
+pub mod Answered
 pub mod Packages
 pub mod NextBroadcasts
 pub mod NextTokens
+pub mod Starts
 pub mod Cases
 pub mod Requests
 pub mod Histories

@@ -1,5 +1,6 @@
 -- The last moment stays within its bound.
-use Rattle.std.proofs.Common.{ℕ, ◌+◌, ◌≤◌, List, [], ◌∷◌, ◌++◌, sym, subst, arith}
+use Rattle.std.proofs.Common.{ℕ, ◌≤◌, List, [], ◌∷◌, ◌++◌, sym, subst, arith}
+use Rattle.am_types.specs.Bounds.{latest_moment}
 use Rattle.am_types.specs.declared.history.Entry.{Entry}
 use Rattle.am_types.specs.declared.request.Request.{Request}
 use Rattle.am_model.specs.Tasks.{Tasks}
@@ -14,12 +15,12 @@ use Rattle.am_laws.proofs.Requests.{Steps, step_leaves, task_steps}
 
 -- the last moment of a state is at most 2^62
 abbrev HasMoment : State → Type 0
-HasMoment state = state.moment ≤ 4611686018427387904
+HasMoment state = state.moment ≤ latest_moment
 
 -- a step of a request leaves it, or moves it within its bound
 moment_stays : (state : State) (caller : ℕ) (request : Request) → HasMoment state → Steps HasMoment state caller request
 moment_stays state caller request here =
-    task_steps (λ (tasks : Tasks) (moment : ℕ). moment ≤ 4611686018427387904) state caller request here
+    task_steps (λ (tasks : Tasks) (moment : ℕ). moment ≤ latest_moment) state caller request here
     (λ uid intent source component found landed did is admits placed. here) (λ keeps. here) (λ by fits. fits)
 
 -- an entry leaves it within its bound
@@ -28,12 +29,12 @@ moment_more : (opening : State) (before : List Entry) (entry : Entry) → HasMom
 moment_more opening before entry here = step_leaves HasMoment (replay opening before) before entry due
     (λ kept. moment_stays _ entry.uid entry.request due)
   where
-    due : moment_after (replay opening before) entry.now ≤ 4611686018427387904
+    due : moment_after (replay opening before) entry.now ≤ latest_moment
     due = omega arith
 
 -- so it is at most 2^62 after every history
 pub moments_fit : (origin : Origin) (history : List Entry) → (replay (opening_of origin) history).moment ≤
-    4611686018427387904
+    latest_moment
 moments_fit origin history =
     by_history (opening_of origin) (λ h state. HasMoment state) (opening_leaves HasMoment
     (λ state board uid same one. one) origin (omega arith)) (moment_more (opening_of origin)) history

@@ -5,7 +5,6 @@ use Rattle.am_types.specs.declared.broadcast.Answer.{Answer}
 use Rattle.am_types.specs.declared.broadcast.Ordered.{Ordered}
 use Rattle.am_types.specs.declared.broadcast.Sending.{Sending}
 use Rattle.am_types.specs.declared.broadcast.Spot.{Spot}
-use Rattle.am_model.specs.Broadcasts as broadcasts
 use Rattle.am_model.specs.Broadcasts.{Broadcasts, InTurn, queue_of, with_queue, settle, settle_both, late_head, is_head_due, expired_queue, expired}
 use Rattle.am_model.specs.Sending as sending
 use Rattle.am_model.specs.Sending.{in_turn, with_sent, finished, with_answered, with_unwanted, without_struck}

@@ -1,5 +1,5 @@
 -- The next token, whatever is done with pending intents.
-use Rattle.std.proofs.Common.{◌≡◌, ℕ, ◌+◌, ◌≤◌, Bool, true, false, not, cond, List, [], ◌∷◌, ◌++◌, map, refl, arith}
+use Rattle.std.proofs.Common.{◌≡◌, ℕ, ◌+◌, ◌≤◌, not, cond, List, [], ◌∷◌, ◌++◌, map, refl, arith}
 use Rattle.std.specs.Prelude.{Option, Some, None, Result, Ok, Err, ◌==◌, nat_le, length}
 use Rattle.std.specs.List.{find}
 use Rattle.am_types.specs.declared.pending.PendingFault.{PendingFault}
@@ -7,25 +7,20 @@ use Rattle.am_types.specs.declared.pending.PendingFault.TheVariants.{Mutability,
 use Rattle.am_model.specs.Pendings as pendings
 use Rattle.am_model.specs.Pendings.{Pending, Pendings, Asked, has_key, is_clear, count_of, fresh, made, found, updated, without_token, with_holder, record_of, canceled, given, is_holder}
 use Rattle.am_history.specs.PendingCalls.{left_of}
+use Rattle.am_laws.proofs.Tests.{either_holds}
 
 -- the next token, if there are records, is at most that
 abbrev pub GotTo : ℕ → Result (Option ℕ × Pendings) PendingFault → Type 0
 GotTo n (Ok got) = got.1.next ≤ n
 GotTo n (Err fault) = Unit {0}
 
--- either of two
-either_got : (n : ℕ) (test : Bool) (first second : Result (Option ℕ × Pendings) PendingFault) → GotTo n first
-    → GotTo n second → GotTo n (cond test first second)
-either_got n true first second one other = one
-either_got n false first second one other = other
-
 -- a record that may be made
 made_got : (n : ℕ) (all : Pendings) (stay : List Pending) (asked : Asked) → all.next ≤ n
     → GotTo (n + 1) (made all stay asked)
 made_got n all stay asked few =
-    either_got (n + 1) asked.flags.no_create (Ok (None, record all { records = stay }))
+    either_holds (GotTo (n + 1)) asked.flags.no_create (Ok (None, record all { records = stay }))
     (cond (nat_le 1024 (count_of stay asked.creator)) (Err Full) one) (omega arith)
-    (either_got (n + 1) (nat_le 1024 (count_of stay asked.creator)) (Err Full) one tt (omega arith))
+    (either_holds (GotTo (n + 1)) (nat_le 1024 (count_of stay asked.creator)) (Err Full) one tt (omega arith))
   where
     one : Result (Option ℕ × Pendings) PendingFault
     one = Ok (Some all.next, record { records = stay ++ fresh all.next asked ∷ []; next = all.next + 1 })
@@ -35,10 +30,10 @@ found_got : (n : ℕ) (all : Pendings) (asked : Asked) (kept : Option Pending) �
     → GotTo (n + 1) (found all asked kept)
 found_got n all asked None few = made_got n all all.records asked few
 found_got n all asked (Some kept) few =
-    either_got (n + 1) asked.flags.cancel_current (made all (without_token all.records kept.token) asked)
+    either_holds (GotTo (n + 1)) asked.flags.cancel_current (made all (without_token all.records kept.token) asked)
     (cond asked.flags.update_current other same)
     (made_got n all (without_token all.records kept.token) asked few)
-    (either_got (n + 1) asked.flags.update_current other same (omega arith) (omega arith))
+    (either_holds (GotTo (n + 1)) asked.flags.update_current other same (omega arith) (omega arith))
   where
     other : Result (Option ℕ × Pendings) PendingFault
     other = Ok (Some kept.token, record all { records = map (updated kept.token asked.intent.extras) all.records })
@@ -50,8 +45,8 @@ found_got n all asked (Some kept) few =
 pub get_gives_one : (n : ℕ) (all : Pendings) (asked : Asked) → all.next ≤ n → GotTo (n + 1) (pendings.get all asked)
 unfolding pendings.get
 get_gives_one n all asked few =
-    either_got (n + 1) (is_clear asked.flags) (found all asked kept) (Err Mutability) (found_got n all asked kept few)
-    tt
+    either_holds (GotTo (n + 1)) (is_clear asked.flags) (found all asked kept) (Err Mutability)
+    (found_got n all asked kept few) tt
   where
     kept : Option Pending
     kept = find (has_key asked) all.records
@@ -61,18 +56,12 @@ abbrev pub Keeps : ℕ → Result Pendings PendingFault → Type 0
 Keeps next (Ok left) = left.next ≡ next
 Keeps next (Err fault) = Unit {0}
 
--- either of two
-either_keeps : (next : ℕ) (test : Bool) (first second : Result Pendings PendingFault) → Keeps next first
-    → Keeps next second → Keeps next (cond test first second)
-either_keeps next true first second one other = one
-either_keeps next false first second one other = other
-
 -- a record that may be canceled
 canceled_keeps : (all : Pendings) (uid : ℕ) (kept : Option Pending) → Keeps all.next (canceled all uid kept)
 canceled_keeps all uid None = tt
 canceled_keeps all uid (Some kept) =
-    either_keeps all.next (kept.creator == uid) (Ok (record all { records = without_token all.records kept.token }))
-    (Err NotCreator) refl tt
+    either_holds (Keeps all.next) (kept.creator == uid)
+    (Ok (record all { records = without_token all.records kept.token })) (Err NotCreator) refl tt
 
 -- a token that is canceled
 pub cancel_keeps : (all : Pendings) (token uid : ℕ) → Keeps all.next (pendings.cancel all token uid)
@@ -83,11 +72,9 @@ cancel_keeps all token uid = canceled_keeps all uid (record_of all token)
 given_keeps : (all : Pendings) (uid to : ℕ) (kept : Option Pending) → Keeps all.next (given all uid to kept)
 given_keeps all uid to None = tt
 given_keeps all uid to (Some kept) =
-    either_keeps all.next (not (kept.creator == uid)) (Err NotCreator)
-    (cond (is_holder kept to) (Ok all) (cond (nat_le 64 (length kept.holders)) (Err HoldersFull) held)) tt
-    (either_keeps all.next (is_holder kept to) (Ok all) (cond (nat_le 64 (length kept.holders)) (Err HoldersFull) held)
-    refl
-    (either_keeps all.next (nat_le 64 (length kept.holders)) (Err HoldersFull) held tt refl))
+    either_holds (Keeps all.next) (not (kept.creator == uid)) (Err NotCreator) _ tt
+    (either_holds (Keeps all.next) (is_holder kept to) (Ok all) _ refl
+    (either_holds (Keeps all.next) (nat_le 64 (length kept.holders)) (Err HoldersFull) held tt refl))
   where
     held : Result Pendings PendingFault
     held = Ok (record all { records = map (with_holder kept.token to) all.records })

@@ -2,6 +2,7 @@
 use Rattle.std.proofs.Common.{◌≡◌, ℕ, ◌+◌, ◌<◌, ◌≤◌, List, [], ◌∷◌, ◌++◌, length, sym, subst, arith}
 use Rattle.std.specs.Prelude.{All}
 use Rattle.std.proofs.lemmas.List.Elements.{All-nil}
+use Rattle.am_types.specs.Bounds.{greatest_number}
 use Rattle.am_types.specs.declared.device.Device.{Device}
 use Rattle.am_types.specs.declared.resolve.Registration.{Registration}
 use Rattle.am_types.specs.declared.history.Entry.{Entry}
@@ -74,5 +75,5 @@ replay_has_numbers origin history = replayed_numbers 1 (opening_of origin) [] hi
 -- so no history of a manager uses the numbers up
 pub enough_numbers : (origin : Origin) (history : List Entry) → length history ≤ 1048576
     → HasNumbers (replay (opening_of origin) history)
-enough_numbers origin history few = raised (1 + length history) 1125899906842624 (replay (opening_of origin) history)
+enough_numbers origin history few = raised (1 + length history) greatest_number (replay (opening_of origin) history)
     (omega arith) (replay_has_numbers origin history)

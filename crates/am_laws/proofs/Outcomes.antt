@@ -1,9 +1,10 @@
 -- What a request is answered and what it leaves, by cases: it is refused, a start that the gate admitted lands, or it
 -- is
 -- answered otherwise.
-use Rattle.std.proofs.Common.{◌≡◌, ℕ, ℤ, Bool, true, false, not, ◌&&◌, ◌||◌, cond, List, [], ◌∷◌, refl, ap, ◌∙◌}
+use Rattle.std.proofs.Common.{◌≡◌, ℕ, ℤ, Bool, true, false, not, ◌&&◌, ◌||◌, cond, List, refl, ap, ◌∙◌}
 use Rattle.std.specs.Prelude.{Option, Some, None, Result, Ok, Err, nat_le, ◌+◌, ◌==◌}
 use Rattle.std.specs.List.{find}
+use Rattle.am_types.specs.Bounds.{latest_moment}
 use Rattle.am_types.specs.declared.intent.Intent.{Intent}
 use Rattle.am_types.specs.declared.intent.Component.{Component}
 use Rattle.am_types.specs.declared.device.Package.{Package}
@@ -15,10 +16,7 @@ use Rattle.am_types.specs.declared.manifest.ManifestFault.{ManifestFault}
 use Rattle.am_types.specs.declared.filter.Filter.{Filter}
 use Rattle.am_types.specs.declared.broadcast.Answer.{Answer}
 use Rattle.am_types.specs.declared.pending.PendingFlags.{PendingFlags}
-use Rattle.am_types.specs.declared.resolve.Hit.{Hit}
 use Rattle.am_types.specs.declared.resolve.Registration.{Registration}
-use Rattle.am_types.specs.declared.resolve.Target.{Target}
-use Rattle.am_types.specs.declared.resolve.Target.TheVariants.{Nothing, One, Choose}
 use Rattle.am_types.specs.declared.broadcast.Ordered.{Ordered}
 use Rattle.am_types.specs.declared.broadcast.Receiving.{Receiving}
 use Rattle.am_types.specs.declared.broadcast.SendFault.{SendFault}
@@ -29,8 +27,6 @@ use Rattle.am_types.specs.declared.pending.PendingFault.{PendingFault}
 use Rattle.am_types.specs.declared.pending.PendingFault.TheVariants as pends
 use Rattle.am_types.specs.declared.pending.Used.{Used}
 use Rattle.am_types.specs.declared.task.Landed.{Landed}
-use Rattle.am_types.specs.declared.task.PlaceFault.{PlaceFault}
-use Rattle.am_types.specs.declared.task.PlaceFault.TheVariants as places
 use Rattle.am_types.specs.declared.task.TaskFault.{TaskFault}
 use Rattle.am_types.specs.declared.task.TaskFault.TheVariants as leaves
 use Rattle.am_types.specs.declared.history.Entry.{Entry}
@@ -43,10 +39,8 @@ use Rattle.am_types.specs.declared.rule.Rule.TheVariants as rules
 use Rattle.am_types.specs.declared.rule.Limit.{Limit}
 use Rattle.am_types.specs.declared.rule.Limit.TheVariants as limits
 use Rattle.am_model.specs.Boards.{package_named, with_stopped}
-use Rattle.am_model.specs.Candidates.{hits}
-use Rattle.am_model.specs.Gates.{Verdict, Admit, NotExported, NeedsPermission, verdict, is_privileged}
-use Rattle.am_model.specs.Receivers.{declared, rule_of, or_rule, receivers, is_protected}
-use Rattle.am_model.specs.Targets.{target}
+use Rattle.am_model.specs.Gates.{Admit, verdict, is_privileged}
+use Rattle.am_model.specs.Receivers.{declared, receivers, is_protected}
 use Rattle.am_model.specs.Tasks as tasks
 use Rattle.am_model.specs.Tasks.{Tasks, owner, may_end}
 use Rattle.am_model.specs.Placement.{place}
@@ -57,10 +51,8 @@ use Rattle.am_model.specs.Pendings.{Pendings, use_token}
 use Rattle.am_manifest.specs.Manifests.{manifest_of}
 use Rattle.am_history.specs.State.{State, Service, with_packages}
 use Rattle.am_history.specs.Answers.{refused, done, unless_refused, for_admin, for_found, for_package}
-use Rattle.am_history.specs.Activities as activities
-use Rattle.am_history.specs.Activities.{start_call, place_rule, after_place, source_rule, absent_rule, owned_rule, caller_rule, start_target, start, end_rule, after_end, finish_activity, back}
-use Rattle.am_history.specs.Services as services
-use Rattle.am_history.specs.Services.{running, is_too_many, started, gate_rule, start_first, start_service, stopped_rule, stop_maybe, stop_service}
+use Rattle.am_history.specs.Activities.{start_call, start, end_rule, after_end, finish_activity, back}
+use Rattle.am_history.specs.Services.{running, gate_rule, start_service, stopped_rule, stop_maybe, stop_service}
 use Rattle.am_history.specs.BroadcastCalls.{sending_of, send_rule, after_send, send, count_of, register, unregister_found, unregister, finish_rule, after_finish, finish}
 use Rattle.am_history.specs.PendingCalls.{pending_rule, after_get, pending_get, after_change, pending_cancel, pending_give, in_new_task, lend, after_use, used_up, pending_send}
 use Rattle.am_history.specs.Packages.{is_name_used, is_key_used, is_full, install_read, install, uninstall, force_stop, too_many_grants, grant, too_many_links, link}
@@ -68,7 +60,9 @@ use Rattle.am_history.specs.Steps.{act, advance}
 use Rattle.am_history.proofs.OnlyReads.{is_fault, says_done, Read, says, act_reads}
 use Rattle.am_laws.specs.Access.{Deed, Starts, Serves, Sends, lent_deed, deed_of, used_deed}
 use Rattle.am_laws.specs.Refusals.{without_record, after_use_refused, after_refused}
-use Rattle.am_laws.proofs.Cases.{admitted_by, second_none}
+use Rattle.am_laws.proofs.Starts as starts
+use Rattle.am_laws.proofs.Starts.{IsOther, gate_other, unless_other, StartComes, start_refused, start_left, start_lands, ServiceComes, service_refused, service_runs}
+use Rattle.am_laws.proofs.Tests.{either_holds}
 
 -- the reply neither refuses nor says where a start landed
 abbrev pub is_other : Reply → Bool
@@ -92,33 +86,6 @@ pub data Comes (state : State) (deed : Option Deed) : Reply × State → Type 0 
       )
   tells : (reply : Reply) (after : State) → is_other reply ≡ true → Comes state deed (reply, after)
 
--- if there is a rule, it isn't the keeper's
-abbrev IsOther : Option Rule → Type 0
-IsOther None = Unit {0}
-IsOther (Some rule) = is_fault rule ≡ false
-
--- either of two rules
-either_rule : (test : Bool) (first second : Option Rule) → IsOther first → IsOther second
-    → IsOther (cond test first second)
-either_rule true first second one other = one
-either_rule false first second one other = other
-
--- the first of two rules
-first_rule : (first second : Option Rule) → IsOther first → IsOther second → IsOther (or_rule first second)
-first_rule None second one other = other
-first_rule (Some rule) second one other = one
-
--- the rule of a gate
-gate_other : (found : Verdict) → IsOther (rule_of found)
-gate_other Admit = tt
-gate_other NotExported = refl
-gate_other (NeedsPermission permission) = refl
-
--- the rule of a placement
-place_other : (fault : PlaceFault) → is_fault (place_rule fault) ≡ false
-place_other places.NoSource = refl
-place_other _ = refl
-
 -- the rule of a sending
 send_other : (fault : SendFault) → is_fault (send_rule fault) ≡ false
 send_other sends.Full = refl
@@ -140,54 +107,28 @@ finish_other ends.NoDelivery = refl
 finish_other ends.NotYours = refl
 finish_other ends.NotOrdered = refl
 
--- the rule of a source
-source_other : (all : Tasks) (source : Option ℕ) → IsOther (source_rule all source)
-source_other all None = tt
-source_other all (Some number) = by (owner all number)
-  where
-    by : (owned : Option ℕ) → IsOther (absent_rule owned)
-    by None = refl
-    by (Some uid) = tt
-
--- the rule of a caller with a source, or without
-caller_other : (all : Tasks) (caller : ℕ) (intent : Intent) (source : Option ℕ)
-    → IsOther (caller_rule all caller intent source)
-caller_other all caller intent None = either_rule intent.flags.new_task None (Some rules.NeedsNewTask) tt refl
-caller_other all caller intent (Some number) = by (owner all number)
-  where
-    by : (owned : Option ℕ) → IsOther (owned_rule caller owned)
-    by None = refl
-    by (Some uid) = either_rule (may_end caller uid) None (Some rules.NotYours) tt refl
-
 -- the rule of a service that doesn't run
 stopped_other : (service : Option Service) → IsOther (stopped_rule service)
 stopped_other None = refl
 stopped_other (Some service) = tt
 
 module _ (state : State) (deed : Option Deed) where
-  -- either of two answers
-  either : (test : Bool) (first second : Reply × State) → Comes state deed first → Comes state deed second
-      → Comes state deed (cond test first second)
-  either true first second one other = one
-  either false first second one other = other
-
   -- an answer that a rule may refuse
   unless : (rule : Option Rule) (next : Reply × State) → IsOther rule → (rule ≡ None → Comes state deed next)
       → Comes state deed (unless_refused state rule next)
-  unless None next other after = after refl
-  unless (Some rule) next other after = refuses rule other
+  unless rule next = unless_other (Comes state deed) state rule next refuses
 
   -- an answer where something may be over its limit
   limited : (many : Bool) (limit : Limit) (next : Reply × State) → Comes state deed next
       → Comes state deed (cond many (refused state (rules.OverLimit limit)) next)
-  limited many limit next after = either many (refused state (rules.OverLimit limit)) next
+  limited many limit next after = either_holds (Comes state deed) many (refused state (rules.OverLimit limit)) next
       (refuses (rules.OverLimit limit) refl) after
 
   -- an answer for the system and the root alone
   by_admin : (caller : ℕ) (next : Reply × State) → Comes state deed next
       → Comes state deed (for_admin state caller next)
-  by_admin caller next after = either (is_privileged caller) next (refused state rules.AdminOnly) after
-      (refuses rules.AdminOnly refl)
+  by_admin caller next after = either_holds (Comes state deed) (is_privileged caller) next
+      (refused state rules.AdminOnly) after (refuses rules.AdminOnly refl)
 
   -- an answer for the package of a name, if there is one
   of_package : (name : List ℕ) (next : Package → Reply × State) → ((owner : Package) → Comes state deed (next owner))
@@ -202,77 +143,28 @@ module _ (state : State) (deed : Option Deed) where
     -- a start of an activity
     start_comes : (source : Option ℕ) → deed ≡ Some (Starts caller intent)
         → Comes state deed (start state caller intent source)
-    unfolding start
-    start_comes source did = by intent.component
+    start_comes source did = by (start state caller intent source) (starts.start_comes state caller intent source)
       where
-        placed : (component : Component) (found : ℕ × Decl) (result : Result (Landed × Tasks) PlaceFault)
-            → declared state.board.packages kinds.Activity component ≡ Some found
-            → verdict state.board.grants caller found.0 found.1.exported found.1.permission ≡ Admit
-            → place state.tasks (start_call caller intent source component found) ≡ result
-            → Comes state deed (after_place state found.0 result)
-        placed component found (Err fault) is admits landed = refuses (place_rule fault) (place_other fault)
-        placed component found (Ok landed) is admits lands_so = lands caller intent source component found landed did is
-            admits lands_so
-
-        maybe : (component : Component) (rule : Rule) (found : Option (ℕ × Decl)) → is_fault rule ≡ false
-            → declared state.board.packages kinds.Activity component ≡ found
-            → Comes state deed (activities.start_maybe state caller intent source component rule found)
-        maybe component rule None other is = refuses rule other
-        maybe component rule (Some found) other is =
-            let gate = verdict state.board.grants caller found.0 found.1.exported found.1.permission in
-            unless (or_rule (source_rule state.tasks source) (rule_of gate))
-            (after_place state found.0 (place state.tasks (start_call caller intent source component found)))
-            (first_rule (source_rule state.tasks source) (rule_of gate) (source_other state.tasks source)
-            (gate_other gate))
-            (λ none. placed component found (place state.tasks (start_call caller intent source component found)) is
-            (admitted_by gate (second_none (source_rule state.tasks source) (rule_of gate) none)) refl)
-
-        targeted : (found : Target) → Comes state deed (start_target state caller intent source found)
-        targeted Nothing = refuses rules.NoActivity refl
-        targeted (One hit) = maybe hit.component rules.NoActivity (declared state.board.packages kinds.Activity
-            hit.component) refl refl
-        targeted (Choose found) =
-            unless (caller_rule state.tasks caller intent source) _ (caller_other state.tasks caller intent source)
-            (λ none. tells (replies.Choose _) state refl)
-
-        by : (aim : Option Component) → Comes state deed (activities.start_aimed state caller intent source aim)
-        by (Some component) = maybe component rules.NoComponent (declared state.board.packages kinds.Activity component)
-            refl refl
-        by None = targeted (target state.board intent)
+        by : (next : Reply × State) → StartComes state caller intent source next → Comes state deed next
+        by next (start_refused rule other) = refuses rule other
+        by next (start_left choice) = tells (replies.Choose choice) state refl
+        by next (start_lands component found landed is admits lands_so) = lands caller intent source component found
+            landed did is admits lands_so
 
     -- a start of a service
     service_comes : Comes state deed (start_service state caller intent)
-    unfolding start_service
-    service_comes = by intent.component intent.«package»
+    service_comes = by (start_service state caller intent) (starts.service_comes state caller intent)
       where
-        maybe : (component : Component) (rule : Rule) (found : Option (ℕ × Decl)) → is_fault rule ≡ false
-            → Comes state deed (services.start_maybe state caller intent component rule found)
-        maybe component rule None other = refuses rule other
-        maybe component rule (Some found) other =
-            unless (gate_rule state caller found) (started state intent component found.0
-            (running state.services component))
-            (gate_other (verdict state.board.grants caller found.0 found.1.exported found.1.permission))
-            (λ none. limited (is_too_many state.services (running state.services component)) limits.Services _
-            (tells (replies.Started component _) _ refl))
-
-        first : (found : List Hit) → Comes state deed (start_first state caller intent found)
-        first [] = refuses rules.NoService refl
-        first (hit ∷ others) = maybe hit.component rules.NoService
-            (declared state.board.packages kinds.Service hit.component) refl
-
-        by : (aim : Option Component) (name : Option (List ℕ)) → Comes state deed
-            (services.start_aimed state caller intent aim name)
-        by (Some component) name = maybe component rules.NoComponent
-            (declared state.board.packages kinds.Service component) refl
-        by None (Some name) = first (hits state.board.packages kinds.Service intent false)
-        by None None = refuses rules.ImplicitService refl
+        by : (next : Reply × State) → ServiceComes state caller intent next → Comes state deed next
+        by next (service_refused rule other) = refuses rule other
+        by next (service_runs component found is admits) = tells (replies.Started component _) _ refl
 
     -- a broadcast
     send_comes : (permission : Option (List ℕ)) (ordered : Option Ordered)
         → Comes state deed (send state caller intent permission ordered)
     unfolding send
     send_comes permission ordered =
-        either (is_protected state.board.protected intent.action && not (is_privileged caller))
+        either_holds (Comes state deed) (is_protected state.board.protected intent.action && not (is_privileged caller))
         (refused state rules.ProtectedAction) _ (refuses rules.ProtectedAction refl)
         (by (sending.send state.broadcasts (sending_of state caller intent ordered offered)))
       where
@@ -325,8 +217,8 @@ module _ (state : State) (deed : Option Deed) where
     where
       by : (found : Option Registration) → Comes state deed (unregister_found state caller found)
       by None = refuses rules.NoReceiver refl
-      by (Some found) = either (found.uid == caller) _ (refused state rules.NotYours) (tells replies.Plain _ refl)
-          (refuses rules.NotYours refl)
+      by (Some found) = either_holds (Comes state deed) (found.uid == caller) _ (refused state rules.NotYours)
+          (tells replies.Plain _ refl) (refuses rules.NotYours refl)
 
   -- a delivery that is finished
   finish_comes : (caller number : ℕ) (answer : Answer) → Comes state deed (finish state caller number answer)
@@ -387,7 +279,8 @@ module _ (state : State) (deed : Option Deed) where
       by : (manifest : Result Manifest ManifestFault) → Comes state deed (install_read state key manifest)
       by (Err fault) = refuses (rules.BadManifest fault) refl
       by (Ok manifest) =
-          either (is_name_used state.board.packages manifest.«package» || is_key_used state key)
+          either_holds (Comes state deed)
+          (is_name_used state.board.packages manifest.«package» || is_key_used state key)
           (refused state rules.Installed) _ (refuses rules.Installed refl)
           (limited (is_full state) limits.Packages _ (tells (replies.Installed state.next_uid) _ refl))
 
@@ -421,8 +314,8 @@ module _ (state : State) (deed : Option Deed) where
   advance_comes : (by : ℕ) → Comes state deed (advance state by)
   unfolding advance
   advance_comes by =
-      either (nat_le (state.moment + by) 4611686018427387904) _ (refused state (rules.OverLimit limits.Moment))
-      (tells (replies.Advanced _ _) _ refl)
+      either_holds (Comes state deed) (nat_le (state.moment + by) latest_moment) _
+      (refused state (rules.OverLimit limits.Moment)) (tells (replies.Advanced _ _) _ refl)
       (refuses (rules.OverLimit limits.Moment) refl)
 
   -- a request that only reads

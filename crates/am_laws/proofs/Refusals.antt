@@ -1,5 +1,5 @@
 -- A refusal leaves the state as it was, except for a one-shot pending intent that was used.
-use Rattle.std.proofs.Common.{◌≡◌, ℕ, Bool, true, false, cond, eqb, List, [], ◌∷◌, ◌++◌, refl, sym, ap, ◌∙◌, subst}
+use Rattle.std.proofs.Common.{◌≡◌, ℕ, Bool, true, false, cond, eqb, List, refl, sym, ap, ◌∙◌}
 use Rattle.std.specs.Prelude.{Option, Some, None, Result, Ok, Err}
 use Rattle.std.proofs.lemmas.Bool.{false≢true, eqb-true, eq-eqb}
 use Rattle.am_types.specs.declared.intent.Intent.{Intent}
@@ -9,7 +9,6 @@ use Rattle.am_types.specs.declared.pending.PendingFault.{PendingFault}
 use Rattle.am_types.specs.declared.pending.PendingFault.TheVariants.{NotCreator, NotHolder}
 use Rattle.am_types.specs.declared.history.Entry.{Entry}
 use Rattle.am_types.specs.declared.request.Request.{Request}
-use Rattle.am_types.specs.declared.request.Request.TheVariants as asks
 use Rattle.am_types.specs.declared.reply.Reply.{Reply}
 use Rattle.am_types.specs.declared.reply.Reply.TheVariants.{Refused}
 use Rattle.am_types.specs.declared.rule.Rule.TheVariants.{KeeperFault}

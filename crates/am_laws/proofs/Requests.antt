@@ -3,6 +3,7 @@ use Rattle.std.proofs.Common.{◌≡◌, ℕ, ◌+◌, ◌≤◌, Bool, true, fa
 use Rattle.std.specs.Prelude.{Option, Some, None, Result, Ok, Err, ◌==◌, nat_le, filter}
 use Rattle.std.specs.List.{find}
 use Rattle.std.proofs.lemmas.Bool.{leb-true}
+use Rattle.am_types.specs.Bounds.{latest_moment}
 use Rattle.am_types.specs.declared.intent.Intent.{Intent}
 use Rattle.am_types.specs.declared.intent.Component.{Component}
 use Rattle.am_types.specs.declared.device.Package.{Package}
@@ -38,12 +39,12 @@ use Rattle.am_model.specs.Pendings as pendings
 use Rattle.am_model.specs.Pendings.{Pendings, Asked}
 use Rattle.am_manifest.specs.Manifests.{manifest_of}
 use Rattle.am_history.specs.State.{State, Service, with_packages}
-use Rattle.am_history.specs.Answers.{refused, done}
+use Rattle.am_history.specs.Answers.{refused, done, for_admin, for_package}
 use Rattle.am_history.specs.Activities.{start_call, after_end, finish_activity, went_back, back}
 use Rattle.am_history.specs.Services.{is_service, running, with_start, stopped_rule, gate_rule, stop_maybe, stop_service}
 use Rattle.am_history.specs.BroadcastCalls.{sending_of, with_registered, count_of, register, taken_back, unregister_found, unregister, finish}
 use Rattle.am_history.specs.PendingCalls.{after_get, pending_get, after_change, pending_cancel, pending_give, in_new_task, lend, pending_send}
-use Rattle.am_history.specs.Packages.{forget, installed, is_name_used, is_key_used, is_full, install_read, install, without, uninstall, force_stop, too_many_grants, grant_to, grant, too_many_links, link_to, link}
+use Rattle.am_history.specs.Packages.{forget, installed, is_name_used, is_key_used, is_full, install_read, install, without, uninstall, force_stop, too_many_grants, grant, too_many_links, link}
 use Rattle.am_history.specs.Steps.{act, at_moment, after_due, advanced, advance, step}
 use Rattle.am_history.proofs.OnlyReads.{act_reads, reading_leaves}
 use Rattle.am_laws.specs.Access.{Starts, Serves, Sends, lent_deed, deed_of, used_deed}
@@ -111,7 +112,7 @@ pub record Steps (P : State → Type 0) (state : State) (caller : ℕ) (request 
   pub linked : (uid : ℕ) (host : List ℕ) (approved : Bool) → is_package_uid state.board.packages uid ≡ true
       → too_many_links state.board.links uid host approved ≡ false
       → P (record state { board = record (state.board) { links = with_link state.board.links uid host approved } })
-  pub advanced : (by : ℕ) → state.moment + by ≤ 4611686018427387904 → P (at_moment state (state.moment + by))
+  pub advanced : (by : ℕ) → state.moment + by ≤ latest_moment → P (at_moment state (state.moment + by))
 
 -- the steps of what is said of the tasks and the moment alone
 pub task_steps : (Q : Tasks → ℕ → Type 0) (state : State) (caller : ℕ) (request : Request) → Q state.tasks state.moment
@@ -123,7 +124,7 @@ pub task_steps : (Q : Tasks → ℕ → Type 0) (state : State) (caller : ℕ) (
     → place state.tasks (start_call uid intent source component found) ≡ Ok landed → Q landed.1 state.moment)
     → ((keeps : Instance → Bool) → Q (record (state.tasks) { tasks = tasks_keeping keeps state.tasks.tasks })
     state.moment)
-    → ((by : ℕ) → state.moment + by ≤ 4611686018427387904 → Q state.tasks (state.moment + by))
+    → ((by : ℕ) → state.moment + by ≤ latest_moment → Q state.tasks (state.moment + by))
     → Steps (λ (s : State). Q s.tasks s.moment) state caller request
 task_steps Q state caller request here starts keeping moves = record {
   here = here;
@@ -227,21 +228,29 @@ module _ (P : State → Type 0) (state : State) (caller : ℕ) where
           let parts = neither (is_name_used state.board.packages manifest.«package») (is_key_used state key) unused in
           steps.installed text key manifest is parts.0 parts.1 room
 
-  -- a right that is given or taken, unless there are too many
-  right_leaves : (limit : Limit) (after : State) (many : Bool) → P state → (many ≡ false → P after)
-      → P (cond many (refused state (rules.OverLimit limit)) (done after)).1
-  right_leaves limit after true here more = here
-  right_leaves limit after false here more = more refl
+  -- a right of a package that is given or taken, unless there are too many
+  right_leaves : (name : List ℕ) (limit : Limit) (many : Package → Bool) (after : Package → State) → P state
+      → ((owner : Package) → is_package_uid state.board.packages owner.uid ≡ true → many owner ≡ false
+      → P (after owner))
+      → P (for_admin state caller (for_package state name (λ (owner : Package). cond (many owner)
+      (refused state (rules.OverLimit limit)) (done (after owner))))).1
+  right_leaves name limit many after here more = admin_leaves P state caller _ here (package_leaves P state name _ here
+      (λ owner is. by owner (named_is_live state.board.packages name owner is) (many owner) refl))
+    where
+      by : (owner : Package) → is_package_uid state.board.packages owner.uid ≡ true → (b : Bool) → many owner ≡ b
+          → P (cond b (refused state (rules.OverLimit limit)) (done (after owner))).1
+      by owner live true is = here
+      by owner live false is = more owner live is
 
   -- the moment that is moved
   advance_leaves : (request : Request) (by : ℕ) → Steps P state caller request → P (advance state by).1
   unfolding advance
-  advance_leaves request by steps = fits (nat_le (state.moment + by) 4611686018427387904) refl
+  advance_leaves request by steps = fits (nat_le (state.moment + by) latest_moment) refl
     where
-      fits : (b : Bool) → nat_le (state.moment + by) 4611686018427387904 ≡ b
+      fits : (b : Bool) → nat_le (state.moment + by) latest_moment ≡ b
           → P (cond b (advanced (at_moment state (state.moment + by)))
           (refused state (rules.OverLimit limits.Moment))).1
-      fits true is = steps.advanced by (leb-true (state.moment + by) 4611686018427387904 is)
+      fits true is = steps.advanced by (leb-true (state.moment + by) latest_moment is)
       fits false is = steps.here
 
   -- each request; the last row is for every one that only reads
@@ -300,23 +309,9 @@ module _ (P : State → Type 0) (state : State) (caller : ℕ) where
   act_leaves before (asks.Uninstall name) steps = admin_leaves P state caller _ steps.here
       (package_leaves P state name _ steps.here (λ owner is. steps.gone owner.uid))
   act_leaves before (asks.Grant name permission held) steps =
-      admin_leaves P state caller _ steps.here (package_leaves P state name
-      (λ (owner : Package). grant_to state owner.uid permission held) steps.here (λ owner is.
-      right_leaves limits.Grants (record state {
-        board = record (state.board)
-            { grants = with_grant state.board.grants owner.uid permission held };
-      })
-      (too_many_grants state.board.grants owner.uid permission held) steps.here
-      (steps.granted owner.uid permission held (named_is_live state.board.packages name owner is))))
+      right_leaves name limits.Grants _ _ steps.here (λ owner. steps.granted owner.uid permission held)
   act_leaves before (asks.Link name host approved) steps =
-      admin_leaves P state caller _ steps.here (package_leaves P state name
-      (λ (owner : Package). link_to state owner.uid host approved) steps.here (λ owner is.
-      right_leaves limits.Links (record state {
-        board = record (state.board)
-            { links = with_link state.board.links owner.uid host approved };
-      })
-      (too_many_links state.board.links owner.uid host approved) steps.here
-      (steps.linked owner.uid host approved (named_is_live state.board.packages name owner is))))
+      right_leaves name limits.Links _ _ steps.here (λ owner. steps.linked owner.uid host approved)
   act_leaves before (asks.ForceStop name) steps = admin_leaves P state caller _ steps.here
       (package_leaves P state name _ steps.here (λ owner is. steps.stopped owner.uid))
   act_leaves before asks.Tick steps = admin_leaves P state caller (done state) steps.here steps.here

@@ -1,5 +1,11 @@
 -- What follows from tests that hold, or don't.
-use Rattle.std.proofs.Common.{◌≡◌, Bool, true, false, not, ◌&&◌, ◌||◌, refl}
+use Rattle.std.proofs.Common.{◌≡◌, Bool, true, false, not, ◌&&◌, ◌||◌, cond, refl}
+
+-- what holds of both holds of either
+pub either_holds : {A : Type 0} (Q : A → Type 0) (test : Bool) (first second : A) → Q first → Q second
+    → Q (cond test first second)
+either_holds Q true first second one other = one
+either_holds Q false first second one other = other
 
 -- both of two tests hold
 pub both : (a b : Bool) → a && b ≡ true → (a ≡ true) × (b ≡ true)

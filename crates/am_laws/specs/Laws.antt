@@ -1,5 +1,6 @@
 -- What holds in every state, and after every history.
 use Rattle.std.specs.Prelude.{◌≢◌, ℕ, ◌+◌, ◌≤◌, List, [], ◌∷◌, ◌++◌, length}
+use Rattle.am_types.specs.Bounds.{latest_moment}
 use Rattle.am_types.specs.declared.history.Entry.{Entry}
 use Rattle.am_types.specs.declared.request.Request.{Request}
 use Rattle.am_types.specs.declared.reply.Reply.{Reply}
@@ -32,7 +33,7 @@ NumbersSuffice =
 
 -- the last moment is at most 2^62
 abbrev pub MomentsFit : Type 0
-MomentsFit = (origin : Origin) (history : List Entry) → (state_after origin history).moment ≤ 4611686018427387904
+MomentsFit = (origin : Origin) (history : List Entry) → (state_after origin history).moment ≤ latest_moment
 
 -- an entry never moves the last moment back
 abbrev pub MomentsRise : Type 0

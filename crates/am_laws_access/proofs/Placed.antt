@@ -17,7 +17,7 @@ use Rattle.am_model.specs.Placement.{Plan, NewTask, FreshOn, NewIntentTo, FrontO
 use Rattle.am_model.proofs.Parts.{found_passes}
 use Rattle.am_model.proofs.PlacementLaws.{plan_for}
 use Rattle.am_laws.specs.Access.{OfInstances}
-use Rattle.am_laws.proofs.Tests.{both}
+use Rattle.am_laws.proofs.Tests.{both, either_holds}
 
 -- components that are the same
 pub same_component : (a b : Component) → is_same_component a b ≡ true → a ≡ b
@@ -194,7 +194,8 @@ module _ (Q : Instance → Type 0) (of : ℕ → Component) (named : (i : Instan
 
   -- a start in the mode singleInstancePerTask
   per_task_planned : (tasks : List Task) → OfInstances Q tasks → IsPlanOf (placed_per_task start tasks)
-  per_task_planned tasks all = by start.flags.multiple_task
+  per_task_planned tasks all =
+      either_holds IsPlanOf start.flags.multiple_task (NewTask false) _ tt (from (task_rooted start.target tasks) refl)
     where
       rooted_by : Task → Bool
       rooted_by task = is_maybe_of start.target (root_of task.instances)
@@ -213,29 +214,24 @@ module _ (Q : Instance → Type 0) (of : ℕ → Component) (named : (i : Instan
           to task task.instances (found_holds (λ (t : Task). All Q t.instances) rooted_by tasks task all is)
           (found_passes rooted_by tasks task is)
 
-      by : (b : Bool) → IsPlanOf (cond b (NewTask false) (or_new_task (rooted (task_rooted start.target tasks)) false))
-      by true = tt
-      by false = from (task_rooted start.target tasks) refl
-
   -- clearing, where an instance is found
   cleared_planned : (task : Task) (found : Option Instance) → All Q task.instances → topmost start.target task ≡ found
       → IfPlan (clearing_top start task found)
   cleared_planned task None each is = tt
   cleared_planned task (Some i) each is =
       where_planned (is_mode SingleTask start.mode || start.flags.clear_top) (cleared_to start task i)
-      (λ test. by (is_mode Standard start.mode && not start.flags.single_top))
+      (λ test. either_holds IsPlanOf (is_mode Standard start.mode && not start.flags.single_top) (FreshOn task kept)
+      (NewIntentTo task (kept ++ i ∷ []) i.number) left
+      (All-push Q kept i left one.0, one.1, last_in kept i))
     where
-      left : All Q (below i.number task.instances)
+      kept : List Instance
+      kept = below i.number task.instances
+
+      left : All Q kept
       left = All-take Q _ task.instances each
 
-      by : (b : Bool) → IsPlanOf (cond b (FreshOn task (below i.number task.instances))
-          (NewIntentTo task (below i.number task.instances ++ i ∷ []) i.number))
-      by true = left
-      by false = let one = topmost_is task i each is in (
-        All-push Q (below i.number task.instances) i left one.0,
-        one.1,
-        last_in (below i.number task.instances) i,
-      )
+      one : Q i × (of i.number ≡ start.target)
+      one = topmost_is task i each is
 
   -- moving an instance to the top
   reordered_planned : (wanted : Bool) (task : Task) (found : Option Instance) → All Q task.instances
@@ -288,32 +284,26 @@ module _ (Q : Instance → Type 0) (of : ℕ → Component) (named : (i : Instan
   -- a start in another mode
   ordinary_planned : (tasks : List Task) (wanted : Bool) (source : Option Task) → OfInstances Q tasks → IfTask source
       → IsPlanOf (placed_ordinary start tasks wanted source)
-  ordinary_planned tasks wanted source all here = by (is_multiple start wanted)
+  ordinary_planned tasks wanted source all here =
+      either_holds IsPlanOf (is_multiple start wanted) (NewTask false) _ tt (within_planned wanted _ (either wanted))
     where
       either : (b : Bool) → IfTask (cond b (task_of_affinity start.affinity tasks) source)
       either true = found_task (λ (task : Task). (not task.single && not (is_empty start.affinity)) && is_same
           task.affinity start.affinity) tasks all _ refl
       either false = here
 
-      by : (b : Bool) → IsPlanOf (cond b (NewTask false) (placed_in_maybe start wanted
-          (cond wanted (task_of_affinity start.affinity tasks) source)))
-      by true = tt
-      by false = within_planned wanted (cond wanted (task_of_affinity start.affinity tasks) source) (either wanted)
-
   -- the plan of a start
   pub planned : (all : Tasks) → OfInstances Q all.tasks → IsPlanOf (plan_for all start)
-  planned all each = by (is_mode SingleInstance start.mode) (is_mode SingleInstancePerTask start.mode)
+  planned all each =
+      either_holds IsPlanOf (is_mode SingleInstance start.mode) (placed_single start all.tasks) _
+      (single_planned all.tasks each)
+      (either_holds IsPlanOf (is_mode SingleInstancePerTask start.mode) (placed_per_task start all.tasks) _
+      (per_task_planned all.tasks each)
+      (ordinary_planned all.tasks (wants_new_task start source) source each
+      (source_found all.tasks start.source each)))
     where
       source : Option Task
       source = source_task all.tasks start.source
-
-      by : (single per_task : Bool) → IsPlanOf (cond single (placed_single start all.tasks)
-          (cond per_task (placed_per_task start all.tasks) (placed_ordinary start all.tasks
-          (wants_new_task start source) source)))
-      by true per_task = single_planned all.tasks each
-      by false true = per_task_planned all.tasks each
-      by false false = ordinary_planned all.tasks (wants_new_task start source) source each
-          (source_found all.tasks start.source each)
 
   module _ (R : Instance → Type 0) (all : Tasks) (keeps : (i : Instance) → Q i → R i)
       (gives : (i : Instance) → Q i → i.component ≡ start.target → R (record i { intent = start.intent })) where

@@ -8,7 +8,6 @@ use Rattle.am_types.specs.declared.broadcast.Answer.{Answer}
 use Rattle.am_types.specs.declared.broadcast.Ordered.{Ordered}
 use Rattle.am_types.specs.declared.broadcast.Sending.{Sending}
 use Rattle.am_model.specs.Filters.{is_empty}
-use Rattle.am_model.specs.Broadcasts as broadcasts
 use Rattle.am_model.specs.Broadcasts.{Broadcasts, InTurn, Normal, Delivery, Current, Past, Doing, Late, Gone, Answered, no_broadcasts, span, result_of, dispatched, with_results, settled, queue_of, with_queue, settle, settle_both, is_over, turned, turn, is_late, late_head, expired_queue, is_delivery_due, keeping, normals_keeping, expired}
 use Rattle.am_model.specs.Sending as sending
 use Rattle.am_model.specs.Sending.{deliveries_from, at_once, in_turn, with_last, with_sent, answered_head, is_current, finished, strike_rest, strike_from, strike, unwanted, with_answered, with_unwanted, without_struck}

@@ -1,6 +1,6 @@
 -- Each service that an entry starts, once or once more, it starts by a deed that the gate admitted.
 use Rattle.std.proofs.Common.{◌≡◌, ℕ, ◌+◌, Bool, true, false, not, cond, List, refl, sym, ◌∙◌, subst, ◌⊎◌, inl, inr}
-use Rattle.std.specs.Prelude.{All, Option, Some, None, filter, ◌==◌}
+use Rattle.std.specs.Prelude.{All, Option, Some, None, ◌==◌}
 use Rattle.std.specs.List.{Contains}
 use Rattle.std.proofs.lemmas.List.Elements.{All-push, All-map, All-weaker, All-filter, All-contains_itself}
 use Rattle.am_types.specs.declared.intent.Intent.{Intent}

@@ -1,10 +1,11 @@
 -- What a request is answered and what it does to broadcasts: it finishes a delivery, strikes receivers or lets
 -- deadlines pass, and
 -- is answered that it is done; it sends a broadcast; or it leaves them as they are.
-use Rattle.std.proofs.Common.{◌≡◌, ℕ, ◌+◌, Bool, true, false, not, ◌&&◌, ◌||◌, cond, List, refl, sym, ap, subst}
+use Rattle.std.proofs.Common.{◌≡◌, ℕ, ◌+◌, Bool, true, false, not, ◌&&◌, ◌||◌, List, refl, sym, ap, subst}
 use Rattle.std.specs.Prelude.{Option, Some, None, Result, Ok, Err, ◌==◌, nat_le}
 use Rattle.std.specs.List.{find}
 use Rattle.std.proofs.lemmas.Bool.{eqb-true}
+use Rattle.am_types.specs.Bounds.{latest_moment}
 use Rattle.am_types.specs.declared.intent.Intent.{Intent}
 use Rattle.am_types.specs.declared.intent.Component.{Component}
 use Rattle.am_types.specs.declared.device.Package.{Package}
@@ -49,6 +50,7 @@ use Rattle.am_history.proofs.OnlyReads.{says_done, Read, says, act_reads}
 use Rattle.am_laws.specs.Access.{Sends, lent_deed, deed_of, used_deed}
 use Rattle.am_laws.proofs.Answered.{either_leaves, unless_leaves}
 use Rattle.am_laws.proofs.Requests.{stopped_of}
+use Rattle.am_laws.proofs.Tests.{either_holds}
 use Rattle.am_laws.proofs.Cases.{start_cases, service_cases, send_cases, use_cases, finish_cases}
 use Rattle.am_laws_courses.specs.Course.{is_done}
 
@@ -96,12 +98,8 @@ module _ (P : Bool → Broadcasts → Type 0) (state : State) (caller : ℕ) whe
   any_does : (next : Reply × State) → Any next.1 → Does next
   any_does next any = any (is_done next.0)
 
-  either_does : (test : Bool) (first second : Reply × State) → Does first → Does second → Does (cond test first second)
-  either_does true first second one other = one
-  either_does false first second one other = other
-
   admin_does : (next : Reply × State) → P false state.broadcasts → Does next → Does (for_admin state caller next)
-  admin_does next same after = either_does (is_privileged caller) next (refused state rules.AdminOnly) after same
+  admin_does next same after = either_holds Does (is_privileged caller) next (refused state rules.AdminOnly) after same
 
   package_does : (name : List ℕ) (next : Package → Reply × State) → P false state.broadcasts
       → ((owner : Package) → package_named state.board.packages name ≡ Some owner → Does (next owner))
@@ -132,7 +130,7 @@ module _ (P : Bool → Broadcasts → Type 0) (state : State) (caller : ℕ) whe
           ≡ found → Does (unregister_found state caller found)
       by None is = acts.same
       by (Some found) is =
-          either_does (found.uid == caller) (done (taken_back state found)) (refused state rules.NotYours)
+          either_holds Does (found.uid == caller) (done (taken_back state found)) (refused state rules.NotYours)
           (subst (λ (n : ℕ). P true (sending.forget_registered state.broadcasts n state.moment))
           (sym (eqb-true found.number number (found_passes (λ (r : Registration). r.number == number)
           state.board.registered found is)))
@@ -224,7 +222,7 @@ module _ (P : Bool → Broadcasts → Type 0) (state : State) (caller : ℕ) whe
       (send_cases Any state caller intent (any_same (asks.Send intent permission ordered) refl acts) permission ordered
       (λ unprotected. acts.sent caller intent permission ordered refl refl unprotected))
   acts_do before (asks.Register filter permission) acts =
-      either_does (nat_le 64 (count_of state.board.registered caller))
+      either_holds Does (nat_le 64 (count_of state.board.registered caller))
       (refused state (rules.OverLimit limits.Registered)) _ acts.same acts.same
   acts_do before (asks.Unregister number) acts = unregister_does number acts
   acts_do before (asks.Finish delivery answer) acts = finish_does delivery answer acts
@@ -261,12 +259,12 @@ module _ (P : Bool → Broadcasts → Type 0) (state : State) (caller : ℕ) whe
   acts_do before (asks.Grant name permission held) acts =
       admin_does (for_package state name (λ (owner : Package). grant_to state owner.uid permission held)) acts.same
       (package_does name (λ (owner : Package). grant_to state owner.uid permission held) acts.same
-      (λ owner is. either_does (too_many_grants state.board.grants owner.uid permission held)
+      (λ owner is. either_holds Does (too_many_grants state.board.grants owner.uid permission held)
       (refused state (rules.OverLimit limits.Grants)) _ acts.same (acts.apart refl)))
   acts_do before (asks.Link name host approved) acts =
       admin_does (for_package state name (λ (owner : Package). link_to state owner.uid host approved)) acts.same
       (package_does name (λ (owner : Package). link_to state owner.uid host approved) acts.same
-      (λ owner is. either_does (too_many_links state.board.links owner.uid host approved)
+      (λ owner is. either_holds Does (too_many_links state.board.links owner.uid host approved)
       (refused state (rules.OverLimit limits.Links)) _ acts.same (acts.apart refl)))
   acts_do before (asks.ForceStop name) acts =
       admin_does (for_package state name (λ (owner : Package). done (stopped_of state owner.uid))) acts.same
@@ -275,7 +273,8 @@ module _ (P : Bool → Broadcasts → Type 0) (state : State) (caller : ℕ) whe
   acts_do before asks.Tick acts = admin_does (done state) acts.same (acts.apart refl)
   acts_do before (asks.Advance more) acts =
       admin_does (advance state more) acts.same
-      (either_does (nat_le (state.moment + more) 4611686018427387904) (advanced (at_moment state (state.moment + more)))
-      (refused state (rules.OverLimit limits.Moment)) (acts.advanced more refl) acts.same)
+      (either_holds Does (nat_le (state.moment + more) latest_moment)
+      (advanced (at_moment state (state.moment + more))) (refused state (rules.OverLimit limits.Moment))
+      (acts.advanced more refl) acts.same)
   acts_do before request acts = read_does (act state before caller request)
       (act_reads state before caller request refl) acts.same

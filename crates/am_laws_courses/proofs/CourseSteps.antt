@@ -118,30 +118,27 @@ module _ (opening : State) (h : List Entry) where
     pub answers : AllZip IsAnswerBy (answers_of b.past) (finishing opening begun.number [] h)
 
   -- it may be given a delivery, and its sender may want no result any more
-  pub runs_given : (more : ℕ → Course → Course) (b : InTurn) (current : Option Current) → Runs more b
-      → Runs more (record b { current = current })
-  runs_given more b current one = record {
+  runs_with : (more : ℕ → Course → Course) (b : InTurn) (current : Option Current) (wanted : Bool)
+      → (wanted ≡ true → b.wanted ≡ true) → Runs more b
+      → Runs more (record b { current = current; wanted = wanted })
+  runs_with more b current wanted wants one = record {
     begun = one.begun;
     sent = one.sent;
     stays = one.stays;
-    wanted = one.wanted;
+    wanted = λ still. one.wanted (wants still);
     course = one.course;
     answers = one.answers;
   }
+
+  pub runs_given : (more : ℕ → Course → Course) (b : InTurn) (current : Option Current) → Runs more b
+      → Runs more (record b { current = current })
+  runs_given more b current = runs_with more b current b.wanted (λ still. still)
 
   pub runs_unwanted : (more : ℕ → Course → Course) (uid : ℕ) (b : InTurn) → Runs more b → Runs more (unwanted uid b)
   runs_unwanted more uid b one = by (b.sender == uid)
     where
       by : (same : Bool) → Runs more (cond same (record b { wanted = false }) b)
-      by true = record {
-        begun = one.begun;
-        sent = one.sent;
-        stays = one.stays;
-        wanted = λ wants. absurd cc;
-        course =
-            one.course;
-        answers = one.answers;
-      }
+      by true = runs_with more b b.current false (λ still. absurd cc) one
       by false = one
 
   pub course_given : (b : InTurn) (current : Option Current) → IsInCourse opening h b

@@ -12,19 +12,20 @@ use Rattle.am_types.specs.declared.request.Request.{Request}
 use Rattle.am_types.specs.declared.request.Request.TheVariants as asks
 use Rattle.am_types.specs.declared.rule.Rule.{Rule}
 use Rattle.am_types.specs.declared.rule.Rule.TheVariants as rules
+use Rattle.am_types.specs.declared.rule.Limit.{Limit}
 use Rattle.am_types.specs.declared.rule.Limit.TheVariants as limits
 use Rattle.am_keeper.specs.declared.rows.Row.{Row}
 use Rattle.am_keeper.specs.declared.rows.Row.TheVariants as kinds
 use Rattle.am_keeper.specs.declared.rows.Rows.{Rows}
 use Rattle.am_keeper.specs.Rows.{IsInOrder}
-use Rattle.am_model.specs.Boards.{package_named}
+use Rattle.am_model.specs.Boards.{is_package_uid, package_named}
 use Rattle.am_model.specs.Gates.{is_privileged}
 use Rattle.am_model.specs.Sound.{IsSound}
 use Rattle.am_manifest.specs.Manifests.{manifest_of}
 use Rattle.am_history.specs.State.{State}
 use Rattle.am_history.specs.Answers.{done, for_admin, for_found, for_package, refused}
 use Rattle.am_history.specs.Kept.{gone_row, installed_row, row_of}
-use Rattle.am_history.specs.Packages.{grant, grant_to, install, install_read, is_full, is_key_used, is_name_used, link, link_to, too_many_grants, too_many_links, uninstall, without}
+use Rattle.am_history.specs.Packages.{grant, install, install_read, is_full, is_key_used, is_name_used, link, uninstall, without}
 use Rattle.am_history.specs.Steps.{act, asks_keeper, is_formed, is_refusal, keeps_row}
 use Rattle.am_laws.proofs.Packages.{named_is_live}
 use Rattle.am_laws.proofs.Tests.{neither}
@@ -68,6 +69,23 @@ module _ (device : Device) (kept : Rows) (state : State) (sound : IsSound device
       by None is = refused_is_found None rules.NoPackage
       by (Some owner) is = found owner is
 
+  -- a right of a package that is given or taken, unless there are too many
+  right_is_found : (name : List ℕ) (limit : Limit) (row_for : Package → Row) (many : Package → Bool)
+      (after : Package → State)
+      → ((owner : Package) → is_package_uid state.board.packages owner.uid ≡ true → many owner ≡ false
+      → IsFound (Some (row_for owner)) (done (after owner)))
+      → IsFound (option_map row_for (package_named state.board.packages name))
+      (for_admin state caller (for_package state name (λ (owner : Package). cond (many owner)
+      (refused state (rules.OverLimit limit)) (done (after owner)))))
+  right_is_found name limit row_for many after found =
+      admin_is_found _ (for_package state name next) (package_is_found name row_for next
+      (λ owner is. either_is_found (Some (row_for owner)) (many owner) (refused state (rules.OverLimit limit)) _
+      (λ full. refused_is_found (Some (row_for owner)) (rules.OverLimit limit))
+      (λ room. found owner (named_is_live state.board.packages name owner is) room)))
+    where
+      next : Package → Reply × State
+      next owner = cond (many owner) (refused state (rules.OverLimit limit)) (done (after owner))
+
   -- a package whose manifest was read
   read_is_found : (text key : List ℕ) (manifest : Result Manifest ManifestFault) → manifest_of text ≡ manifest
       → IsTrue (is_formed (asks.Install text key))
@@ -101,29 +119,15 @@ module _ (device : Device) (kept : Rows) (state : State) (sound : IsSound device
       removal_is_found device kept state sound order whole opens caller (asks.Uninstall name) owner.uid owner.name
       (named_is_live state.board.packages name owner is)))
   keeping_is_found before (asks.Grant name permission held) keeps formed =
-      admin_is_found _ (for_package state name (λ (owner : Package). grant_to state owner.uid permission held))
-      (package_is_found name row_for (λ (owner : Package). grant_to state owner.uid permission held)
-      (λ owner is. either_is_found (Some (row_for owner)) (too_many_grants state.board.grants owner.uid permission held)
-      (refused state (rules.OverLimit limits.Grants)) _
-      (λ many. refused_is_found (Some (row_for owner)) (rules.OverLimit limits.Grants))
-      (λ room. grant_is_found device kept state sound order whole opens caller (asks.Grant name permission held)
-      owner.uid permission held
-      (named_is_live state.board.packages name owner is) room)))
-    where
-      row_for : Package → Row
-      row_for owner = kinds.Grant (record { uid = owner.uid; permission = permission; held = held })
+      right_is_found name limits.Grants
+      (λ owner. kinds.Grant (record { uid = owner.uid; permission = permission; held = held })) _ _
+      (λ owner. grant_is_found device kept state sound order whole opens caller (asks.Grant name permission held)
+      owner.uid permission held)
   keeping_is_found before (asks.Link name host approved) keeps formed =
-      admin_is_found _ (for_package state name (λ (owner : Package). link_to state owner.uid host approved))
-      (package_is_found name row_for (λ (owner : Package). link_to state owner.uid host approved)
-      (λ owner is. either_is_found (Some (row_for owner)) (too_many_links state.board.links owner.uid host approved)
-      (refused state (rules.OverLimit limits.Links)) _
-      (λ many. refused_is_found (Some (row_for owner)) (rules.OverLimit limits.Links))
-      (λ room. link_is_found device kept state sound order whole opens caller (asks.Link name host approved) owner.uid
-      host approved formed
-      (named_is_live state.board.packages name owner is) room)))
-    where
-      row_for : Package → Row
-      row_for owner = kinds.Link (record { uid = owner.uid; host = host; approved = approved })
+      right_is_found name limits.Links
+      (λ owner. kinds.Link (record { uid = owner.uid; host = host; approved = approved })) _ _
+      (λ owner. link_is_found device kept state sound order whole opens caller (asks.Link name host approved) owner.uid
+      host approved formed)
   keeping_is_found before _ keeps formed = absurd cc
 
   -- each request

@@ -30,7 +30,7 @@ use Rattle.am_laws_state.proofs.SoundPackages.{inserted_last, last_is_new}
 use Rattle.am_laws_state.proofs.SoundSteps.{sound_after}
 use Rattle.am_laws_kept.specs.Found.{Kept, OpensAs, as_stopped, kept_of}
 use Rattle.am_laws_kept.proofs.Alike.{all_alike, any_alike, length_alike, live_has, stopped_more, stopped_without}
-use Rattle.am_laws_kept.proofs.Boards.{approved_same, approved_with_put, approved_without, granted_same, granted_with_put, granted_without}
+use Rattle.am_laws_kept.proofs.Boards.{grant_rows, link_rows, made_gone, made_put, made_same}
 use Rattle.am_laws_kept.proofs.NextUids.{below_next, next_after, next_with_grant, next_with_link, next_with_next, next_with_package}
 use Rattle.am_laws_kept.proofs.Openings.{ReadsAs, device_is_read, opening_reads, reading_opens}
 use Rattle.am_laws_kept.proofs.PackagePuts.{gone_is_put, last_is_read}
@@ -110,7 +110,7 @@ module _ (device : Device) (kept : Rows) (state : State) (sound : IsSound device
           read = read;
           reads = reading.reads;
           same = same_parts read.system_key read.root_key refl
-              (granted_with_put read.board.packages read.board.grants row kept.grants (live_is_read uid live)
+              (made_put grant_rows read.board.packages read.board.grants row kept.grants (live_is_read uid live)
               order.grants is_read.grants) refl
               (next_with_grant device kept row (live_is_below uid live))
               ∙ ap (λ (k : Kept). record k { grants = with_grant k.grants uid permission held }) reading.same;
@@ -130,7 +130,7 @@ module _ (device : Device) (kept : Rows) (state : State) (sound : IsSound device
           read = read;
           reads = reading.reads;
           same = same_parts read.system_key read.root_key refl refl
-              (approved_with_put read.board.packages read.board.links row kept.links
+              (made_put link_rows read.board.packages read.board.links row kept.links
               (ap (λ b. b && is_same (lowered host) host) (live_is_read uid live) ∙ low) order.links is_read.links)
               (next_with_link device kept row (live_is_below uid live))
               ∙ ap (λ (k : Kept). record k { links = with_link k.links uid host approved }) reading.same;
@@ -149,8 +149,8 @@ module _ (device : Device) (kept : Rows) (state : State) (sound : IsSound device
           reads = gone_is_put (opening device) read row kept.packages greatest refl order.packages
               (device_is_read device sound) reading.reads;
           same = same_parts read.system_key read.root_key (stopped_without read.board.packages uid)
-              (granted_without read.board.packages read.board.grants uid kept.grants is_read.grants)
-              (approved_without read.board.packages read.board.links uid kept.links is_read.links)
+              (made_gone grant_rows read.board.packages read.board.grants uid kept.grants is_read.grants)
+              (made_gone link_rows read.board.packages read.board.links uid kept.links is_read.links)
               (next_with_package device kept row (live_is_below uid live))
               ∙ ap (λ (k : Kept). record k {
                 packages = without_package k.packages uid;
@@ -189,9 +189,9 @@ module _ (device : Device) (kept : Rows) (state : State) (sound : IsSound device
               ∙ package_row_read read row manifest greatest refl written good;
           same = same_parts read.system_key read.root_key
               (ap as_stopped (inserted_last new read.board.packages read_below) ∙ stopped_more read.board.packages new)
-              (sym (granted_same read.board.packages (place_package new read.board.packages) read.board.grants
+              (sym (made_same grant_rows read.board.packages (place_package new read.board.packages) read.board.grants
               kept.grants (rights_same (λ (r : GrantRow). r.uid) kept.grants (below_next device kept).grants)))
-              (sym (approved_same read.board.packages (place_package new read.board.packages) read.board.links
+              (sym (made_same link_rows read.board.packages (place_package new read.board.packages) read.board.links
               kept.links (rights_same (λ (r : LinkRow). r.uid) kept.links (below_next device kept).links)))
               (next_with_next device kept row (sym next))
               ∙ ap (λ (k : Kept). record k { packages = k.packages ++ new ∷ []; next_uid = k.next_uid + 1 })

@@ -20,7 +20,7 @@ use Rattle.am_laws_state.specs.Sound.{IsSoundState}
 use Rattle.am_laws_state.proofs.SoundRights.{AreFew, counted}
 use Rattle.am_model.specs.Rights.{of_grant, of_link}
 use Rattle.am_laws_kept.specs.Found.{Kept, OpensAs, as_stopped, kept_of}
-use Rattle.am_laws_kept.proofs.Boards.{approved_after, granted_after, rights_after}
+use Rattle.am_laws_kept.proofs.Boards.{grant_rows, link_rows, made_by, rights_after}
 use Rattle.am_laws_kept.proofs.NextUids.{next_after}
 use Rattle.am_laws_kept.proofs.PackageRows.{IsRead}
 use Rattle.am_laws_kept.proofs.Placed.{Ascends, all_weaker}
@@ -29,8 +29,8 @@ use Rattle.am_laws_kept.proofs.Placed.{Ascends, all_weaker}
 abbrev pub kept_after : Device → Rows → State → Kept
 kept_after device rows read = record {
   packages = as_stopped read.board.packages;
-  grants = granted_after read.board.packages read.board.grants rows.grants;
-  links = approved_after read.board.packages read.board.links rows.links;
+  grants = made_by grant_rows read.board.packages read.board.grants rows.grants;
+  links = made_by link_rows read.board.packages read.board.links rows.links;
   next_uid = next_after device rows;
   system_key = read.system_key;
   root_key = read.root_key;

@@ -2,6 +2,7 @@
 use Rattle.std.proofs.Common.{◌≡◌, ℕ, ◌+◌, Bool, true, false, not, cond, eqb, List, [], ◌∷◌, refl, ap}
 use Rattle.std.specs.Prelude.{Option, Some, None, Result, Ok, Err, ◌==◌, nat_le, filter}
 use Rattle.std.specs.List.{find}
+use Rattle.am_types.specs.Bounds.{latest_moment}
 use Rattle.am_types.specs.declared.intent.Intent.{Intent}
 use Rattle.am_types.specs.declared.device.Package.{Package}
 use Rattle.am_types.specs.declared.manifest.Decl.{Decl}
@@ -148,7 +149,7 @@ module _ (state : State) (caller : ℕ) where
   other_stays before asks.Tick keeps = admin_leaves Stays state caller (done state) refl refl
   other_stays before (asks.Advance more) keeps =
       admin_leaves Stays state caller (advance state more) refl
-      (either_leaves Stays (nat_le (state.moment + more) 4611686018427387904)
+      (either_leaves Stays (nat_le (state.moment + more) latest_moment)
       (advanced (at_moment state (state.moment + more)))
       (refused state (rules.OverLimit limits.Moment)) refl refl)
   other_stays before request keeps = reading_leaves Stays state _ (act_reads state before caller request refl) refl

@@ -12,6 +12,7 @@ use Rattle.std.proofs.lemmas.List.Elements.{All-nil, All-cons, All-head, All-tai
 use Rattle.std.proofs.lemmas.Map.Keys.{IsStrictlyIncreasing-from_sorted}
 use Rattle.toml.specs.Data.{Data, get, as_table}
 use Rattle.toml.specs.Parse.{parse_document}
+use Rattle.am_types.specs.Bounds.{longest_manifest}
 use Rattle.am_types.specs.declared.device.Device.{Device}
 use Rattle.am_types.specs.declared.device.Package.{Package}
 use Rattle.am_types.specs.declared.failure.Unmade.{Unmade}
@@ -20,11 +21,11 @@ use Rattle.am_types.specs.declared.manifest.Manifest.{Manifest}
 use Rattle.am_types.specs.declared.manifest.ManifestFault.{ManifestFault}
 use Rattle.am_types.specs.declared.manifest.ManifestFault.TheVariants.{Duplicate, WrongKind, OverLimit}
 use Rattle.am_model.specs.Sound.{AreDistinct, AreSoundPackages, AreSoundRights, IsSound, IsSoundDecl, IsSoundPackage, classes_of, is_access_key, is_package_name, keys_of, names_of, owner_keys, rights_approved, rights_granted, uids_of}
-use Rattle.am_uri.specs.declared.text.Form.TheVariants.{AccessKey, PackageName}
+use Rattle.am_uri.specs.declared.text.Form.TheVariants.{AccessKey, Filled, PackageName}
 use Rattle.am_types.specs.Reading.{Gives}
 use Rattle.am_uri.specs.Texts.{is_among, with_text}
 use Rattle.am_manifest_filters.specs.Texts.{key_place, within_key}
-use Rattle.am_manifest_filters.specs.Tables.{at_most, each, entry_table, optional_text, optional_values, required_text}
+use Rattle.am_manifest_filters.specs.Tables.{at_most, each, entry_table, optional_text, optional_values, required_text, texts_at}
 use Rattle.am_manifest.specs.declared.device.Owners.{Owners}
 use Rattle.am_manifest.specs.declared.rights.Right.{Right}
 use Rattle.am_manifest.specs.declared.rights.Rights.{Rights}
@@ -32,7 +33,7 @@ use Rattle.am_types.specs.declared.device.RightKind.{RightKind}
 use Rattle.am_types.specs.declared.device.RightKind.TheVariants.{Permission, Host}
 use Rattle.am_manifest.specs.Manifests.{IsAppManifest, IsSoundManifest, classes, decls_in, first_repeated, manifest_alone, manifest_in, manifest_made, manifest_of, root_of, unless_repeated}
 use Rattle.am_manifest.specs.Rights.{array_key, limit_name, more_texts, place_among, right_entry, right_put, rights_from, rights_in, rights_of, texts_of, with_right, with_uids}
-use Rattle.am_manifest.specs.Devices.{actions_in, apart, device_in, device_made, first_taken, known_keys, manifest_at, manifest_found, owners_in, package_entry, package_of, packages_apart, packages_in, roots_apart, shares_key, unless_taken}
+use Rattle.am_manifest.specs.Devices.{apart, device_in, first_taken, known_keys, manifest_at, manifest_found, owners_in, package_entry, package_of, packages_apart, packages_in, roots_apart, shares_key, unless_taken}
 use Rattle.am_manifest.proofs.Apart.{AreApart, are_apart, behind_one, behind_owners, distinct}
 use Rattle.am_manifest.proofs.Held.{AreFewTexts, CountUp, sound_rights}
 use Rattle.am_manifest.proofs.FewFilters.{decls_within}
@@ -73,7 +74,7 @@ alone_sound value m h =
 pub manifest_sound : (text : List ℕ) (m : Manifest) → manifest_of text ≡ Ok m → IsAppManifest m
 unfolding manifest_of
 manifest_sound text m h =
-    let short = steps (at_most 65536 (codes "text") (length text)) _ m h in
+    let short = steps (at_most longest_manifest (codes "text") (length text)) _ m h in
     let root = steps (root_of (parse_document text)) _ m short.then in
     alone_sound root.value m root.then
 
@@ -353,13 +354,14 @@ sound_device : (value : Data) (device : Device) → device_in value ≡ Ok devic
 unfolding device_in
 sound_device value device h =
     let owners = steps (owners_in value) _ device h in
-    let actions = steps (actions_in value) _ device owners.then in
-    let packages = steps (packages_apart owners.value value) _ device actions.then in
+    let kept = steps (texts_at Filled [] (codes "protected") 1024 value) _ device owners.then in
+    let exempt = steps (texts_at Filled [] (codes "exempt") 1024 value) _ device kept.then in
+    let packages = steps (packages_apart owners.value value) _ device exempt.then in
     let rights = steps (rights_in packages.value value) _ device packages.then in
     let made = sound_apart owners.value value packages.value packages.is in
     let held = sound_in packages.value value rights.value rights.is made.counted in
     let apart = made.apart in
-    subst IsSound (same (device_made owners.value actions.value packages.value rights.value) device rights.then)
+    subst IsSound (same _ device rights.then)
     (record {
       packages = made.sound;
       names = behind_one (codes "android") (names_of packages.value) apart.new_names apart.names;

@@ -9,7 +9,6 @@ use Rattle.am_types.specs.declared.manifest.Manifest.{Manifest}
 use Rattle.am_types.specs.declared.manifest.ManifestFault.{ManifestFault}
 use Rattle.am_types.specs.declared.manifest.ManifestFault.TheVariants.{NotToml, Missing, WrongKind, Duplicate}
 use Rattle.am_manifest.specs.declared.device.Owners.{Owners}
-use Rattle.am_manifest.specs.declared.device.Actions.{Actions}
 use Rattle.am_manifest.specs.declared.rights.Rights.{Rights}
 use Rattle.am_uri.specs.declared.text.Form.TheVariants.{AccessKey, Filled, PackageName}
 use Rattle.am_types.specs.Reading.{◌>>=◌}
@@ -93,27 +92,18 @@ owners_in value = do
   browser ← optional_text PackageName [] (codes "browser") value
   Ok (record { system_key = system_key; root_key = root_key; browser = browser })
 
--- the actions that are protected, and those that are exempt
-unfoldable pub actions_in : Data → Result Actions ManifestFault
-actions_in value = do
-  «protected» ← texts_at Filled [] (codes "protected") 1024 value
-  exempt ← texts_at Filled [] (codes "exempt") 1024 value
-  Ok (record { «protected» = «protected»; exempt = exempt })
-
 -- a device assembled from these parts
-abbrev pub device_made : Owners → Actions → List Package → Rights → Device
-device_made owners actions packages rights =
-    record {
-      system_key = owners.system_key;
-      root_key = owners.root_key;
-      browser = owners.browser;
-      «protected» =
-          actions.«protected»;
-      exempt = actions.exempt;
-      packages = packages;
-      grants = rights.grants;
-      links = rights.links;
-    }
+abbrev pub device_made : Owners → List (List ℕ) → List (List ℕ) → List Package → Rights → Device
+device_made owners «protected» exempt packages rights = record {
+  system_key = owners.system_key;
+  root_key = owners.root_key;
+  browser = owners.browser;
+  «protected» = «protected»;
+  exempt = exempt;
+  packages = packages;
+  grants = rights.grants;
+  links = rights.links;
+}
 
 -- the packages of a device, with distinct names and keys
 unfoldable pub packages_apart : Owners → Data → Result (List Package) ManifestFault
@@ -125,10 +115,11 @@ packages_apart owners value = do
 unfoldable pub device_in : Data → Result Device ManifestFault
 device_in value = do
   owners ← owners_in value
-  actions ← actions_in value
+  «protected» ← texts_at Filled [] (codes "protected") 1024 value
+  exempt ← texts_at Filled [] (codes "exempt") 1024 value
   packages ← packages_apart owners value
   rights ← rights_in packages value
-  Ok (device_made owners actions packages rights)
+  Ok (device_made owners «protected» exempt packages rights)
 
 -- the bytes, if they are UTF-8
 unfoldable pub text_of : List ℕ → Result (List ℕ) ManifestFault

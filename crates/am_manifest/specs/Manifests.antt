@@ -3,6 +3,7 @@ use Rattle.std.specs.Prelude.{◌≡◌, ℕ, ◌≤◌, false, codes, List, [],
 use Rattle.std.specs.Str.{bytes_eq}
 use Rattle.toml.specs.Data.{Data, Members, table}
 use Rattle.toml.specs.Parse.{parse_document}
+use Rattle.am_types.specs.Bounds.{longest_manifest}
 use Rattle.am_types.specs.declared.manifest.Decl.{Decl}
 use Rattle.am_types.specs.declared.manifest.Kind.TheVariants.{Activity, Service, Receiver}
 use Rattle.am_types.specs.declared.manifest.Manifest.{Manifest}
@@ -36,12 +37,6 @@ manifest_made «package» decls = do
   few ← at_most 256 (codes "components") (length decls)
   unless_repeated (record { «package» = «package»; decls = decls }) (first_repeated (classes decls))
 
--- the first components, then others that are read
-abbrev pub more_decls : List Decl → Result (List Decl) ManifestFault → Result (List Decl) ManifestFault
-more_decls first others = do
-  more ← others
-  Ok (first ++ more)
-
 -- the components of a package: activities, then services, then receivers
 unfoldable pub decls_in : List ℕ → List ℕ → Data → Result (List Decl) ManifestFault
 decls_in «package» at value = do
@@ -71,7 +66,7 @@ root_of (Some members) = Ok (table members)
 -- the manifest that a text contains, or the first fault
 unfoldable pub manifest_of : List ℕ → Result Manifest ManifestFault
 manifest_of text = do
-  short ← at_most 65536 (codes "text") (length text)
+  short ← at_most longest_manifest (codes "text") (length text)
   root ← root_of (parse_document text)
   manifest_alone root
 

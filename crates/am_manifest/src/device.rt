@@ -5,10 +5,10 @@ ghost use Rattle.am_types.specs.Reading.{Gives, GivesBy};
 ghost use Rattle.am_manifest_filters.specs.Tables.{each};
 ghost use Rattle.am_uri.specs.Texts.{with_text};
 ghost use Rattle.am_model.specs.Sound.{IsSound};
-ghost use Rattle.am_manifest.specs.Devices.{actions_in, apart, device_in, device_made, device_of, first_taken, is_taken, manifest_at, owners_in, package_entry, package_of, packages_apart, packages_in, known_keys, roots_apart, shares_key, text_of};
+ghost use Rattle.am_manifest.specs.Devices.{apart, device_in, device_of, first_taken, is_taken, manifest_at, owners_in, package_entry, package_of, packages_apart, packages_in, known_keys, roots_apart, shares_key, text_of};
 
 use crate::manifest::{duplicate, manifest_in, root_of};
-use crate::rights::{Rights, rights_in};
+use crate::rights::rights_in;
 use am_manifest_filters::{
     Position, ReadFault, at_most, entry_table, optional_text, optional_values, read_each,
     required_text, texts_at, within_key,
@@ -25,13 +25,6 @@ pub struct Owners {
     pub system_key: Text,
     pub root_key: Option<Text>,
     pub browser: Option<Text>,
-}
-
-/// The actions that a device treats specially.
-#[derive(Drop)]
-pub struct Actions {
-    pub protected: List<Text>,
-    pub exempt: List<Text>,
 }
 
 /// The manifest of a package.
@@ -218,52 +211,26 @@ fn owners_in(alloc: Global, table: &Value) -> Result<Owners, ReadFault>
     })
 }
 
-/// The actions that are protected, and those that are exempt.
-#[tactic(auto, unfolding(crate::specs::Devices::actions_in))]
-fn actions_in(alloc: Global, table: &Value) -> Result<Actions, ReadFault>
-    ensures { Gives result (actions_in (view table.now)) }
-{
-    let protected = texts_at(alloc, Form::Filled, "", "protected", 1024, table)?;
-    let exempt = texts_at(alloc, Form::Filled, "", "exempt", 1024, table)?;
-    Ok(Actions {
-        protected: List::new(protected),
-        exempt: List::new(exempt),
-    })
-}
-
-/// The device assembled from these parts.
-fn device_made(owners: Owners, actions: Actions, packages: Vec<Package>, rights: Rights) -> Device
-    ensures { result ≡ device_made owners actions packages.items rights }
-{
-    Device {
-        system_key: owners.system_key,
-        root_key: owners.root_key,
-        browser: owners.browser,
-        protected: actions.protected,
-        exempt: actions.exempt,
-        packages: List::new(packages),
-        grants: rights.grants,
-        links: rights.links,
-    }
-}
-
 /// The device in a table.
 #[tactic(auto, unfolding(crate::specs::Devices::device_in))]
 fn device_in(alloc: Global, table: &Value) -> Result<Device, ReadFault>
     ensures { Gives result (device_in (view table.now)) }
 {
     let owners = owners_in(alloc, table)?;
-    let actions = actions_in(alloc, table)?;
+    let protected = texts_at(alloc, Form::Filled, "", "protected", 1024, table)?;
+    let exempt = texts_at(alloc, Form::Filled, "", "exempt", 1024, table)?;
     let packages = packages_apart(alloc, &owners, table)?;
-    match rights_in(alloc, &packages, table) {
-        Ok(rights) => Ok(device_made(owners, actions, packages, rights)),
-        Err(fault) => {
-            drop(owners);
-            drop(actions);
-            drop(packages);
-            Err(fault)
-        }
-    }
+    let rights = rights_in(alloc, &packages, table)?;
+    Ok(Device {
+        system_key: owners.system_key,
+        root_key: owners.root_key,
+        browser: owners.browser,
+        protected: List::new(protected),
+        exempt: List::new(exempt),
+        packages: List::new(packages),
+        grants: rights.grants,
+        links: rights.links,
+    })
 }
 
 /// The bytes as a text.

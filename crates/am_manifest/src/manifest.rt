@@ -6,7 +6,7 @@ ghost use Rattle.toml.specs.View.{view};
 ghost use Rattle.am_types.specs.declared.manifest.ManifestFault.TheVariants.{Duplicate};
 ghost use Rattle.am_types.specs.Reading.{Gives, GivesBy, IsFault};
 ghost use Rattle.am_manifest.specs.Components.{components_at};
-ghost use Rattle.am_manifest.specs.Manifests.{IsAppManifest, classes, decls_in, first_repeated, manifest_alone, manifest_in, manifest_made, manifest_of, more_decls, root_of};
+ghost use Rattle.am_manifest.specs.Manifests.{IsAppManifest, classes, decls_in, first_repeated, manifest_alone, manifest_in, manifest_made, manifest_of, root_of};
 
 use crate::components::components_at;
 use am_manifest_filters::{ReadFault, at_most, required_text};
@@ -91,36 +91,15 @@ fn joined(first: Vec<Decl>, others: Vec<Decl>) -> Result<Vec<Decl>, AllocError>
     Ok(all)
 }
 
-/// The first components, then those at a key.
-fn more_decls(
-    alloc: Global,
-    first: Vec<Decl>,
-    kind: Kind,
-    package: &Text,
-    at: &str,
-    key: &str,
-    table: &Value,
-) -> Result<Vec<Decl>, ReadFault>
-    ensures { GivesBy (λ decls. decls.items) result
-        (more_decls first.items (components_at kind «package».now at.now key.now (view table.now))) }
-{
-    match components_at(alloc, kind, package, at, key, table) {
-        Ok(others) => Ok(joined(first, others)?),
-        Err(fault) => {
-            drop(first);
-            Err(fault)
-        }
-    }
-}
-
 /// The components of a package: activities, then services, then receivers.
 #[tactic(auto, unfolding(crate::specs::Manifests::decls_in))]
 fn decls_in(alloc: Global, package: &Text, at: &str, table: &Value) -> Result<Vec<Decl>, ReadFault>
     ensures { GivesBy (λ decls. decls.items) result (decls_in «package».now at.now (view table.now)) }
 {
-    let decls = components_at(alloc, Kind::Activity, package, at, "activity", table)?;
-    let decls = more_decls(alloc, decls, Kind::Service, package, at, "service", table)?;
-    more_decls(alloc, decls, Kind::Receiver, package, at, "receiver", table)
+    let activities = components_at(alloc, Kind::Activity, package, at, "activity", table)?;
+    let services = components_at(alloc, Kind::Service, package, at, "service", table)?;
+    let receivers = components_at(alloc, Kind::Receiver, package, at, "receiver", table)?;
+    Ok(joined(activities, joined(services, receivers)?)?)
 }
 
 /// The manifest in a table whose keys' places begin with `at`.

@@ -1,6 +1,6 @@
 -- The filters that are read are within the limits.
-use Rattle.std.proofs.Common.{◌≡◌, ℕ, ◌+◌, ◌*◌, ◌≤◌, List, [], ◌∷◌, ◌++◌, length, fold, Option, Some, None, Ok, ap, subst, arith, nat_cmp}
-use Rattle.std.specs.Prelude.{All, codes, option_map}
+use Rattle.std.proofs.Common.{◌≡◌, ℕ, ◌+◌, ◌*◌, ◌≤◌, ◌==◌, not, List, [], ◌∷◌, ◌++◌, length, fold, Option, Some, None, Ok, ap, subst, arith, nat_cmp}
+use Rattle.std.specs.Prelude.{All, codes, filter, option_map}
 use Rattle.std.specs.Cmp.Lexicographic.{slice_cmp}
 use Rattle.std.proofs.lemmas.List.Elements.{All-filter}
 use Rattle.std.proofs.lemmas.List.Sums.{length-filter, count_by-le-length}
@@ -16,12 +16,12 @@ use Rattle.am_filter.specs.declared.rows.DataRows.{DataRows}
 use Rattle.am_uri.specs.declared.text.Form.TheVariants.{Filled}
 use Rattle.am_manifest_filters.specs.declared.filters.Filters.{Filters}
 use Rattle.am_uri.specs.Texts.{sorted_texts, with_optional}
-use Rattle.am_manifest_filters.specs.Tables.{at_most, each, entry_table, entry_text, optional_values, texts_at}
+use Rattle.am_manifest_filters.specs.Tables.{at_most, entry_table, entry_text, optional_values, texts_at}
 use Rattle.am_filter.specs.Rows.{listed, no_rows, with_paths, with_row}
 use Rattle.am_manifest_filters.specs.Rows.{row_entry, rows_at}
 use Rattle.am_manifest_filters.specs.Filters.{filter_entry, filter_of, filters_at, has_action, priority_at, sorted_at}
 use Rattle.am_uri.proofs.Order.{length_put, length_sorted}
-use Rattle.am_manifest_filters.proofs.StepsRead.{steps, same, within, each_all, each_length}
+use Rattle.am_manifest_filters.proofs.StepsRead.{steps, same, within, each_all, each_length, listed_read}
 
 -- rows that were merged from this many
 record AreMerged (rows : DataRows) (count : ℕ) : Type 0 where
@@ -83,23 +83,20 @@ merged_from rows count (row ∷ more) m =
 rows_within : (at : List ℕ) (value : Data) (rows : DataRows) → rows_at at value ≡ Ok rows → AreMerged rows 64
 unfolding rows_at
 rows_within at value rows h =
-    let values = steps (optional_values at (codes "data") value) _ rows h in
-    let few = steps (at_most 64 (codes "list") (length values.value)) _ rows values.then in
-    let read = steps (each (row_entry at) 0 values.value) _ rows few.then in
-    let many = within 64 (codes "list") (length values.value) few.value few.is in
-    let long = each_length (row_entry at) 0 values.value read.value read.is in
+    let read = listed_read (row_entry at) at (codes "data") (codes "list") 64 value
+    (λ values those. Ok (fold with_row no_rows those)) rows h in
     let none : AreMerged no_rows 0 = record {
       schemes = omega arith;
       authorities = omega arith;
       paths = omega arith;
       types = omega arith;
     } in
-    let all = merged_from no_rows 0 read.value none in
-    subst (λ (r : DataRows). AreMerged r 64) (same (fold with_row no_rows read.value) rows read.then) (record {
-      schemes = omega (arith, all.schemes, many, long);
-      authorities = omega (arith, all.authorities, many, long);
-      paths = omega (arith, all.paths, many, long);
-      types = omega (arith, all.types, many, long);
+    let all = merged_from no_rows 0 read.those none in
+    subst (λ (r : DataRows). AreMerged r 64) (same (fold with_row no_rows read.those) rows read.then) (record {
+      schemes = omega (arith, all.schemes, read.few);
+      authorities = omega (arith, all.authorities, read.few);
+      paths = omega (arith, all.paths, read.few);
+      types = omega (arith, all.types, read.few);
     })
 
 texts_within : (at key : List ℕ) (value : Data) (texts : List (List ℕ)) → sorted_at at key value ≡ Ok texts
@@ -147,14 +144,11 @@ pub filters_within : (at : List ℕ) (value : Data) (filters : Filters) → filt
     → AreFewFilters filters.kept
 unfolding filters_at
 filters_within at value filters h =
-    let values = steps (optional_values at (codes "intent-filter") value) _ filters h in
-    let few = steps (at_most 32 (codes "filters") (length values.value)) _ filters values.then in
-    let read = steps (each (filter_entry at) 0 values.value) _ filters few.then in
-    let many = within 32 (codes "filters") (length values.value) few.value few.is in
-    let long = each_length (filter_entry at) 0 values.value read.value read.is in
+    let read = listed_read (filter_entry at) at (codes "intent-filter") (codes "filters") 32 value
+    (λ values those. Ok (record { written = not (length values == 0); kept = filter has_action those })) filters h in
     let kept = ap (λ (fs : Filters). fs.kept) (same _ filters read.then) in
     subst AreFewFilters kept (record {
-      few = omega (arith, many, long, length-filter has_action read.value, count_by-le-length has_action read.value);
-      each = All-filter has_action IsSoundFilter read.value (each_all (filter_entry at) IsSoundFilter (entry_within at)
-          0 values.value read.value read.is);
+      few = omega (arith, read.few, length-filter has_action read.those, count_by-le-length has_action read.those);
+      each = All-filter has_action IsSoundFilter read.those (each_all (filter_entry at) IsSoundFilter (entry_within at)
+          0 read.values read.those read.is);
     })

@@ -10,7 +10,7 @@ use Rattle.am_uri.specs.declared.text.Form.{Form}
 use Rattle.am_types.specs.Reading.{◌>>=◌}
 use Rattle.am_uri.specs.Texts.{fits}
 use Rattle.am_manifest_filters.specs.Texts.{key_place, text_in}
-use Rattle.am_manifest_filters.specs.Tables.{at_most, each, required_in, required_text, optional_text_in, optional_text}
+use Rattle.am_manifest_filters.specs.Tables.{at_most, each, optional_values, required_in, required_text, optional_text_in, optional_text}
 
 -- what the first step read, of which the second one made this
 pub record Steps {A B : Type 0} (first : Result A ManifestFault) (next : A → Result B ManifestFault) (made : B) : Type 0
@@ -92,3 +92,30 @@ module _ {A : Type 0} (read : ℕ → Data → Result A ManifestFault) where
       let others = steps (each read (i + 1) values) _ xs one.then in
       let long = ap length (same (one.value ∷ others.value) xs others.then) in
       omega (arith, long, each_length (i + 1) values others.value others.is)
+
+  -- what was read of each value under a key, where there are at most this many, and what was made of it
+  pub record ListRead {B : Type 0} (limit : ℕ) (next : List Data → List A → Result B ManifestFault) (made : B) : Type 0
+    where
+      pub values : List Data
+      pub those : List A
+      pub is : each read 0 values ≡ Ok those
+      pub few : length those ≤ limit
+      pub then : next values those ≡ Ok made
+
+  pub listed_read : {B : Type 0} (at key name : List ℕ) (limit : ℕ) (value : Data)
+      (next : List Data → List A → Result B ManifestFault) (made : B)
+      → (optional_values at key value >>= (λ values. at_most limit name (length values) >>= (λ few. each read 0 values
+      >>= next values))) ≡ Ok made → ListRead limit next made
+  listed_read at key name limit value next made h =
+      let values = steps (optional_values at key value) _ made h in
+      let few = steps (at_most limit name (length values.value)) _ made values.then in
+      let those = steps (each read 0 values.value) _ made few.then in
+      let many = within limit name (length values.value) few.value few.is in
+      let long = each_length 0 values.value those.value those.is in
+      record {
+        values = values.value;
+        those = those.value;
+        is = those.is;
+        few = omega (arith, many, long);
+        then = those.then;
+      }

@@ -10,6 +10,7 @@ use Rattle.am_types.specs.Reading.{◌>>=◌}
 use Rattle.am_uri.specs.Texts.{sorted_texts}
 use Rattle.am_manifest_filters.specs.Texts.{key_place}
 use Rattle.am_manifest_filters.specs.Tables.{texts_at, optional_values, at_most, each, entry_table}
+use Rattle.am_filter.specs.Rows.{filter_with}
 use Rattle.am_manifest_filters.specs.Rows.{rows_at}
 
 -- a whole number of 32 bits
@@ -42,16 +43,7 @@ filter_of at value = do
   categories ← sorted_at at (codes "category") value
   priority ← priority_at at value
   rows ← rows_at at value
-  Ok (record {
-    actions = actions;
-    categories = categories;
-    schemes = rows.schemes;
-    authorities = rows.authorities;
-    paths
-        = rows.paths;
-    types = rows.types;
-    priority = priority;
-  })
+  Ok (filter_with actions categories rows priority)
 
 -- an entry of the filters of a component
 unfoldable pub filter_entry : List ℕ → ℕ → Data → Result Filter ManifestFault

@@ -6,12 +6,13 @@ use Rattle.toml.specs.Parse.{parse_document}
 use Rattle.am_types.specs.declared.device.Device.{Device}
 use Rattle.am_types.specs.declared.device.Package.{Package}
 use Rattle.am_types.specs.declared.visible.Queries.{Queries}
-use Rattle.am_manifest_filters.specs.Tables.{at_most, optional_values}
+use Rattle.am_uri.specs.declared.text.Form.TheVariants.{Filled}
+use Rattle.am_manifest_filters.specs.Tables.{at_most, optional_values, texts_at}
 use Rattle.am_manifest_filters.proofs.StepsRead.{steps, same, each_length}
 use Rattle.am_manifest.specs.declared.device.Owners.{Owners}
 use Rattle.am_manifest.specs.Manifests.{root_of}
 use Rattle.am_manifest.specs.Rights.{rights_in}
-use Rattle.am_manifest.specs.Devices.{actions_in, apart, device_in, device_of, first_taken, known_keys, owners_in, package_entry, packages_apart, packages_in, roots_apart, text_of, unless_taken}
+use Rattle.am_manifest.specs.Devices.{apart, device_in, device_of, first_taken, known_keys, owners_in, package_entry, packages_apart, packages_in, roots_apart, text_of, unless_taken}
 use Rattle.am_manifest_queries.specs.Queries.{all_queries, package_queries, text_queries}
 
 -- what is apart was read
@@ -44,8 +45,9 @@ device_long : (root : Data) (device : Device) → device_in root ≡ Ok device
 unfolding device_in
 device_long root device h values is =
     let owners = steps (owners_in root) _ device h in
-    let actions = steps (actions_in root) _ device owners.then in
-    let packages = steps (packages_apart owners.value root) _ device actions.then in
+    let kept = steps (texts_at Filled [] (codes "protected") 1024 root) _ device owners.then in
+    let exempt = steps (texts_at Filled [] (codes "exempt") 1024 root) _ device kept.then in
+    let packages = steps (packages_apart owners.value root) _ device exempt.then in
     let rights = steps (rights_in packages.value root) _ device packages.then in
     sym (ap (λ (d : Device). length d.packages) (same _ device rights.then))
     ∙ packages_long owners.value root packages.value packages.is values is

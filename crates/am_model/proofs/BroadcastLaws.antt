@@ -12,6 +12,7 @@ use Rattle.am_types.specs.declared.broadcast.Outcome.{Outcome}
 use Rattle.am_model.specs.Filters.{is_empty}
 use Rattle.am_model.specs.Broadcasts.{Broadcasts, Normal, Delivery, InTurn, Past, Current, Doing, Answered, Late, Gone, Settled, outcome_after, fold_outcome, outcome_of, turn, turned, doings, is_abort, is_over, result_of, dispatched, with_results, settled, is_head_due, is_delivery_due, due, normals_keeping, expired}
 use Rattle.am_model.specs.Sending.{strike, strike_from, strike_rest, live, with_sent, send}
+use Rattle.am_model.proofs.Lists.{none_left}
 use Rattle.am_model.proofs.Parts.{neither}
 
 -- where aborts count for nothing a broadcast is over just when no receiver is left
@@ -238,20 +239,6 @@ turn_keeps_order doing broadcast = by broadcast.rest refl
         ∙ append_assoc spots (spot ∷ []) others
         ∙ ap (λ l. spots ++ l) (sym is)
 
--- where those that are struck were left out none is struck
-none_struck : (struck : Spot → Bool) (spots : List Spot) → list_any struck (filter (λ spot. not (struck spot)) spots)
-    ≡ false
-none_struck struck [] = refl
-none_struck struck (first ∷ others) = by (struck first) refl (none_struck struck others)
-  where
-    left : List Spot
-    left = filter (λ spot. not (struck spot)) others
-
-    by : (b : Bool) → struck first ≡ b → list_any struck left ≡ false
-        → list_any struck (cond (not b) (first ∷ left) left) ≡ false
-    by true is rest = rest
-    by false is rest = ap (λ b. b || list_any struck left) is ∙ rest
-
 -- no receiver that was struck is left
 pub struck_are_not_left : (struck : Spot → Bool) (broadcast : InTurn) → list_any struck (strike struck broadcast).rest
     ≡ false
@@ -264,11 +251,11 @@ struck_are_not_left struck broadcast = by broadcast.rest broadcast.current refl
 
     by : (rest : List Spot) (current : Option Current) → broadcast.rest ≡ rest
         → list_any struck (strike_from struck broadcast rest current).rest ≡ false
-    by rest None is = none_struck struck broadcast.rest
+    by rest None is = none_left struck broadcast.rest
     by [] (Some current) is = ap (list_any struck) is
     by (spot ∷ others) (Some current) is =
         either (struck spot) (strike_rest struck (turn Gone broadcast)) (strike_rest struck broadcast)
-        (none_struck struck (turn Gone broadcast).rest) (none_struck struck broadcast.rest)
+        (none_left struck (turn Gone broadcast).rest) (none_left struck broadcast.rest)
 
 -- a broadcast that is sent has the next number
 pub sent_is_next : (all after : Broadcasts) (sending : Sending) (number : ℕ) → send all sending ≡ Ok (number, after)

@@ -9,7 +9,7 @@ use Rattle.am_types.specs.Intents.{no_intent}
 use Rattle.am_model.specs.Filters.{default_category}
 use Rattle.am_model.specs.Candidates.{hits}
 use Rattle.am_model.specs.Plain.{filter_for, open_decl}
-use Rattle.am_model.proofs.Samples.{asking, to_component, component_of, package_with}
+use Rattle.am_model.proofs.Samples.{asking, to_component, component_of, hit_at, package_with}
 
 -- an activity of com.one with filters
 abbrev activity : List ℕ → List Filter → Decl
@@ -28,22 +28,11 @@ packages decls =
 
 -- a component of com.one that is found, by its class, its place and its priority
 abbrev found : List ℕ → ℕ → ℤ → Hit
-found class place priority = record {
-  component = component_of (codes "com.one") class;
-  uid = 10000;
-  place = place;
-  priority = priority;
-}
+found class place priority = hit_at (component_of (codes "com.one") class) 10000 place priority
 
 -- the activity of com.two that is found
 abbrev found_in_two : Hit
-found_in_two = record {
-  component = component_of (codes "com.two") (codes "Main");
-  uid = 10001;
-  place = 0;
-  priority =
-      pos 0;
-}
+found_in_two = hit_at (component_of (codes "com.two") (codes "Main")) 10001 0 (pos 0)
 
 -- an intent without an action finds what lists one, and nothing finds a filter that lists none
 pub some_action : hits (packages (activity (codes "A") (record (asks (pos 0)) { actions = [] } ∷ []) ∷ [])) Activity

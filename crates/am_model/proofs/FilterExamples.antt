@@ -7,6 +7,7 @@ use Rattle.am_types.specs.declared.filter.PathRule.TheVariants.{Literal}
 use Rattle.am_types.specs.declared.filter.Why.TheVariants.{Action, Scheme, Host, Path, Type_, Category}
 use Rattle.am_types.specs.Intents.{no_intent}
 use Rattle.am_model.specs.Filters.{default_category, passes_authority, why}
+use Rattle.am_model.proofs.Samples.{uri_at, mime_at}
 
 -- a host stands for itself whatever its case
 pub host_of_any_case : passes_authority (record { host = codes "a.com"; port = None }) (Some (codes "A.Com")) None
@@ -56,41 +57,16 @@ abbrev pub view_intent : Intent
 view_intent = record no_intent { action = Some (codes "VIEW") }
 
 abbrev pub uri_of_a : Uri
-uri_of_a = record {
-  text = codes "https://a.com/x";
-  scheme = codes "https";
-  host = Some (codes "a.com");
-  port = None;
-  path = codes "/x";
-}
+uri_of_a = record (uri_at (codes "https://a.com/x") (codes "https") (Some (codes "a.com"))) { path = codes "/x" }
 
 abbrev pub uri_of_b : Uri
-uri_of_b = record {
-  text = codes "https://b.org/y";
-  scheme = codes "https";
-  host = Some (codes "b.org");
-  port = None;
-  path = codes "/y";
-}
+uri_of_b = record (uri_at (codes "https://b.org/y") (codes "https") (Some (codes "b.org"))) { path = codes "/y" }
 
 abbrev pub content_uri : Uri
-content_uri = record {
-  text = codes "content://p/1";
-  scheme = codes "content";
-  host = Some (codes "p");
-  port = None;
-  path = codes "/1";
-}
+content_uri = record (uri_at (codes "content://p/1") (codes "content") (Some (codes "p"))) { path = codes "/1" }
 
 abbrev pub web_uri : Uri
-web_uri = record {
-  text = codes "http://h/1";
-  scheme = codes "http";
-  host = Some (codes "h");
-  port = None;
-  path = codes
-      "/1";
-}
+web_uri = record (uri_at (codes "http://h/1") (codes "http") (Some (codes "h"))) { path = codes "/1" }
 
 -- a scheme of one row goes with the host and the path of another
 pub rows_merge : why merged_filter (record view_intent { uri = Some uri_of_a }) true ≡ None
@@ -103,23 +79,20 @@ merged_path_refuses = refl
 -- a filter of types takes local content
 pub local_content : why image_filter (record view_intent {
   uri = Some content_uri;
-  mime = Some
-      (record { main = codes "image"; sub = codes "png" });
+  mime = Some (mime_at (codes "image") (codes "png"));
 }) true ≡ None
 local_content = refl
 
 -- and nothing from elsewhere
 pub web_refused : why image_filter (record view_intent {
   uri = Some web_uri;
-  mime = Some
-      (record { main = codes "image"; sub = codes "png" });
+  mime = Some (mime_at (codes "image") (codes "png"));
 }) true ≡ Some Scheme
 web_refused = refl
 
 -- the case of a type counts
 pub type_case_refused : why image_filter (record view_intent {
-  mime = Some
-      (record { main = codes "IMAGE"; sub = codes "png" });
+  mime = Some (mime_at (codes "IMAGE") (codes "png"));
 }) false ≡ Some Type_
 type_case_refused = refl
 

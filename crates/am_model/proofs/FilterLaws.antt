@@ -93,19 +93,12 @@ categories_of_more before after one categories need_default held =
     (both_second (list_all (λ category. lists (before ++ after) category) categories) _ held))
 
 -- the test on data sees neither actions nor categories
-data_why-actions : (filter : Filter) (actions : List (List ℕ)) (uri : Option Uri) (mime : Option Mime)
-    → data_why (record filter { actions = actions }) uri mime ≡ data_why filter uri mime
-data_why-actions filter actions None None = refl
-data_why-actions filter actions None (Some mime) = refl
-data_why-actions filter actions (Some uri) None = refl
-data_why-actions filter actions (Some uri) (Some mime) = refl
-
-data_why-categories : (filter : Filter) (categories : List (List ℕ)) (uri : Option Uri) (mime : Option Mime)
-    → data_why (record filter { categories = categories }) uri mime ≡ data_why filter uri mime
-data_why-categories filter categories None None = refl
-data_why-categories filter categories None (Some mime) = refl
-data_why-categories filter categories (Some uri) None = refl
-data_why-categories filter categories (Some uri) (Some mime) = refl
+same_data_why : (filter : Filter) (actions categories : List (List ℕ)) (uri : Option Uri) (mime : Option Mime)
+    → data_why (record filter { actions = actions; categories = categories }) uri mime ≡ data_why filter uri mime
+same_data_why filter actions categories None None = refl
+same_data_why filter actions categories None (Some mime) = refl
+same_data_why filter actions categories (Some uri) None = refl
+same_data_why filter actions categories (Some uri) (Some mime) = refl
 
 -- a filter that lists some type doesn't list none
 untyped : (types before after : List Mime) → types ≡ before ++ after → is_empty (before ++ after) ≡ false
@@ -149,7 +142,7 @@ one_more_action filter before after one intent need_default listed held =
     let rest = rest_passes (unless (passes_action filter.actions intent.action) Action) _ held in
     both_pass _ _
     (test_passes _ _ (action_of_more before after one intent.action (rw listed at action)))
-    (rw (data_why-actions filter (before ++ one ∷ after) intent.uri intent.mime) rest)
+    (rw (same_data_why filter (before ++ one ∷ after) filter.categories intent.uri intent.mime) rest)
 
 -- a filter that passes still passes with one more category
 pub one_more_category : (filter : Filter) (before after : List (List ℕ)) (one : List ℕ) (intent : Intent)
@@ -162,7 +155,7 @@ one_more_category filter before after one intent need_default listed held =
     both_pass (unless (passes_action filter.actions intent.action) Action) _
     (first_passes (unless (passes_action filter.actions intent.action) Action) _ held)
     (both_pass _ _
-    (rw (data_why-categories filter (before ++ one ∷ after) intent.uri intent.mime)
+    (rw (same_data_why filter filter.actions (before ++ one ∷ after) intent.uri intent.mime)
     (first_passes (data_why filter intent.uri intent.mime) _ rest))
     (test_passes _ _ (categories_of_more before after one intent.categories need_default (rw listed at categories))))
 

@@ -1,7 +1,7 @@
 -- Laws of gates: who is always admitted, and that a grant never keeps out.
-use Rattle.std.proofs.Common.{◌≡◌, ℕ, Bool, true, false, not, ◌&&◌, ◌||◌, cond, List, [], ◌∷◌, refl, ap, ◌∙◌}
+use Rattle.std.proofs.Common.{◌≡◌, ℕ, Bool, true, false, not, ◌&&◌, ◌||◌, cond, List, refl, ap, ◌∙◌}
 use Rattle.std.specs.Prelude.{◌==◌, Option, Some, None}
-use Rattle.std.specs.List.{list_any, filter}
+use Rattle.std.specs.List.{list_any}
 use Rattle.std.proofs.lemmas.Bool.{eq-eqb, and_from, or_right}
 use Rattle.std.specs.Cmp.Lexicographic.{bytes_decides}
 use Rattle.am_types.specs.declared.device.Grant.{Grant}
@@ -9,7 +9,7 @@ use Rattle.am_model.specs.Texts.{is_same}
 use Rattle.am_model.specs.Boards.{is_grant, is_granted, with_grant}
 use Rattle.am_model.specs.Lists.{inserted}
 use Rattle.am_model.specs.Rights.{before_right, of_grant}
-use Rattle.am_model.proofs.Lists.{any_inserted}
+use Rattle.am_model.proofs.Lists.{any_inserted, none_left}
 use Rattle.am_model.specs.Gates.{Verdict, Admit, NotExported, NeedsPermission, is_privileged, permission_verdict, verdict}
 
 -- admitted by one test, or by what follows
@@ -119,18 +119,6 @@ pub grant_is_held : (grants : List Grant) (uid : ℕ) (permission : List ℕ)
     → is_granted (with_grant grants uid permission true) uid permission ≡ true
 grant_is_held grants uid permission = there_or_placed (is_grant uid permission) (is_granted grants uid permission) _
     grants refl (is_its_own uid permission)
-
--- nothing is found where all that is found was left out
-none_left : (test : Grant → Bool) (grants : List Grant) → list_any test (filter (λ grant. not (test grant)) grants)
-    ≡ false
-none_left test [] = refl
-none_left test (first ∷ others) = by (test first) refl (none_left test others)
-  where
-    by : (b : Bool) → test first ≡ b → list_any test (filter (λ grant. not (test grant)) others) ≡ false
-        → list_any test (cond (not b) (first ∷ filter (λ grant. not (test grant)) others)
-        (filter (λ grant. not (test grant)) others)) ≡ false
-    by true is rest = rest
-    by false is rest = ap (λ b. b || list_any test (filter (λ grant. not (test grant)) others)) is ∙ rest
 
 -- a grant that was taken back is granted no more
 pub grant_is_taken_back : (grants : List Grant) (uid : ℕ) (permission : List ℕ)

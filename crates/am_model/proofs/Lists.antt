@@ -1,5 +1,6 @@
 -- Lists of which something is left out, or into which something is put in its place.
-use Rattle.std.proofs.Common.{◌≡◌, ℕ, ◌+◌, suc, add-one, ◌≤◌, Bool, true, false, ◌||◌, cond, List, [], ◌∷◌, length, map, refl, ap, ◌∙◌, arith}
+use Rattle.std.proofs.Common.{◌≡◌, ℕ, ◌+◌, suc, add-one, ◌≤◌, Bool, true, false, not, ◌||◌, cond, List, [], ◌∷◌, length, map, refl, ap, ◌∙◌, arith}
+use Rattle.std.proofs.lemmas.Bool.{cond_both}
 use Rattle.std.specs.Prelude.{filter, insert}
 use Rattle.std.specs.List.{AllByRecursion, list_any}
 use Rattle.am_model.specs.Lists.{AscendsBy, inserted, place_of}
@@ -15,24 +16,16 @@ module _ {X : Type 0} (before : X → X → Bool) where
   pub all_inserted : (P : X → Type 0) (x : X) (xs : List X) → P x → AllByRecursion P xs
       → AllByRecursion P (inserted before x xs)
   all_inserted P x [] one all = (one, tt)
-  all_inserted P x (first ∷ others) one all = by (before x first) (all_inserted P x others one all.1)
-    where
-      by : (b : Bool) → AllByRecursion P (inserted before x others)
-          → AllByRecursion P (cond b (x ∷ first ∷ others) (first ∷ inserted before x others))
-      by true rest = (one, all)
-      by false rest = (all.0, rest)
+  all_inserted P x (first ∷ others) one all = cond_both (before x first) (x ∷ first ∷ others) _ (AllByRecursion P)
+      (λ is. (one, all)) (λ is. (all.0, all_inserted P x others one all.1))
 
   -- and so of what is read of them
   pub all_map_inserted : {Y : Type 0} (f : X → Y) (P : Y → Type 0) (x : X) (xs : List X) → P (f x)
       → AllByRecursion P (map f xs)
       → AllByRecursion P (map f (inserted before x xs))
   all_map_inserted f P x [] one all = (one, tt)
-  all_map_inserted f P x (first ∷ others) one all = by (before x first) (all_map_inserted f P x others one all.1)
-    where
-      by : (b : Bool) → AllByRecursion P (map f (inserted before x others))
-          → AllByRecursion P (map f (cond b (x ∷ first ∷ others) (first ∷ inserted before x others)))
-      by true rest = (one, all)
-      by false rest = (all.0, rest)
+  all_map_inserted f P x (first ∷ others) one all = cond_both (before x first) (x ∷ first ∷ others) _
+      (λ xs. AllByRecursion P (map f xs)) (λ is. (one, all)) (λ is. (all.0, all_map_inserted f P x others one all.1))
 
   -- there is one more
   pub length_inserted : (x : X) (xs : List X) → length (inserted before x xs) ≡ suc (length xs)
@@ -104,23 +97,31 @@ module _ {X : Type 0} (before : X → X → Bool) where
 pub all_left : {X : Type 0} (P : X → Type 0) (keeps : X → Bool) (xs : List X) → AllByRecursion P xs
     → AllByRecursion P (filter keeps xs)
 all_left P keeps [] all = tt
-all_left P keeps (first ∷ others) all = by (keeps first) (all_left P keeps others all.1)
-  where
-    by : (b : Bool) → AllByRecursion P (filter keeps others) → AllByRecursion P
-        (cond b (first ∷ filter keeps others) (filter keeps others))
-    by true rest = (all.0, rest)
-    by false rest = rest
+all_left P keeps (first ∷ others) all =
+    let rest = all_left P keeps others all.1 in
+    cond_both (keeps first) (first ∷ filter keeps others) _ (AllByRecursion P) (λ is. (all.0, rest)) (λ is. rest)
 
 -- and so of what is read of them
 pub all_map_filter : {X Y : Type 0} (keeps : X → Bool) (f : X → Y) (P : Y → Type 0) (xs : List X)
     → AllByRecursion P (map f xs) → AllByRecursion P (map f (filter keeps xs))
 all_map_filter keeps f P [] all = tt
-all_map_filter keeps f P (first ∷ others) all = by (keeps first) (all_map_filter keeps f P others all.1)
+all_map_filter keeps f P (first ∷ others) all =
+    let rest = all_map_filter keeps f P others all.1 in
+    cond_both (keeps first) (first ∷ filter keeps others) _ (λ xs. AllByRecursion P (map f xs)) (λ is. (all.0, rest))
+    (λ is. rest)
+
+-- none passes a test where those that pass it were left out
+pub none_left : {X : Type 0} (test : X → Bool) (xs : List X) → list_any test (filter (λ x. not (test x)) xs) ≡ false
+none_left test [] = refl
+none_left {X = X} test (first ∷ others) = by (test first) refl (none_left test others)
   where
-    by : (b : Bool) → AllByRecursion P (map f (filter keeps others))
-        → AllByRecursion P (map f (cond b (first ∷ filter keeps others) (filter keeps others)))
-    by true rest = (all.0, rest)
-    by false rest = rest
+    left : List X
+    left = filter (λ x. not (test x)) others
+
+    by : (b : Bool) → test first ≡ b → list_any test left ≡ false → list_any test (cond (not b) (first ∷ left) left)
+        ≡ false
+    by true is rest = rest
+    by false is rest = ap (λ b. b || list_any test left) is ∙ rest
 
 -- no more are left
 pub length_left : {X : Type 0} (keeps : X → Bool) (xs : List X) → length (filter keeps xs) ≤ length xs
@@ -161,9 +162,7 @@ left_twice keeps (x ∷ xs) = by (keeps x) refl (left_twice keeps xs)
 pub ascends_by_left : {X : Type 0} (before : X → X → Type 0) (keeps : X → Bool) (xs : List X) → AscendsBy before xs
     → AscendsBy before (filter keeps xs)
 ascends_by_left before keeps [] up = tt
-ascends_by_left before keeps (x ∷ xs) up = by (keeps x) (ascends_by_left before keeps xs up.1)
-  where
-    by : (b : Bool) → AscendsBy before (filter keeps xs) → AscendsBy before
-        (cond b (x ∷ filter keeps xs) (filter keeps xs))
-    by true rest = (all_left (before x) keeps xs up.0, rest)
-    by false rest = rest
+ascends_by_left before keeps (x ∷ xs) up =
+    let rest = ascends_by_left before keeps xs up.1 in
+    cond_both (keeps x) (x ∷ filter keeps xs) _ (AscendsBy before) (λ is. (all_left (before x) keeps xs up.0, rest))
+    (λ is. rest)

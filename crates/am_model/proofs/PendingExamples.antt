@@ -10,7 +10,7 @@ use Rattle.am_types.specs.declared.pending.PendingFault.TheVariants.{Mutability,
 use Rattle.am_types.specs.declared.pending.Used.{Used}
 use Rattle.am_model.specs.Intents.{fill_in}
 use Rattle.am_model.specs.Pendings.{Pendings, no_pendings, Asked, fresh, get, cancel, give, use_token, forget_uid}
-use Rattle.am_model.proofs.Samples.{asking}
+use Rattle.am_model.proofs.Samples.{asking, mutable, immutable}
 
 -- an extra whose value is a whole number
 abbrev extra : List ℕ → ℤ → Named
@@ -19,22 +19,6 @@ extra key value = record { key = key; value = Whole value }
 -- the intent of x.P with extras
 abbrev with_extras : List Named → Intent
 with_extras extras = record (asking (codes "x.P")) { extras = extras }
-
--- the flags of a mutable record
-abbrev mutable : PendingFlags
-mutable = record {
-  one_shot = false;
-  no_create = false;
-  cancel_current = false;
-  update_current = false;
-  immutable =
-      false;
-  mutable = true;
-}
-
--- the flags of an immutable one
-abbrev immutable : PendingFlags
-immutable = record mutable { immutable = true; mutable = false }
 
 -- what com.one asks for: a broadcast with an extra a
 abbrev asks : ℤ → PendingFlags → Asked

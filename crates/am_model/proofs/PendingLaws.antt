@@ -95,44 +95,36 @@ others_stay token other (first ∷ others) differs = by (first.token == token) (
     by false true is also rest = rw also refl
     by false false is also rest = rw also rest
 
--- after a cancel the token isn't live
-pub canceled_is_not_live : (all after : Pendings) (token uid : ℕ) → cancel all token uid ≡ Ok after
-    → record_of after token ≡ None
+-- a cancel that isn't refused leaves out the record of its token
+cancel_leaves : (all after : Pendings) (token uid : ℕ) → cancel all token uid ≡ Ok after
+    → record all { records = without_token all.records token } ≡ after
 unfolding cancel
-canceled_is_not_live all after token uid done = by (record_of all token) refl done
+cancel_leaves all after token uid done = by (record_of all token) refl done
   where
-    by : (kept : Option Pending) → record_of all token ≡ kept → canceled all uid kept ≡ Ok after → record_of after token
-        ≡ None
+    by : (kept : Option Pending) → record_of all token ≡ kept → canceled all uid kept ≡ Ok after
+        → record all { records = without_token all.records token } ≡ after
     by None is done = cc
     by (Some kept) is done = own (kept.creator == uid) (eqb-true kept.token token
         (found_passes (λ (k : Pending). k.token == token) all.records kept is)) done
       where
         own : (b : Bool) → kept.token ≡ token → cond b (Ok (record all
-            { records = without_token all.records kept.token })) (Err NotCreator) ≡ Ok after → record_of after token
-            ≡ None
-        own true same done = let e : record all { records = without_token all.records kept.token } ≡ after = cc in
-            subst (λ (p : Pendings). record_of p token ≡ None) e (rw same (none_of token all.records))
+            { records = without_token all.records kept.token })) (Err NotCreator) ≡ Ok after
+            → record all { records = without_token all.records token } ≡ after
+        own true same done = cc
         own false same done = cc
+
+-- after a cancel the token isn't live
+pub canceled_is_not_live : (all after : Pendings) (token uid : ℕ) → cancel all token uid ≡ Ok after
+    → record_of after token ≡ None
+canceled_is_not_live all after token uid done = subst (λ (p : Pendings). record_of p token ≡ None)
+    (cancel_leaves all after token uid done) (none_of token all.records)
 
 -- and each other token stands for what it stood for
 pub cancel_keeps_others : (all after : Pendings) (token other uid : ℕ) → other ≢ token → cancel all token uid ≡ Ok after
     → record_of after other ≡ record_of all other
-unfolding cancel
-cancel_keeps_others all after token other uid differs done = by (record_of all token) refl done
-  where
-    by : (kept : Option Pending) → record_of all token ≡ kept → canceled all uid kept ≡ Ok after → record_of after other
-        ≡ record_of all other
-    by None is done = cc
-    by (Some kept) is done = own (kept.creator == uid) (eqb-true kept.token token
-        (found_passes (λ (k : Pending). k.token == token) all.records kept is)) done
-      where
-        own : (b : Bool) → kept.token ≡ token → cond b (Ok (record all
-            { records = without_token all.records kept.token })) (Err NotCreator) ≡ Ok after → record_of after other
-            ≡ record_of all other
-        own true same done = let e : record all { records = without_token all.records kept.token } ≡ after = cc in
-            subst (λ (p : Pendings). record_of p other ≡ record_of all other) e
-            (rw same (others_stay token other all.records differs))
-        own false same done = cc
+cancel_keeps_others all after token other uid differs done =
+    subst (λ (p : Pendings). record_of p other ≡ record_of all other) (cancel_leaves all after token uid done)
+    (others_stay token other all.records differs)
 
 -- a use of it is refused then: it is canceled, or it was never given
 pub canceled_is_refused : (all : Pendings) (token uid : ℕ) (fill : Option Intent) → record_of all token ≡ None

@@ -50,32 +50,23 @@ all_and_one test (first ∷ others) x pass last = by (test first) (λ rest. all_
     by true rest pass = rest pass
     by false rest pass = cc
 
--- the foreground queue settles
-foreground_settles : (now : ℕ) (all : Broadcasts) → AreLive all.normal → IsSettled all.background
-    → IsStanding (settle true now all)
-foreground_settles now all live background =
-    record {
-      normal = live;
-      foreground = settled_is_settled all.next_delivery (now + span true) all.foreground;
-      background = background;
-    }
-
--- the background queue settles
-background_settles : (now : ℕ) (all : Broadcasts) → AreLive all.normal → IsSettled all.foreground
-    → IsStanding (settle false now all)
-background_settles now all live foreground =
-    record {
-      normal = live;
-      foreground = foreground;
-      background = settled_is_settled all.next_delivery
-          (now + span false) all.background;
-    }
+-- a queue that is put in place and settled
+queue_settles : (foreground : Bool) (now : ℕ) (all : Broadcasts) (queue : List InTurn) → IsStanding all
+    → IsStanding (settle foreground now (with_queue foreground queue all))
+queue_settles true now all queue stands =
+    let settled = settled_is_settled all.next_delivery (now + span true) queue in
+    record { normal = stands.normal; foreground = settled; background = stands.background }
+queue_settles false now all queue stands =
+    let settled = settled_is_settled all.next_delivery (now + span false) queue in
+    record { normal = stands.normal; foreground = stands.foreground; background = settled }
 
 -- both queues settle
 both_settle : (now : ℕ) (all : Broadcasts) → AreLive all.normal → IsStanding (settle_both now all)
-both_settle now all live =
-    background_settles now (settle true now all) live (settled_is_settled all.next_delivery (now + span true)
-    all.foreground)
+both_settle now all live = record {
+  normal = live;
+  foreground = settled_is_settled all.next_delivery (now + span true) all.foreground;
+  background = settled_is_settled (settle true now all).next_delivery (now + span false) all.background;
+}
 
 -- a normal broadcast that is sent has a delivery, if it is live
 live_at_once : (number delivery : ℕ) (sending : Sending) (normal : List Normal) → AreLive normal
@@ -100,19 +91,11 @@ sent_stand all sending None stands =
           stands.foreground;
       background = stands.background;
     }
-sent_stand all sending (Some ordered) stands = by sending.foreground
-  where
-    numbered : Broadcasts
-    numbered = record all { next_broadcast = all.next_broadcast + 1 }
-
-    sent : List InTurn
-    sent = in_turn all.next_broadcast sending ordered ∷ []
-
-    by : (b : Bool) → IsStanding (settle b sending.now (with_queue b (queue_of b all ++ sent) numbered))
-    by true = foreground_settles sending.now (record numbered { foreground = all.foreground ++ sent }) stands.normal
-        stands.background
-    by false = background_settles sending.now (record numbered { background = all.background ++ sent }) stands.normal
-        stands.foreground
+sent_stand all sending (Some ordered) stands =
+    let sent = in_turn all.next_broadcast sending ordered ∷ [] in
+    queue_settles sending.foreground sending.now (record all { next_broadcast = all.next_broadcast + 1 })
+    (queue_of sending.foreground all ++ sent)
+    (record { normal = stands.normal; foreground = stands.foreground; background = stands.background })
 
 -- a sending that isn't refused
 pub send_stands : (all after : Broadcasts) (sending : Sending) (number : ℕ) → IsStanding all → send all sending
@@ -180,15 +163,8 @@ after_deadline P foreground now all late same = by (is_head_due now (queue_of fo
 -- a queue whose deadline may be due
 expired_queue_stands : (foreground : Bool) (now : ℕ) (all : Broadcasts) → IsStanding all
     → IsStanding (expired_queue foreground now all)
-expired_queue_stands foreground now all stands = after_deadline IsStanding foreground now all (settles foreground)
-    stands
-  where
-    late : List InTurn
-    late = late_head now (queue_of foreground all)
-
-    settles : (b : Bool) → IsStanding (settle b now (with_queue b late all))
-    settles true = foreground_settles now (record all { foreground = late }) stands.normal stands.background
-    settles false = background_settles now (record all { background = late }) stands.normal stands.foreground
+expired_queue_stands foreground now all stands = after_deadline IsStanding foreground now all
+    (queue_settles foreground now all (late_head now (queue_of foreground all)) stands) stands
 
 -- the passing of time
 pub expired_stand : (all : Broadcasts) (now : ℕ) → IsStanding all → IsStanding (expired all now)

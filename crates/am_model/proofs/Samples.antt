@@ -1,5 +1,5 @@
 -- Values of which examples are made: plain intents, boards and packages.
-use Rattle.std.specs.Prelude.{ℕ, pos, false, codes, List, [], ◌∷◌, Option, Some, None, Result, Ok, Err}
+use Rattle.std.specs.Prelude.{ℕ, ℤ, pos, true, false, codes, List, [], ◌∷◌, Option, Some, None, Result, Ok, Err}
 use Rattle.am_types.specs.declared.intent.Intent.{Intent}
 use Rattle.am_types.specs.declared.intent.Component.{Component}
 use Rattle.am_types.specs.declared.uri.Uri.{Uri}
@@ -7,6 +7,8 @@ use Rattle.am_types.specs.declared.uri.Mime.{Mime}
 use Rattle.am_types.specs.declared.filter.Filter.{Filter}
 use Rattle.am_types.specs.declared.manifest.Decl.{Decl}
 use Rattle.am_types.specs.declared.device.Package.{Package}
+use Rattle.am_types.specs.declared.resolve.Hit.{Hit}
+use Rattle.am_types.specs.declared.pending.PendingFlags.{PendingFlags}
 use Rattle.am_types.specs.Intents.{no_intent}
 use Rattle.am_model.specs.Boards.{Board}
 use Rattle.am_model.specs.Filters.{default_category}
@@ -42,6 +44,10 @@ component_of name class = record { «package» = name; class = class }
 abbrev pub to_component : Component → Intent
 to_component component = record no_intent { component = Some component }
 
+-- a component of that uid as a hit
+abbrev pub hit_at : Component → ℕ → ℕ → ℤ → Hit
+hit_at component uid place priority = record { component = component; uid = uid; place = place; priority = priority }
+
 -- a URI by its text, its scheme and its host
 abbrev pub uri_at : List ℕ → List ℕ → Option (List ℕ) → Uri
 uri_at text scheme host = record { text = text; scheme = scheme; host = host; port = None; path = codes "/" }
@@ -49,6 +55,21 @@ uri_at text scheme host = record { text = text; scheme = scheme; host = host; po
 -- a type by its two parts
 abbrev pub mime_at : List ℕ → List ℕ → Mime
 mime_at main sub = record { main = main; sub = sub }
+
+-- the flags of a mutable pending intent
+abbrev pub mutable : PendingFlags
+mutable = record {
+  one_shot = false;
+  no_create = false;
+  cancel_current = false;
+  update_current = false;
+  immutable = false;
+  mutable = true;
+}
+
+-- the flags of an immutable one
+abbrev pub immutable : PendingFlags
+immutable = record mutable { immutable = true; mutable = false }
 
 -- a package that isn't stopped
 abbrev pub package_with : ℕ → List ℕ → List Decl → Package

@@ -10,7 +10,7 @@ use Rattle.am_model.specs.Boards.{Board, with_link}
 use Rattle.am_model.specs.Candidates.{hits}
 use Rattle.am_model.specs.Targets.{target}
 use Rattle.am_model.specs.Plain.{filter_for, open_decl}
-use Rattle.am_model.proofs.Samples.{asking, to_component, component_of, uri_at, mime_at, package_with, board_with, one, two, web_pages}
+use Rattle.am_model.proofs.Samples.{asking, to_component, component_of, hit_at, uri_at, mime_at, package_with, board_with, one, two, web_pages}
 
 -- com.one and com.two with an activity each, of the filters given
 abbrev both : List Filter → List Filter → Board
@@ -21,23 +21,11 @@ both filters others = board_with
 
 -- the activity of com.one as a hit
 abbrev hit_of_one : ℤ → Hit
-hit_of_one priority = record {
-  component = component_of one (codes "com.one.Main");
-  uid = 10000;
-  place = 0;
-  priority =
-      priority;
-}
+hit_of_one priority = hit_at (component_of one (codes "com.one.Main")) 10000 0 priority
 
 -- the activity of com.two as a hit
 abbrev hit_of_two : ℤ → Hit
-hit_of_two priority = record {
-  component = component_of two (codes "com.two.Main");
-  uid = 10001;
-  place = 0;
-  priority =
-      priority;
-}
+hit_of_two priority = hit_at (component_of two (codes "com.two.Main")) 10001 0 priority
 
 -- a filter of x.A that takes what no component is named for
 abbrev starts : ℤ → List Filter

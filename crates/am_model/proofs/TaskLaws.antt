@@ -1,6 +1,7 @@
 -- Laws of tasks: none is without an activity, and going back ends one just where there is a task.
 use Rattle.std.proofs.Common.{◌≡◌, ℕ, Bool, true, false, not, ◌&&◌, ◌||◌, cond, List, [], ◌∷◌, ◌++◌, map, refl, sym, subst}
 use Rattle.std.specs.Prelude.{Option, Some, None, Ok}
+use Rattle.std.proofs.lemmas.Bool.{cond_both}
 use Rattle.std.specs.List.{list_any, filter, find, last_or}
 use Rattle.am_types.specs.declared.manifest.Mode.TheVariants.{Standard, SingleTop, SingleTask, SingleInstance, SingleInstancePerTask}
 use Rattle.am_model.specs.Filters.{is_empty}
@@ -220,17 +221,13 @@ module _ (start : StartCall) where
   -- a start in another mode
   ordinary_inhabited : (tasks : List Task) (wanted : Bool) (source : Option Task) → AreInhabited tasks
       → IsInhabited source → IsInhabitedPlan (placed_ordinary start tasks wanted source)
-  ordinary_inhabited tasks wanted source inhabited here = by (is_multiple start wanted)
-    where
-      either : (b : Bool) → IsInhabited (cond b (task_of_affinity start.affinity tasks) source)
-      either true = found_inhabited (λ (task : Task). (not task.single && not (is_empty start.affinity)) && is_same
-          task.affinity start.affinity) tasks inhabited
-      either false = here
-
-      by : (b : Bool) → IsInhabitedPlan (cond b (NewTask false) (placed_in_maybe start wanted
-          (cond wanted (task_of_affinity start.affinity tasks) source)))
-      by true = tt
-      by false = within_inhabited wanted (cond wanted (task_of_affinity start.affinity tasks) source) (either wanted)
+  ordinary_inhabited tasks wanted source inhabited here =
+      let own = found_inhabited (λ (task : Task). (not task.single && not (is_empty start.affinity)) && is_same
+      task.affinity start.affinity) tasks inhabited in
+      let found = cond wanted (task_of_affinity start.affinity tasks) source in
+      let there = cond_both wanted (task_of_affinity start.affinity tasks) source IsInhabited (λ is. own) (λ is. here) in
+      cond_both (is_multiple start wanted) (NewTask false) (placed_in_maybe start wanted found) IsInhabitedPlan (λ is. tt)
+      (λ is. within_inhabited wanted found there)
 
   -- the plan of a start
   plan_inhabited : (tasks : List Task) (source : Option Task) → AreInhabited tasks → IsInhabited source

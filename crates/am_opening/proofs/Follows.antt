@@ -6,20 +6,13 @@ use Rattle.std.specs.declared.cmp.Ordering.{Ordering}
 use Rattle.std.specs.declared.cmp.Ordering.TheVariants.{Less}
 use Rattle.std.proofs.lemmas.List.{at_drop_more, map-id, take_all}
 use Rattle.std.proofs.lemmas.List.Sums.{fold_more}
-use Rattle.am_types.specs.declared.device.Package.{Package}
-use Rattle.am_types.specs.declared.device.Grant.{Grant}
-use Rattle.am_types.specs.declared.device.Link.{Link}
-use Rattle.am_keeper.specs.declared.rows.GrantRow.{GrantRow}
-use Rattle.am_keeper.specs.declared.rows.LinkRow.{LinkRow}
 use Rattle.am_keeper.specs.Rows.{leads, rises}
-use Rattle.am_types.specs.declared.device.RightKind.TheVariants.{Permission, Host}
 use Rattle.am_model.specs.Lists.{inserted}
-use Rattle.am_model.specs.Rights.{Right, before_right, grant_of, has_right, link_of, of_grant, of_link, with_right as with_right_of}
-use Rattle.am_model.specs.Sound.{right_cmp, rights_approved, rights_granted}
+use Rattle.am_model.specs.Rights.{Right, before_right, has_right, with_right as with_right_of}
+use Rattle.am_model.specs.Sound.{right_cmp}
 use Rattle.am_model.proofs.Rights.{less_from, with_in_order}
 use Rattle.am_laws.proofs.Tests.{both}
-use Rattle.am_opening.specs.Merging.{is_live, is_right, place_right, with_right, merge_one, merge_if, after_right, of_grant_row, of_link_row}
-use Rattle.am_opening.specs.Openings.{grants_after, links_after}
+use Rattle.am_opening.specs.Merging.{is_right, place_right, with_right, merge_one, merge_if, after_right}
 use Rattle.am_opening.proofs.Merged.{AllBefore, before_next, merged, merged_before}
 
 -- rights stay in order
@@ -227,25 +220,3 @@ module _ {R : Type 0} (right_of : R → Right) where
           back : (rs : List R) → map (λ (r : Right). made r.0 r.1) (map right_of rs) ≡ rs
           back [] = refl
           back (r ∷ rs) = (λ i. itself r i ∷ back rs i)
-
--- grants that are made of rights that followed grant rows
-pub grants_made : (packages : List Package) (gs : List Grant) (rows : List GrantRow) (rights after : List Right)
-    (made : List Grant) → rights ≡ rights_granted gs
-    → after ≡ fold (after_right of_grant_row (λ (row : GrantRow). row.held)
-    (λ row. is_live Permission packages (of_grant_row row))) rights rows → made
-    ≡ map (λ (r : Right). record { uid = r.0; permission = r.1 }) after → made ≡ grants_after packages gs rows
-grants_made packages gs rows rights after made from follows is =
-    made_of of_grant grant_of (λ u t. refl) of_grant_row (λ (row : GrantRow). row.held)
-    (λ row. is_live Permission packages (of_grant_row row))
-    (λ g. refl) gs rows rights after made from follows is
-
--- and links of rights that followed link rows
-pub links_made : (packages : List Package) (ks : List Link) (rows : List LinkRow) (rights after : List Right)
-    (made : List Link) → rights ≡ rights_approved ks
-    → after ≡ fold (after_right of_link_row (λ (row : LinkRow). row.approved)
-    (λ row. is_live Host packages (of_link_row row))) rights rows → made
-    ≡ map (λ (r : Right). record { uid = r.0; host = r.1 }) after → made ≡ links_after packages ks rows
-links_made packages ks rows rights after made from follows is =
-    made_of of_link link_of (λ u t. refl) of_link_row (λ (row : LinkRow). row.approved)
-    (λ row. is_live Host packages (of_link_row row))
-    (λ k. refl) ks rows rights after made from follows is

@@ -110,14 +110,15 @@ IsCharBoundary-position p bs low =
     ]
 
 -- the place of the first element that passes, or the length
-pub position-unwrapped : {X : Type 0} (p : X → Bool) (xs : List X)
-    → unwrap_or (cond (ltb (position_or_len p xs) (length xs)) (Some (position_or_len p xs)) None) (length xs)
-    ≡ position_or_len p xs
-position-unwrapped p xs = elim (cases_lt (position_or_len p xs) (length xs)) [
-  | inl inside ↦ rw (lt-ltb _ _ inside)
+pub position-unwrapped : {X : Type 0} (p : X → Bool) (xs : List X) (n : ℕ) (found : Option ℕ)
+    → n ≡ unwrap_or found (length xs)
+    → found ≡ cond (ltb (position_or_len p xs) (length xs)) (Some (position_or_len p xs)) None
+    → n ≡ position_or_len p xs
+position-unwrapped p xs n found is first = is ∙ rw first (elim (cases_lt (position_or_len p xs) (length xs)) [
+  | inl inside ↦ rw (lt-ltb _ _ inside) refl
   | inr past ↦ let end : length xs ≡ position_or_len p xs = omega (arith, prefix_len-le-length (λ x. not (p x)) xs) in
       rw (le-ltb _ _ past) end
-]
+])
 
 -- what is nowhere isn't after some place
 pub list_any-drop : {X : Type 0} (p : X → Bool) (n : ℕ) (xs : List X) → list_any p xs ≡ false → list_any p (drop n xs)

@@ -1,5 +1,5 @@
 -- The bits of words, one by one, and what a carry does to them.
-use Rattle.std.proofs.Common.{◌≡◌, ℕ, zero, suc, ◌<◌, ◌+◌, ◌*◌, ◌/◌, ◌%◌, ◌^◌, ◌==◌, Bool, not, ◌&&◌, ◌||◌, List, [], ◌∷◌, length, bit_and, bit_or, bit_xor, min, refl, ap, sym, arith, ◌∙◌, max}
+use Rattle.std.proofs.Common.{◌≡◌, ℕ, zero, suc, ◌<◌, ◌+◌, ◌*◌, ◌/◌, ◌%◌, ◌^◌, ◌==◌, Bool, not, ◌&&◌, ◌||◌, List, [], ◌∷◌, length, bit_and, bit_or, bit_xor, min, get_or, refl, ap, sym, arith, ◌∙◌, max}
 use Rattle.std.proofs.Math.Nat.{pow-suc}
 use Rattle.std.proofs.lemmas.Nat.{and_shr, or_shr, xor_shr, and_le_r, and_le_l, xor_lt, div_below, shr-shr, pow_pos}
 use Rattle.std.proofs.lemmas.Nat.Bits.{bit_at_lowest, bit_at_and, bit_at_or, bit_at_xor}
@@ -186,8 +186,11 @@ pub go_carries : (n w a m k : ℕ) → a < 2 ^ n → k < 2 → (bit_xor (bit_and
 go_carries n w a m k narrow small = div_below (bit_xor (bit_and w a) (bit_and (bit_and w a) m) * 2 + k) (2 ^ n) 2
     (pow_pos n) (omega (arith, taken_below n w a m narrow))
 
-pub go_fits : (w a m k : ℕ) → a < 2 ^ 63 → k < 2 → bit_xor (bit_and w a) (bit_and (bit_and w a) m) * 2 + k < 2 ^ 64
-go_fits w a m k narrow small = omega (arith, taken_below 63 w a m narrow)
+pub go_fits : (i k : ℕ) (words allowed repeated : List ℕ) → AreWithin 63 allowed → k < 2
+    → bit_xor (bit_and (get_or words i 0) (get_or allowed i 0)) (bit_and (bit_and (get_or words i 0) (get_or allowed i 0))
+    (get_or repeated i 0)) * 2 + k < 2 ^ 64
+go_fits i k words allowed repeated narrow small =
+    omega (arith, taken_below 63 (get_or words i 0) (get_or allowed i 0) (get_or repeated i 0) (narrow i))
 
 -- the same in all words
 pub flags_skipped : (n k : ℕ) (repeated words : List ℕ) → AreWithin n repeated → k < 2 → length repeated ≡ length words

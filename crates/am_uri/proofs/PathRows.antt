@@ -131,25 +131,34 @@ bit_row b below = grind (arith, mod_small)
 pub letter_row : (k c : ℕ) → k ≡ 24 + c → test_of k ≡ Allows c
 letter_row k c at = grind arith
 
-pub found_set : (count b c : ℕ) (elements : List Element) (row words made : List ℕ) → b < 21 → c / 2 ^ b % 2 ≡ 1
-    → row ≡ words_where 63 (passes (test_of b)) count elements → words
-    ≡ words_where 63 (is_above (b + 1) c) count elements → made ≡ both row words
-    → made ≡ words_where 63 (is_above b c) count elements
-found_set count b c elements row words made below set at_row held done =
-    let at_bit = rw (bit_row b below) at at_row in
-    rw (done, at_bit, held) (words_both (is_above (b + 1) c) (passes (Bit b)) 63 count elements
+-- where a bit of the character is set, its row keeps those that are the same from it on
+pub set_left : (count b c : ℕ) (elements : List Element) → c / 2 ^ b % 2 ≡ 1
+    → both (words_where 63 (passes (Bit b)) count elements) (words_where 63 (is_above (b + 1) c) count elements)
+    ≡ words_where 63 (is_above b c) count elements
+set_left count b c elements set =
+    words_both (is_above (b + 1) c) (passes (Bit b)) 63 count elements
     ∙ words_same (λ e. is_above (b + 1) c e && passes (Bit b) e) (is_above b c) 63 count elements
-    (λ e. above_set b c e set))
+    (λ e. above_set b c e set)
 
-pub found_clear : (count b c : ℕ) (elements : List Element) (row words made : List ℕ) → b < 21 → (c / 2 ^ b % 2 ≡ 1 → ⊥)
-    → row ≡ words_where 63 (passes (test_of b)) count elements → words
-    ≡ words_where 63 (is_above (b + 1) c) count elements → made ≡ without row words
-    → made ≡ words_where 63 (is_above b c) count elements
-found_clear count b c elements row words made below clear at_row held done =
-    let at_bit = rw (bit_row b below) at at_row in
-    rw (done, at_bit, held) (words_without (is_above (b + 1) c) (passes (Bit b)) 63 count elements
+-- where it isn't, those that aren't in its row are left
+pub clear_left : (count b c : ℕ) (elements : List Element) → (c / 2 ^ b % 2 ≡ 1 → ⊥)
+    → without (words_where 63 (passes (Bit b)) count elements) (words_where 63 (is_above (b + 1) c) count elements)
+    ≡ words_where 63 (is_above b c) count elements
+clear_left count b c elements clear =
+    words_without (is_above (b + 1) c) (passes (Bit b)) 63 count elements
     ∙ words_same (λ e. is_above (b + 1) c e && not (passes (Bit b) e)) (is_above b c) 63 count elements
-    (λ e. above_clear b c e clear))
+    (λ e. above_clear b c e clear)
+
+-- so a step by a bit leaves those that are the same from it on
+pub found_by : (left : List ℕ → List ℕ → List ℕ) (count b above c : ℕ) (elements : List Element)
+    (row words made : List ℕ) → above ≡ b + 1 → b < 21
+    → left (words_where 63 (passes (Bit b)) count elements) (words_where 63 (is_above (b + 1) c) count elements)
+    ≡ words_where 63 (is_above b c) count elements
+    → row ≡ words_where 63 (passes (test_of b)) count elements → words
+    ≡ words_where 63 (is_above above c) count elements → made ≡ left row words
+    → made ≡ words_where 63 (is_above b c) count elements
+found_by left count b above c elements row words made next below is at_row held done =
+    rw (done, rw (bit_row b below) at at_row, rw next at held) is
 
 -- at the start no bit from there on is set
 start_same : (b c : ℕ) (e : Element) → c < 2 ^ b → passes (Below b) e ≡ is_above b c e

@@ -257,13 +257,14 @@ started_at n elements (word ∷ words) characters none some =
     ∙ started n (length words) elements characters
 
 -- one character of the path on
-pub walked : (n : ℕ) (elements : List Element) (words skips goes repeated allowed : List ℕ) (count c : ℕ)
+pub walked : (n : ℕ) (elements : List Element) (words skips goes repeated allowed : List ℕ) (count size c : ℕ)
     (bytes rest : List ℕ) (whole : Bool) → length words ≡ count → length elements < n * count
-    → repeated ≡ words_where n is_repeated count elements → allowed ≡ words_where n (allowed_at c) count elements
+    → repeated ≡ words_where n is_repeated count elements → size ≡ count
+    → allowed ≡ words_where n (allowed_at c) size elements
     → skips ≡ skipped n 0 repeated words → goes ≡ advanced n 0 allowed repeated skips
     → IsUtf8 bytes → bytes ≡ encode_utf8 c ++ rest → some_matches elements (flags n words) (chars bytes) ≡ whole
     → some_matches elements (flags n goes) (chars rest) ≡ whole
-walked n elements words skips goes repeated allowed count c bytes rest whole same room repeated_there allowed_there skip
-    go text split held =
-    rw (go, skip) (stepped n elements words repeated allowed count c (chars rest) same room repeated_there allowed_there
-    ∙ rw (chars_past_char bytes rest c text split) at held)
+walked n elements words skips goes repeated allowed count size c bytes rest whole same room repeated_there sized
+    allowed_there skip go text split held =
+    rw (go, skip) (stepped n elements words repeated allowed count c (chars rest) same room repeated_there
+    (rw sized at allowed_there) ∙ rw (chars_past_char bytes rest c text split) at held)

@@ -35,26 +35,23 @@ loop-c-preserved c =
     let few : length (map element_of c.args.elements.now) < 63 * length c.args.reached.now = simp length-map
     c.requires.room in
     let count : length c.loop-c.allowed ≡ length c.args.reached.now = omega arith in
-    let written = rw count at c.write_allowed.ensures in
     record {
       same_length = omega arith;
       text = IsUtf8-past_char _ _ c.in-Some.c held.text split;
       repeated_written = held.repeated_written;
-      allowed_written = written;
-      reached_so_far = walked 63 _ _ _ _ _ _ _ c.in-Some.c _ _ _ held.same_length few held.repeated_written written
-          c.skip.ensures c.advance.ensures held.text split held.reached_so_far;
+      allowed_written = rw count at c.write_allowed.ensures;
+      reached_so_far = walked 63 _ _ _ _ _ _ _ _ c.in-Some.c _ _ _ held.same_length few held.repeated_written count
+          c.write_allowed.ensures c.skip.ensures c.advance.ensures held.text split held.reached_so_far;
     }
 
 pub returns-then-is_empty : goal.returns-then-is_empty
 returns-then-is_empty c =
     let held = c.loop-c.invariant in
-    let split = c.in-Some.ensures.steps.0 in
     let few : length (map element_of c.args.elements.now) < 63 * length c.args.reached.now = simp length-map
     c.requires.room in
-    let count : length c.loop-c.allowed ≡ length c.args.reached.now = omega arith in
-    let written = rw count at c.write_allowed.ensures in
-    let on = walked 63 _ _ _ _ _ _ _ c.in-Some.c _ _ _ held.same_length few held.repeated_written written c.skip.ensures
-    c.advance.ensures held.text split held.reached_so_far in
+    let on = walked 63 _ _ _ _ _ _ _ (length c.loop-c.allowed) c.in-Some.c _ _ _ held.same_length few
+    held.repeated_written (omega arith) c.write_allowed.ensures c.skip.ensures c.advance.ensures held.text
+    c.in-Some.ensures.steps.0 held.reached_so_far in
     sym (emptied 63 (map element_of c.args.elements.now) c.advance.new.reached (chars c.next.new.self.rest.now)
     (c.if-is_empty.ensures refl)) ∙ on
 

@@ -1,6 +1,7 @@
-use Rattle.std.proofs.Common.{◌≡◌, ◌+◌, ◌-◌, ◌∙◌, [], length, take, get_or, ap, sym, arith}
+use Rattle.std.proofs.Common.{◌≡◌, ◌-◌, ◌∙◌, [], length, take, get_or, ap, sym, arith}
+use Rattle.am_uri.specs.PathRows.{both, without}
 use Rattle.am_uri.specs.PathWords.{words_where}
-use Rattle.am_uri.proofs.PathRows.{is_above, found_start, found_set, found_clear, found_end}
+use Rattle.am_uri.proofs.PathRows.{is_above, found_start, set_left, clear_left, found_by, found_end}
 use Rattle.am_uri.proofs.rows.find.Goals as goal
 use Rattle.am_uri.proofs.rows.find.Goals.{then-code-lt128, else-code-lt128}
 
@@ -23,27 +24,27 @@ loop-b-init c = record {
 pub loop-b-preserved-then-code-b-eq1 : goal.loop-b-preserved-then-code-b-eq1
 loop-b-preserved-then-code-b-eq1 c =
     let l = c.loop-b in
-    let before : l.b ≡ (l.b - 1) + 1 = omega arith in
     record {
       within = omega arith;
       same_length = omega arith;
-      so_far = λ elements rows. found_set (length c.args.words.now) (l.b - 1) c.args.c elements
+      so_far = λ elements rows. found_by both (length c.args.words.now) (l.b - 1) l.b c.args.c elements
           (take (length c.args.words.now) (get_or c.args.rows.now (l.b - 1) [])) l.words c.keep.new.words (omega arith)
-          c.if-code-b-eq1.true (rows (l.b - 1) (length c.args.words.now) (omega arith) (omega arith))
-          (rw before at (l.invariant.so_far elements rows)) c.keep.ensures;
+          (omega arith) (set_left (length c.args.words.now) (l.b - 1) c.args.c elements c.if-code-b-eq1.true)
+          (rows (l.b - 1) (length c.args.words.now) (omega arith) (omega arith)) (l.invariant.so_far elements rows)
+          c.keep.ensures;
     }
 
 pub loop-b-preserved : goal.loop-b-preserved
 loop-b-preserved c =
     let l = c.loop-b in
-    let before : l.b ≡ (l.b - 1) + 1 = omega arith in
     record {
       within = omega arith;
       same_length = omega arith;
-      so_far = λ elements rows. found_clear (length c.args.words.now) (l.b - 1) c.args.c elements
+      so_far = λ elements rows. found_by without (length c.args.words.now) (l.b - 1) l.b c.args.c elements
           (take (length c.args.words.now) (get_or c.args.rows.now (l.b - 1) [])) l.words c.remove.new.words
-          (omega arith) c.if-code-b-eq1.false (rows (l.b - 1) (length c.args.words.now) (omega arith) (omega arith))
-          (rw before at (l.invariant.so_far elements rows)) c.remove.ensures;
+          (omega arith) (omega arith) (clear_left (length c.args.words.now) (l.b - 1) c.args.c elements
+          c.if-code-b-eq1.false) (rows (l.b - 1) (length c.args.words.now) (omega arith) (omega arith))
+          (l.invariant.so_far elements rows) c.remove.ensures;
     }
 
 pub returns : goal.returns

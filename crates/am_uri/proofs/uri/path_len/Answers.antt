@@ -1,4 +1,4 @@
-use Rattle.std.proofs.Common.{rules, ap, ◌∙◌, length, unwrap_or, tests}
+use Rattle.std.proofs.Common.{rules, tests}
 use Rattle.std.proofs.lemmas.Iterator.Adapters.{YieldsList-from_bytes}
 use Rattle.std.proofs.lemmas.Iterator.Search.{position_from_yields_List}
 use Rattle.am_model.specs.Uris.{ends_path}
@@ -6,8 +6,6 @@ use Rattle.am_uri.proofs.Cuts.{position-unwrapped}
 use Rattle.am_uri.proofs.uri.path_len.Goals as goal
 
 pub returns : goal.returns
-returns c =
-    let at = position_from_yields_List ends_path _ _ c.position.result c.position.ensures.ran
-    (YieldsList-from_bytes c.args.text.now c.bytes.ensures.rest) (λ x b q k. search (rules, tests)) in
-    c.unwrap_or.ensures ∙ ap (λ o. unwrap_or o (length c.args.text.now)) at
-    ∙ position-unwrapped ends_path c.args.text.now
+returns c = position-unwrapped ends_path c.args.text.now _ _ c.unwrap_or.ensures
+    (position_from_yields_List ends_path _ _ c.position.result c.position.ensures.ran
+    (YieldsList-from_bytes c.args.text.now c.bytes.ensures.rest) (λ x b q k. search (rules, tests)))
