@@ -6,30 +6,28 @@ use crate::form::{Pack, Parts, pack_parts, parts, unpack_parts};
 use am_types::{Authority, Filter, Glob, NoMemory, PathRule, Text};
 use std::alloc::Global;
 
+#[tactic(auto, unfolding(crate::specs::Filters::authority_form))]
 impl Pack for Authority {
     ghost form = { authority_form };
 
-    #[tactic(auto, unfolding(crate::specs::Filters::authority_form))]
     fn pack(&self, out: &mut Vec<u8>) -> Result<(), NoMemory> {
         pack_parts!(self, out: host port)
     }
 
-    #[tactic(auto, unfolding(crate::specs::Filters::authority_form))]
     fn unpack(alloc: Global, bytes: &[u8]) -> Result<(Authority, &[u8]), NoMemory> {
         unpack_parts!(alloc, bytes, Authority: host port)
     }
 }
 
+#[tactic(auto, unfolding(crate::specs::Filters::path_form))]
 impl Pack for PathRule {
     ghost form = { path_form };
 
-    #[tactic(auto, unfolding(crate::specs::Filters::path_form))]
     fn pack(&self, out: &mut Vec<u8>) -> Result<(), NoMemory> {
         let (number, words) = numbered(self);
         (&number, words).pack_parts(out)
     }
 
-    #[tactic(auto, unfolding(crate::specs::Filters::path_form))]
     fn unpack(alloc: Global, bytes: &[u8]) -> Result<(PathRule, &[u8]), NoMemory> {
         let ((number, words), rest) = Pack::unpack(alloc, bytes)?;
         Ok((rule_of(number, words)?, rest))
@@ -63,15 +61,14 @@ fn rule_of(number: u64, words: Text) -> Result<PathRule, NoMemory>
     }
 }
 
+#[tactic(auto, unfolding(crate::specs::Filters::filter_form))]
 impl Pack for Filter {
     ghost form = { filter_form };
 
-    #[tactic(auto, unfolding(crate::specs::Filters::filter_form))]
     fn pack(&self, out: &mut Vec<u8>) -> Result<(), NoMemory> {
         pack_parts!(self, out: actions categories schemes authorities paths types priority)
     }
 
-    #[tactic(auto, unfolding(crate::specs::Filters::filter_form))]
     fn unpack(alloc: Global, bytes: &[u8]) -> Result<(Filter, &[u8]), NoMemory> {
         unpack_parts!(
             alloc, bytes, Filter:

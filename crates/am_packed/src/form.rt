@@ -19,16 +19,15 @@ pub trait Pack: Drop {
         ensures { IfOk result (λ read. (read.0, read.1.now) ≡ form.read bytes.now) };
 }
 
+#[tactic(auto, unfolding(crate::specs::Forms::both))]
 impl<A: Pack, B: Pack> Pack for (A, B) {
     ghost form = { both A.form B.form };
 
-    #[tactic(auto, unfolding(crate::specs::Forms::both))]
     fn pack(&self, out: &mut Vec<u8>) -> Result<(), NoMemory> {
         self.0.pack(out)?;
         self.1.pack(out)
     }
 
-    #[tactic(auto, unfolding(crate::specs::Forms::both))]
     fn unpack(alloc: Global, bytes: &[u8]) -> Result<((A, B), &[u8]), NoMemory> {
         let (first, rest) = A::unpack(alloc, bytes)?;
         let (second, rest) = B::unpack(alloc, rest)?;

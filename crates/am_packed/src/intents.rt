@@ -10,10 +10,10 @@ use am_types::{
 };
 use std::alloc::Global;
 
+#[tactic(auto, unfolding(crate::specs::Intents::kind_form))]
 impl Pack for Kind {
     ghost form = { kind_form };
 
-    #[tactic(auto, unfolding(crate::specs::Intents::kind_form))]
     fn pack(&self, out: &mut Vec<u8>) -> Result<(), NoMemory> {
         let number: u64 = match self {
             Kind::Activity => 0,
@@ -23,7 +23,6 @@ impl Pack for Kind {
         number.pack(out)
     }
 
-    #[tactic(auto, unfolding(crate::specs::Intents::kind_form))]
     fn unpack(alloc: Global, bytes: &[u8]) -> Result<(Kind, &[u8]), NoMemory> {
         let (number, rest) = u64::unpack(alloc, bytes)?;
         match number {
@@ -34,52 +33,49 @@ impl Pack for Kind {
     }
 }
 
+#[tactic(auto, unfolding(crate::specs::Intents::component_form))]
 impl Pack for Component {
     ghost form = { component_form };
 
-    #[tactic(auto, unfolding(crate::specs::Intents::component_form))]
     fn pack(&self, out: &mut Vec<u8>) -> Result<(), NoMemory> {
         pack_parts!(self, out: package class)
     }
 
-    #[tactic(auto, unfolding(crate::specs::Intents::component_form))]
     fn unpack(alloc: Global, bytes: &[u8]) -> Result<(Component, &[u8]), NoMemory> {
         unpack_parts!(alloc, bytes, Component: package class)
     }
 }
 
+#[tactic(auto, unfolding(crate::specs::Intents::uri_form))]
 impl Pack for Uri {
     ghost form = { uri_form };
 
-    #[tactic(auto, unfolding(crate::specs::Intents::uri_form))]
     fn pack(&self, out: &mut Vec<u8>) -> Result<(), NoMemory> {
         pack_parts!(self, out: text scheme host port path)
     }
 
-    #[tactic(auto, unfolding(crate::specs::Intents::uri_form))]
     fn unpack(alloc: Global, bytes: &[u8]) -> Result<(Uri, &[u8]), NoMemory> {
         unpack_parts!(alloc, bytes, Uri: text scheme host port path)
     }
 }
 
+#[tactic(auto, unfolding(crate::specs::Intents::mime_form))]
 impl Pack for Mime {
     ghost form = { mime_form };
 
-    #[tactic(auto, unfolding(crate::specs::Intents::mime_form))]
     fn pack(&self, out: &mut Vec<u8>) -> Result<(), NoMemory> {
         pack_parts!(self, out: main sub)
     }
 
-    #[tactic(auto, unfolding(crate::specs::Intents::mime_form))]
     fn unpack(alloc: Global, bytes: &[u8]) -> Result<(Mime, &[u8]), NoMemory> {
         unpack_parts!(alloc, bytes, Mime: main sub)
     }
 }
 
+#[tactic(auto, unfolding(crate::specs::Intents::extra_form))]
 impl Pack for Extra {
     ghost form = { extra_form };
 
-    #[tactic(auto, unfolding(crate::specs::Intents::extra_form))]
     fn pack(&self, out: &mut Vec<u8>) -> Result<(), NoMemory> {
         match self {
             Extra::Word(words) => {
@@ -97,7 +93,6 @@ impl Pack for Extra {
         }
     }
 
-    #[tactic(auto, unfolding(crate::specs::Intents::extra_form))]
     fn unpack(alloc: Global, bytes: &[u8]) -> Result<(Extra, &[u8]), NoMemory> {
         match bytes {
             [] => Ok((Extra::Truth(false), bytes)),
@@ -117,24 +112,23 @@ impl Pack for Extra {
     }
 }
 
+#[tactic(auto, unfolding(crate::specs::Intents::named_form))]
 impl Pack for Named {
     ghost form = { named_form };
 
-    #[tactic(auto, unfolding(crate::specs::Intents::named_form))]
     fn pack(&self, out: &mut Vec<u8>) -> Result<(), NoMemory> {
         pack_parts!(self, out: key value)
     }
 
-    #[tactic(auto, unfolding(crate::specs::Intents::named_form))]
     fn unpack(alloc: Global, bytes: &[u8]) -> Result<(Named, &[u8]), NoMemory> {
         unpack_parts!(alloc, bytes, Named: key value)
     }
 }
 
+#[tactic(auto, unfolding(crate::specs::Intents::flags_form))]
 impl Pack for Flags {
     ghost form = { flags_form };
 
-    #[tactic(auto, unfolding(crate::specs::Intents::flags_form))]
     fn pack(&self, out: &mut Vec<u8>) -> Result<(), NoMemory> {
         pack_parts!(
             self, out: new_task multiple_task clear_task clear_top single_top reorder_to_front
@@ -142,7 +136,6 @@ impl Pack for Flags {
         )
     }
 
-    #[tactic(auto, unfolding(crate::specs::Intents::flags_form))]
     fn unpack(alloc: Global, bytes: &[u8]) -> Result<(Flags, &[u8]), NoMemory> {
         unpack_parts!(
             alloc, bytes, Flags: new_task multiple_task clear_task clear_top single_top
@@ -151,15 +144,14 @@ impl Pack for Flags {
     }
 }
 
+#[tactic(auto, unfolding(crate::specs::Intents::intent_form))]
 impl Pack for Intent {
     ghost form = { intent_form };
 
-    #[tactic(auto, unfolding(crate::specs::Intents::intent_form))]
     fn pack(&self, out: &mut Vec<u8>) -> Result<(), NoMemory> {
         pack_parts!(self, out: action uri mime identifier categories package component flags extras)
     }
 
-    #[tactic(auto, unfolding(crate::specs::Intents::intent_form))]
     fn unpack(alloc: Global, bytes: &[u8]) -> Result<(Intent, &[u8]), NoMemory> {
         unpack_parts!(
             alloc, bytes, Intent: action uri mime identifier categories package component flags
@@ -168,15 +160,14 @@ impl Pack for Intent {
     }
 }
 
+#[tactic(auto, unfolding(crate::specs::Intents::pending_flags_form))]
 impl Pack for PendingFlags {
     ghost form = { pending_flags_form };
 
-    #[tactic(auto, unfolding(crate::specs::Intents::pending_flags_form))]
     fn pack(&self, out: &mut Vec<u8>) -> Result<(), NoMemory> {
         pack_parts!(self, out: one_shot no_create cancel_current update_current immutable mutable)
     }
 
-    #[tactic(auto, unfolding(crate::specs::Intents::pending_flags_form))]
     fn unpack(alloc: Global, bytes: &[u8]) -> Result<(PendingFlags, &[u8]), NoMemory> {
         unpack_parts!(
             alloc, bytes, PendingFlags:
@@ -185,29 +176,27 @@ impl Pack for PendingFlags {
     }
 }
 
+#[tactic(auto, unfolding(crate::specs::Outcomes::outcome_form))]
 impl Pack for Outcome {
     ghost form = { outcome_form };
 
-    #[tactic(auto, unfolding(crate::specs::Outcomes::outcome_form))]
     fn pack(&self, out: &mut Vec<u8>) -> Result<(), NoMemory> {
         pack_parts!(self, out: code text extras)
     }
 
-    #[tactic(auto, unfolding(crate::specs::Outcomes::outcome_form))]
     fn unpack(alloc: Global, bytes: &[u8]) -> Result<(Outcome, &[u8]), NoMemory> {
         unpack_parts!(alloc, bytes, Outcome: code text extras)
     }
 }
 
+#[tactic(auto, unfolding(crate::specs::Outcomes::ordered_form))]
 impl Pack for Ordered {
     ghost form = { ordered_form };
 
-    #[tactic(auto, unfolding(crate::specs::Outcomes::ordered_form))]
     fn pack(&self, out: &mut Vec<u8>) -> Result<(), NoMemory> {
         pack_parts!(self, out: initial wanted)
     }
 
-    #[tactic(auto, unfolding(crate::specs::Outcomes::ordered_form))]
     fn unpack(alloc: Global, bytes: &[u8]) -> Result<(Ordered, &[u8]), NoMemory> {
         unpack_parts!(alloc, bytes, Ordered: initial wanted)
     }

@@ -70,16 +70,15 @@ impl Pack for u32 {
     }
 }
 
+#[tactic(auto, unfolding(crate::specs::Numbers::flag))]
 impl Pack for bool {
     ghost form = { flag };
 
-    #[tactic(auto, unfolding(crate::specs::Numbers::flag))]
     fn pack(&self, out: &mut Vec<u8>) -> Result<(), NoMemory> {
         out.push(if *self { 1 } else { 0 })?;
         Ok(())
     }
 
-    #[tactic(auto, unfolding(crate::specs::Numbers::flag))]
     fn unpack(alloc: Global, bytes: &[u8]) -> Result<(bool, &[u8]), NoMemory> {
         let _ = alloc;
         match bytes {
@@ -89,10 +88,10 @@ impl Pack for bool {
     }
 }
 
+#[tactic(auto, unfolding(crate::specs::Numbers::whole))]
 impl Pack for i64 {
     ghost form = { whole };
 
-    #[tactic(auto, unfolding(crate::specs::Numbers::whole))]
     fn pack(&self, out: &mut Vec<u8>) -> Result<(), NoMemory> {
         let value = *self;
         if value >= 0 {
@@ -104,7 +103,6 @@ impl Pack for i64 {
         }
     }
 
-    #[tactic(auto, unfolding(crate::specs::Numbers::whole))]
     fn unpack(alloc: Global, bytes: &[u8]) -> Result<(i64, &[u8]), NoMemory> {
         match bytes {
             [] => Ok((0, bytes)),

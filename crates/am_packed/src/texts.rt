@@ -7,10 +7,10 @@ use am_types::{NoMemory, Text};
 use std::alloc::Global;
 use std::str;
 
+#[tactic(auto, unfolding(crate::specs::Texts::text))]
 impl Pack for Text {
     ghost form = { text };
 
-    #[tactic(auto, unfolding(crate::specs::Texts::text))]
     fn pack(&self, out: &mut Vec<u8>) -> Result<(), NoMemory> {
         let words = self.as_str().as_bytes();
         (words.len() as u64).pack(out)?;
@@ -18,7 +18,6 @@ impl Pack for Text {
         Ok(())
     }
 
-    #[tactic(auto, unfolding(crate::specs::Texts::text))]
     fn unpack(alloc: Global, bytes: &[u8]) -> Result<(Text, &[u8]), NoMemory> {
         let (count, rest) = u64::unpack(alloc, bytes)?;
         if count > rest.len() as u64 {

@@ -3,12 +3,4 @@
 #![tactic(auto)]
 
 #[cfg(test)]
-mod bodies;
-#[cfg(test)]
-mod manifests;
-#[cfg(test)]
-mod replies;
-#[cfg(test)]
-mod root;
-#[cfg(test)]
-mod targets;
+mod trials;

@@ -6,6 +6,7 @@ use Rattle.std.specs.Char.{to_ascii_lowercase}
 use Rattle.std.proofs.lemmas.Str.Ascii.{lowercase-lowercase}
 use Rattle.serde_json.specs.Data.{Data}
 use Rattle.serde_json.specs.Find.{as_str}
+use Rattle.am_types.specs.Bounds.{longest_manifest}
 use Rattle.am_types.specs.declared.request.Request.{Request}
 use Rattle.am_types.specs.declared.request.Request.TheVariants as asks
 use Rattle.am_types.specs.Reading.{◌>>=◌}
@@ -155,7 +156,7 @@ value_is_made at.PendingGive value =
     asks.PendingGive value (λ x y. (refl, tt))
 value_is_made at.Install value =
     bound at.Install (fields_of (codes "manifest" ∷ codes "key" ∷ []) value) _
-    (λ x0. bound at.Install (required_text Any 65536 (codes "manifest") value) _
+    (λ x0. bound at.Install (required_text Any longest_manifest (codes "manifest") value) _
     (λ x1. install_is_made x1 (required (codes "key") value)))
 value_is_made at.Uninstall value = bound at.Uninstall (package_in value) _ (λ x0. (refl, tt))
 value_is_made at.Grant value =

@@ -45,14 +45,24 @@ abbrev pub or_zero : Option ℤ → ℤ
 or_zero None = pos 0
 or_zero (Some n) = n
 
+-- the outcome with this code, and what `more` reads after it
+abbrev pub outcome_of : {A : Type 0} → ℤ → (Outcome → Result A WireFault) → Data → Result A WireFault
+outcome_of code more body = do
+  text ← optional_text Any 1024 (codes "data") body
+  extras ← optional_extras body
+  more (record { code = code; text = text; extras = extras })
+
+-- whether the sender wants the result of a broadcast that starts so
+abbrev pub wanted_in : Data → Outcome → Result Ordered WireFault
+wanted_in body initial = do
+  wanted ← optional_truth (codes "result") body
+  Ok (record { initial = initial; wanted = wanted })
+
 -- how an ordered broadcast starts
 unfoldable pub ordered_in : Data → Result Ordered WireFault
 ordered_in body = do
   code ← optional_whole (codes "code") body
-  text ← optional_text Any 1024 (codes "data") body
-  extras ← optional_extras body
-  wanted ← optional_truth (codes "result") body
-  Ok (record { initial = record { code = or_zero code; text = text; extras = extras }; wanted = wanted })
+  outcome_of (or_zero code) (wanted_in body) body
 
 -- how a broadcast starts, if it is ordered
 unfoldable pub ordered_if : Bool → Data → Result (Option Ordered) WireFault
@@ -97,9 +107,7 @@ finish_fields sets =
 unfoldable pub outcome_in : Data → Result Outcome WireFault
 outcome_in body = do
   code ← required_whole (codes "code") body
-  text ← optional_text Any 1024 (codes "data") body
-  extras ← optional_extras body
-  Ok (record { code = code; text = text; extras = extras })
+  outcome_of code (λ outcome. Ok outcome) body
 
 -- the outcome, if one is set
 unfoldable pub outcome_if : Bool → Data → Result (Option Outcome) WireFault

@@ -2,6 +2,7 @@
 use Rattle.std.specs.Prelude.{ℕ, ◌==◌, nat_lt, List, [], ◌∷◌, length, codes, if◌then◌else◌, Option, Some, None, Result, Ok, Err}
 use Rattle.serde_json.specs.Data.{Data}
 use Rattle.serde_json.specs.Find.{as_str}
+use Rattle.am_types.specs.Bounds.{longest_manifest}
 use Rattle.am_types.specs.declared.request.Request.{Request}
 use Rattle.am_types.specs.declared.request.Request.TheVariants as asks
 use Rattle.am_model.specs.Sound.{is_visible}
@@ -31,7 +32,7 @@ key_in body = do
 unfoldable pub install_in : Data → Result Request WireFault
 install_in body = do
   known ← fields_of (codes "manifest" ∷ codes "key" ∷ []) body
-  text ← required_text Any 65536 (codes "manifest") body
+  text ← required_text Any longest_manifest (codes "manifest") body
   key ← key_in body
   Ok (asks.Install text key)
 

@@ -3,8 +3,7 @@ ghost use Rattle.std.specs.Prelude.{◌≡◌};
 ghost use Rattle.serde_json.specs.Find.{as_str};
 ghost use Rattle.serde_json.specs.View.{view};
 ghost use Rattle.am_types.specs.Reading.{Gives};
-ghost use Rattle.am_wire.specs.Activities.{fields_of};
-ghost use Rattle.am_wire.specs.Accounts.{is_receiver, asks_receivers, explain_fields, permission_for, asked_with, explain_in};
+ghost use Rattle.am_wire.specs.Accounts.{is_receiver, asks_receivers, permission_for, asked_with, explain_in};
 
 use crate::activities::fields_where;
 use crate::words::kind_of;
@@ -14,6 +13,11 @@ use am_wire_fields::{Unread, optional_text, or_drop};
 use am_wire_intents::required_intent;
 use serde_json::Value;
 use std::alloc::Global;
+
+// The fields of a question about receivers, and of one about other components.
+static OF_RECEIVERS: [&str; 5] = ["kind", "intent", "as", "permission", "of"];
+
+static OF_OTHERS: [&str; 4] = ["kind", "intent", "as", "of"];
 
 /// Whether a value is the word for receivers.
 fn is_receiver(value: &Value) -> bool
@@ -34,20 +38,6 @@ fn asks_receivers(body: &Value) -> bool
         None => false,
         Some(value) => is_receiver(value),
     }
-}
-
-/// Refuses a question with other fields than its own; it has more if it is about receivers.
-#[tactic(auto, unfolding(crate::specs::Accounts::explain_fields))]
-fn only_explain_fields(alloc: Global, receivers: bool, body: &Value) -> Result<(), Unread>
-    ensures { Gives result (fields_of (explain_fields receivers) (view body.now)) }
-{
-    fields_where(
-        alloc,
-        receivers,
-        &["kind", "intent", "as", "permission", "of"],
-        &["kind", "intent", "as", "of"],
-        body,
-    )
 }
 
 /// The permission that receivers must hold, if the text `permission` is given.
@@ -78,11 +68,11 @@ fn asked_with(
 
 /// A question about what an intent would reach: `kind`, `intent`, and optionally the texts `as` and `of`. Only if
 /// `kind` is `receiver` may there be the text `permission`, which is read before `of`.
-#[tactic(auto, unfolding(crate::specs::Accounts::explain_in, crate::specs::Accounts::asked_with))]
+#[tactic(auto, unfolding(crate::specs::Accounts::explain_in, crate::specs::Accounts::asked_with, crate::specs::Accounts::explain_fields))]
 pub fn explain_in(alloc: Global, body: &Value) -> Result<Request, Unread>
     ensures { Gives result (explain_in (view body.now)) }
 {
-    only_explain_fields(alloc, asks_receivers(body), body)?;
+    fields_where(alloc, asks_receivers(body), &OF_RECEIVERS, &OF_OTHERS, body)?;
     let kind = kind_of(alloc, body)?;
     let intent = required_intent(alloc, "intent", body)?;
     let (caller, permission, shown) = or_drop!(asked_with(alloc, kind, body), intent);

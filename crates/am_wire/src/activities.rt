@@ -1,7 +1,6 @@
 //! Bodies with one field or none, queries, activities and services.
 ghost use Rattle.std.specs.Prelude.{[], ◌∷◌, codes, map, if◌then◌else◌};
 ghost use Rattle.serde_json.specs.View.{view};
-ghost use Rattle.am_wire_fields.specs.Fields.{optional_truth};
 ghost use Rattle.am_types.specs.Reading.{Gives};
 ghost use Rattle.am_wire.specs.Activities.{fields_of, plain_in, number_in, advance_in, query_in, start_in, start_service_in, stop_service_in};
 
@@ -80,13 +79,6 @@ fn only_query_fields(alloc: Global, body: &Value) -> Result<(), Unread>
     fields_of(alloc, &["kind", "intent", "defaultOnly"], body)
 }
 
-/// Whether a query asks only for filters that list the default category: `defaultOnly`, false if it is absent.
-fn default_only_in(alloc: Global, body: &Value) -> Result<bool, Unread>
-    ensures { Gives result (optional_truth (codes "defaultOnly") (view body.now)) }
-{
-    optional_truth(alloc, "defaultOnly", body)
-}
-
 /// A query: `kind`, `intent`, and `defaultOnly`, which is false if it is absent.
 #[tactic(auto, unfolding(crate::specs::Activities::query_in))]
 pub fn query_in(alloc: Global, body: &Value) -> Result<Request, Unread>
@@ -95,7 +87,7 @@ pub fn query_in(alloc: Global, body: &Value) -> Result<Request, Unread>
     only_query_fields(alloc, body)?;
     let kind = kind_of(alloc, body)?;
     let intent = required_intent(alloc, "intent", body)?;
-    let default_only = or_drop!(default_only_in(alloc, body), intent);
+    let default_only = or_drop!(optional_truth(alloc, "defaultOnly", body), intent);
     Ok(Request::Query {
         kind,
         intent,

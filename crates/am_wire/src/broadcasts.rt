@@ -1,9 +1,9 @@
 //! Broadcasts, registered receivers and deliveries.
-ghost use Rattle.std.specs.Prelude.{◌≡◌, [], ◌∷◌, codes};
+ghost use Rattle.std.specs.Prelude.{◌≡◌, [], ◌∷◌, Ok, codes};
 ghost use Rattle.serde_json.specs.View.{view};
 ghost use Rattle.am_types.specs.Reading.{Gives};
 ghost use Rattle.am_wire.specs.Activities.{fields_of};
-ghost use Rattle.am_wire.specs.Broadcasts.{is_ordered, send_fields, ordered_in, ordered_if, sent_with, send_in, required_filter, register_in, sets_outcome, finish_fields, outcome_in, outcome_if, finish_in};
+ghost use Rattle.am_wire.specs.Broadcasts.{is_ordered, send_fields, outcome_of, ordered_in, ordered_if, sent_with, send_in, required_filter, register_in, sets_outcome, finish_fields, outcome_in, outcome_if, finish_in};
 
 use crate::activities::{fields_of, fields_where};
 use am_types::{Answer, Filter, Ordered, Outcome, Request, Text};
@@ -15,6 +15,35 @@ use am_wire_fields::{
 use am_wire_intents::{filter_in, optional_extras, required_intent};
 use serde_json::Value;
 use std::alloc::Global;
+
+// The fields of a broadcast that is ordered, and of another one.
+static ORDERED: [&str; 7] = [
+    "intent",
+    "permission",
+    "ordered",
+    "code",
+    "data",
+    "extras",
+    "result",
+];
+
+static UNORDERED: [&str; 3] = ["intent", "permission", "ordered"];
+
+// The fields of an answer that sets an outcome, and of another one.
+static SETTING: [&str; 5] = ["delivery", "abort", "code", "data", "extras"];
+
+static NOT_SETTING: [&str; 3] = ["delivery", "abort", "code"];
+
+// What is read if this is so, and none otherwise.
+macro_rules! if_so {
+    ($so:ident, $read:expr) => {{
+        if !$so {
+            return Ok(None);
+        }
+        let read = $read?;
+        Ok(Some(read))
+    }};
+}
 
 /// Whether the field `ordered` is `true`.
 #[tactic(auto, unfolding(crate::specs::Broadcasts::is_ordered))]
@@ -32,21 +61,16 @@ fn is_ordered(body: &Value) -> bool
 fn only_send_fields(alloc: Global, ordered: bool, body: &Value) -> Result<(), Unread>
     ensures { Gives result (fields_of (send_fields ordered) (view body.now)) }
 {
-    fields_where(
-        alloc,
-        ordered,
-        &[
-            "intent",
-            "permission",
-            "ordered",
-            "code",
-            "data",
-            "extras",
-            "result",
-        ],
-        &["intent", "permission", "ordered"],
-        body,
-    )
+    fields_where(alloc, ordered, &ORDERED, &UNORDERED, body)
+}
+
+/// The outcome with this code, and optionally the text `data` and `extras`.
+fn outcome_of(alloc: Global, code: i64, body: &Value) -> Result<Outcome, Unread>
+    ensures { Gives result (outcome_of code (λ outcome. Ok outcome) (view body.now)) }
+{
+    let text = optional_text(alloc, Form::Any, 1024, "data", body)?;
+    let extras = optional_extras(alloc, body)?;
+    Ok(Outcome { code, text, extras })
 }
 
 /// How an ordered broadcast starts: `code`, which is 0 if it is absent, optionally the text `data` and `extras`, and
@@ -56,13 +80,7 @@ fn ordered_in(alloc: Global, body: &Value) -> Result<Ordered, Unread>
     ensures { Gives result (ordered_in (view body.now)) }
 {
     let code = optional_whole(alloc, "code", body)?;
-    let text = optional_text(alloc, Form::Any, 1024, "data", body)?;
-    let extras = optional_extras(alloc, body)?;
-    let initial = Outcome {
-        code: code.unwrap_or(0),
-        text,
-        extras,
-    };
+    let initial = outcome_of(alloc, code.unwrap_or(0), body)?;
     let wanted = or_drop!(optional_truth(alloc, "result", body), initial);
     Ok(Ordered { initial, wanted })
 }
@@ -72,11 +90,7 @@ fn ordered_in(alloc: Global, body: &Value) -> Result<Ordered, Unread>
 fn ordered_if(alloc: Global, ordered: bool, body: &Value) -> Result<Option<Ordered>, Unread>
     ensures { Gives result (ordered_if ordered (view body.now)) }
 {
-    if !ordered {
-        return Ok(None);
-    }
-    let start = ordered_in(alloc, body)?;
-    Ok(Some(start))
+    if_so!(ordered, ordered_in(alloc, body))
 }
 
 /// The rest of a broadcast, apart from its intent: the permission that receivers must hold, and how it starts if it is
@@ -150,13 +164,7 @@ fn sets_outcome(body: &Value) -> bool
 fn only_finish_fields(alloc: Global, sets: bool, body: &Value) -> Result<(), Unread>
     ensures { Gives result (fields_of (finish_fields sets) (view body.now)) }
 {
-    fields_where(
-        alloc,
-        sets,
-        &["delivery", "abort", "code", "data", "extras"],
-        &["delivery", "abort", "code"],
-        body,
-    )
+    fields_where(alloc, sets, &SETTING, &NOT_SETTING, body)
 }
 
 /// The outcome that an answer sets: `code`, and optionally the text `data` and `extras`.
@@ -165,9 +173,7 @@ fn outcome_in(alloc: Global, body: &Value) -> Result<Outcome, Unread>
     ensures { Gives result (outcome_in (view body.now)) }
 {
     let code = required_whole(alloc, "code", body)?;
-    let text = optional_text(alloc, Form::Any, 1024, "data", body)?;
-    let extras = optional_extras(alloc, body)?;
-    Ok(Outcome { code, text, extras })
+    outcome_of(alloc, code, body)
 }
 
 /// The outcome that an answer sets, if it sets one.
@@ -175,11 +181,7 @@ fn outcome_in(alloc: Global, body: &Value) -> Result<Outcome, Unread>
 fn outcome_if(alloc: Global, sets: bool, body: &Value) -> Result<Option<Outcome>, Unread>
     ensures { Gives result (outcome_if sets (view body.now)) }
 {
-    if !sets {
-        return Ok(None);
-    }
-    let outcome = outcome_in(alloc, body)?;
-    Ok(Some(outcome))
+    if_so!(sets, outcome_in(alloc, body))
 }
 
 /// The answer to a delivery: the number `delivery`, `abort`, which is false if it is absent, and optionally `code`.

@@ -3,10 +3,11 @@ ghost use Rattle.std.specs.Prelude.{◌≡◌, map, option_map};
 ghost use Rattle.serde_json.specs.View.{view, members_view};
 ghost use Rattle.am_model.specs.Texts.{lists};
 ghost use Rattle.am_types.specs.Reading.{Gives, GivesBy};
-ghost use Rattle.am_wire_fields.specs.Fields.{field, only_fields, optional_truth, required, required_truth, truth_in, unlisted};
+ghost use Rattle.am_wire_fields.specs.Fields.{field, only_fields, optional_truth, required, required_truth, unlisted};
 
-use crate::Unread;
-use crate::naming::{missing, unknown_field, wrong_kind};
+use crate::naming::wrong_kind;
+use crate::{Unread, WireFault};
+use am_types::{Text, Unmade};
 use serde_json::{Map, Value};
 use std::alloc::Global;
 
@@ -57,7 +58,7 @@ pub fn only_fields(alloc: Global, name: &str, fields: &[&str], value: &Value) ->
     };
     match unlisted(fields, members) {
         None => Ok(()),
-        Some(key) => Err(unknown_field(alloc, key)),
+        Some(key) => Err(Unmade::Fault(WireFault::UnknownField(Text::of(alloc, key)?))),
     }
 }
 
@@ -71,19 +72,8 @@ pub fn required<'v>(alloc: Global, name: &str, object: &'v Value) -> Result<&'v 
     ensures { GivesBy (λ value. view value.now) result (required name.now (view object.now)) }
 {
     match field(name, object) {
-        None => Err(missing(alloc, name)),
+        None => Err(Unmade::Fault(WireFault::Missing(Text::of(alloc, name)?))),
         Some(value) => Ok(value),
-    }
-}
-
-/// The boolean in a value.
-#[tactic(auto, unfolding(crate::specs::Fields::truth_in, crate::specs::Fields::of_kind))]
-fn truth_in(alloc: Global, name: &str, value: &Value) -> Result<bool, Unread>
-    ensures { Gives result (truth_in name.now (view value.now)) }
-{
-    match value.as_bool() {
-        None => Err(wrong_kind(alloc, name)),
-        Some(truth) => Ok(truth),
     }
 }
 
@@ -92,12 +82,12 @@ fn truth_in(alloc: Global, name: &str, value: &Value) -> Result<bool, Unread>
 /// # Errors
 ///
 /// If the field is absent or null, and then if its value isn't a boolean.
-#[tactic(auto, unfolding(crate::specs::Fields::required_truth))]
+#[tactic(auto, unfolding(crate::specs::Fields::required_truth, crate::specs::Fields::truth_in, crate::specs::Fields::of_kind))]
 pub fn required_truth(alloc: Global, name: &str, object: &Value) -> Result<bool, Unread>
     ensures { Gives result (required_truth name.now (view object.now)) }
 {
     let value = required(alloc, name, object)?;
-    truth_in(alloc, name, value)
+    value.as_bool().ok_or_else(|| wrong_kind(alloc, name))
 }
 
 /// The boolean in a field: false if the field is absent or null.
@@ -105,12 +95,12 @@ pub fn required_truth(alloc: Global, name: &str, object: &Value) -> Result<bool,
 /// # Errors
 ///
 /// If the field's value isn't a boolean.
-#[tactic(auto, unfolding(crate::specs::Fields::optional_truth, crate::specs::Fields::truth_or_false))]
+#[tactic(auto, unfolding(crate::specs::Fields::optional_truth, crate::specs::Fields::truth_or_false, crate::specs::Fields::truth_in, crate::specs::Fields::of_kind))]
 pub fn optional_truth(alloc: Global, name: &str, object: &Value) -> Result<bool, Unread>
     ensures { Gives result (optional_truth name.now (view object.now)) }
 {
     match field(name, object) {
         None => Ok(false),
-        Some(value) => truth_in(alloc, name, value),
+        Some(value) => value.as_bool().ok_or_else(|| wrong_kind(alloc, name)),
     }
 }

@@ -18,10 +18,7 @@ use std::alloc::Global;
 pub fn natural_in(alloc: Global, name: &str, value: &Value) -> Result<u64, Unread>
     ensures { Gives result (natural_in name.now (view value.now)) }
 {
-    match value.as_u64() {
-        None => Err(wrong_kind(alloc, name)),
-        Some(number) => Ok(number),
-    }
+    value.as_u64().ok_or_else(|| wrong_kind(alloc, name))
 }
 
 /// The signed whole number of 64 bits in a value. `name` is what a fault calls the value.
@@ -33,10 +30,7 @@ pub fn natural_in(alloc: Global, name: &str, value: &Value) -> Result<u64, Unrea
 pub fn whole_in(alloc: Global, name: &str, value: &Value) -> Result<i64, Unread>
     ensures { Gives result (whole_in name.now (view value.now)) }
 {
-    match value.as_i64() {
-        None => Err(wrong_kind(alloc, name)),
-        Some(number) => Ok(number),
-    }
+    value.as_i64().ok_or_else(|| wrong_kind(alloc, name))
 }
 
 /// The number from 0 on in a required field.
@@ -48,8 +42,7 @@ pub fn whole_in(alloc: Global, name: &str, value: &Value) -> Result<i64, Unread>
 pub fn required_natural(alloc: Global, name: &str, object: &Value) -> Result<u64, Unread>
     ensures { Gives result (required_natural name.now (view object.now)) }
 {
-    let value = required(alloc, name, object)?;
-    natural_in(alloc, name, value)
+    natural_in(alloc, name, required(alloc, name, object)?)
 }
 
 /// The number from 0 to this one in a required field.
@@ -82,8 +75,7 @@ pub fn required_up_to(
 pub fn required_whole(alloc: Global, name: &str, object: &Value) -> Result<i64, Unread>
     ensures { Gives result (required_whole name.now (view object.now)) }
 {
-    let value = required(alloc, name, object)?;
-    whole_in(alloc, name, value)
+    whole_in(alloc, name, required(alloc, name, object)?)
 }
 
 /// The number from 0 on in a field: none if the field is absent or null.

@@ -9,7 +9,7 @@ use Rattle.am_filter.specs.declared.rows.Paths.{Paths}
 use Rattle.am_filter.specs.declared.rows.DataRow.{DataRow}
 use Rattle.am_filter.specs.declared.rows.DataRows.{DataRows}
 use Rattle.am_uri.specs.declared.text.Form.TheVariants.{Filled}
-use Rattle.am_filter.specs.Rows.{with_row, no_rows}
+use Rattle.am_filter.specs.Rows.{filter_with, with_row, no_rows}
 use Rattle.am_uri.specs.Texts.{sorted_texts}
 use Rattle.am_wire_fields.specs.declared.fault.WireFault.{WireFault}
 use Rattle.am_wire_fields.specs.declared.fault.WireFault.TheVariants.{WrongKind, TooLong}
@@ -122,16 +122,7 @@ filter_of filter = do
   categories ← categories_of Filled filter
   rows ← rows_at filter
   priority ← priority_at filter
-  Ok (record {
-    actions = actions;
-    categories = categories;
-    schemes = rows.schemes;
-    authorities = rows.authorities;
-    paths
-        = rows.paths;
-    types = rows.types;
-    priority = priority;
-  })
+  Ok (filter_with actions categories rows priority)
 
 -- the fields of a filter
 abbrev pub filter_fields : List (List ℕ)

@@ -21,7 +21,7 @@ use Rattle.am_wire_read_back.proofs.Kept.{IsKept}
 use Rattle.am_wire_read_back.proofs.Numbers.{required_natural_again}
 use Rattle.am_wire_read_back.proofs.Objects.{Entry, members_with, value_at, are_apart, are_listed}
 use Rattle.am_wire_read_back.proofs.Options.{IsReread}
-use Rattle.am_wire_read_back.proofs.Parts.{Part, fields_known}
+use Rattle.am_wire_read_back.proofs.Parts.{Part, part, fields_known}
 use Rattle.am_wire_read_back.proofs.Steps.{step, steps, same_ok}
 use Rattle.am_wire_read_back.proofs.Texts.{required_at, word_again}
 
@@ -87,9 +87,6 @@ kind_at Service es apart is = named_at kind_words (codes "service") Service es r
 kind_at Receiver es apart is = named_at kind_words (codes "receiver") Receiver es refl refl apart is
 
 abbrev pub kind_part : Part Kind
-kind_part = record {
-  name = codes "kind";
-  read = kind_of;
-  write = λ kind. Some (string (kind_name kind));
-  again = λ value kind es k h apart is. kind_at kind es apart is;
-}
+kind_part =
+    part (codes "kind") kind_of (λ kind. Some (string (kind_name kind)))
+    (λ value kind es k h apart is. kind_at kind es apart is)

@@ -28,7 +28,7 @@ use Rattle.am_wire_intents.specs.Intents.{uri_or_fault, uri_in, optional_uri, mi
 use Rattle.am_wire_values.specs.Intents.{component_data, mime_data, uri_data}
 use Rattle.am_wire_read_back.proofs.Kept.{IsKept}
 use Rattle.am_wire_read_back.proofs.Objects.{Entry, members_with, value_at, are_apart}
-use Rattle.am_wire_read_back.proofs.Options.{IsReread, option_field}
+use Rattle.am_wire_read_back.proofs.Options.{IsFieldReread, IsReread, option_field}
 use Rattle.am_wire_read_back.proofs.Steps.{step, steps, same_ok}
 use Rattle.am_wire_read_back.proofs.Texts.{if_read, else_read, read_if, read_else, text_again, field_again}
 
@@ -104,13 +104,9 @@ unfolding mime_in
 mime_again form name = of_text_again form name (λ text. mime_or_fault (mime_of text)) mime_data
     (λ m. (m.main ++ codes "/") ++ m.sub) (λ m. refl) (λ text mime h. mime_text text mime (mime_is (mime_of text) mime h))
 
-pub mime_field : (name : List ℕ) (value : Data) (o : Option Mime) (es : List Entry) → IsKept value
-    → optional_mime Any name value ≡ Ok o
-    → are_apart es ≡ true → value_at name es ≡ option_map mime_data o
-    → optional_mime Any name (object (members_with es)) ≡ Ok o
+pub mime_field : (name : List ℕ) → IsFieldReread name (optional_mime Any name) (option_map mime_data)
 unfolding optional_mime
-mime_field name value o es k h apart is = option_field (mime_in Any name) mime_data (mime_again Any name) (λ m. refl)
-    name value o es k h apart is
+mime_field name = option_field (mime_in Any name) mime_data (mime_again Any name) (λ m. refl) name
 
 -- ---- URIs
 
@@ -140,13 +136,9 @@ unfolding uri_in
 uri_again name = of_text_again Any name (λ text. uri_or_fault (uri_of text)) uri_data (λ u. u.text) (λ u. refl)
     (λ text uri h. uri_text text uri (uri_is (uri_of text) uri h))
 
-pub uri_field : (name : List ℕ) (value : Data) (o : Option Uri) (es : List Entry) → IsKept value
-    → optional_uri name value ≡ Ok o
-    → are_apart es ≡ true → value_at name es ≡ option_map uri_data o → optional_uri name (object (members_with es))
-    ≡ Ok o
+pub uri_field : (name : List ℕ) → IsFieldReread name (optional_uri name) (option_map uri_data)
 unfolding optional_uri
-uri_field name value o es k h apart is = option_field (uri_in name) uri_data (uri_again name) (λ u. refl) name value o
-    es k h apart is
+uri_field name = option_field (uri_in name) uri_data (uri_again name) (λ u. refl) name
 
 -- ---- components
 
@@ -223,17 +215,10 @@ pub component_again : (name : List ℕ) → IsReread (component_in name) compone
 unfolding component_in
 component_again name value c k h = component_again_of name (option_and_then parts_of (as_str value)) c h
 
-pub component_field : (name : List ℕ) (value : Data) (o : Option Component) (es : List Entry) → IsKept value
-    → optional_component name value ≡ Ok o
-    → are_apart es ≡ true → value_at name es ≡ option_map component_data o
-    → optional_component name (object (members_with es)) ≡ Ok o
+pub component_field : (name : List ℕ) → IsFieldReread name (optional_component name) (option_map component_data)
 unfolding optional_component
-component_field name value o es k h apart is = option_field (component_in name) component_data (component_again name)
-    (λ c. refl) name value o es k h apart is
+component_field name = option_field (component_in name) component_data (component_again name) (λ c. refl) name
 
-pub required_component_again : (name : List ℕ) (parent : Data) (c : Component) (es : List Entry) → IsKept parent
-    → required_by component_in name parent ≡ Ok c
-    → are_apart es ≡ true → value_at name es ≡ Some (component_data c)
-    → required_by component_in name (object (members_with es)) ≡ Ok c
-required_component_again name parent c es k h apart is = field_again (component_in name) component_data
-    (component_again name) name parent c es k h apart is refl
+pub required_component_again : (name : List ℕ)
+    → IsFieldReread name (required_by component_in name) (λ c. Some (component_data c))
+required_component_again name = field_again (component_in name) component_data (component_again name) (λ c. refl) name

@@ -21,7 +21,7 @@ use Rattle.am_wire_read_back.proofs.Flags.{flags_field}
 use Rattle.am_wire_read_back.proofs.Kept.{IsKept, field_kept}
 use Rattle.am_wire_read_back.proofs.Lists.{IsRead, each_read, each_again, each_length, WasListed, was_list_if, list_if_again, all_sorted, are_sorted, sorted_again, mapped_within}
 use Rattle.am_wire_read_back.proofs.Objects.{Entry, members_with, value_at, are_apart, field_at, only_listed}
-use Rattle.am_wire_read_back.proofs.Options.{IsReread, option_field}
+use Rattle.am_wire_read_back.proofs.Options.{IsFieldReread, IsReread, WritesNoNull, option_field}
 use Rattle.am_wire_read_back.proofs.Steps.{step, steps, same_ok}
 use Rattle.am_wire_read_back.proofs.Texts.{text_again, text_field, field_again}
 
@@ -137,22 +137,15 @@ intent_again name value i k h =
     (ap (λ (i : Intent). option_map mime_data i.mime) (sym is)))
     nine.later)))))))))
 
-pub no_null : (i : Intent) → unless_null (Some (intent_data i)) ≡ Some (intent_data i)
+pub no_null : WritesNoNull intent_data
 unfolding intent_data
 no_null i = refl
 
-pub required_intent_again : (name : List ℕ) (parent : Data) (i : Intent) (es : List Entry) → IsKept parent
-    → required_intent name parent ≡ Ok i
-    → are_apart es ≡ true → value_at name es ≡ Some (intent_data i) → required_intent name (object (members_with es))
-    ≡ Ok i
+pub required_intent_again : (name : List ℕ)
+    → IsFieldReread name (required_intent name) (λ i. Some (intent_data i))
 unfolding required_intent
-required_intent_again name parent i es k h apart is = field_again (intent_in name) intent_data (intent_again name) name
-    parent i es k h apart is (no_null i)
+required_intent_again name = field_again (intent_in name) intent_data (intent_again name) no_null name
 
-pub intent_field : (name : List ℕ) (value : Data) (o : Option Intent) (es : List Entry) → IsKept value
-    → optional_intent name value ≡ Ok o
-    → are_apart es ≡ true → value_at name es ≡ option_map intent_data o
-    → optional_intent name (object (members_with es)) ≡ Ok o
+pub intent_field : (name : List ℕ) → IsFieldReread name (optional_intent name) (option_map intent_data)
 unfolding optional_intent
-intent_field name value o es k h apart is = option_field (intent_in name) intent_data (intent_again name) no_null name
-    value o es k h apart is
+intent_field name = option_field (intent_in name) intent_data (intent_again name) no_null name

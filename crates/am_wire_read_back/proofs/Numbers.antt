@@ -11,7 +11,7 @@ use Rattle.am_wire.specs.Broadcasts.{or_zero}
 use Rattle.am_wire_values.specs.Fields.{natural, whole, some_whole}
 use Rattle.am_wire_read_back.proofs.Kept.{IsPlainNumber, IsKept, ForSome, field_kept}
 use Rattle.am_wire_read_back.proofs.Objects.{Entry, members_with, value_at, are_apart, field_at}
-use Rattle.am_wire_read_back.proofs.Options.{IsReread, option_field}
+use Rattle.am_wire_read_back.proofs.Options.{IsFieldReread, IsReread, option_field}
 use Rattle.am_wire_read_back.proofs.Steps.{step, steps, same_ok, same_some}
 use Rattle.am_wire_read_back.proofs.Texts.{else_read, field_again}
 
@@ -55,19 +55,13 @@ whole_again name value z k h =
     ap (of_kind name) (signed_of (as_number value) z (number_kept value k)
     (number_is name (option_and_then as_i64 (as_number value)) z h))
 
-pub required_natural_again : (name : List ℕ) (parent : Data) (n : ℕ) (es : List Entry) → IsKept parent
-    → required_natural name parent ≡ Ok n
-    → are_apart es ≡ true → value_at name es ≡ Some (natural n) → required_natural name (object (members_with es))
-    ≡ Ok n
+pub required_natural_again : (name : List ℕ) → IsFieldReread name (required_natural name) (λ n. Some (natural n))
 unfolding required_natural
-required_natural_again name parent n es k h apart is = field_again (natural_in name) natural (natural_again name) name
-    parent n es k h apart is refl
+required_natural_again name = field_again (natural_in name) natural (natural_again name) (λ n. refl) name
 
 -- and so is one with a bound
-pub required_up_to_again : (greatest : ℕ) (name : List ℕ) (parent : Data) (n : ℕ) (es : List Entry) → IsKept parent
-    → required_up_to greatest name parent ≡ Ok n
-    → are_apart es ≡ true → value_at name es ≡ Some (natural n) → required_up_to greatest name
-    (object (members_with es)) ≡ Ok n
+pub required_up_to_again : (greatest : ℕ) (name : List ℕ)
+    → IsFieldReread name (required_up_to greatest name) (λ n. Some (natural n))
 unfolding required_up_to
 required_up_to_again greatest name parent n es k h apart is =
     let one = step (required_natural name parent) (up_to greatest name) n h in
@@ -77,20 +71,13 @@ required_up_to_again greatest name parent n es k h apart is =
     steps (required_natural name (object (members_with es))) (up_to greatest name) n n
     (required_natural_again name parent n es k (one.first ∙ ap Ok same) apart is) (subst P same one.later)
 
-pub required_whole_again : (name : List ℕ) (parent : Data) (z : ℤ) (es : List Entry) → IsKept parent
-    → required_whole name parent ≡ Ok z
-    → are_apart es ≡ true → value_at name es ≡ Some (whole z) → required_whole name (object (members_with es)) ≡ Ok z
+pub required_whole_again : (name : List ℕ) → IsFieldReread name (required_whole name) (λ z. Some (whole z))
 unfolding required_whole
-required_whole_again name parent z es k h apart is = field_again (whole_in name) whole (whole_again name) name parent z
-    es k h apart is refl
+required_whole_again name = field_again (whole_in name) whole (whole_again name) (λ z. refl) name
 
-pub natural_field : (name : List ℕ) (value : Data) (o : Option ℕ) (es : List Entry) → IsKept value
-    → optional_natural name value ≡ Ok o
-    → are_apart es ≡ true → value_at name es ≡ option_map natural o → optional_natural name (object (members_with es))
-    ≡ Ok o
+pub natural_field : (name : List ℕ) → IsFieldReread name (optional_natural name) (option_map natural)
 unfolding optional_natural
-natural_field name value o es k h apart is = option_field (natural_in name) natural (natural_again name) (λ n. refl)
-    name value o es k h apart is
+natural_field name = option_field (natural_in name) natural (natural_again name) (λ n. refl) name
 
 -- a number that is written if it isn't 0
 pub is_zero : (z : ℤ) → (unsigned_abs z == 0) ≡ true → pos 0 ≡ z

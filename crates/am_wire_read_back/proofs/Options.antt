@@ -15,6 +15,12 @@ IsReread {A} read write = (value : Data) (x : A) → IsKept value → read value
 abbrev pub WritesNoNull : {A : Type 0} → (A → Data) → Type 0
 WritesNoNull {A} write = (x : A) → unless_null (Some (write x)) ≡ Some (write x)
 
+-- what is read of a body is read of entries that have, under the name, what is written for that
+abbrev pub IsFieldReread : {A : Type 0} → List ℕ → (Data → Result A WireFault) → (A → Option Data) → Type 0
+IsFieldReread {A} name read write =
+    (parent : Data) (x : A) (es : List Entry) → IsKept parent → read parent ≡ Ok x → are_apart es ≡ true
+    → value_at name es ≡ write x → read (object (members_with es)) ≡ Ok x
+
 module _ {A : Type 0} (read : Data → Result A WireFault) (write : A → Data) (again : IsReread read write)
     (said : WritesNoNull write) where
   pub written_or_not : (o : Option A) → unless_null (option_map write o) ≡ option_map write o
@@ -38,9 +44,6 @@ module _ {A : Type 0} (read : Data → Result A WireFault) (write : A → Data) 
   option_again value o written k h e = ap (if_said read) (e ∙ written_or_not o) ∙ said_again value o k h
 
   -- and so is a field of the object that is written
-  pub option_field : (name : List ℕ) (parent : Data) (o : Option A) (es : List Entry) → IsKept parent
-      → if_said read (field name parent) ≡ Ok o
-      → are_apart es ≡ true → value_at name es ≡ option_map write o
-      → if_said read (field name (object (members_with es))) ≡ Ok o
+  pub option_field : (name : List ℕ) → IsFieldReread name (λ body. if_said read (field name body)) (option_map write)
   option_field name parent o es k h apart is = option_again (field name parent) o _ (field_kept name parent k) h
       (field_at name es apart ∙ ap unless_null is)

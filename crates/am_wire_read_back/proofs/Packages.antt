@@ -17,8 +17,8 @@ use Rattle.am_wire.proofs.Made.{lowered_again}
 use Rattle.am_wire_values.specs.Requests.{with_one, link_data, request_data}
 use Rattle.am_wire_read_back.proofs.Kept.{IsKept}
 use Rattle.am_wire_read_back.proofs.Objects.{Entry, members_with, value_at, are_apart}
-use Rattle.am_wire_read_back.proofs.Options.{IsReread}
-use Rattle.am_wire_read_back.proofs.Parts.{Part, fields_known}
+use Rattle.am_wire_read_back.proofs.Options.{IsFieldReread, IsReread}
+use Rattle.am_wire_read_back.proofs.Parts.{Part, part, fields_known}
 use Rattle.am_wire_read_back.proofs.Steps.{step, steps, same_ok}
 use Rattle.am_wire_read_back.proofs.Texts.{if_read, else_read, read_else, field_again, required_at, required_text_again, required_truth_at}
 
@@ -38,14 +38,12 @@ key_of_again (Some text) key h =
 key_again : IsReread (λ value. key_of (as_str value)) string
 key_again value key k h = key_of_again (as_str value) key h
 
-pub key_field : (value : Data) (key : List ℕ) (es : List Entry) → IsKept value → key_in value ≡ Ok key
-    → are_apart es ≡ true → value_at (codes "key") es ≡ Some (string key) → key_in (object (members_with es)) ≡ Ok key
+pub key_field : IsFieldReread (codes "key") key_in (λ key. Some (string key))
 unfolding key_in
-key_field value key es k h apart is = field_again (λ value. key_of (as_str value)) string key_again (codes "key") value
-    key es k h apart is refl
+key_field = field_again (λ value. key_of (as_str value)) string key_again (λ key. refl) (codes "key")
 
 abbrev pub key_part : Part (List ℕ)
-key_part = record { name = codes "key"; read = key_in; write = λ key. Some (string key); again = key_field }
+key_part = part (codes "key") key_in (λ key. Some (string key)) key_field
 
 -- ---- names
 

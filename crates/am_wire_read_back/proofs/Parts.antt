@@ -22,6 +22,7 @@ use Rattle.am_wire_read_back.proofs.Intents.{required_intent_again, intent_field
 use Rattle.am_wire_read_back.proofs.Kept.{IsKept}
 use Rattle.am_wire_read_back.proofs.Numbers.{required_natural_again, required_up_to_again, natural_field}
 use Rattle.am_wire_read_back.proofs.Objects.{Entry, members_with, value_at, are_apart, are_listed, only_listed}
+use Rattle.am_wire_read_back.proofs.Options.{IsFieldReread}
 use Rattle.am_wire_read_back.proofs.Steps.{step, steps, same_ok}
 use Rattle.am_wire_read_back.proofs.Texts.{required_text_again, required_truth_at, truth_field}
 
@@ -38,89 +39,42 @@ pub record Part (A : Type 0) : Type 0 where
   pub name : List ℕ
   pub read : Data → Result A WireFault
   pub write : A → Option Data
-  pub again : (value : Data) (x : A) (es : List Entry) → IsKept value → read value ≡ Ok x → are_apart es ≡ true
-      → value_at name es ≡ write x
-      → read (object (members_with es)) ≡ Ok x
+  pub again : IsFieldReread name read write
+
+abbrev pub part : {A : Type 0} (name : List ℕ) (read : Data → Result A WireFault) (write : A → Option Data)
+    → IsFieldReread name read write → Part A
+part name read write again = record { name = name; read = read; write = write; again = again }
 
 abbrev pub number : List ℕ → Part ℕ
-number name = record {
-  name = name;
-  read = required_natural name;
-  write = λ n. Some (natural n);
-  again =
-      required_natural_again name;
-}
+number name = part name (required_natural name) (λ n. Some (natural n)) (required_natural_again name)
 
 abbrev pub number_up_to : ℕ → List ℕ → Part ℕ
-number_up_to greatest name = record {
-  name = name;
-  read = required_up_to greatest name;
-  write = λ n. Some (natural n);
-  again = required_up_to_again greatest name;
-}
+number_up_to greatest name =
+    part name (required_up_to greatest name) (λ n. Some (natural n)) (required_up_to_again greatest name)
 
 abbrev pub number_if : List ℕ → Part (Option ℕ)
-number_if name = record {
-  name = name;
-  read = optional_natural name;
-  write = option_map natural;
-  again = natural_field
-      name;
-}
+number_if name = part name (optional_natural name) (option_map natural) (natural_field name)
 
 abbrev pub text : ℕ → List ℕ → Part (List ℕ)
-text limit name = record {
-  name = name;
-  read = required_text Any limit name;
-  write = λ t. Some (string t);
-  again =
-      required_text_again Any limit name;
-}
+text limit name = part name (required_text Any limit name) (λ t. Some (string t)) (required_text_again Any limit name)
 
 abbrev pub truth : List ℕ → Part Bool
-truth name = record {
-  name = name;
-  read = required_truth name;
-  write = λ b. Some (boolean b);
-  again = λ value b es k h
-      apart is. required_truth_at name b es apart is;
-}
+truth name =
+    part name (required_truth name) (λ b. Some (boolean b)) (λ value b es k h apart is. required_truth_at name b es apart is)
 
 abbrev pub truth_or_false : List ℕ → Part Bool
-truth_or_false name = record {
-  name = name;
-  read = optional_truth name;
-  write = some_truth;
-  again = λ value b es k h
-      apart is. truth_field name b es apart is;
-}
+truth_or_false name =
+    part name (optional_truth name) some_truth (λ value b es k h apart is. truth_field name b es apart is)
 
 abbrev pub component : List ℕ → Part Component
-component name = record {
-  name = name;
-  read = required_by component_in name;
-  write = λ c. Some (component_data c);
-  again
-      = required_component_again name;
-}
+component name =
+    part name (required_by component_in name) (λ c. Some (component_data c)) (required_component_again name)
 
 abbrev pub intent : List ℕ → Part Intent
-intent name = record {
-  name = name;
-  read = required_intent name;
-  write = λ i. Some (intent_data i);
-  again =
-      required_intent_again name;
-}
+intent name = part name (required_intent name) (λ i. Some (intent_data i)) (required_intent_again name)
 
 abbrev pub intent_if : List ℕ → Part (Option Intent)
-intent_if name = record {
-  name = name;
-  read = optional_intent name;
-  write = option_map intent_data;
-  again = intent_field
-      name;
-}
+intent_if name = part name (optional_intent name) (option_map intent_data) (intent_field name)
 
 -- ---- requests
 

@@ -5,6 +5,7 @@ use Rattle.std.specs.Str.{IsUtf8, is_utf8}
 use Rattle.std.proofs.lemmas.Str.{is_utf8-from_IsUtf8, IsUtf8-string_bytes}
 use Rattle.serde_json.specs.Data.{Data, string, depth}
 use Rattle.serde_json.specs.Read.{max_depth, read}
+use Rattle.am_types.specs.Bounds.{longest_manifest}
 use Rattle.am_types.specs.declared.request.Request.{Request}
 use Rattle.am_types.specs.declared.request.Request.TheVariants as asks
 use Rattle.am_wire_fields.specs.declared.fault.WireFault.TheVariants.{NotJson}
@@ -71,7 +72,7 @@ value_again value (asks.PendingGive token name) k few h =
     parts.two_again (parts.number (codes "token")) (parts.text 1024 (codes "package")) asks.PendingGive
     (λ x y. ((refl, refl, refl), refl, refl)) value (asks.PendingGive token name) k h
 value_again value (asks.Install text key) k few h =
-    parts.two_again (parts.text 65536 (codes "manifest")) key_part asks.Install
+    parts.two_again (parts.text longest_manifest (codes "manifest")) key_part asks.Install
     (λ x y. ((refl, refl, refl), refl, refl)) value (asks.Install text key) k h
 value_again value (asks.Uninstall name) k few h =
     made_again package_in (λ name. with_one (codes "package") (string name)) package_again asks.Uninstall (λ name. refl)

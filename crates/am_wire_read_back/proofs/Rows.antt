@@ -33,7 +33,7 @@ use Rattle.am_wire_read_back.proofs.Components.{mime_again}
 use Rattle.am_wire_read_back.proofs.Kept.{IsKept, ForSome, field_kept}
 use Rattle.am_wire_read_back.proofs.Lists.{AreKept, AreSorted, none_sorted, all_put}
 use Rattle.am_wire_read_back.proofs.Objects.{Entry, members_with, value_at, are_apart, field_at, only_listed}
-use Rattle.am_wire_read_back.proofs.Options.{IsReread, option_field}
+use Rattle.am_wire_read_back.proofs.Options.{IsFieldReread, IsReread, option_field}
 use Rattle.am_wire_read_back.proofs.Steps.{step, steps, same_ok}
 use Rattle.am_wire_read_back.proofs.Texts.{if_read, else_read, text_again, text_field}
 
@@ -140,14 +140,12 @@ port_of_again (Some said) n h =
     let P : ℕ → Type 0 = λ m. port_of (Some m) ≡ Ok n in
     subst P (same_ok said n short.1) h
 
-port_field : (value : Data) (o : Option ℕ) (es : List Entry) → IsKept value → port_at value ≡ Ok o → are_apart es ≡ true
-    → value_at (codes "port") es ≡ option_map natural o
-    → port_at (object (members_with es)) ≡ Ok o
+port_field : IsFieldReread (codes "port") port_at (option_map natural)
 unfolding port_at
-port_field value o es k h apart is =
+port_field =
     option_field (λ value. port_of (option_and_then as_u64 (as_number value))) natural
     (λ value n k h. port_of_again (option_and_then as_u64 (as_number value)) n h) (λ n. refl)
-    (codes "port") value o es k h apart is
+    (codes "port")
 
 abbrev authority_entries : Authority → List Entry
 authority_entries authority = (codes "port", option_map natural authority.port)

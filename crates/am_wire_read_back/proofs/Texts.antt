@@ -17,7 +17,7 @@ use Rattle.am_wire_values.specs.Fields.{some_truth}
 use Rattle.am_wire_read_back.proofs.Kept.{IsKept, ForSome, field_kept}
 use Rattle.am_wire_read_back.proofs.Lists.{IsRead, each_again}
 use Rattle.am_wire_read_back.proofs.Objects.{Entry, members_with, value_at, are_apart, field_at}
-use Rattle.am_wire_read_back.proofs.Options.{IsReread, option_field}
+use Rattle.am_wire_read_back.proofs.Options.{IsFieldReread, IsReread, WritesNoNull, option_field}
 use Rattle.am_wire_read_back.proofs.Steps.{step, steps, same_ok}
 
 -- if a test holds, what is read after it
@@ -63,13 +63,11 @@ unfolding text_in
 text_again form limit name value text k h = text_of_again form limit name (as_str value) text h
 
 -- an optional text
-pub text_field : (form : Form) (limit : ℕ) (name : List ℕ) (value : Data) (o : Option (List ℕ)) (es : List Entry)
-    → IsKept value → optional_text form limit name value ≡ Ok o
-    → are_apart es ≡ true → value_at name es ≡ option_map string o
-    → optional_text form limit name (object (members_with es)) ≡ Ok o
+pub text_field : (form : Form) (limit : ℕ) (name : List ℕ)
+    → IsFieldReread name (optional_text form limit name) (option_map string)
 unfolding optional_text
-text_field form limit name value o es k h apart is =
-    option_field (text_in form limit name) string (text_again form limit name) (λ t. refl) name value o es k h apart is
+text_field form limit name =
+    option_field (text_in form limit name) string (text_again form limit name) (λ t. refl) name
 
 -- ---- required fields
 
@@ -94,22 +92,18 @@ required_at name es value apart is there = ap (present name) (field_at name es a
 
 -- what was read from a required field is read again
 pub field_again : {A : Type 0} (read : Data → Result A WireFault) (write : A → Data) → IsReread read write
-    → (name : List ℕ) (parent : Data) (x : A) (es : List Entry) → IsKept parent
-    → (required name parent >>= read) ≡ Ok x → are_apart es ≡ true → value_at name es ≡ Some (write x)
-    → unless_null (Some (write x)) ≡ Some (write x)
-    → (required name (object (members_with es)) >>= read) ≡ Ok x
-field_again read write again name parent x es k h apart is there =
+    → WritesNoNull write → (name : List ℕ)
+    → IsFieldReread name (λ body. required name body >>= read) (λ x. Some (write x))
+field_again read write again said name parent x es k h apart is =
     let s = step (required name parent) read x h in
-    steps (required name (object (members_with es))) read (write x) x (required_at name es (write x) apart is there)
+    steps (required name (object (members_with es))) read (write x) x (required_at name es (write x) apart is (said x))
     (again s.value x (required_kept name parent s.value k s.first) s.later)
 
-pub required_text_again : (form : Form) (limit : ℕ) (name : List ℕ) (parent : Data) (text : List ℕ) (es : List Entry)
-    → IsKept parent → required_text form limit name parent ≡ Ok text
-    → are_apart es ≡ true → value_at name es ≡ Some (string text) → required_text form limit name
-    (object (members_with es)) ≡ Ok text
+pub required_text_again : (form : Form) (limit : ℕ) (name : List ℕ)
+    → IsFieldReread name (required_text form limit name) (λ t. Some (string t))
 unfolding required_text
-required_text_again form limit name parent text es k h apart is = field_again (text_in form limit name) string
-    (text_again form limit name) name parent text es k h apart is refl
+required_text_again form limit name =
+    field_again (text_in form limit name) string (text_again form limit name) (λ t. refl) name
 
 -- ---- truths
 

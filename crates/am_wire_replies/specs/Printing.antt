@@ -1,6 +1,6 @@
 -- The tokens of a JSON text.
-use Rattle.std.specs.Prelude.{ℕ, List, ◌∷◌, ◌++◌}
-use Rattle.json.specs.Token.{Token, key}
+use Rattle.std.specs.Prelude.{List}
+use Rattle.json.specs.Token.{Token}
 use Rattle.json.specs.Tree.{json_tokens, items_tokens, members_tokens}
 use Rattle.serde_json.specs.Data.{Data, Members}
 use Rattle.serde_json.specs.View.{items_of}
@@ -17,7 +17,3 @@ tokens_of_items values = items_tokens (items_outline (items_of values))
 -- the tokens of these members of an object, and of the bracket that closes it
 abbrev pub tokens_of_members : Members → List Token
 tokens_of_members members = members_tokens (members_outline members)
-
--- the tokens, and those of a field after them
-abbrev pub with_field : List ℕ → Data → List Token → List Token
-with_field name value tokens = tokens ++ key name ∷ tokens_of value

@@ -11,6 +11,7 @@ mod replies;
 mod rules;
 mod trees;
 mod views;
+mod words;
 
 pub use replies::reply_text;
 pub use rules::error_text;

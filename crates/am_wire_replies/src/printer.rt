@@ -16,6 +16,7 @@ pub(crate) struct Printer {
     out: Writer,
     // Room for a text of two parts.
     room: String,
+    alloc: Global,
 }
 
 impl Model for Printer {
@@ -39,7 +40,13 @@ impl Printer {
         Ok(Printer {
             out: Writer::new(Vec::with_capacity(alloc, 128)?),
             room: String::new(alloc),
+            alloc,
         })
+    }
+
+    /// Where memory for what is printed comes from.
+    pub(crate) fn alloc(&self) -> Global {
+        self.alloc
     }
 
     /// The text.

@@ -5,7 +5,7 @@ ghost use Rattle.serde_json.specs.Written.{compact_text};
 ghost use Rattle.am_wire_replies.specs.Printing.{tokens_of};
 ghost use Rattle.am_wire_values.specs.Rules.{error_data, refusal_data};
 
-use crate::printed::print_word;
+use crate::printed::print_object;
 use crate::printer::Printer;
 use am_types::Rule;
 use am_wire_values::{named_by, rule_name};
@@ -23,10 +23,10 @@ pub fn error_text(alloc: Global, error: &str, name: Option<&str>) -> Result<Stri
 }
 
 /// Writes a refusal: its name, and what it names.
-pub(crate) fn print_refusal(alloc: Global, to: &mut Printer, rule: &Rule) -> Result<(), AllocError>
+pub(crate) fn print_refusal(to: &mut Printer, rule: &Rule) -> Result<(), AllocError>
     ensures { OnOk result (to.new ≡ to.old ++ tokens_of (refusal_data rule.now)) }
 {
-    match named_by(alloc, rule)? {
+    match named_by(to.alloc(), rule)? {
         None => print_error(to, rule_name(rule), None),
         Some(name) => print_error(to, rule_name(rule), Some(name.as_str())),
     }
@@ -37,13 +37,8 @@ fn print_error(to: &mut Printer, error: &str, name: Option<&str>) -> Result<(), 
     ensures { OnOk result (to.new ≡ to.old
         ++ tokens_of (error_data error.now (option_copied name.entry))) }
 {
-    to.begin_object()?;
-    print_word(to, "error", error)?;
     match name {
-        None => to.end_object(),
-        Some(name) => {
-            print_word(to, "name", name)?;
-            to.end_object()
-        }
+        None => print_object!(to, "error" => &error),
+        Some(name) => print_object!(to, "error" => &error, "name" => &name),
     }
 }

@@ -1,25 +1,25 @@
 //! Components, tasks, services and receivers in replies.
 ghost use Rattle.std.specs.Prelude.{◌≡◌, ◌++◌, OnOk};
 ghost use Rattle.serde_json.specs.Data.{object};
-ghost use Rattle.am_wire_replies.specs.Printing.{tokens_of, tokens_of_members};
+ghost use Rattle.am_wire_replies.specs.Printing.{tokens_of};
 ghost use Rattle.am_wire_values.specs.Intents.{component_data, intent_data};
 ghost use Rattle.am_wire_values.specs.Replies.{aim_data, instance_data, judged, landed_data, receiving_data, service_data, skipped_data, task_data};
 ghost use Rattle.am_wire_values.specs.Rules.{named_by, rule_name};
 
-use crate::printed::{Printed, print_field, print_object, print_word};
+use crate::printed::{Printed, print_object};
 use crate::printer::Printer;
 use crate::trees::print_tree;
 use am_types::{
     Aim, Component, InstanceView, Intent, Landed, Receiving, Rule, ServiceView, TaskView,
 };
-use am_wire_values::{intent_value, named_by, placed_name, rule_name};
-use std::alloc::{AllocError, Global};
+use am_wire_values::{intent_value, named_by, rule_name};
+use std::alloc::AllocError;
 
 /// A component: package/class.
 impl Printed for Component {
     ghost as_data = { component_data };
 
-    fn print(&self, _alloc: Global, to: &mut Printer) -> Result<(), AllocError> {
+    fn print(&self, to: &mut Printer) -> Result<(), AllocError> {
         to.slashed(self.package.as_str(), self.class.as_str())
     }
 }
@@ -27,54 +27,43 @@ impl Printed for Component {
 impl Printed for Intent {
     ghost as_data = { intent_data };
 
-    fn print(&self, alloc: Global, to: &mut Printer) -> Result<(), AllocError> {
-        print_intent(alloc, to, self)
+    #[tactic(auto, using(am_wire_values::proofs::Floats::intent_none))]
+    fn print(&self, to: &mut Printer) -> Result<(), AllocError> {
+        let value = intent_value(to.alloc(), self)?;
+        print_tree(to, &value)
     }
-}
-
-/// Writes an intent.
-#[tactic(auto, using(am_wire_values::proofs::Floats::intent_none))]
-fn print_intent(alloc: Global, to: &mut Printer, intent: &Intent) -> Result<(), AllocError>
-    ensures { OnOk result (to.new ≡ to.old ++ tokens_of (intent_data intent.now)) }
-{
-    let value = intent_value(alloc, intent)?;
-    print_tree(to, &value)
 }
 
 /// Where a start ended up.
 impl Printed for Landed {
     ghost as_data = { landed_data };
 
-    fn print(&self, alloc: Global, to: &mut Printer) -> Result<(), AllocError> {
-        to.begin_object()?;
-        print_field(alloc, to, "instance", &self.instance)?;
-        print_word(to, "placed", placed_name(self.how))?;
-        print_field(alloc, to, "task", &self.task)?;
-        to.end_object()
+    fn print(&self, to: &mut Printer) -> Result<(), AllocError> {
+        print_object!(to, "instance" => &self.instance, "placed" => &self.how, "task" => &self.task)
     }
 }
 
 impl Printed for InstanceView {
     ghost as_data = { instance_data };
 
-    fn print(&self, alloc: Global, to: &mut Printer) -> Result<(), AllocError> {
-        print_object!(alloc, to, "component" => &self.component, "instance" => &self.instance, "intent" => &self.intent)
+    fn print(&self, to: &mut Printer) -> Result<(), AllocError> {
+        print_object!(to, "component" => &self.component, "instance" => &self.instance, "intent" => &self.intent)
     }
 }
 
 impl Printed for TaskView {
     ghost as_data = { task_data };
 
-    fn print(&self, alloc: Global, to: &mut Printer) -> Result<(), AllocError> {
-        print_object!(alloc, to, "instances" => &self.instances, "task" => &self.task)
+    fn print(&self, to: &mut Printer) -> Result<(), AllocError> {
+        print_object!(to, "instances" => &self.instances, "task" => &self.task)
     }
 }
 
 impl Printed for ServiceView {
     ghost as_data = { service_data };
 
-    fn print(&self, alloc: Global, to: &mut Printer) -> Result<(), AllocError> {
-        print_object!(alloc, to, "component" => &self.component, "intent" => &self.intent, "starts" => &self.starts)
+    fn print(&self, to: &mut Printer) -> Result<(), AllocError> {
+        print_object!(to, "component" => &self.component, "intent" => &self.intent, "starts" => &self.starts)
     }
 }
 
@@ -82,57 +71,32 @@ impl Printed for ServiceView {
 impl Printed for Aim {
     ghost as_data = { aim_data };
 
-    fn print(&self, alloc: Global, to: &mut Printer) -> Result<(), AllocError> {
+    fn print(&self, to: &mut Printer) -> Result<(), AllocError> {
         match self {
-            Aim::Declared(component) => component.print(alloc, to),
-            Aim::Registered(number) => number.print(alloc, to),
+            Aim::Declared(component) => component.print(to),
+            Aim::Registered(number) => number.print(to),
         }
     }
 }
 
 /// Writes a receiver with the verdict on it.
-pub(crate) fn print_verdict(
-    alloc: Global,
-    to: &mut Printer,
-    aim: &Aim,
-    verdict: &str,
-) -> Result<(), AllocError>
+pub(crate) fn print_verdict(to: &mut Printer, aim: &Aim, verdict: &str) -> Result<(), AllocError>
     ensures { OnOk result (to.new ≡ to.old ++ tokens_of (object (judged aim.now verdict.now))) }
 {
-    to.begin_object()?;
-    print_judged(alloc, to, aim, verdict)
-}
-
-/// Writes the last fields of an object, what the verdict is on and the verdict, and the bracket that closes it.
-pub(crate) fn print_judged(
-    alloc: Global,
-    to: &mut Printer,
-    aim: &Aim,
-    verdict: &str,
-) -> Result<(), AllocError>
-    ensures { OnOk result (to.new ≡ to.old ++ tokens_of_members (judged aim.now verdict.now)) }
-{
-    print_field(alloc, to, "to", aim)?;
-    print_word(to, "verdict", verdict)?;
-    to.end_object()
+    print_object!(to, "to" => aim, "verdict" => &verdict)
 }
 
 /// Writes a receiver that was left out by a rule.
-pub(crate) fn print_skipped(
-    alloc: Global,
-    to: &mut Printer,
-    aim: &Aim,
-    rule: &Rule,
-) -> Result<(), AllocError>
+pub(crate) fn print_skipped(to: &mut Printer, aim: &Aim, rule: &Rule) -> Result<(), AllocError>
     ensures { OnOk result (to.new ≡ to.old
         ++ tokens_of (skipped_data aim.now (rule_name rule.now) (named_by rule.now))) }
 {
-    match named_by(alloc, rule)? {
-        None => print_verdict(alloc, to, aim, rule_name(rule)),
+    let verdict = rule_name(rule);
+    match named_by(to.alloc(), rule)? {
+        None => print_verdict(to, aim, verdict),
         Some(name) => {
-            to.begin_object()?;
-            print_word(to, "name", name.as_str())?;
-            print_judged(alloc, to, aim, rule_name(rule))
+            let name = name.as_str();
+            print_object!(to, "name" => &name, "to" => aim, "verdict" => &verdict)
         }
     }
 }
@@ -141,10 +105,10 @@ pub(crate) fn print_skipped(
 impl Printed for Receiving {
     ghost as_data = { receiving_data };
 
-    fn print(&self, alloc: Global, to: &mut Printer) -> Result<(), AllocError> {
+    fn print(&self, to: &mut Printer) -> Result<(), AllocError> {
         match &self.skip {
-            None => print_verdict(alloc, to, &self.aim, "admitted"),
-            Some(rule) => print_skipped(alloc, to, &self.aim, rule),
+            None => print_verdict(to, &self.aim, "admitted"),
+            Some(rule) => print_skipped(to, &self.aim, rule),
         }
     }
 }

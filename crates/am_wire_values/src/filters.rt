@@ -12,24 +12,18 @@ use std::alloc::{AllocError, Global};
 
 /// A filter as a value, with a row for each scheme, authority, path and type. Empty lists and a
 /// priority of 0 are left out.
-#[tactic(auto, unfolding(crate::specs::Filters::filter_data))]
-pub fn filter_value(alloc: Global, filter: &Filter) -> Result<Value, AllocError>
-    ensures { IfOk result (λ value. view value ≡ filter_data filter.now) }
-{
-    let mut members = Map::new(alloc);
-    put_shown(alloc, &mut members, "actions", &filter.actions)?;
-    put_some_texts(alloc, &mut members, "categories", &filter.categories)?;
-    put_rows(alloc, &mut members, filter)?;
-    let priority = i64::from(filter.priority);
-    put_some(alloc, &mut members, "priority", &some_whole(priority))?;
-    Ok(Value::Object(members))
-}
-
 impl Shown for Filter {
     ghost as_data = { filter_data };
 
+    #[tactic(auto, unfolding(crate::specs::Filters::filter_data))]
     fn value(&self, alloc: Global) -> Result<Value, AllocError> {
-        filter_value(alloc, self)
+        let mut members = Map::new(alloc);
+        put_shown(alloc, &mut members, "actions", &self.actions)?;
+        put_some_texts(alloc, &mut members, "categories", &self.categories)?;
+        put_rows(alloc, &mut members, self)?;
+        let priority = i64::from(self.priority);
+        put_some(alloc, &mut members, "priority", &some_whole(priority))?;
+        Ok(Value::Object(members))
     }
 }
 

@@ -1,5 +1,6 @@
 //! Intents as values.
-ghost use Rattle.std.specs.Prelude.{◌≡◌, IfOk, OnOk, codes};
+ghost use Rattle.std.specs.Prelude.{◌≡◌, ◌++◌, IfOk, OnOk, codes};
+ghost use Rattle.serde_json.specs.Data.{string};
 ghost use Rattle.serde_json.specs.View.{view, members_view};
 ghost use Rattle.am_wire_values.specs.Fields.{put_given};
 ghost use Rattle.am_wire_values.specs.Intents.{component_data, extra_data, extras_data, intent_data, mime_data, some_extras, uri_data, with_extras};
@@ -7,7 +8,7 @@ ghost use Rattle.am_wire_values.specs.Intents.{component_data, extra_data, extra
 use crate::fields::{Members, put_given, put_some_texts, some_listed};
 use crate::names::flag_values;
 use crate::shown::{Shown, object_with, put_shown, put_some};
-use am_types::{Component, Extra, Intent, List, Mime, Named, Uri};
+use am_types::{Component, Extra, Intent, List, Mime, Named, Text, Uri};
 use serde_json::{Map, Value, put};
 use std::alloc::{AllocError, Global};
 
@@ -63,14 +64,21 @@ impl Shown for Uri {
     }
 }
 
+/// Two texts with a slash between them, as one.
+fn slashed(alloc: Global, first: &Text, second: &Text) -> Result<Value, AllocError>
+    ensures { IfOk result (λ value. view value ≡ string (first.now ++ codes "/" ++ second.now)) }
+{
+    let first = first.as_str();
+    let second = second.as_str();
+    Ok(Value::String(format!(in alloc; "{first}/{second}")?))
+}
+
 /// A MIME type: main/sub.
 impl Shown for Mime {
     ghost as_data = { mime_data };
 
     fn value(&self, alloc: Global) -> Result<Value, AllocError> {
-        let main = self.main.as_str();
-        let sub = self.sub.as_str();
-        Ok(Value::String(format!(in alloc; "{main}/{sub}")?))
+        slashed(alloc, &self.main, &self.sub)
     }
 }
 
@@ -79,9 +87,7 @@ impl Shown for Component {
     ghost as_data = { component_data };
 
     fn value(&self, alloc: Global) -> Result<Value, AllocError> {
-        let package = self.package.as_str();
-        let class = self.class.as_str();
-        Ok(Value::String(format!(in alloc; "{package}/{class}")?))
+        slashed(alloc, &self.package, &self.class)
     }
 }
 

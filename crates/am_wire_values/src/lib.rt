@@ -6,14 +6,12 @@ mod fields;
 mod filters;
 mod intents;
 mod names;
-mod outcomes;
 mod replies;
 mod requests;
 mod rules;
 mod shown;
 mod views;
 
-pub use filters::filter_value;
 pub use intents::{extras_value, intent_value};
 pub use names::{narrowing_name, placed_name, why_name};
 pub use replies::{reply_status, reply_value};

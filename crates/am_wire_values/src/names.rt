@@ -25,9 +25,8 @@ pub(crate) fn pending_name(kind: Kind) -> &'static str
     ensures { result.now ≡ pending_name kind }
 {
     match kind {
-        Kind::Activity => "activity",
-        Kind::Service => "service",
         Kind::Receiver => "broadcast",
+        _ => kind_name(kind),
     }
 }
 

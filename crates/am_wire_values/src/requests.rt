@@ -2,13 +2,13 @@
 ghost use Rattle.std.specs.Prelude.{◌≡◌, IfOk, OnOk};
 ghost use Rattle.serde_json.specs.Data.{object, no_members};
 ghost use Rattle.serde_json.specs.View.{view, members_view};
-ghost use Rattle.am_wire_values.specs.Requests.{explain_data, finish_data, get_data, query_data, request_data, send_data};
+ghost use Rattle.am_wire_values.specs.Requests.{explain_data, finish_data, get_data, query_data, request_data, send_data, with_outcome};
 
-use crate::fields::{Members, listed, put_word, some_truth};
+use crate::fields::{Members, listed, put_word, some_truth, some_whole};
+use crate::intents::put_some_extras;
 use crate::names::{kind_name, pending_flag_values, pending_name};
-use crate::outcomes::{put_ordered, put_outcome};
 use crate::shown::{Shown, object_with, put_all, put_shown, put_some};
-use am_types::{Answer, Intent, Kind, NoMemory, Ordered, PendingFlags, Request, Text};
+use am_types::{Answer, Intent, Kind, NoMemory, Ordered, Outcome, PendingFlags, Request, Text};
 use serde_json::{Value, put};
 use std::alloc::{AllocError, Global};
 
@@ -148,7 +148,7 @@ fn put_explain(
     put_some(alloc, members, "of", shown)
 }
 
-#[tactic(auto, unfolding(crate::specs::Requests::send_data))]
+#[tactic(auto, unfolding(crate::specs::Requests::send_data, crate::specs::Requests::with_ordered))]
 fn put_send(
     alloc: Global,
     members: &mut Members,
@@ -164,8 +164,23 @@ fn put_send(
     put_some(alloc, members, "permission", permission)?;
     match ordered {
         None => Ok(()),
-        Some(ordered) => put_ordered(alloc, members, ordered),
+        Some(ordered) => {
+            put_shown(alloc, members, "ordered", &true)?;
+            put_outcome(alloc, members, &ordered.initial)?;
+            put_some(alloc, members, "code", &some_whole(ordered.initial.code))?;
+            put_some(alloc, members, "result", &some_truth(ordered.wanted))
+        }
     }
+}
+
+/// Puts an outcome apart from its code.
+#[tactic(auto, unfolding(crate::specs::Requests::with_outcome))]
+fn put_outcome(alloc: Global, members: &mut Members, outcome: &Outcome) -> Result<(), AllocError>
+    ensures { OnOk result (members_view members.new.entries ≡ with_outcome outcome.now
+        (members_view members.old.entries)) }
+{
+    put_some(alloc, members, "data", &outcome.text)?;
+    put_some_extras(alloc, members, &outcome.extras)
 }
 
 #[tactic(auto, unfolding(crate::specs::Requests::finish_data))]

@@ -1,5 +1,5 @@
 -- Words, and what they say.
-use Rattle.std.proofs.Common.{◌≡◌, refl, List, [], ◌∷◌, Option, Some, None}
+use Rattle.std.proofs.Common.{◌≡◌, refl, List, [], ◌∷◌, map, Option, Some, None}
 use Rattle.std.specs.Prelude.{codes, ⊤}
 use Rattle.am_words.specs.Options.{Text, options_in, options_of}
 use Rattle.am_words.specs.Values.{number_of, number_in, optional_number_in, path_of, optional_path_of, moment_of, clock_of}
@@ -15,6 +15,9 @@ on_literals = tt
 
 abbrev no_command : List Text → Type 0
 no_command words = read_command words ≡ None
+
+abbrev are_none : List (List Text) → Type 0
+are_none cases = map read_command cases ≡ map (λ words. None) cases
 
 abbrev session : Text → Option Text → Option StepWords → Command
 session device store clock = Session (record { device = device; store = store; clock = clock })
@@ -93,63 +96,34 @@ equals_within = refl
 
 -- ---- options
 
-repeated : no_command (codes "session" ∷ codes "--device" ∷ codes "d" ∷ codes "--device=e" ∷ [])
+-- an option twice, a moment or a step alone, no device, no value, an option of another command, one or two hyphens,
+-- help, a version, and nothing at all
+misused : are_none (
+    (codes "session" ∷ codes "--device" ∷ codes "d" ∷ codes "--device=e" ∷ [])
+    ∷ (codes "session" ∷ codes "--device" ∷ codes "d" ∷ codes "--at" ∷ codes "1" ∷ [])
+    ∷ (codes "session" ∷ codes "--device" ∷ codes "d" ∷ codes "--step" ∷ codes "1" ∷ [])
+    ∷ (codes "session" ∷ []) ∷ (codes "session" ∷ codes "--device" ∷ [])
+    ∷ (codes "session" ∷ codes "--device" ∷ codes "d" ∷ codes "--port" ∷ codes "1" ∷ [])
+    ∷ (codes "session" ∷ codes "--device" ∷ codes "-" ∷ [])
+    ∷ (codes "session" ∷ codes "--device" ∷ codes "d" ∷ codes "--" ∷ [])
+    ∷ (codes "session" ∷ codes "--device" ∷ codes "d" ∷ codes "--help" ∷ [])
+    ∷ (codes "--version" ∷ []) ∷ [] ∷ [])
 unfolding on_literals
-repeated = refl
-
-at_alone : no_command (codes "session" ∷ codes "--device" ∷ codes "d" ∷ codes "--at" ∷ codes "1" ∷ [])
-unfolding on_literals
-at_alone = refl
-
-step_alone : no_command (codes "session" ∷ codes "--device" ∷ codes "d" ∷ codes "--step" ∷ codes "1" ∷ [])
-unfolding on_literals
-step_alone = refl
-
-no_device : no_command (codes "session" ∷ [])
-unfolding on_literals
-no_device = refl
-
-no_value : no_command (codes "session" ∷ codes "--device" ∷ [])
-unfolding on_literals
-no_value = refl
-
-of_another : no_command (codes "session" ∷ codes "--device" ∷ codes "d" ∷ codes "--port" ∷ codes "1" ∷ [])
-unfolding on_literals
-of_another = refl
-
-two_hyphens : no_command (codes "session" ∷ codes "--device" ∷ codes "d" ∷ codes "--" ∷ [])
-unfolding on_literals
-two_hyphens = refl
-
-one_hyphen : no_command (codes "session" ∷ codes "--device" ∷ codes "-" ∷ [])
-unfolding on_literals
-one_hyphen = refl
-
-help : no_command (codes "session" ∷ codes "--device" ∷ codes "d" ∷ codes "--help" ∷ [])
-unfolding on_literals
-help = refl
-
-version : no_command (codes "--version" ∷ [])
-unfolding on_literals
-version = refl
-
-nothing : no_command []
-unfolding on_literals
-nothing = refl
+misused = refl
 
 -- ---- numbers
 
-least_port : no_command (codes "serve" ∷ codes "--device=d" ∷ codes "--port=0" ∷ codes "--workers=1" ∷ [])
+-- ports and workers below and above their ranges, a moment that is too great, none, and the step of a serving
+out_of_range : are_none (
+    (codes "serve" ∷ codes "--device=d" ∷ codes "--port=0" ∷ codes "--workers=1" ∷ [])
+    ∷ (codes "serve" ∷ codes "--device=d" ∷ codes "--port=65536" ∷ codes "--workers=1" ∷ [])
+    ∷ (codes "serve" ∷ codes "--device=d" ∷ codes "--port=1" ∷ codes "--workers=65" ∷ [])
+    ∷ (codes "serve" ∷ codes "--device=d" ∷ codes "--port=1" ∷ codes "--workers=1" ∷ codes "--at=18446744073709551616" ∷ [])
+    ∷ (codes "serve" ∷ codes "--device=d" ∷ codes "--port=1" ∷ codes "--workers=1" ∷ codes "--at=" ∷ [])
+    ∷ (codes "serve" ∷ codes "--device=d" ∷ codes "--port=1" ∷ codes "--workers=1" ∷ codes "--at=1" ∷ codes "--step=0" ∷ [])
+    ∷ [])
 unfolding on_literals
-least_port = refl
-
-greatest_port : no_command (codes "serve" ∷ codes "--device=d" ∷ codes "--port=65536" ∷ codes "--workers=1" ∷ [])
-unfolding on_literals
-greatest_port = refl
-
-greatest_workers : no_command (codes "serve" ∷ codes "--device=d" ∷ codes "--port=1" ∷ codes "--workers=65" ∷ [])
-unfolding on_literals
-greatest_workers = refl
+out_of_range = refl
 
 greatest_moment : read_command (codes "serve" ∷ codes "--device=d" ∷ codes "--port=1" ∷ codes "--workers=1"
     ∷ codes "--at=18446744073709551615" ∷ [])
@@ -165,37 +139,8 @@ greatest_moment : read_command (codes "serve" ∷ codes "--device=d" ∷ codes "
 unfolding on_literals
 greatest_moment = refl
 
-moment_too_great : no_command (codes "serve" ∷ codes "--device=d" ∷ codes "--port=1" ∷ codes "--workers=1"
-    ∷ codes "--at=18446744073709551616" ∷ [])
-unfolding on_literals
-moment_too_great = refl
-
-no_moment : no_command (codes "serve" ∷ codes "--device=d" ∷ codes "--port=1" ∷ codes "--workers=1" ∷ codes "--at="
-    ∷ [])
-unfolding on_literals
-no_moment = refl
-
-step_of_a_serving : no_command (codes "serve" ∷ codes "--device=d" ∷ codes "--port=1" ∷ codes "--workers=1"
-    ∷ codes "--at=1" ∷ codes "--step=0" ∷ [])
-unfolding on_literals
-step_of_a_serving = refl
-
-number_too_great : number_of (codes "18446744073709551616") ≡ None
+-- a number that is too great, twenty digits, one more, none, and a sign
+numbers : map number_of (codes "18446744073709551616" ∷ codes "00000000000000000007" ∷ codes "000000000000000000007" ∷ []
+    ∷ codes "+7" ∷ []) ≡ None ∷ Some 7 ∷ None ∷ None ∷ None ∷ []
 unfolding number_of
-number_too_great = refl
-
-twenty_digits : number_of (codes "00000000000000000007") ≡ Some 7
-unfolding number_of
-twenty_digits = refl
-
-twenty_one_digits : number_of (codes "000000000000000000007") ≡ None
-unfolding number_of
-twenty_one_digits = refl
-
-no_digits : number_of [] ≡ None
-unfolding number_of
-no_digits = refl
-
-signed : number_of (codes "+7") ≡ None
-unfolding number_of
-signed = refl
+numbers = refl

@@ -1,10 +1,9 @@
 //! The commands.
-ghost use Rattle.std.specs.Prelude.{◌≡◌, Err, IfOk, IsSome, IsTrue, codes};
+ghost use Rattle.std.specs.Prelude.{◌≡◌, Err, IfOk, IsTrue};
 ghost use Rattle.clap.specs.Words.{first_value, found_of};
 ghost use Rattle.am_words.specs.Grammar.{begins_with_command, command_of, drill_names, drill_of, read_command, serve_names, serve_of, session_names, session_of, visible_names, visible_of};
 ghost use Rattle.am_words.specs.Answers.{Reads, ReadsInPlace};
-ghost use Rattle.am_words.specs.Values.{path_of};
-ghost use Rattle.am_words.specs.Ranges.{IsInRange, ReadsCommand};
+ghost use Rattle.am_words.specs.Ranges.{IsInRange, ReadsCommand, ReadsWithDevice};
 
 use crate::options::{borrowed, read_options};
 use crate::values::{
@@ -26,9 +25,7 @@ static VISIBLE: [&str; 2] = ["device", "as"];
 /// The session that the values of its options make.
 #[tactic(auto, unfolding(crate::specs::Grammar::session_of))]
 fn session_of(alloc: Global, matches: &ArgMatches<'_>) -> Result<Command, WordsFault>
-    ensures read { ReadsCommand result (session_of (first_value (found_of matches.now))) }
-    ensures memory { result ≡ Err WordsFault.NoMemory
-        → IsSome (path_of (first_value (found_of matches.now) (codes "device"))) }
+    ensures { ReadsWithDevice result session_of (first_value (found_of matches.now)) }
 {
     let device = path_of(alloc, matches.get_str("device"))?;
     let store = optional_path_of(alloc, matches.get_str("store"))?;
@@ -43,9 +40,7 @@ fn session_of(alloc: Global, matches: &ArgMatches<'_>) -> Result<Command, WordsF
 /// The service that the values of its options make.
 #[tactic(auto, unfolding(crate::specs::Grammar::serve_of))]
 fn serve_of(alloc: Global, matches: &ArgMatches<'_>) -> Result<Command, WordsFault>
-    ensures read { ReadsCommand result (serve_of (first_value (found_of matches.now))) }
-    ensures memory { result ≡ Err WordsFault.NoMemory
-        → IsSome (path_of (first_value (found_of matches.now) (codes "device"))) }
+    ensures { ReadsWithDevice result serve_of (first_value (found_of matches.now)) }
 {
     let device = path_of(alloc, matches.get_str("device"))?;
     let port = number_in(1, 65535, matches.get_str("port"))?;
@@ -82,9 +77,7 @@ fn drill_of(matches: &ArgMatches<'_>) -> Result<Command, WordsFault>
 /// The question that the values of its options make.
 #[tactic(auto, unfolding(crate::specs::Grammar::visible_of))]
 fn visible_of(alloc: Global, matches: &ArgMatches<'_>) -> Result<Command, WordsFault>
-    ensures read { ReadsCommand result (visible_of (first_value (found_of matches.now))) }
-    ensures memory { result ≡ Err WordsFault.NoMemory
-        → IsSome (path_of (first_value (found_of matches.now) (codes "device"))) }
+    ensures { ReadsWithDevice result visible_of (first_value (found_of matches.now)) }
 {
     let device = path_of(alloc, matches.get_str("device"))?;
     let Some(package) = matches.get_str("as") else {
@@ -94,40 +87,41 @@ fn visible_of(alloc: Global, matches: &ArgMatches<'_>) -> Result<Command, WordsF
     Ok(Command::Visible(QuestionWords { device, package }))
 }
 
+// What is made of the values that the words give to the options with these names.
+macro_rules! command {
+    ($alloc:ident, $words:ident, $names:ident, $matches:ident => $made:expr) => {{
+        let words = borrowed($alloc, $words)?;
+        let $matches = read_options($alloc, $names.as_slice(), words.as_slice())?;
+        $made
+    }};
+}
+
 /// The session that the words ask for.
 fn session(alloc: Global, words: &[Text]) -> Result<Command, WordsFault>
     ensures { ReadsCommand result (command_of session_names session_of words.now) }
 {
-    let words = borrowed(alloc, words)?;
-    let matches = read_options(alloc, SESSION.as_slice(), words.as_slice())?;
-    session_of(alloc, &matches)
+    command!(alloc, words, SESSION, matches => session_of(alloc, &matches))
 }
 
 /// The service that the words ask for.
 fn serve(alloc: Global, words: &[Text]) -> Result<Command, WordsFault>
     ensures { ReadsCommand result (command_of serve_names serve_of words.now) }
 {
-    let words = borrowed(alloc, words)?;
-    let matches = read_options(alloc, SERVE.as_slice(), words.as_slice())?;
-    serve_of(alloc, &matches)
+    command!(alloc, words, SERVE, matches => serve_of(alloc, &matches))
 }
 
 /// The drill that the words ask for.
 fn drill(alloc: Global, words: &[Text]) -> Result<Command, WordsFault>
     ensures { ReadsCommand result (command_of drill_names drill_of words.now) }
 {
-    let words = borrowed(alloc, words)?;
-    let matches = read_options(alloc, DRILL.as_slice(), words.as_slice())?;
-    drill_of(&matches)
+    command!(alloc, words, DRILL, matches => drill_of(&matches))
 }
 
 /// The question that the words ask.
 fn visible(alloc: Global, words: &[Text]) -> Result<Command, WordsFault>
     ensures { ReadsCommand result (command_of visible_names visible_of words.now) }
 {
-    let words = borrowed(alloc, words)?;
-    let matches = read_options(alloc, VISIBLE.as_slice(), words.as_slice())?;
-    visible_of(alloc, &matches)
+    command!(alloc, words, VISIBLE, matches => visible_of(alloc, &matches))
 }
 
 /// The command that the words after the program's name ask for.

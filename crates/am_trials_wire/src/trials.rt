@@ -1,0 +1,5 @@
+mod bodies;
+mod manifests;
+mod replies;
+mod root;
+mod targets;
