@@ -1,5 +1,6 @@
 -- When an entry of the history is a frame's call, and how a history is replayed up to a place.
 use Rattle.std.specs.Prelude.{◌≡◌, ℕ, ◌≤◌, IsUtf8, length, take, Option, Some, None, Ok, All}
+use Rattle.am_types.specs.Bounds.{longest_body}
 use Rattle.am_types.specs.declared.history.Entry.{Entry}
 use Rattle.am_types.specs.declared.request.Request.{Request}
 use Rattle.am_history.specs.State.{State, uid_of}
@@ -13,7 +14,7 @@ use Rattle.am_audit_answers.specs.Audits.{Ground}
 -- a frame with the key and the body of a whole one makes this request
 pub record MakesRequest (frame : Frame) (request : Request) : Type 0 where
   pub key : IsUtf8 frame.key
-  pub body : length frame.body ≤ 65536
+  pub body : length frame.body ≤ longest_body
   pub asks : request_of frame ≡ Ok request
 
 -- in this state the entry is the call of the frame with this request, on any desk

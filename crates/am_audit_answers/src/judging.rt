@@ -1,5 +1,6 @@
 //! One frame and its response.
 ghost use Rattle.std.specs.Prelude.{◌≡◌, ◌≤◌, List as Items, Err, Some, None, IfOk, IsUtf8, MatchOption, length, option_copied, slice_get};
+ghost use Rattle.am_types.specs.Bounds.{longest_body};
 ghost use Rattle.am_types.specs.declared.history.Entry.{Entry};
 ghost use Rattle.am_http.specs.FrameSpans.{frame_held};
 ghost use Rattle.am_http.specs.Head.{Frame};
@@ -241,7 +242,7 @@ pub fn judge(
     requires record { IsRecord (ground_of history.now bench) }
     requires first { IsReplayed (ground_of history.now bench) bench.replayed }
     requires key { IsUtf8 (frame_held frame.now).key }
-    requires body { length (frame_held frame.now).body ≤ 65536 }
+    requires body { length (frame_held frame.now).body ≤ longest_body }
     ensures { IfOk result (λ judged. Judges (case_of history.now bench (frame_held frame.now) left.now) judged) }
 {
     match request_in(alloc, routes, frame) {

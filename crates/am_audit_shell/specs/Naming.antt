@@ -4,9 +4,4 @@ use Rattle.am_audit_shell.specs.Words.{Named}
 
 -- the names behind the references
 abbrev pub named_at : NamedFiles → Named
-named_at f = record {
-  device = f.device.now;
-  history = f.history.now;
-  frames = f.frames.now;
-  responses = f.responses.now;
-}
+named_at f = record { device = f.device.now; history = f.history.now; frames = f.frames.now; responses = f.responses.now }

@@ -2,6 +2,7 @@
 use Rattle.std.proofs.Common.{◌≡◌, ℕ, zero, suc, ◌<◌, ◌≤◌, false, refl, arith, Some, None}
 use Rattle.std.specs.Fmt.{digits}
 use Rattle.json.specs.Print.{escape_byte}
+use Rattle.am_types.specs.Bounds.{longest_body}
 use Rattle.am_types.specs.declared.manifest.Kind.TheVariants.{Activity}
 use Rattle.am_types.specs.declared.request.Request.TheVariants as asks
 use Rattle.am_types.specs.Intents.{no_flags}
@@ -28,10 +29,10 @@ below_8 P p q r s t u v w (suc (suc (suc (suc n)))) small =
     below_4 (λ n. P (suc (suc (suc (suc n))))) t u v w n (omega arith)
 
 -- a length that is short
-short : (n m : ℕ) → n ≡ m → m ≤ 65536 → n ≤ 65536
+short : (n m : ℕ) → n ≡ m → m ≤ longest_body → n ≤ longest_body
 short n m is small = omega arith
 
-pub tick_is_short : weight_of asks.Tick ≤ 65536
+pub tick_is_short : weight_of asks.Tick ≤ longest_body
 unfolding request_data
 tick_is_short = short (weight_of asks.Tick) 2 refl (omega arith)
 
@@ -41,7 +42,7 @@ query_length = below_8 (λ n. weight_of (asks.Query Activity (acting (activity_a
     refl refl refl refl refl refl
 
 pub query_is_short : (n : ℕ) → n < 8 → weight_of (asks.Query Activity (acting (activity_action n) no_flags) false) ≤
-    65536
+    longest_body
 query_is_short n small = short _ 45 (query_length n small) (omega arith)
 
 start_length : (n : ℕ) → n < 8 → weight_of (asks.Start (acting (activity_action n) new_task) None) ≡ 48
@@ -49,7 +50,7 @@ unfolding request_data start_data intent_data escape_byte digits
 start_length = below_8 (λ n. weight_of (asks.Start (acting (activity_action n) new_task) None) ≡ 48) refl refl refl refl
     refl refl refl refl
 
-pub start_is_short : (n : ℕ) → n < 8 → weight_of (asks.Start (acting (activity_action n) new_task) None) ≤ 65536
+pub start_is_short : (n : ℕ) → n < 8 → weight_of (asks.Start (acting (activity_action n) new_task) None) ≤ longest_body
 start_is_short n small = short _ 48 (start_length n small) (omega arith)
 
 send_length : (n : ℕ) → n < 4 → weight_of (asks.Send (acting (broadcast_action n) no_flags) None (Some in_order)) ≡ 42
@@ -58,5 +59,5 @@ send_length = below_4 (λ n. weight_of (asks.Send (acting (broadcast_action n) n
     refl refl refl
 
 pub send_is_short : (n : ℕ) → n < 4 → weight_of (asks.Send (acting (broadcast_action n) no_flags) None (Some in_order))
-    ≤ 65536
+    ≤ longest_body
 send_is_short n small = short _ 42 (send_length n small) (omega arith)

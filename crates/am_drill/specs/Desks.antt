@@ -1,5 +1,6 @@
 -- The desk of a drill, and the requests that are made on it.
 use Rattle.std.specs.Prelude.{◌≡◌, ◌≤◌, false, IsTrue}
+use Rattle.am_types.specs.Bounds.{longest_body}
 use Rattle.am_types.specs.declared.request.Request.{Request}
 use Rattle.am_history.specs.Desks.{DeskView}
 use Rattle.am_history.specs.Steps.{is_formed, keeps_row}
@@ -14,4 +15,4 @@ pub record IsAlone (desk : DeskView) : Type 0 where
 pub record IsPlain (request : Request) : Type 0 where
   pub formed : IsTrue (is_formed request)
   pub no_row : keeps_row request ≡ false
-  pub short : weight_of request ≤ 65536
+  pub short : weight_of request ≤ longest_body

@@ -1,5 +1,6 @@
 //! One generated call on a desk.
 ghost use Rattle.std.specs.Prelude.{◌≡◌, ◌≤◌, ◌<◌, ◌*◌, IfOk, OnOk};
+ghost use Rattle.am_types.specs.Bounds.{longest_body};
 ghost use Rattle.am_history.specs.Desks.{IsSameDesk, start_of};
 ghost use Rattle.am_wire_values.specs.Replies.{status_of};
 ghost use Rattle.am_drill.specs.Bodies.{weight_of};
@@ -92,7 +93,7 @@ fn make<D: Desk>(
 // The length of the request's body, in bytes.
 #[tactic(auto, using(am_wire_values::proofs::Floats::request_none))]
 fn weight(alloc: Global, request: &Request) -> Result<u32, NoMemory>
-    requires { weight_of request.now ≤ 65536 }
+    requires { weight_of request.now ≤ longest_body }
     ensures { IfOk result (λ weight. weight ≡ weight_of request.now) }
 {
     let body = request_value(alloc, request)?.to_string(alloc)?;

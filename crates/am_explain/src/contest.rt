@@ -45,6 +45,8 @@ pub(crate) struct Grounds<'a> {
     pub(crate) installed: &'a Installed,
     pub(crate) question: Question<'a>,
     pub(crate) contest: &'a Contest,
+    /// Only what has this uid is told of, or all without one.
+    pub(crate) shown: Option<u32>,
 }
 
 /// The first hit that a start may reach, if there is one.

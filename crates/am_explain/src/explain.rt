@@ -37,29 +37,26 @@ pub fn accounts<L: Ledger>(
         installed: board.installed(),
         question: *question,
         contest: &contest,
+        shown,
     };
-    let told = told(&grounds, shown, steps);
+    let told = told(&grounds, steps);
     drop(contest);
     told
 }
 
 /// The accounts, once it is known what decides.
-fn told<L: Ledger>(
-    grounds: &Grounds,
-    shown: Option<u32>,
-    steps: &mut Steps<L>,
-) -> Result<List<Account>, NoMemory>
+fn told<L: Ledger>(grounds: &Grounds, steps: &mut Steps<L>) -> Result<List<Account>, NoMemory>
     requires { AreGrounds grounds.now }
     ensures accounts { IfOk result
-        (λ told. told ≡ accounts grounds.now.installed.now (question_of grounds.now.question) shown) }
+        (λ told. told ≡ accounts grounds.now.installed.now (question_of grounds.now.question) grounds.now.shown) }
     ensures tests { steps.new ≤ steps.old + (filters_in grounds.now.question.kind grounds.now.installed.now.packages
         + length grounds.now.installed.now.registered) }
     ensures explicit { IsSome grounds.now.question.intent.now.component → steps.new ≡ steps.old }
 {
     let mut told = Vec::new(grounds.alloc);
-    add_declared(&mut told, grounds, shown, steps)?;
+    add_declared(&mut told, grounds, steps)?;
     if grounds.question.kind == Kind::Receiver {
-        add_registered(&mut told, grounds, shown, steps)?;
+        add_registered(&mut told, grounds, steps)?;
     }
     Ok(List::new(told))
 }

@@ -1,7 +1,6 @@
 //! Goes through the components of a device and its registered receivers, one after the other.
-ghost use Rattle.std.specs.Prelude.{◌≡◌, ◌∷◌, ◌++◌, [], ◌+◌, ◌≤◌, IsSome, OnOk, length, if◌then◌else◌};
+ghost use Rattle.std.specs.Prelude.{◌≡◌, ◌∷◌, ◌++◌, [], ◌+◌, ◌≤◌, IsSome, OnOk, length};
 ghost use Rattle.am_types.specs.declared.broadcast.Aim.TheVariants.{Declared};
-ghost use Rattle.am_model.specs.Candidates.{is_kind};
 ghost use Rattle.am_model.specs.Accounts.{accounts_from, component_of, declared_accounts, is_shown, registered_accounts, standing};
 ghost use Rattle.am_explain.specs.Asking.{question_of};
 ghost use Rattle.am_explain.specs.Contests.{AreGrounds};
@@ -36,18 +35,17 @@ fn tell(told: &mut Vec<Account>, to: Aim, standing: Standing) -> Result<(), NoMe
 pub(crate) fn add_declared<L: Ledger>(
     told: &mut Vec<Account>,
     grounds: &Grounds,
-    shown: Option<u32>,
     steps: &mut Steps<L>,
 ) -> Result<(), NoMemory>
     requires { AreGrounds grounds.now }
     ensures added { OnOk result (told.new.items ≡ told.old.items
-        ++ declared_accounts grounds.now.installed.now (question_of grounds.now.question) shown
+        ++ declared_accounts grounds.now.installed.now (question_of grounds.now.question) grounds.now.shown
         grounds.now.installed.now.packages) }
     ensures tests { steps.new ≤ steps.old + filters_in grounds.now.question.kind grounds.now.installed.now.packages }
     ensures explicit { IsSome grounds.now.question.intent.now.component → steps.new ≡ steps.old }
 {
     for owner in grounds.installed.packages().as_slice() {
-        if is_shown(shown, owner.uid) {
+        if is_shown(grounds.shown, owner.uid) {
             add_package(told, grounds, owner, steps)?;
         }
     }
@@ -101,17 +99,16 @@ fn add_component<L: Ledger>(
 pub(crate) fn add_registered<L: Ledger>(
     told: &mut Vec<Account>,
     grounds: &Grounds,
-    shown: Option<u32>,
     steps: &mut Steps<L>,
 ) -> Result<(), NoMemory>
     ensures added { OnOk result (told.new.items ≡ told.old.items
-        ++ registered_accounts grounds.now.installed.now (question_of grounds.now.question) shown
+        ++ registered_accounts grounds.now.installed.now (question_of grounds.now.question) grounds.now.shown
         grounds.now.installed.now.registered) }
     ensures tests { steps.new ≤ steps.old + length grounds.now.installed.now.registered }
     ensures explicit { IsSome grounds.now.question.intent.now.component → steps.new ≡ steps.old }
 {
     for registration in grounds.installed.registered().as_slice() {
-        if is_shown(shown, registration.uid) {
+        if is_shown(grounds.shown, registration.uid) {
             let standing = registered_standing(grounds, registration, steps)?;
             tell(told, Aim::Registered(registration.number), standing)?;
         }

@@ -10,9 +10,10 @@ use Rattle.std.proofs.lemmas.Str.{IsUtf8-nil, IsUtf8-from_is_utf8}
 use Rattle.std.proofs.Math.Seq.{take-append-add}
 use Rattle.httparse.specs.Grammar.{RequestHead, print_request, ReadsRequest}
 use Rattle.httparse.proofs.GrammarLemmas.{request_unique, ReadsRequest-append}
+use Rattle.am_types.specs.Bounds.{longest_body}
 use Rattle.am_http.specs.declared.frame.Defect.{Defect}
 use Rattle.am_http.specs.declared.frame.Defect.TheVariants.{BadHead, HeadTooLarge, LengthRequired, BodyTooLarge}
-use Rattle.am_http.specs.Fields.{Header, values_of, is_length, longest_body, stated_length, length_by, length_without, body_length, first_text, key_of}
+use Rattle.am_http.specs.Fields.{Header, values_of, is_length, stated_length, length_by, length_without, body_length, first_text, key_of}
 use Rattle.am_http.specs.Head.{Frame, Outcome, whole, empty, refused, cut, Head, head_of, frame_of, after_length, after_head}
 use Rattle.am_http.specs.Framing.{window, BeginsWithHead, HasNoHead, IsDead, MayOverlook, MayWait, without_head, IsFraming, by_head, by_dead, by_wait}
 use Rattle.am_http.specs.Sessions.{most_held}

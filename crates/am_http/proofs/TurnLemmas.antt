@@ -233,15 +233,15 @@ sends_ok old new text (Ok done) fine sent = sent
 sends_ok old new text (Err e) fine sent = absurd cc
 
 -- the frame that slices of the window hold was answered, its response written, and the window used up to behind it
-pub turn_held : (close : Bool) (old new : Midway) (w bytes : List ℕ) (found : Found) (spans : FrameSpans) (f : Frame)
+pub turn_held : {close : Bool} {old new : Midway} {w bytes : List ℕ} {found : Found} {spans : FrameSpans} {f : Frame}
     (answer : Answer) (text : List ℕ) (r : Result (Unit {0}) Failed)
     → Keeps (rest_of old) (prepend_known w new.link.source.left) → Finds w new.link.source.left found → found
     ≡ Spans.Whole spans → bytes ≡ w → f ≡ frame_at bytes spans
     → new.window ≡ drop spans.length w → AnswersFrame old.link.server new.link.server f answer → Says answer text
     → false ≡ is_err r → Sends old.link.sink.taken new.link.sink.taken text r → spans.close ≡ close
     → Replies close old new
-turn_held close old new w bytes found spans f answer text r keeps finds is same held used answers said fine sent closes
-    =
+turn_held {close} {old} {new} {w} {bytes} {found} {spans} {f} answer text r keeps finds is same held used answers
+    said fine sent closes =
     turn_replied close old new w f answer text keeps (held_frame w bytes new.link.source.left found spans f finds is
     same held)
     (ap (λ n. drop n w) (ap (λ (x : Frame). x.length) held) ∙ sym used) answers said

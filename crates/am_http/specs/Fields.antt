@@ -6,6 +6,7 @@ use Rattle.std.specs.Str.{is_utf8}
 use Rattle.std.specs.Str.Parse.{digits_value}
 use Rattle.httparse.specs.Ascii.{comma}
 use Rattle.httparse.specs.Grammar.{trim_ows}
+use Rattle.am_types.specs.Bounds.{longest_body}
 use Rattle.am_http.specs.declared.frame.Defect.{Defect}
 use Rattle.am_http.specs.declared.frame.Defect.TheVariants.{BadHead, TransferEncoding, LengthRequired, BodyTooLarge}
 
@@ -30,10 +31,6 @@ values_of name (header ∷ headers) =
 -- the value is 1 to 19 digits
 abbrev pub is_length : List ℕ → Bool
 is_length value = nat_lt 0 (length value) && nat_le (length value) 19 && list_all is_ascii_digit value
-
--- the most bytes that a body may have
-abbrev pub longest_body : ℕ
-longest_body = 65536
 
 -- the length that the one value of `Content-Length` states, if a body may have it
 abbrev pub stated_length : List ℕ → Result ℕ Defect

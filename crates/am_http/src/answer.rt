@@ -1,8 +1,8 @@
 //! The answer to a frame.
 ghost use Rattle.std.specs.Prelude.{◌≡◌, ◌≤◌, length, IfOk, IsUtf8};
+ghost use Rattle.am_types.specs.Bounds.{longest_body};
 ghost use Rattle.am_types.specs.Reading.{Gives};
 ghost use Rattle.am_wire.specs.Requests.{request_of as request_at};
-ghost use Rattle.am_http.specs.Fields.{longest_body};
 ghost use Rattle.am_http.specs.FrameSpans.{frame_held};
 ghost use Rattle.am_http.specs.Requests.{request_of, request_or};
 ghost use Rattle.am_http.specs.Answering.{AnswersAt, AnswersFrame};

@@ -2,6 +2,7 @@
 use Rattle.std.proofs.Common.{◌≡◌, ℕ, ◌+◌, ◌<◌, ◌≤◌, Bool, true, false, cond, sym, ap, ◌∙◌}
 use Rattle.std.specs.Prelude.{nat_le}
 use Rattle.std.proofs.lemmas.Bool.{le-leb, lt-leb}
+use Rattle.am_types.specs.Bounds.{latest_moment}
 use Rattle.am_types.specs.declared.reply.Reply.{Reply}
 use Rattle.am_types.specs.declared.reply.Reply.TheVariants.{Refused}
 use Rattle.am_types.specs.declared.rule.Rule.{Rule}
@@ -28,25 +29,25 @@ module _ (old settled : State) (caller moment more : ℕ) (at : settled ≡ at_m
   admitted : is_privileged caller ≡ true → for_admin then caller (advance then more) ≡ advance then more
   admitted admin = ap (λ (b : Bool). cond b (advance then more) (refused then AdminOnly)) admin
 
-  by_fit : (fits : Bool) → nat_le (moment + more) 4611686018427387904 ≡ fits
+  by_fit : (fits : Bool) → nat_le (moment + more) latest_moment ≡ fits
       → advance then more ≡ cond fits (advanced (at_moment then (moment + more))) (refused then (OverLimit Moment))
   unfolding advance
   by_fit fits is = ap (λ (b : Bool). cond b (advanced (at_moment then (moment + more)))
       (refused then (OverLimit Moment))) is
 
   -- too far
-  pub advance_too_far : is_privileged caller ≡ true → 4611686018427387904 < moment + more
+  pub advance_too_far : is_privileged caller ≡ true → latest_moment < moment + more
       → for_admin then caller (advance then more) ≡ (Refused (OverLimit Moment), settled)
   advance_too_far admin far =
-      admitted admin ∙ by_fit false (lt-leb (moment + more) 4611686018427387904 far) ∙ refused_then (OverLimit Moment)
+      admitted admin ∙ by_fit false (lt-leb (moment + more) latest_moment far) ∙ refused_then (OverLimit Moment)
 
   -- to a moment that a history may have
   pub advance_moves : (ahead : ℕ) (reply : Reply) (new : State) → is_privileged caller ≡ true → ahead ≡ moment + more
-      → ahead ≤ 4611686018427387904
+      → ahead ≤ latest_moment
       → advanced (at_moment settled ahead) ≡ (reply, new) → for_admin then caller (advance then more) ≡ (reply, new)
   advance_moves ahead reply new admin is fits done =
       admitted admin
-      ∙ by_fit true (ap (λ (m : ℕ). nat_le m 4611686018427387904) (sym is) ∙ le-leb ahead 4611686018427387904 fits)
+      ∙ by_fit true (ap (λ (m : ℕ). nat_le m latest_moment) (sym is) ∙ le-leb ahead latest_moment fits)
       ∙ ap (λ (m : ℕ). advanced (at_moment then m)) (sym is)
       ∙ ap (λ (s : State). advanced (at_moment s ahead)) (sym at)
       ∙ done

@@ -1,6 +1,8 @@
 //! Broadcasts, registered receivers and deliveries, as callers ask for them.
-ghost use Rattle.std.specs.Prelude.{◌≡◌, None, IfOk, IsOk, OnErr};
+ghost use Rattle.std.specs.Prelude.{◌≡◌, None, IfOk, IsOk, OnOk, OnErr};
 ghost use Rattle.std.specs.Option.{option_copied};
+ghost use Rattle.am_types.specs.declared.reply.Reply.TheVariants.{Items};
+ghost use Rattle.am_model.specs.Sending.{inbox};
 ghost use Rattle.am_history.specs.BroadcastCalls.{finish, register, send, unregister};
 ghost use Rattle.am_history.specs.Numbers.{HasNumbers};
 ghost use Rattle.am_history.specs.Steps.{at_moment};
@@ -110,6 +112,30 @@ impl Live {
         ensures calm { answer.now.set ≡ None → IsOk result }
     {
         let reply = am_live_broadcasts::finish(&mut self.queues, by, delivery, answer, steps)?;
+        self.moment = by.moment;
+        Ok(reply)
+    }
+
+    /// What waits for the caller, at most 64 items by rising number.
+    pub fn inbox(&self, caller: u32) -> Result<Reply, NoMemory>
+        ensures { IfOk result (λ reply. reply ≡ Items (inbox self.now.broadcasts caller)) }
+    {
+        let items = self.queues.inbox(caller)?;
+        Ok(Reply::Items(items))
+    }
+
+    /// What waits for the caller after the deadlines that are due at a moment are handled. The moment
+    /// becomes the last one. After `NoMemory` the state is as before.
+    pub fn inbox_at<L: Ledger>(
+        &mut self,
+        by: Caller,
+        steps: &mut Steps<L>,
+    ) -> Result<Reply, NoMemory>
+        ensures state { OnOk result (self.new ≡ at_moment self.old by.moment) }
+        ensures items { IfOk result (λ reply. reply ≡ Items (inbox self.new.broadcasts by.uid)) }
+        ensures same { OnErr result (self.new ≡ self.old) }
+    {
+        let reply = am_live_broadcasts::inbox_at(&mut self.queues, by, steps)?;
         self.moment = by.moment;
         Ok(reply)
     }

@@ -1,6 +1,7 @@
 //! The live state, and time.
 ghost use Rattle.std.specs.Prelude.{◌≡◌, ◌+◌, ◌<◌, ◌≤◌, IfOk, MatchOption};
 ghost use Rattle.std.specs.Option.{option_copied};
+ghost use Rattle.am_types.specs.Bounds.{latest_moment};
 ghost use Rattle.am_model.specs.Sound.{IsSound};
 ghost use Rattle.am_history.specs.Answers.{for_admin};
 ghost use Rattle.am_history.specs.State.{key_of, opening, uid_of};
@@ -35,6 +36,7 @@ pub struct Live {
 
 impl Model for Live {
     ghost use Rattle.std.specs.Prelude.{◌≤◌, length};
+    ghost use Rattle.am_types.specs.Bounds.{latest_moment};
     ghost use Rattle.am_history.specs.State.{State};
 
     ghost Value = { State };
@@ -53,7 +55,7 @@ impl Model for Live {
     } };
 
     // Deadlines after a moment are below 2^64, and a device has at most 256 packages.
-    ghost invariant = { λ l. (l.moment ≤ 4611686018427387904) × (length l.board.packages ≤ 256) };
+    ghost invariant = { λ l. (l.moment ≤ latest_moment) × (length l.board.packages ≤ 256) };
 }
 
 impl Drop for Live {
@@ -64,9 +66,9 @@ impl Drop for Live {
 
 /// The moment `more` milliseconds ahead of `moment`, unless it is past the greatest one.
 fn moment_ahead(moment: u64, more: u64) -> Option<u64>
-    requires { moment ≤ 4611686018427387904 }
-    ensures { MatchOption result (4611686018427387904 < moment + more)
-        (λ ahead. (ahead ≡ moment + more) × (ahead ≤ 4611686018427387904)) }
+    requires { moment ≤ latest_moment }
+    ensures { MatchOption result (latest_moment < moment + more)
+        (λ ahead. (ahead ≡ moment + more) × (ahead ≤ latest_moment)) }
 {
     if more <= LAST_MOMENT - moment {
         Some(moment + more)
@@ -130,7 +132,7 @@ impl Live {
     /// no memory.
     pub fn moment_after(&self, now: u64) -> u64
         ensures moment { result ≡ moment_after self.now now }
-        ensures last { result ≤ 4611686018427387904 }
+        ensures last { result ≤ latest_moment }
     {
         self.moment.max(now.min(LAST_MOMENT))
     }
@@ -145,7 +147,7 @@ impl Live {
 
     /// Handles the deadlines that are due at a moment, which becomes the last one. Takes no memory.
     pub fn settle<L: Ledger>(&mut self, moment: u64, steps: &mut Steps<L>)
-        requires { moment ≤ 4611686018427387904 }
+        requires { moment ≤ latest_moment }
         ensures { self.new ≡ at_moment self.old moment }
     {
         self.queues.expire(moment, steps);
@@ -172,7 +174,7 @@ impl Live {
 
     /// Moves the moment, and answers the earliest deadline that is then left.
     fn advance_to<L: Ledger>(&mut self, moment: u64, steps: &mut Steps<L>) -> Reply
-        requires { moment ≤ 4611686018427387904 }
+        requires { moment ≤ latest_moment }
         ensures { advanced (at_moment self.old moment) ≡ (result, self.new) }
     {
         self.settle(moment, steps);

@@ -1,5 +1,6 @@
 //! Packages that come, go and stop, and rights that are given and taken.
 ghost use Rattle.std.specs.Prelude.{◌≡◌, ◌≤◌, true, IfOk, IsTrue, OnOk, OnErr};
+ghost use Rattle.am_types.specs.Bounds.{latest_moment};
 ghost use Rattle.am_model.specs.Boards.{with_stopped};
 ghost use Rattle.am_history.specs.Packages.{force_stop, forget, without};
 ghost use Rattle.am_history.specs.State.{State, with_packages};
@@ -73,7 +74,7 @@ impl Live {
         moment: u64,
         steps: &mut Steps<L>,
     ) -> Reply
-        requires moment { moment ≤ 4611686018427387904 }
+        requires moment { moment ≤ latest_moment }
         requires prepared { IsPrepared change self.old }
         ensures { (s : State) → self.old ≡ prepared change s
             → changed change (at_moment s moment) ≡ (result, self.new) }

@@ -1,18 +1,15 @@
 //! What is read from the state.
-ghost use Rattle.std.specs.Prelude.{◌≡◌, ◌≤◌, length, IfOk, OnOk, OnErr};
-ghost use Rattle.am_types.specs.declared.reply.Reply.TheVariants.{Components, Items, Services, Tasks};
+ghost use Rattle.std.specs.Prelude.{◌≡◌, length, IfOk};
+ghost use Rattle.am_types.specs.declared.reply.Reply.TheVariants.{Components, Services, Tasks};
 ghost use Rattle.am_model.specs.Candidates.{hits};
 ghost use Rattle.am_model.specs.Gates.{is_privileged};
-ghost use Rattle.am_model.specs.Sending.{inbox};
 ghost use Rattle.am_model.specs.Tasks.{views};
 ghost use Rattle.am_history.specs.Activities.{components_of};
 ghost use Rattle.am_history.specs.Services.{services_of};
-ghost use Rattle.am_history.specs.Steps.{at_moment};
 
 use crate::Live;
 use am_gates::is_privileged;
 use am_live_activities::components_of;
-use am_live_gate::Caller;
 use am_types::{Intent, Kind, NoMemory, Reply, Steps};
 use std::sync::ledger::Ledger;
 
@@ -50,30 +47,6 @@ impl Live {
     {
         let shown = self.services.views(caller)?;
         Ok(Reply::Services(shown))
-    }
-
-    /// What waits for the caller, at most 64 items by rising number.
-    pub fn inbox(&self, caller: u32) -> Result<Reply, NoMemory>
-        ensures { IfOk result (λ reply. reply ≡ Items (inbox self.now.broadcasts caller)) }
-    {
-        let items = self.queues.inbox(caller)?;
-        Ok(Reply::Items(items))
-    }
-
-    /// What waits for the caller after the deadlines that are due at a moment are handled. The moment
-    /// becomes the last one. After `NoMemory` the state is as before.
-    pub fn inbox_at<L: Ledger>(
-        &mut self,
-        by: Caller,
-        steps: &mut Steps<L>,
-    ) -> Result<Reply, NoMemory>
-        ensures state { OnOk result (self.new ≡ at_moment self.old by.moment) }
-        ensures items { IfOk result (λ reply. reply ≡ Items (inbox self.new.broadcasts by.uid)) }
-        ensures same { OnErr result (self.new ≡ self.old) }
-    {
-        let reply = am_live_broadcasts::inbox_at(&mut self.queues, by, steps)?;
-        self.moment = by.moment;
-        Ok(reply)
     }
 
     /// How many packages are installed. Takes no memory.

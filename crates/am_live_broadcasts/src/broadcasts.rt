@@ -2,6 +2,7 @@
 ghost use Rattle.std.specs.Prelude.{◌≡◌, ◌≤◌, ◌<◌, ◌==◌, length, All, None, IfOk, IsOk, OnErr};
 ghost use Rattle.std.specs.List.{find};
 ghost use Rattle.std.specs.Option.{option_copied, option_map};
+ghost use Rattle.am_types.specs.Bounds.{greatest_number, latest_moment};
 ghost use Rattle.am_types.specs.declared.resolve.Registration.{Registration};
 ghost use Rattle.am_model.specs.Broadcasts.{expired};
 ghost use Rattle.am_model.specs.Sending as model;
@@ -45,7 +46,7 @@ pub fn send<L: Ledger>(
     message: &Message<'_>,
     steps: &mut Steps<L>,
 ) -> Result<Reply, NoMemory>
-    requires { queues.old.next_broadcast ≤ 1125899906842624 }
+    requires { queues.old.next_broadcast ≤ greatest_number }
     ensures done { IfOk result (λ reply. (s : State) →
         send (at_moment (record s { board = board.now; broadcasts = queues.old }) by.moment) by.uid
         message.now.intent.now (option_copied message.now.permission) (option_copied message.now.ordered)
@@ -68,8 +69,8 @@ fn send_to<L: Ledger>(
     offered: List<Receiving>,
     steps: &mut Steps<L>,
 ) -> Result<Reply, NoMemory>
-    requires moment { sending.now ≤ 4611686018427387904 }
-    requires numbers { queues.old.next_broadcast ≤ 1125899906842624 }
+    requires moment { sending.now ≤ latest_moment }
+    requires numbers { queues.old.next_broadcast ≤ greatest_number }
     ensures done { IfOk result (λ reply. (s : State) →
         after_send (at_moment (record s { broadcasts = queues.old }) sending.now) offered
         (model.send (expired queues.old sending.now) sending)
@@ -100,7 +101,7 @@ pub fn register(
     filter: &Filter,
     permission: Option<&Text>,
 ) -> Result<Reply, NoMemory>
-    requires numbers { next.old ≤ 1125899906842624 }
+    requires numbers { next.old ≤ greatest_number }
     requires registered { All (λ (r : Registration). r.number < next.old) board.old.registered }
     ensures done { IfOk result (λ reply. (s : State) →
         register (record s { board = board.old; next_registration = next.old }) caller filter.now

@@ -1,6 +1,7 @@
 //! A broadcast that is to be sent: who it goes to, and what it needs from the caller's intent.
 ghost use Rattle.std.specs.Prelude.{◌≡◌, ◌≢◌, ◌≤◌, Ok, Err, None, IfOk, IfErr, IfNone, IfSome};
 ghost use Rattle.std.specs.Option.{option_copied};
+ghost use Rattle.am_types.specs.Bounds.{greatest_number, latest_moment};
 ghost use Rattle.am_model.specs.Broadcasts.{expired};
 ghost use Rattle.am_model.specs.Receivers.{admitted};
 ghost use Rattle.am_model.specs.Sending.{send};
@@ -89,8 +90,8 @@ pub(crate) fn send_at<L: Ledger>(
     call: Sending,
     steps: &mut Steps<L>,
 ) -> Result<u64, SendFault>
-    requires broadcasts { queues.old.next_broadcast ≤ 1125899906842624 }
-    requires moment { call.now ≤ 4611686018427387904 }
+    requires broadcasts { queues.old.next_broadcast ≤ greatest_number }
+    requires moment { call.now ≤ latest_moment }
     ensures sent { IfOk result (λ number. send (expired queues.old call.now) call ≡ Ok (number, queues.new)) }
     ensures refused { IfErr result (λ fault. fault ≢ SendFault.NoMemory
         → send (expired queues.old call.now) call ≡ Err fault) }

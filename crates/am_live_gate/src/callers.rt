@@ -2,6 +2,7 @@
 ghost use Rattle.std.specs.Prelude.{◌≡◌, ◌≤◌, ◌||◌, Some, if◌then◌else◌};
 ghost use Rattle.std.specs.List.{list_any};
 ghost use Rattle.std.specs.Option.{option_copied};
+ghost use Rattle.am_types.specs.Bounds.{latest_moment};
 ghost use Rattle.am_types.specs.declared.device.Package.{Package};
 ghost use Rattle.am_model.specs.Texts.{is_same};
 ghost use Rattle.am_history.specs.Packages.{is_root_key};
@@ -14,7 +15,7 @@ use am_types::{List, Package, ROOT, SYSTEM, Text};
 pub struct Caller {
     pub uid: u32,
     pub moment: u64,
-    pub ghost early: { moment ≤ 4611686018427387904 },
+    pub ghost early: { moment ≤ latest_moment },
 }
 
 /// The uid that has the key, if there is one, given the keys of the system and of the root, and the

@@ -1,5 +1,6 @@
 //! Pending intents, as callers ask for them.
 ghost use Rattle.std.specs.Prelude.{◌≡◌, ◌≤◌, IfOk, OnOk, OnErr};
+ghost use Rattle.am_types.specs.Bounds.{greatest_number};
 ghost use Rattle.am_types.specs.declared.reply.Reply.{Reply};
 ghost use Rattle.am_types.specs.declared.reply.Reply.TheVariants.{Refused};
 ghost use Rattle.am_history.specs.PendingCalls.{in_new_task, pending_cancel, pending_get, pending_give, pending_rule, used_up};
@@ -61,7 +62,7 @@ pub fn get<L: Ledger>(
     flags: PendingFlags,
     steps: &mut Steps<L>,
 ) -> Result<Reply, NoMemory>
-    requires { pending.old.next ≤ 1125899906842624 }
+    requires { pending.old.next ≤ greatest_number }
     ensures done { IfOk result (λ reply. (state : State) →
         pending_get (record state { pendings = pending.old }) caller kind code intent flags
         ≡ (reply, record state { pendings = pending.new })) }

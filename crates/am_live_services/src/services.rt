@@ -1,5 +1,6 @@
 //! Starting and stopping services.
 ghost use Rattle.std.specs.Prelude.{◌≡◌, ◌≤◌, length, All, IfOk, OnErr};
+ghost use Rattle.am_types.specs.Bounds.{greatest_number};
 ghost use Rattle.am_model.specs.Receivers.{declared};
 ghost use Rattle.am_history.specs.Services.{start_maybe, start_service, stop_service};
 ghost use Rattle.am_history.specs.State.{Service, State};
@@ -23,7 +24,7 @@ pub fn start_service<L: Ledger>(
     intent: &Intent,
     steps: &mut Steps<L>,
 ) -> Result<Reply, NoMemory>
-    requires { All (λ (service : Service). service.starts ≤ 1125899906842624) services.old }
+    requires { All (λ (service : Service). service.starts ≤ greatest_number) services.old }
     ensures done { IfOk result (λ reply. (s : State) →
         start_service (record s { board = board.old; services = services.old }) caller intent.now
         ≡ (reply, record s { board = board.new; services = services.new })) }
@@ -66,7 +67,7 @@ fn start_component(
     component: &Component,
     missing: Rule,
 ) -> Result<Reply, NoMemory>
-    requires { All (λ (service : Service). service.starts ≤ 1125899906842624) services.old }
+    requires { All (λ (service : Service). service.starts ≤ greatest_number) services.old }
     ensures done { IfOk result (λ reply. (s : State) →
         start_maybe (record s { board = board.old; services = services.old }) caller intent.now component.now missing
         (declared board.old.packages Kind.Service component.now)

@@ -1,5 +1,6 @@
 //! Calls for which a row is kept: what they change is prepared, then the keeper is asked.
 ghost use Rattle.std.specs.Prelude.{◌≡◌, ◌≢◌, ◌≤◌, ◌||◌, List as Items, true, false, if◌then◌else◌, IfOk, OnErr, IsTrue, Err};
+ghost use Rattle.am_types.specs.Bounds.{latest_moment};
 ghost use Rattle.am_types.specs.declared.history.Entry.{Entry};
 ghost use Rattle.am_types.specs.declared.reply.Reply.TheVariants.{Refused};
 ghost use Rattle.am_types.specs.declared.rule.Rule.TheVariants.{KeeperFault};
@@ -86,7 +87,7 @@ fn make<K: Keeper, L: Ledger>(
     steps: &mut Steps<L>,
 ) -> Result<Answered, NoMemory>
     requires fits { Fits change live.old }
-    requires moment { moment ≤ 4611686018427387904 }
+    requires moment { moment ≤ latest_moment }
     ensures done { IfOk result (λ answered. (if answered.kept
         then changed change (at_moment live.old moment)
         else (Refused KeeperFault, at_moment live.old moment)) ≡ (answered.reply, live.new)) }
@@ -127,7 +128,7 @@ fn unkept<L: Ledger>(
     moment: u64,
     steps: &mut Steps<L>,
 ) -> Result<Answered, NoMemory>
-    requires { moment ≤ 4611686018427387904 }
+    requires { moment ≤ latest_moment }
     ensures failed { IfOk result (λ answered. (answered ≡ record { reply = Refused KeeperFault; kept = false })
         × (live.new ≡ at_moment live.old moment) × (fail ≡ Failed)) }
     ensures same { OnErr result (live.new ≡ live.old) }

@@ -1,6 +1,7 @@
 //! What holds of a manager after its history, whatever its calls were. These functions do nothing: their contracts are
 //! the laws.
 ghost use Rattle.std.specs.Prelude.{◌≡◌, ℕ, ◌+◌, ◌≤◌, true, ◌++◌, ◌⊎◌, All, [], ◌∷◌, length};
+ghost use Rattle.am_types.specs.Bounds.{latest_moment};
 ghost use Rattle.am_types.specs.declared.history.Entry.{Entry};
 ghost use Rattle.am_history.specs.Desks.{opening_of};
 ghost use Rattle.am_history.specs.Numbers.{HasNumbersTo};
@@ -32,7 +33,7 @@ impl<K: Keeper> Manager<K> {
     pub fn stays_sound(&self)
         ensures sound { IsSoundState (state_after self.now.origin self.now.history) }
         ensures numbers { HasNumbersTo (1 + length self.now.history) (state_after self.now.origin self.now.history) }
-        ensures moment { (state_after self.now.origin self.now.history).moment ≤ 4611686018427387904 }
+        ensures moment { (state_after self.now.origin self.now.history).moment ≤ latest_moment }
         ensures rises { (next : Entry) → (state_after self.now.origin self.now.history).moment
             ≤ (state_after self.now.origin (self.now.history ++ next ∷ [])).moment }
     {

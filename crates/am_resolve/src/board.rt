@@ -12,7 +12,7 @@ ghost use Rattle.am_installed.specs.Installed.{AreGrantsInOrder, AreInstalled, A
 ghost use Rattle.am_installed.specs.Places.{AreByNumber, place_registered};
 ghost use Rattle.am_index.specs.Groups.{group_size};
 
-use crate::narrow::narrowed;
+use crate::narrow::{host_to_view, web_hits};
 use crate::offers::Sent;
 use crate::receivers::receivers;
 use crate::top::choose;
@@ -102,7 +102,10 @@ impl Board {
         ensures explicit { IsSome intent.now.component → steps.new ≡ steps.old }
     {
         let found = self.query(alloc, Kind::Activity, intent, true, steps)?;
-        let left = narrowed(alloc, &self.installed, intent, found, steps)?;
+        let left = match host_to_view(intent) {
+            None => found,
+            Some(host) => web_hits(alloc, &self.installed, intent, found, host, steps)?,
+        };
         Ok(choose(left))
     }
 

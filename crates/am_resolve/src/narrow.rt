@@ -1,6 +1,6 @@
 //! A start of a web intent is narrowed to the packages that are approved for the host; if there are none, to a
 //! browser; if there is none either, to what takes any host.
-ghost use Rattle.std.specs.Prelude.{◌≡◌, ◌+◌, ◌≤◌, true, IsSome, if◌then◌else◌, IfOk, count_by, filter, option_copied};
+ghost use Rattle.std.specs.Prelude.{◌≡◌, ◌+◌, ◌≤◌, true, if◌then◌else◌, IfOk, count_by, filter, option_copied};
 ghost use Rattle.std.specs.List.{list_all, list_any};
 ghost use Rattle.std.specs.List.Sorted.{IsStrictlyIncreasing};
 ghost use Rattle.am_types.specs.declared.manifest.Kind.TheVariants.{Activity};
@@ -8,10 +8,10 @@ ghost use Rattle.am_types.specs.declared.resolve.Hit.{Hit};
 ghost use Rattle.am_model.specs.Boards.{package_at};
 ghost use Rattle.am_model.specs.Candidates.{hits};
 ghost use Rattle.am_model.specs.Sound.{uids_of};
-ghost use Rattle.am_model.specs.Targets.{approves, browser_hits, host_to_view, is_approved, is_general, is_view, is_web_category, is_web_scheme, named_host, narrowed, takes_any_host, web_hits, web_host};
+ghost use Rattle.am_model.specs.Targets.{approves, host_to_view, is_approved, is_general, is_view, is_web_category, is_web_scheme, named_host, takes_any_host, web_hits, web_host};
 ghost use Rattle.am_model.specs.Texts.{is_same, lowered};
 ghost use Rattle.am_index.specs.Groups.{group_size, in_group};
-ghost use Rattle.am_resolve.specs.Narrowing.{cost_at, cost_in, cost_of, is_general_at, is_general_in};
+ghost use Rattle.am_resolve.specs.Narrowing.{cost_at, cost_in, cost_of, is_general_in};
 
 use am_index::is_passed;
 use am_installed::{Installed, package_at};
@@ -226,7 +226,7 @@ fn keep_general<L: Ledger>(
 }
 
 /// The hits of packages that are approved for the host; if there are none, those of a browser.
-fn web_hits<L: Ledger>(
+pub(crate) fn web_hits<L: Ledger>(
     alloc: Global,
     installed: &Installed,
     intent: &Intent,
@@ -244,24 +244,5 @@ fn web_hits<L: Ledger>(
     match installed.browser() {
         Some(browser) => Ok(keep_package(browser, found)),
         None => keep_general(alloc, installed.packages(), intent, &found, steps),
-    }
-}
-
-/// The hits that are left of the hits found: a web intent's are narrowed.
-pub(crate) fn narrowed<L: Ledger>(
-    alloc: Global,
-    installed: &Installed,
-    intent: &Intent,
-    found: List<Hit>,
-    steps: &mut Steps<L>,
-) -> Result<List<Hit>, NoMemory>
-    requires { found ≡ hits installed.now.packages Activity intent.now true }
-    ensures hits { IfOk result (λ left. left ≡ narrowed installed.now intent.now found (host_to_view intent.now)) }
-    ensures tests { steps.new ≤ steps.old + group_size installed.now.packages Activity intent.now }
-    ensures explicit { IsSome intent.now.component → steps.new ≡ steps.old }
-{
-    match host_to_view(intent) {
-        None => Ok(found),
-        Some(host) => web_hits(alloc, installed, intent, found, host, steps),
     }
 }

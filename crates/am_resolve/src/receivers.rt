@@ -5,7 +5,7 @@ ghost use Rattle.am_types.specs.declared.manifest.Kind.TheVariants.{Receiver};
 ghost use Rattle.am_model.specs.Candidates.{hits};
 ghost use Rattle.am_model.specs.Receivers.{declared_offers, finds_registered, receivers};
 ghost use Rattle.am_model.specs.Sound.{uids_of};
-ghost use Rattle.am_resolve.specs.Ranking.{decl_at, offer_of, ranked_of, ranked_of_hit, ranked_of_registered, ranked_of_registration};
+ghost use Rattle.am_resolve.specs.Ranking.{decl_at, offer_of, ranked_of, ranked_of_hit, ranked_of_registered};
 
 use crate::names::is_for;
 use crate::offers::{Offer, Ranked, Sent, registered_offer};
@@ -53,28 +53,11 @@ fn add_registered<L: Ledger>(
     ensures explicit { IsSome sent.now.intent.now.component → steps.new ≡ steps.old }
 {
     for registration in sent.installed.registered().as_slice() {
-        add_registration(ranked, sent, registration, steps)?;
+        if finds_registered(sent.installed, sent.intent, registration, steps) {
+            add_offer(ranked, sent, registered_offer(registration))?;
+        }
     }
     Ok(())
-}
-
-/// Adds the registered receiver if the intent finds it.
-fn add_registration<L: Ledger>(
-    ranked: &mut Vec<Ranked>,
-    sent: &Sent,
-    registration: &Registration,
-    steps: &mut Steps<L>,
-) -> Result<(), NoMemory>
-    ensures added { OnOk result (ranked.new.items
-        ≡ ranked.old.items ++ ranked_of_registration sent.now registration.now) }
-    ensures tests { steps.new ≤ steps.old + 1 }
-    ensures explicit { IsSome sent.now.intent.now.component → steps.new ≡ steps.old }
-{
-    if !finds_registered(sent.installed, sent.intent, registration, steps) {
-        return Ok(());
-    }
-    let offer = registered_offer(registration);
-    add_offer(ranked, sent, offer)
 }
 
 /// The intent finds the registered receiver: it names no component and no other package, and

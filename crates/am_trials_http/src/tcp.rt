@@ -5,7 +5,7 @@ use am_tcp::{Limits, TcpGate, TcpNetwork, TcpReader, TcpWriter};
 use std::alloc::Global;
 use std::io::{self, ErrorKind, Read, Write};
 use std::marker::Copy;
-use std::net::{IpAddr, Ipv4Addr, Shutdown, SocketAddr, TcpStream};
+use std::net::{IpAddr, Ipv4Addr, Net, Shutdown, SocketAddr, TcpStream};
 use std::os::fd::AsRawFd;
 use std::rt::Clock;
 use std::sync::Wait;
@@ -30,6 +30,21 @@ fn client_of(rt: &HostRuntime, address: Option<SocketAddr>) -> Result<TcpStream,
 fn accepted<R: Clock + Wait + Copy + Drop + Send>(gate: &mut TcpGate<R>) -> Result<Link<R>, Fail> {
     let (reader, writer) = gate.accept()?.ok_or("a link")?;
     Ok(Link { reader, writer })
+}
+
+/// What a test has of a server and a peer: the network, which listens, its one gate, and a client.
+type Met<R> = (TcpNetwork<R>, TcpGate<R>, TcpStream);
+
+/// The network listens at one gate, and a client sent these bytes to it.
+fn met<R: Net + Clock + Wait + Copy + Drop + Send>(
+    rt: &HostRuntime,
+    mut network: TcpNetwork<R>,
+    sent: &[u8],
+) -> Result<Met<R>, Fail> {
+    let gate = network.listen(0, 1)?.pop().ok_or("a gate")?;
+    let mut client = client_of(rt, network.local_addr())?;
+    client.write_all(sent)?;
+    Ok((network, gate, client))
 }
 
 /// The text that comes next, of so many bytes, or as much as comes before the end.
@@ -91,10 +106,7 @@ fn fails_at_last<R: Clock + Wait>(writer: &mut TcpWriter<R>) -> bool {
 #[test]
 fn a_peer_closes(rt: HostRuntime) -> Result<(), Fail> {
     let alloc = rt.alloc();
-    let mut network = TcpNetwork::new(rt, alloc);
-    let mut gate = network.listen(0, 1)?.pop().ok_or("a gate")?;
-    let mut client = client_of(&rt, network.local_addr())?;
-    client.write_all(b"bye")?;
+    let (_network, mut gate, client) = met(&rt, TcpNetwork::new(rt, alloc), b"bye")?;
     drop(client);
     let mut link = accepted(&mut gate)?;
     assert_eq!(rt; received(alloc, &mut link.reader, 9)?.as_str(), "bye");
@@ -106,9 +118,7 @@ fn a_peer_closes(rt: HostRuntime) -> Result<(), Fail> {
 
 #[test]
 fn a_peer_closes_before_it_read_all(rt: HostRuntime) -> Result<(), Fail> {
-    let mut network = TcpNetwork::new(rt, rt.alloc());
-    let mut gate = network.listen(0, 1)?.pop().ok_or("a gate")?;
-    let mut client = client_of(&rt, network.local_addr())?;
+    let (_network, mut gate, mut client) = met(&rt, TcpNetwork::new(rt, rt.alloc()), b"")?;
     let mut link = accepted(&mut gate)?;
     assert_eq!(rt; link.writer.write(b"ab"), Ok(2));
     client.read_exact(&mut [0u8; 1])?;
@@ -251,10 +261,7 @@ fn wait(rt: &HostRuntime, millis: u64) {
 
 #[test]
 fn a_request_has_its_time(rt: HostRuntime) -> Result<(), Fail> {
-    let mut network = network_of(rt, 1000);
-    let mut gate = network.listen(0, 1)?.pop().ok_or("a gate")?;
-    let mut client = client_of(&rt, network.local_addr())?;
-    client.write_all(b"abc")?;
+    let (_network, mut gate, _client) = met(&rt, network_of(rt, 1000), b"abc")?;
     let mut link = accepted(&mut gate)?;
     let mut piece = [0u8; 1];
     assert_eq!(rt; link.reader.read(&mut piece), Ok(1));
@@ -306,9 +313,7 @@ fn asked<R: Clock + Wait + Copy + Drop + Send>(
 #[test]
 fn a_link_rests(rt: HostRuntime) -> Result<(), Fail> {
     let alloc = rt.alloc();
-    let mut network = TcpNetwork::new(rt, alloc);
-    let mut gate = network.listen(0, 1)?.pop().ok_or("a gate")?;
-    let mut client = client_of(&rt, network.local_addr())?;
+    let (network, mut gate, mut client) = met(&rt, TcpNetwork::new(rt, alloc), b"")?;
     let mut slow = client_of(&rt, network.local_addr())?;
     slow.write_all(b"GET /s")?;
     client.write_all(b"GET / HTTP/1.1\r\n\r\n")?;
@@ -336,10 +341,7 @@ fn a_link_rests(rt: HostRuntime) -> Result<(), Fail> {
 #[test]
 fn a_link_rests_for_its_time(rt: HostRuntime) -> Result<(), Fail> {
     let alloc = rt.alloc();
-    let mut network = network_of(rt, 1000);
-    let mut gate = network.listen(0, 1)?.pop().ok_or("a gate")?;
-    let mut client = client_of(&rt, network.local_addr())?;
-    client.write_all(b"GET / HTTP/1.1\r\n\r\n")?;
+    let (_network, mut gate, _client) = met(&rt, network_of(rt, 1000), b"GET / HTTP/1.1\r\n\r\n")?;
     let (mut link, _text, _answered) = asked(alloc, &mut gate, 18)?;
     send(&mut link.writer, b"x")?;
     assert!(rt; !link.reader.is_ready());
@@ -356,10 +358,11 @@ fn a_link_rests_for_its_time(rt: HostRuntime) -> Result<(), Fail> {
 #[test]
 fn a_peer_ends_behind_its_request(rt: HostRuntime) -> Result<(), Fail> {
     let alloc = rt.alloc();
-    let mut network = TcpNetwork::new(rt, alloc);
-    let mut gate = network.listen(0, 1)?.pop().ok_or("a gate")?;
-    let mut client = client_of(&rt, network.local_addr())?;
-    client.write_all(b"GET / HTTP/1.1\r\n\r\n")?;
+    let (network, mut gate, mut client) = met(
+        &rt,
+        TcpNetwork::new(rt, alloc),
+        b"GET / HTTP/1.1\r\n\r\n",
+    )?;
     client.shutdown(Shutdown::Write)?;
     wait(&rt, 100);
     // Its end, which came with the request, isn't waited for.
@@ -402,12 +405,8 @@ fn answers_to(alloc: Global, client: &mut TcpStream, length: usize) -> Result<St
 #[test]
 fn responses_to_requests_of_one_read_go_out_together(rt: HostRuntime) -> Result<(), Fail> {
     let alloc = rt.alloc();
-    let mut network = TcpNetwork::new(rt, alloc);
-    let mut gate = network.listen(0, 1)?.pop().ok_or("a gate")?;
-    let mut client = client_of(&rt, network.local_addr())?;
-    client.write_all(
-        b"GET /a HTTP/1.1\r\n\r\nGET /b HTTP/1.1\r\n\r\nGET /c HTTP/1.1\r\n\r\nGET /d",
-    )?;
+    let sent = b"GET /a HTTP/1.1\r\n\r\nGET /b HTTP/1.1\r\n\r\nGET /c HTTP/1.1\r\n\r\nGET /d";
+    let (_network, mut gate, mut client) = met(&rt, TcpNetwork::new(rt, alloc), sent)?;
     let (mut link, _text, _answered) = asked(alloc, &mut gate, 57)?;
     for response in [b"one", b"two"] {
         assert_eq!(rt; link.writer.write(response), Ok(3));
@@ -438,10 +437,8 @@ fn responses_to_requests_of_one_read_go_out_together(rt: HostRuntime) -> Result<
 #[test]
 fn many_responses_are_kept_up_to_a_limit(rt: HostRuntime) -> Result<(), Fail> {
     let alloc = rt.alloc();
-    let mut network = TcpNetwork::new(rt, alloc);
-    let mut gate = network.listen(0, 1)?.pop().ok_or("a gate")?;
-    let mut client = client_of(&rt, network.local_addr())?;
-    client.write_all(b"GET /a HTTP/1.1\r\n\r\nGET /b HTTP/1.1\r\n\r\nGET /c HTTP/1.1\r\n\r\n")?;
+    let sent = b"GET /a HTTP/1.1\r\n\r\nGET /b HTTP/1.1\r\n\r\nGET /c HTTP/1.1\r\n\r\n";
+    let (_network, mut gate, mut client) = met(&rt, TcpNetwork::new(rt, alloc), sent)?;
     let (mut link, _text, _answered) = asked(alloc, &mut gate, 57)?;
     let large = vec![in alloc; b'l'; 40_000]?;
     assert_eq!(rt; link.writer.write(large.as_slice()), Ok(40_000));
@@ -460,9 +457,7 @@ fn many_responses_are_kept_up_to_a_limit(rt: HostRuntime) -> Result<(), Fail> {
 
 #[test]
 fn a_response_has_its_time(rt: HostRuntime) -> Result<(), Fail> {
-    let mut network = network_of(rt, 1000);
-    let mut gate = network.listen(0, 1)?.pop().ok_or("a gate")?;
-    let client = client_of(&rt, network.local_addr())?;
+    let (_network, mut gate, client) = met(&rt, network_of(rt, 1000), b"")?;
     let mut link = accepted(&mut gate)?;
     assert_eq!(rt; link.writer.write(b"a"), Ok(1));
     // The next response has a time of its own.

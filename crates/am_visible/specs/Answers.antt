@@ -1,6 +1,7 @@
 -- The answer to a package's question about a device.
 use Rattle.std.specs.Prelude.{ℕ, Bool, true, false, nat_lt, codes, List, [], ◌++◌, length, map, if◌then◌else◌, Option, Some, None, Result, Ok, Err}
 use Rattle.serde_json.specs.Written.{compact_text}
+use Rattle.am_types.specs.Bounds.{longest_body}
 use Rattle.am_types.specs.declared.intent.Component.{Component}
 use Rattle.am_types.specs.declared.manifest.ManifestFault.{ManifestFault}
 use Rattle.am_types.specs.declared.reply.Reply.{Reply}
@@ -29,7 +30,7 @@ is_query _ = false
 
 -- what is asked: the query that the text makes as the body of a query, of at most 65,536 bytes
 unfoldable pub question_of : List ℕ → Result Request WireFault
-question_of text = if nat_lt 65536 (length text) then Err (TooLong (codes "body")) else request_of Query text
+question_of text = if nat_lt longest_body (length text) then Err (TooLong (codes "body")) else request_of Query text
 
 -- the names of components that were found
 abbrev pub components_of : List Hit → List Component

@@ -334,7 +334,7 @@ idle_below limit first last served visit idle =
 
 -- so its frames are no more than a connection may have
 pub few_frames : (before : ℕ) (first last : Link) (served : Served) → Visit (most_frames - before) first last served
-    → served.end ≡ Idle → before + served.answered ≤ 65536
+    → served.end ≡ Idle → before + served.answered ≤ most_frames
 few_frames before first last served visit idle =
     let below = (idle_below (most_frames - before) first last served visit idle).1 in omega (arith, below)
 

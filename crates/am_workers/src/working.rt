@@ -1,6 +1,7 @@
 //! One worker.
 ghost use Rattle.std.specs.Prelude.{◌≡◌, ◌+◌, ◌≤◌, IfSome};
 ghost use Rattle.am_network.specs.Links.{AreBack, MayTakeBack, link_of};
+ghost use Rattle.am_http.specs.Sessions.{most_frames};
 ghost use Rattle.am_http.specs.Links.{GoesOn};
 ghost use Rattle.am_workers.specs.Work.{IsBack, TellsEnough, TriesNext, Works, worker_of};
 
@@ -30,7 +31,7 @@ fn hand_back<A: Acceptor>(
     served: Served,
 ) -> u64
     requires may { MayTakeBack (A.links gate.old) (link_of A.Reader.Source A.Writer.Sink reader writer) }
-    requires few { served.end ≡ End.Idle → before + served.answered ≤ 65536 }
+    requires few { served.end ≡ End.Idle → before + served.answered ≤ most_frames }
     ensures back { IsBack served.end (A.links gate.old) (A.links gate.new)
         (record {
           link = link_of A.Reader.Source A.Writer.Sink reader writer;

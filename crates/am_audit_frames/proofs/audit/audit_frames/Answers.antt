@@ -1,4 +1,4 @@
-use Rattle.std.proofs.Common.{◌≡◌, List, [], length, refl, sym, ap, ◌∙◌, subst, arith, Result, None}
+use Rattle.std.proofs.Common.{◌≡◌, ℕ, List, [], length, refl, sym, ap, ◌∙◌, subst, arith, Result, None}
 use Rattle.std.proofs.lemmas.Bool.{eq-eqb, eqb-true}
 use Rattle.std.proofs.lemmas.List.{nil_from_length}
 use Rattle.am_types.specs.declared.history.Entry.{Entry}
@@ -14,6 +14,10 @@ use Rattle.am_audit_frames.proofs.Reached.{reaches_none}
 use Rattle.am_audit_frames.proofs.Steps.{settles_at_limit}
 use Rattle.am_audit_frames.proofs.audit.audit_frames.Goals as goal
 
+-- what a connection told: its frames, and the responses to them
+abbrev told : List ℕ → List ℕ → Transcript
+told frames responses = record { frames = frames; responses = responses }
+
 -- what a step promises from the start of its own replay holds from the start of the walk
 goes_from : (start : State) (history : List Entry) (t : Transcript) (walk : Walk) (next : Result Walk Verdict)
     {found : Result Walk Verdict}
@@ -28,7 +32,7 @@ goes_from start history t walk next w goes is =
 pub loop-walk-init : goal.loop-walk-init
 loop-walk-init c =
     let ground : Ground = record { start = opening c.args.device; history = c.args.history.now } in
-    let t : Transcript = record { frames = c.args.frames.now; responses = c.args.responses.now } in
+    let t = told c.args.frames.now c.args.responses.now in
     let walk_of : Replay → Walk = λ r. record {
       bench = record { replayed = r; desk = None };
       input = c.args.frames;
@@ -51,38 +55,26 @@ loop-walk-init c =
 pub loop-walk-smaller : goal.loop-walk-smaller
 loop-walk-smaller c =
     let after =
-    goes_from (opening c.args.device) c.args.history.now (record {
-      frames = c.args.frames.now;
-      responses =
-          c.args.responses.now;
-    })
+    goes_from (opening c.args.device) c.args.history.now (told c.args.frames.now c.args.responses.now)
     c.loop-walk.walk c.in_ok-after.field-0 c.loop-walk.invariant.walked c.in_ok-after.ensures c.in-Ok.is in
     omega (arith, after.1, c.loop-walk-test.true)
 
 pub loop-walk-preserved : goal.loop-walk-preserved
 loop-walk-preserved c =
     let after =
-    goes_from (opening c.args.device) c.args.history.now (record {
-      frames = c.args.frames.now;
-      responses =
-          c.args.responses.now;
-    })
+    goes_from (opening c.args.device) c.args.history.now (told c.args.frames.now c.args.responses.now)
     c.loop-walk.walk c.in_ok-after.field-0 c.loop-walk.invariant.walked c.in_ok-after.ensures c.in-Ok.is in
     record { walked = after.0; few = omega (arith, after.1, c.loop-walk-test.true) }
 
 pub returns-in-Err : goal.returns-in-Err
 returns-in-Err c =
-    goes_from (opening c.args.device) c.args.history.now (record {
-      frames = c.args.frames.now;
-      responses =
-          c.args.responses.now;
-    })
+    goes_from (opening c.args.device) c.args.history.now (told c.args.frames.now c.args.responses.now)
     c.loop-walk.walk c.in_ok-after.field-0 c.loop-walk.invariant.walked c.in_ok-after.ensures c.in-Err.is
 
 pub returns : goal.returns
 returns c =
     let ground : Ground = record { start = opening c.args.device; history = c.args.history.now } in
-    let t : Transcript = record { frames = c.args.frames.now; responses = c.args.responses.now } in
+    let t = told c.args.frames.now c.args.responses.now in
     let walk = c.loop-walk.walk in
     let w = c.loop-walk.invariant.walked in
     let left = walk.left.now in

@@ -5,5 +5,5 @@ use Rattle.am_explain.proofs.walk.add_declared.Given as goal
 
 abbrev pub invariant-loop-owner : goal.invariant-loop-owner
 invariant-loop-owner g l =
-    AddsAlong l.grounds (λ board asked. declared_accounts board asked l.shown) (filters_in l.grounds.question.kind)
+    AddsAlong l.grounds (λ board asked. declared_accounts board asked l.grounds.shown) (filters_in l.grounds.question.kind)
     l.owner-items l.owner-index l.initial.told.items l.told.items l.initial.steps l.steps

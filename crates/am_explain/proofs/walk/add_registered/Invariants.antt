@@ -6,5 +6,6 @@ use Rattle.am_explain.proofs.walk.add_registered.Given as goal
 
 abbrev pub invariant-loop-registration : goal.invariant-loop-registration
 invariant-loop-registration g l =
-    AddsAlong l.grounds (λ board asked. registered_accounts board asked l.shown) (λ (rs : List Registration). length rs)
-    l.registration-items l.registration-index l.initial.told.items l.told.items l.initial.steps l.steps
+    AddsAlong l.grounds (λ board asked. registered_accounts board asked l.grounds.shown)
+    (λ (rs : List Registration). length rs) l.registration-items l.registration-index
+    l.initial.told.items l.told.items l.initial.steps l.steps

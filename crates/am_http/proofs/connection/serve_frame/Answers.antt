@@ -70,17 +70,15 @@ returns-then-is_err-clause-turn g c =
 
 pub returns-then-spans-clause-turn : goal.returns-then-spans-clause-turn
 returns-then-spans-clause-turn g c =
-    let sent = c.write_answer-written.ensures.sent in
-    turn_held _ _ _ _ _ _ _ _ _ _ _ c.in-Ok.ensures.kept c.in-Ok.ensures.found c.in-Whole.is c.bytes.ensures.bytes
-    c.of.ensures c.consume.ensures
-    c.answer_frame-answer.ensures.answer sent.1 c.if-is_err.ensures.value sent.2 c.if-spans.true
+    turn_held _ _ _ c.in-Ok.ensures.kept c.in-Ok.ensures.found c.in-Whole.is c.bytes.ensures.bytes c.of.ensures
+    c.consume.ensures c.answer_frame-answer.ensures.answer c.write_answer-written.ensures.sent.1
+    c.if-is_err.ensures.value c.write_answer-written.ensures.sent.2 c.if-spans.true
 
 pub returns-else-spans-clause-turn : goal.returns-else-spans-clause-turn
 returns-else-spans-clause-turn g c =
-    let sent = c.write_answer-written.ensures.sent in
-    turn_held _ _ _ _ _ _ _ _ _ _ _ c.in-Ok.ensures.kept c.in-Ok.ensures.found c.in-Whole.is c.bytes.ensures.bytes
-    c.of.ensures c.consume.ensures
-    c.answer_frame-answer.ensures.answer sent.1 c.if-is_err.ensures.value sent.2 c.if-spans.false
+    turn_held _ _ _ c.in-Ok.ensures.kept c.in-Ok.ensures.found c.in-Whole.is c.bytes.ensures.bytes c.of.ensures
+    c.consume.ensures c.answer_frame-answer.ensures.answer c.write_answer-written.ensures.sent.1
+    c.if-is_err.ensures.value c.write_answer-written.ensures.sent.2 c.if-spans.false
 
 -- the same link, whose source and sink have their marks and whose faults don't fall
 same_link : (old new : Link) → GoesOn old.server.desk new.server.desk → new.source.mark ≡ old.source.mark
