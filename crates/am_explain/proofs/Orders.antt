@@ -5,8 +5,9 @@ use Rattle.std.specs.List.{filter}
 use Rattle.std.specs.List.Sorted.{IsPermutation}
 use Rattle.std.proofs.lemmas.List.Sorted.{IsPermutation-append_comm, IsPermutation-append_left, IsPermutation-append_right, IsPermutation-refl, IsPermutation-trans}
 use Rattle.am_types.specs.declared.resolve.Hit.{Hit}
-use Rattle.am_model.specs.Candidates.{by_priority, place_hit}
-use Rattle.am_model.specs.Receivers.{Offer, in_order, place_offer}
+use Rattle.am_model.specs.Candidates.{by_priority}
+use Rattle.am_model.specs.Lists.{falling_by, place_by}
+use Rattle.am_model.specs.Receivers.{Offer, in_order}
 
 -- what each element gives, one after the other
 abbrev pub flat : {X Y : Type 0} → (X → List Y) → List X → List Y
@@ -31,38 +32,28 @@ module _ {X Y : Type 0} (f : X → List Y) where
   behind x y xs placed p =
       IsPermutation-trans _ _ _ (turned x y xs) (IsPermutation-append_right (f y) _ _ p)
 
--- a function places an element after those of greater priority, and another places each in turn in the same way
-module _ {X Y : Type 0} (f : X → List Y) (priority : X → ℤ) (put : X → List X → List X) (order : List X → List X)
-    (alone : (x : X) → put x [] ≡ x ∷ [])
-    (among : (x first : X) (others : List X) → put x (first ∷ others)
-    ≡ cond (int_lt (priority x) (priority first)) (first ∷ put x others) (x ∷ first ∷ others))
-    (none : order [] ≡ [])
-    (more : (first : X) (others : List X) → order (first ∷ others) ≡ put first (order others)) where
-  placed : (x : X) (xs : List X) → IsPermutation (f x ++ flat f xs) (flat f (put x xs))
-  placed x [] = subst (λ l. IsPermutation (f x ++ []) (flat f l)) (sym (alone x)) (IsPermutation-refl _)
-  placed x (y ∷ ys) =
-      subst (λ l. IsPermutation (f x ++ flat f (y ∷ ys)) (flat f l)) (sym (among x y ys))
-      (by (int_lt (priority x) (priority y)) (placed x ys))
+-- in order of falling priority, elements give the same in another order
+module _ {X Y : Type 0} (f : X → List Y) (priority : X → ℤ) where
+  placed : (x : X) (xs : List X) → IsPermutation (f x ++ flat f xs) (flat f (place_by priority x xs))
+  placed x [] = IsPermutation-refl _
+  placed x (y ∷ ys) = by (int_lt (priority x) (priority y)) (placed x ys)
     where
-      by : (b : Bool) → IsPermutation (f x ++ flat f ys) (flat f (put x ys))
-          → IsPermutation (f x ++ flat f (y ∷ ys)) (flat f (cond b (y ∷ put x ys) (x ∷ y ∷ ys)))
-      by true p = behind f x y ys (put x ys) p
+      by : (b : Bool) → IsPermutation (f x ++ flat f ys) (flat f (place_by priority x ys))
+          → IsPermutation (f x ++ flat f (y ∷ ys)) (flat f (cond b (y ∷ place_by priority x ys) (x ∷ y ∷ ys)))
+      by true p = behind f x y ys (place_by priority x ys) p
       by false p = IsPermutation-refl _
 
-  ordered : (xs : List X) → IsPermutation (flat f xs) (flat f (order xs))
-  ordered [] = subst (λ l. IsPermutation [] (flat f l)) (sym none) (IsPermutation-refl _)
-  ordered (x ∷ xs) =
-      subst (λ l. IsPermutation (flat f (x ∷ xs)) (flat f l)) (sym (more x xs))
-      (IsPermutation-trans _ _ _ (IsPermutation-append_right (f x) _ _ (ordered xs)) (placed x (order xs)))
+  ordered : (xs : List X) → IsPermutation (flat f xs) (flat f (falling_by priority xs))
+  ordered [] = IsPermutation-refl _
+  ordered (x ∷ xs) = IsPermutation-trans _ _ _ (IsPermutation-append_right (f x) _ _ (ordered xs))
+      (placed x (falling_by priority xs))
 
 pub ordered_offers : {Y : Type 0} (f : Offer → List Y) (os : List Offer)
     → IsPermutation (flat f os) (flat f (in_order os))
-ordered_offers f = ordered f (λ (o : Offer). o.priority) place_offer in_order (λ o. refl) (λ o first others. refl) refl
-    (λ first others. refl)
+ordered_offers f = ordered f (λ (o : Offer). o.priority)
 
 pub ordered_hits : {Y : Type 0} (f : Hit → List Y) (hs : List Hit) → IsPermutation (flat f hs) (flat f (by_priority hs))
-ordered_hits f = ordered f (λ (h : Hit). h.priority) place_hit by_priority (λ h. refl) (λ h first others. refl) refl
-    (λ first others. refl)
+ordered_hits f = ordered f (λ (h : Hit). h.priority)
 
 -- a filter gives its elements, one after the other
 flat_kept : {X : Type 0} (keeps : X → Bool) (xs : List X) → flat (λ x. cond (keeps x) (x ∷ []) []) xs ≡ filter keeps xs

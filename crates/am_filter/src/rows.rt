@@ -1,6 +1,6 @@
 //! The data rows of a filter, and how they merge.
 ghost use Rattle.std.specs.Prelude.{◌≡◌, ◌++◌, IfOk, fold};
-ghost use Rattle.am_filter.specs.Rows.{listed, merged, no_rows, with_paths, with_row};
+ghost use Rattle.am_filter.specs.Rows.{filter_with, listed, merged, no_rows, with_paths, with_row};
 
 use am_types::{Authority, Filter, Glob, List, Mime, PathRule, Text};
 use am_uri::with_optional;
@@ -49,15 +49,7 @@ pub struct DataRows {
 impl DataRows {
     /// The filter with these data. Takes no memory.
     pub fn into_filter(self, actions: List<Text>, categories: List<Text>, priority: i32) -> Filter
-        ensures { result ≡ record {
-          actions = actions;
-          categories = categories;
-          schemes = self.schemes;
-          authorities = self.authorities;
-          paths = self.paths;
-          types = self.types;
-          priority = priority;
-        } }
+        ensures { result ≡ filter_with actions categories self priority }
     {
         Filter {
             actions,

@@ -2,7 +2,7 @@
 ghost use Rattle.std.specs.Prelude.{◌≡◌, ◌∷◌, ◌++◌, [], not, ◌==◌, false, filter, IfOk, IsOk, OnOk, OnErr, option_copied};
 ghost use Rattle.std.specs.Option.{option_map};
 ghost use Rattle.am_types.specs.declared.resolve.Registration.{Registration};
-ghost use Rattle.am_model.specs.Boards.{board_of, grants_without, links_without, package_at, package_named, registered_without, with_grant, with_link, with_stopped, without_package};
+ghost use Rattle.am_model.specs.Boards.{Board, board_of, grants_without, links_without, package_at, package_named, registered_without, with_grant, with_link, with_stopped, without_package};
 ghost use Rattle.am_model.specs.Receivers.{declared};
 ghost use Rattle.am_installed.specs.Installed.{AreGrantsInOrder, AreInstalled, AreLinksInOrder, IsInOrder};
 ghost use Rattle.am_installed.specs.Places.{AreByNumber, place_registered};
@@ -35,9 +35,6 @@ impl Drop for Installed {
 }
 
 impl Model for Installed {
-    ghost use Rattle.am_model.specs.Boards.{Board};
-    ghost use Rattle.am_installed.specs.Installed.{IsInOrder};
-
     ghost Value = { Board };
 
     ghost view = { λ i. record {

@@ -17,7 +17,7 @@ use Rattle.am_types.specs.declared.broadcast.Receiving.{Receiving}
 use Rattle.am_types.specs.declared.broadcast.Spot.{Spot}
 use Rattle.am_types.specs.declared.rule.Rule.{Rule}
 use Rattle.am_types.specs.declared.rule.Rule.TheVariants as rules
-use Rattle.am_model.specs.Lists.{falling_by, place_by}
+use Rattle.am_model.specs.Lists.{falling_by}
 use Rattle.am_model.specs.Texts.{is_same, lists}
 use Rattle.am_model.specs.Filters.{passes}
 use Rattle.am_model.specs.Boards.{Board, package_at}
@@ -105,10 +105,6 @@ registered_offer r =
       permission =
           r.permission;
     }
-
--- an offer in front of those of no greater priority, after the others
-abbrev pub place_offer : Offer → List Offer → List Offer
-place_offer offer others = place_by (λ (o : Offer). o.priority) offer others
 
 -- by falling priority; ties keep their order
 abbrev pub in_order : List Offer → List Offer

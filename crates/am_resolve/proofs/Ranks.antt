@@ -11,7 +11,8 @@ use Rattle.am_types.specs.declared.resolve.Hit.{Hit}
 use Rattle.am_types.specs.declared.resolve.Registration.{Registration}
 use Rattle.am_model.specs.Boards.{Board}
 use Rattle.am_model.specs.Candidates.{hits}
-use Rattle.am_model.specs.Receivers.{Offer, declared, declared_offer, declared_offers, finds_registered, in_order, place_offer, receivers, registered_offer, skip_of}
+use Rattle.am_model.specs.Lists.{place_by}
+use Rattle.am_model.specs.Receivers.{Offer, declared, declared_offer, declared_offers, finds_registered, in_order, receivers, registered_offer, skip_of}
 use Rattle.am_resolve.specs.declared.offers.Ranked.{Ranked}
 use Rattle.am_resolve.specs.declared.offers.Sent.{Sent}
 use Rattle.am_resolve.specs.Ranking.{in_rank, place_ranked, ranked_of, ranked_of_hits, ranked_of_registered, receiving_of}
@@ -39,16 +40,20 @@ module _ (sent : Sent) where
   abbrev ranked : Offer → Ranked
   ranked = ranked_of sent
 
+  -- an offer in front of those of no greater priority, after the others
+  abbrev place : Offer → List Offer → List Offer
+  place = place_by (λ (o : Offer). o.priority)
+
   -- placing what becomes of an offer is placing the offer
   place-ranked : (offer : Offer) (others : List Offer) → place_ranked (ranked offer) (map ranked others)
-      ≡ map ranked (place_offer offer others)
+      ≡ map ranked (place offer others)
   place-ranked offer [] = refl
   place-ranked offer (first ∷ others) = by (int_lt offer.priority first.priority) (place-ranked offer others)
     where
-      by : (b : Bool) → place_ranked (ranked offer) (map ranked others) ≡ map ranked (place_offer offer others)
+      by : (b : Bool) → place_ranked (ranked offer) (map ranked others) ≡ map ranked (place offer others)
           → cond b (ranked first ∷ place_ranked (ranked offer) (map ranked others))
           (ranked offer ∷ ranked first ∷ map ranked others)
-          ≡ map ranked (cond b (first ∷ place_offer offer others) (offer ∷ first ∷ others))
+          ≡ map ranked (cond b (first ∷ place offer others) (offer ∷ first ∷ others))
       by true e = ap (λ l. ranked first ∷ l) e
       by false e = refl
 

@@ -24,8 +24,6 @@ struct Running {
 }
 
 impl Model for Running {
-    ghost use Rattle.am_history.specs.State.{Service};
-
     ghost Value = { Service };
 
     ghost view = { λ r. record { component = r.component; owner = r.owner; intent = r.intent; starts = r.starts } };

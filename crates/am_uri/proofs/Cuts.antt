@@ -23,11 +23,14 @@ pub list_any-position : {X : Type 0} (p : X → Bool) (xs : List X) → list_any
 list_any-position p [] = refl
 list_any-position p (x ∷ xs) = one_more (p x) _ _ _ (list_any-position p xs)
 
+-- what lies before and after a c, if the text has one
+abbrev IsCut : ℕ → List ℕ → Type 0 → List ℕ → List ℕ → Option (Bor (List ℕ) × Bor (List ℕ)) → Type 0
+IsCut c bs uncut before after r = MatchOption r uncut
+    (λ x. (list_any (λ b. b == c) bs ≡ true) × (x.0.now ≡ before) × (x.1.now ≡ after))
+
 -- the text is cut at its first c, or has none
 abbrev pub IsCutFirst : ℕ → List ℕ → Option (Bor (List ℕ) × Bor (List ℕ)) → Type 0
-IsCutFirst c bs r = MatchOption r (list_any (λ b. b == c) bs ≡ false)
-    (λ x. (list_any (λ b. b == c) bs ≡ true) × (x.0.now ≡ before_first (λ b. b == c) bs)
-    × (x.1.now ≡ after_first (λ b. b == c) bs))
+IsCutFirst c bs = IsCut c bs (list_any (λ b. b == c) bs ≡ false) (before_first (λ b. b == c) bs) (after_first (λ b. b == c) bs)
 
 -- `split_once` at an ASCII character
 pub split_first : (c : ℕ) (bs : List ℕ) (r : Option (Bor (List ℕ) × Bor (List ℕ))) → IsSplitOnceResult c bs r → c < 128
@@ -65,9 +68,8 @@ IsRSplitOnceResult c bs r = MatchOption r (RFindsChar c bs None) (λ x. (i : ℕ
 
 -- the text is cut at its last c, or has none
 abbrev pub IsCutLast : ℕ → List ℕ → Option (Bor (List ℕ) × Bor (List ℕ)) → Type 0
-IsCutLast c bs r = MatchOption r ((list_any (λ b. b == c) bs ≡ false) × (bs ≡ after_last (λ b. b == c) bs))
-    (λ x. (list_any (λ b. b == c) bs ≡ true) × (x.0.now ≡ before_last (λ b. b == c) bs)
-    × (x.1.now ≡ after_last (λ b. b == c) bs))
+IsCutLast c bs = IsCut c bs ((list_any (λ b. b == c) bs ≡ false) × (bs ≡ after_last (λ b. b == c) bs))
+    (before_last (λ b. b == c) bs) (after_last (λ b. b == c) bs)
 
 -- `rsplit_once` at an ASCII character
 pub split_last : (c : ℕ) (bs : List ℕ) (r : Option (Bor (List ℕ) × Bor (List ℕ))) → IsRSplitOnceResult c bs r → c < 128
