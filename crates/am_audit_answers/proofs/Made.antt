@@ -26,14 +26,13 @@ made_judged : (history : List Entry) (bench : Bench) (frame : Frame) (left : Lis
 made_judged history bench frame left request true making result stands asks says short few is comes =
     let next = is.0 in
     let so = subst (λ (m : Making). ComesTo bench frame request m left result) is.2 comes in
-    stored_judged history bench frame left request next so.made.0 so.made.1 result asks says short few stands.first
-    is.1.there is.1.suits
-    (next_is_whole history (length bench.replayed.history) next stands.made.whole is.1.there).kept is.1.its so.shows
-    so.takes
+    stored_judged history bench frame left request asks says short few stands.first next is.1.there is.1.suits
+    (next_is_whole history (length bench.replayed.history) next stands.made.whole is.1.there).kept is.1.its so.made.0
+    so.shows.shown so.shows.shows so.made.1 result so.shows.taken so.takes
 made_judged history bench frame left request false making result stands asks says short few is comes =
     let so = subst (λ (m : Making). ComesTo bench frame request m left result) is comes in
-    unstored_judged history bench frame left request making.desk so.made.0 so.made.1 result asks says short few
-    stands.first so.shows so.takes
+    unstored_judged history bench frame left request making.desk stands.first so.made.0 so.shows.shown so.shows.shows
+    asks says short few so.made.1 result so.shows.taken so.takes
 
 pub made_judged_if : (history : List Entry) (bench : Bench) (frame : Frame) (left : List ℕ) (request : Request)
     (stored : Bool) (making : Making)

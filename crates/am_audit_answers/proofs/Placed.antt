@@ -1,6 +1,6 @@
 -- The exchanges of a frame that makes a request, where the bytes say one place of a call.
 use Rattle.std.proofs.Common.{◌≡◌, ℕ, ◌<◌, ◌≤◌, ◌^◌, Bool, true, false, ◌&&◌, cond, List, ◌++◌, length, take, drop, refl, sym, ap, ◌∙◌, subst, inl, inr, arith}
-use Rattle.std.specs.Prelude.{Option, Some, None, Result, Ok, Err, is_some}
+use Rattle.std.specs.Prelude.{Option, Some, None, Result, Ok, Err, MatchOption, is_some}
 use Rattle.std.proofs.lemmas.List.{take-append-drop}
 use Rattle.am_types.specs.declared.history.Entry.{Entry}
 use Rattle.am_types.specs.declared.history.Shown.{Shown}
@@ -16,8 +16,9 @@ use Rattle.am_http.specs.Head.{Frame}
 use Rattle.am_http.specs.Requests.{call_of, request_of}
 use Rattle.am_http.specs.Responses.{response, want_after, want_before}
 use Rattle.am_audit_answers.specs.declared.judging.Accepted.{Accepted}
+use Rattle.am_audit_answers.specs.declared.judging.Bench.{Bench}
 use Rattle.am_audit_answers.specs.Audits.{IsAudited}
-use Rattle.am_audit_answers.specs.Judged.{IsAccepted, IsShownBy}
+use Rattle.am_audit_answers.specs.Judged.{IsAccepted, IsShownBy, Judges, ShowsAs}
 use Rattle.am_audit_answers.specs.Judging.{Answers, Case, OnlyWants, Suits}
 use Rattle.am_audit_answers.specs.Marks.{HasMark, SaysOnly}
 use Rattle.am_audit_answers.specs.Matching.{IsReplayed}
@@ -166,13 +167,47 @@ accepted_at c point accepted now low fits each only floor start replayed = recor
 }
 
 -- a call that is shown is an answer
-pub answer_by : (start : State) (desk : ℕ) (history : List Entry) (e : Exchange)
+answer_by : (start : State) (desk : ℕ) (history : List Entry) (e : Exchange)
     (called : IsCalled start desk history e)
     → IsShownBy (shown_at start history called.point (call_of desk e.frame called.now called.request) called.kept)
     e.bytes
     → IsAnswer start desk history e
 answer_by start desk history e called (inl is) = by_reply called is
 answer_by start desk history e called (inr is) = by_late_want called is
+
+-- a call at a moment that so many bytes show, and whose row is kept if it has one
+pub answer_at : (c : Case) (request : Request) (point : Point) (desk now taken : ℕ) → request_of c.frame ≡ Ok request
+    → IsMarked c.ground.start c.ground.history (call_of desk c.frame now request) true point
+    → IsShownBy (shown_at c.ground.start c.ground.history point (call_of desk c.frame now request) true)
+    (take taken c.left)
+    → IsAnswer c.ground.start desk c.ground.history (exchange_at c point (Some now) taken)
+answer_at c request point desk now taken asks marked =
+    answer_by c.ground.start desk c.ground.history (exchange_at c point (Some now) taken) (record {
+      request = request;
+      asks = asks;
+      now = now;
+      asked = refl;
+      kept = true;
+      point = point;
+      placed = refl;
+      marked = marked;
+    })
+
+-- a frame each of whose exchanges shows this is judged by the bytes that show it, if any do
+pub judged_by : (c : Case) (stored : Bool) (shown : Shown) (bench : Bench)
+    → ((desk : ℕ) (e : Exchange) (rest : List ℕ) → Answers c desk e rest
+    → (shown.stored ≡ stored) × IsShownBy shown e.bytes)
+    → ((taken : ℕ) → ShowsAs stored shown c.left (Some taken) → IsAccepted c (record { bench = bench; taken = taken }))
+    → (taken : Option ℕ) (result : Option Accepted) → ShowsAs stored shown c.left taken
+    → MatchOption result (taken ≡ None) (λ a. (a.bench ≡ bench) × (taken ≡ Some a.taken))
+    → Judges c result
+judged_by c stored shown bench each accepts taken None shows is = λ desk e rest answers.
+    let there = each desk e rest answers in
+    subst (ShowsAs stored shown c.left) is shows there.0 e.bytes rest there.1 answers.bytes
+judged_by c stored shown bench each accepts taken (Some a) shows is =
+    let same : record { bench = bench; taken = a.taken } ≡ a = λ i. record { bench = sym is.0 i; taken = a.taken } in
+    subst (IsAccepted c) same
+    (accepts a.taken (subst (ShowsAs stored shown c.left) is.1 shows))
 
 -- a call that isn't stored is answered the same on each desk, kept or not
 pub unstored_reply : (start : State) (history : List Entry) (frame : Frame) (now : ℕ) (request : Request)

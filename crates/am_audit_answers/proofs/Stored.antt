@@ -8,18 +8,18 @@ use Rattle.am_types.specs.declared.request.Request.{Request}
 use Rattle.am_history.specs.State.{State, uid_of}
 use Rattle.am_history.specs.History.{IsEntryOf, is_stored, replay, reply_after}
 use Rattle.am_history.specs.Desks.{Follows}
-use Rattle.am_http.specs.Exchanges.{Exchange, IsAnswer, IsCalled, Point}
+use Rattle.am_http.specs.Exchanges.{Exchange, IsAnswer, IsMarked, Point}
 use Rattle.am_http.specs.Head.{Frame}
 use Rattle.am_http.specs.Requests.{call_of, request_of}
 use Rattle.am_audit_history.specs.Replays.{Replay, ShowsKept}
 use Rattle.am_audit_answers.specs.declared.judging.Accepted.{Accepted}
 use Rattle.am_audit_answers.specs.declared.judging.Bench.{Bench}
-use Rattle.am_audit_answers.specs.Judged.{IsAccepted, IsMade, IsNext, IsShownBy, Judges, ShowsAs, case_of, ground_of}
+use Rattle.am_audit_answers.specs.Judged.{IsAccepted, IsNext, IsShownBy, Judges, ShowsAs, case_of, ground_of}
 use Rattle.am_audit_answers.specs.Judging.{Answers, Case, Refuses, Suits}
 use Rattle.am_audit_answers.specs.Marks.{SaysOnly}
 use Rattle.am_audit_answers.specs.Matching.{IsItsCall, IsReplayed}
 use Rattle.am_audit_answers.proofs.Going.{next_is_replayed, one_more}
-use Rattle.am_audit_answers.proofs.Placed.{IsPlaced, accepted_at, answer_by, each_placed, exchange_at, shown_at}
+use Rattle.am_audit_answers.proofs.Placed.{IsPlaced, accepted_at, answer_at, each_placed, exchange_at, judged_by, shown_at}
 
 module _ (history : List Entry) (bench : Bench) (frame : Frame) (left : List ℕ) (request : Request)
     (asks : request_of frame ≡ Ok request) (says : SaysOnly left (length bench.replayed.history) true)
@@ -121,32 +121,11 @@ module _ (history : List Entry) (bench : Bench) (frame : Frame) (left : List ℕ
           (shown_is desk p.now p.kept (sym is.desk) (sym is.now) (sym is.kept ∙ kept)
           (is_stored_there desk e rest answers)) p.shows
 
-      -- if no bytes show it there is none
-      refuses : ShowsAs true shown left None → Refuses c
-      refuses none desk e rest answers = none (is_stored_there desk e rest answers) e.bytes rest
-          (shows_it desk e rest answers) answers.bytes
-
-      -- the exchange of so many bytes
-      abbrev exchange : ℕ → Exchange
-      exchange = exchange_at c point (Some next.now)
-
-      called : (desk taken : ℕ) → desk ≡ next.desk → shown.stored ≡ true
-          → IsCalled bench.replayed.start desk history (exchange taken)
-      called desk taken number stored = record {
-        request = request;
-        asks = asks;
-        now = next.now;
-        asked = refl;
-        kept = true;
-        point = point;
-        placed = refl;
-        marked = record {
-          within = first.within;
-          stored = sym stored
-              ∙ stored_is desk next.now refl;
-          entry = (next, there, is);
-        };
-      }
+      -- the call is marked at its place
+      marked : (desk : ℕ) → desk ≡ next.desk → shown.stored ≡ true
+          → IsMarked bench.replayed.start history (call_of desk frame next.now request) true point
+      marked desk number stored =
+          record { within = first.within; stored = sym stored ∙ stored_is desk next.now refl; entry = (next, there, is) }
         where
           is : IsEntryOf (replay bench.replayed.start before) (call_of desk frame next.now request) true next
           is = record {
@@ -165,7 +144,6 @@ module _ (history : List Entry) (bench : Bench) (frame : Frame) (left : List ℕ
       -- it is accepted by them
       accepts : (taken : ℕ) → ShowsAs true shown left (Some taken)
           → IsAccepted c (record { bench = record { replayed = after; desk = Some next.desk }; taken = taken })
-      unfolding called
       accepts taken takes =
           accepted_at c point (record { bench = record { replayed = after; desk = Some next.desk }; taken = taken })
           (Some next.now) (omega arith) takes.1.0
@@ -183,37 +161,21 @@ module _ (history : List Entry) (bench : Bench) (frame : Frame) (left : List ℕ
           (next_is_replayed (ground_of history bench) bench.replayed after next first there shows.start
           (after_is takes.0))
         where
-          answer : (desk : ℕ) → desk ≡ next.desk → IsAnswer bench.replayed.start desk history (exchange taken)
+          answer : (desk : ℕ) → desk ≡ next.desk
+              → IsAnswer bench.replayed.start desk history (exchange_at c point (Some next.now) taken)
           answer desk number =
-              answer_by bench.replayed.start desk history (exchange taken) (called desk taken number takes.0)
+              answer_at c request point desk next.now taken asks (marked desk number takes.0)
               (subst (λ (s : Shown). IsShownBy s (take taken left))
               (sym (shown_is desk next.now true number refl refl takes.0)) takes.1.1)
 
--- such a frame is judged by what the call comes to
-pub stored_judged : (history : List Entry) (bench : Bench) (frame : Frame) (left : List ℕ) (request : Request)
-    (next : Entry) (after : Replay)
-    (taken : Option ℕ) (result : Option Accepted) → request_of frame ≡ Ok request
-    → SaysOnly left (length bench.replayed.history) true
-    → length history < 2 ^ 64 → length left < 2 ^ 64 → IsReplayed (ground_of history bench) bench.replayed
-    → slice_get history (length bench.replayed.history) ≡ Some next → Suits bench.desk next.desk → next.kept ≡ true
-    → IsItsCall (replay bench.replayed.start bench.replayed.history) frame request next
-    → IsMade bench.replayed (call_of next.desk frame next.now request) true left (after, taken)
-    → MatchOption result (taken ≡ None) (λ a. (a.bench ≡ record { replayed = after; desk = Some next.desk })
-    × (taken ≡ Some a.taken))
-    → Judges (case_of history bench frame left) result
-stored_judged history bench frame left request next after taken None asks says short few first there suits kept its made
-    is =
-    refuses history bench frame left request asks says short few first next there suits kept its after made.shown
-    made.shows
-    (subst (ShowsAs true made.shown left) is made.taken)
-stored_judged history bench frame left request next after taken (Some a) asks says short few first there suits kept its
-    made is =
-    let same : record { bench = record { replayed = after; desk = Some next.desk }; taken = a.taken }
-    ≡ a = λ i. record { bench = sym is.0 i; taken = a.taken } in
-    subst (IsAccepted (case_of history bench frame left)) same
-    (accepts history bench frame left request asks says short few first next there suits kept its after made.shown
-    made.shows a.taken
-    (subst (ShowsAs true made.shown left) is.1 made.taken))
+      -- so the frame is judged by the bytes that show it
+      pub stored_judged : (taken : Option ℕ) (result : Option Accepted) → ShowsAs true shown left taken
+          → MatchOption result (taken ≡ None) (λ a. (a.bench ≡ record { replayed = after; desk = Some next.desk })
+          × (taken ≡ Some a.taken))
+          → Judges c result
+      stored_judged =
+          judged_by c true shown (record { replayed = after; desk = Some next.desk })
+          (λ desk e rest answers. (is_stored_there desk e rest answers, shows_it desk e rest answers)) accepts
 
 -- if no next entry is the frame's call on a desk that suits, no exchange of the frame shows its call
 pub refuses_next : (history : List Entry) (bench : Bench) (frame : Frame) (left : List ℕ) (request : Request)

@@ -7,18 +7,18 @@ use Rattle.am_types.specs.declared.history.Shown.{Shown}
 use Rattle.am_types.specs.declared.request.Request.{Request}
 use Rattle.am_history.specs.History.{IsEntryOf, is_stored, replay, reply_after}
 use Rattle.am_history.specs.Desks.{Follows}
-use Rattle.am_http.specs.Exchanges.{Exchange, IsAnswer, IsCalled, Point}
+use Rattle.am_http.specs.Exchanges.{Exchange, IsAnswer, IsMarked, Point}
 use Rattle.am_http.specs.Head.{Frame}
 use Rattle.am_http.specs.Requests.{call_of, request_of}
 use Rattle.am_audit_history.specs.Replays.{Replay, ShowsKept}
 use Rattle.am_audit_answers.specs.declared.judging.Accepted.{Accepted}
 use Rattle.am_audit_answers.specs.declared.judging.Bench.{Bench}
 use Rattle.am_audit_answers.specs.Audits.{IsTimedBy}
-use Rattle.am_audit_answers.specs.Judged.{IsAccepted, IsMade, IsShownBy, Judges, ShowsAs, case_of, ground_of}
-use Rattle.am_audit_answers.specs.Judging.{Answers, Case, Refuses}
+use Rattle.am_audit_answers.specs.Judged.{IsAccepted, IsShownBy, Judges, ShowsAs, case_of, ground_of}
+use Rattle.am_audit_answers.specs.Judging.{Answers, Case}
 use Rattle.am_audit_answers.specs.Marks.{SaysOnly}
 use Rattle.am_audit_answers.specs.Matching.{IsReplayed}
-use Rattle.am_audit_answers.proofs.Placed.{IsPlaced, accepted_at, answer_by, each_placed, exchange_at, shown_at, unstored_reply}
+use Rattle.am_audit_answers.proofs.Placed.{IsPlaced, accepted_at, answer_at, each_placed, exchange_at, judged_by, shown_at, unstored_reply}
 
 module _ (history : List Entry) (bench : Bench) (frame : Frame) (left : List ℕ) (request : Request) (number : ℕ)
     (first : IsReplayed (ground_of history bench) bench.replayed)
@@ -97,31 +97,14 @@ module _ (history : List Entry) (bench : Bench) (frame : Frame) (left : List ℕ
           e.bytes) (now_is desk e rest answers p) p.shows in
           subst (λ (s : Shown). IsShownBy s e.bytes) (shown_is desk p.kept (isnt_stored desk e rest answers)) here
 
-      -- if no bytes show it there is none
-      refuses : ShowsAs false shown left None → Refuses c
-      refuses none desk e rest answers = none (isnt_stored desk e rest answers) e.bytes rest
-          (shows_it desk e rest answers) answers.bytes
-
-      -- the exchange of so many bytes
-      abbrev exchange : ℕ → Exchange
-      exchange = exchange_at c point (Some 0)
-
-      called : (desk taken : ℕ) → shown.stored ≡ false → IsCalled bench.replayed.start desk history (exchange taken)
-      called desk taken unstored = record {
-        request = request;
-        asks = asks;
-        now = 0;
-        asked = refl;
-        kept = true;
-        point = point;
-        placed = refl;
-        marked = record { within = first.within; stored = sym unstored ∙ stored_is desk; entry = tt };
-      }
+      -- the call is marked at its place
+      marked : (desk : ℕ) → shown.stored ≡ false
+          → IsMarked bench.replayed.start history (call_of desk frame 0 request) true point
+      marked desk unstored = record { within = first.within; stored = sym unstored ∙ stored_is desk; entry = tt }
 
       -- it is accepted by them
       accepts : (taken : ℕ) → ShowsAs false shown left (Some taken)
           → IsAccepted c (record { bench = record { replayed = after; desk = bench.desk }; taken = taken })
-      unfolding called
       accepts taken takes =
           accepted_at c point
           (record { bench = record { replayed = after; desk = bench.desk }; taken = taken }) (Some 0)
@@ -134,9 +117,9 @@ module _ (history : List Entry) (bench : Bench) (frame : Frame) (left : List ℕ
           ))
           (sym (ap (λ (h : List Entry). length h) (after_is takes.0))) shows.start replayed
         where
-          answer : (desk : ℕ) → IsAnswer bench.replayed.start desk history (exchange taken)
+          answer : (desk : ℕ) → IsAnswer bench.replayed.start desk history (exchange_at c point (Some 0) taken)
           answer desk =
-              answer_by bench.replayed.start desk history (exchange taken) (called desk taken takes.0)
+              answer_at c request point desk 0 taken asks (marked desk takes.0)
               (subst (λ (s : Shown). IsShownBy s (take taken left)) (sym (shown_is desk true takes.0)) takes.1.1)
 
           replayed : IsReplayed (ground_of history bench) after
@@ -149,22 +132,11 @@ module _ (history : List Entry) (bench : Bench) (frame : Frame) (left : List ℕ
                 first = subst P same first.first;
               }
 
--- such a frame is judged by what the call comes to
-pub unstored_judged : (history : List Entry) (bench : Bench) (frame : Frame) (left : List ℕ) (request : Request)
-    (number : ℕ) (after : Replay)
-    (taken : Option ℕ) (result : Option Accepted) → request_of frame ≡ Ok request
-    → SaysOnly left (length bench.replayed.history) false
-    → length history < 2 ^ 64 → length left < 2 ^ 64 → IsReplayed (ground_of history bench) bench.replayed
-    → IsMade bench.replayed (call_of number frame 0 request) false left (after, taken)
-    → MatchOption result (taken ≡ None) (λ a. (a.bench ≡ record { replayed = after; desk = bench.desk })
-    × (taken ≡ Some a.taken))
-    → Judges (case_of history bench frame left) result
-unstored_judged history bench frame left request number after taken None asks says short few first made is =
-    refuses history bench frame left request number first after made.shown made.shows asks says short few
-    (subst (ShowsAs false made.shown left) is made.taken)
-unstored_judged history bench frame left request number after taken (Some a) asks says short few first made is =
-    let same : record { bench = record { replayed = after; desk = bench.desk }; taken = a.taken }
-    ≡ a = λ i. record { bench = sym is.0 i; taken = a.taken } in
-    subst (IsAccepted (case_of history bench frame left)) same
-    (accepts history bench frame left request number first after made.shown made.shows asks says short few a.taken
-    (subst (ShowsAs false made.shown left) is.1 made.taken))
+      -- so the frame is judged by the bytes that show it
+      pub unstored_judged : (taken : Option ℕ) (result : Option Accepted) → ShowsAs false shown left taken
+          → MatchOption result (taken ≡ None) (λ a. (a.bench ≡ record { replayed = after; desk = bench.desk })
+          × (taken ≡ Some a.taken))
+          → Judges c result
+      unstored_judged =
+          judged_by c false shown (record { replayed = after; desk = bench.desk })
+          (λ desk e rest answers. (isnt_stored desk e rest answers, shows_it desk e rest answers)) accepts

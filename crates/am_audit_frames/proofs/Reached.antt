@@ -59,15 +59,8 @@ record Parts (fs : List Frame) (f : Frame) (others : List Frame) (es : List Exch
 part : (fs : List Frame) (f : Frame) (others : List Frame) (es : List Exchange) → frames_of es ≡ fs ++ f ∷ others
     → Parts fs f others es
 part [] f others [] asked = absurd cc
-part [] f others (e ∷ es) asked = record {
-  before = [];
-  one = e;
-  later = es;
-  same = refl;
-  frames = refl;
-  frame = cc;
-  more = cc;
-}
+part [] f others (e ∷ es) asked =
+    record { before = []; one = e; later = es; same = refl; frames = refl; frame = cc; more = cc }
 part (g ∷ fs) f others [] asked = absurd cc
 part (g ∷ fs) f others (e ∷ es) asked =
     let first : e.frame ≡ g = cc in

@@ -1,7 +1,6 @@
 //! The text of an entry.
-ghost use Rattle.std.specs.Prelude.{◌≡◌, ◌↔◌, IsTrue, IfOk, string_bytes};
+ghost use Rattle.std.specs.Prelude.{◌≡◌, ◌↔◌, IsTrue, IfOk};
 ghost use Rattle.serde_json.specs.View.{view};
-ghost use Rattle.serde_json.specs.Read.{max_depth};
 ghost use Rattle.am_wire_values.specs.Replies.{entry_data};
 ghost use Rattle.am_wire_values.specs.Requests.{request_data};
 ghost use Rattle.am_audit_history.specs.Lines.{IsTextOf};

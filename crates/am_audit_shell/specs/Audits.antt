@@ -10,7 +10,7 @@ use Rattle.am_audit_shell.specs.declared.finding.Finding.{Finding}
 use Rattle.am_audit_shell.specs.declared.finding.Finding.TheVariants as findings
 use Rattle.am_audit_shell.specs.Contents.{IsHistoryRefused, IsJudged, IsOverLimit, IsUnread}
 use Rattle.am_console.specs.Telling.{OnlyTold, Prints, Voices}
-use Rattle.am_audit_shell.specs.Lines.{history_line, limit_line, setback_line, usage_line, verdict_line, verdict_status, want_line, write_line}
+use Rattle.am_audit_shell.specs.Lines.{history_line, limit_line, setback_line, verdict_line, verdict_status, want_line}
 use Rattle.am_audit_shell.specs.Words.{Named, named_by}
 
 -- why there is no finding; running out of memory has no cause
@@ -39,7 +39,7 @@ abbrev pub TellsFinding : Finding → Voices → Voices → ℕ → Type 0
 TellsFinding (findings.OverLimit part) before after status = OnlyTold (limit_line part) 7 before after status
 TellsFinding (findings.HistoryRefused line) before after status = OnlyTold line 5 before after status
 TellsFinding (findings.Judged verdict) before after status =
-    Prints write_line (verdict_line verdict) (verdict_status verdict) before after status
+    Prints (codes "am_audit: write fault\n") (verdict_line verdict) (verdict_status verdict) before after status
     ⊎ OnlyTold want_line 8 before after status
 
 -- how an audit is told: by what is found, or by the setback, on the errors
@@ -62,7 +62,7 @@ pub record Went (named : Named) (before after : World) (status : ℕ) : Type 0 w
 -- an audit of the files that the words name, if they name them
 abbrev pub AuditsNamed : Option Named → World → World → ℕ → Type 0
 AuditsNamed None before after status =
-    (after.files ≡ before.files) × OnlyTold usage_line 2 before.voices after.voices status
+    (after.files ≡ before.files) × OnlyTold (codes "am_audit: usage\n") 2 before.voices after.voices status
 AuditsNamed (Some named) before after status = Went named before after status
 
 -- a whole audit

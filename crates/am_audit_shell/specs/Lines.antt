@@ -7,13 +7,7 @@ use Rattle.am_console.specs.declared.setback.Setback.TheVariants as setbacks
 use Rattle.am_audit_shell.specs.declared.finding.Part.{Part}
 use Rattle.am_audit_shell.specs.declared.finding.Part.TheVariants as parts
 
--- the lines for other words, for an output that failed, and for running out of memory
-abbrev pub usage_line : List ℕ
-usage_line = codes "am_audit: usage\n"
-
-abbrev pub write_line : List ℕ
-write_line = codes "am_audit: write fault\n"
-
+-- the line for running out of memory
 abbrev pub want_line : List ℕ
 want_line = codes "am_audit: out of memory\n"
 

@@ -50,13 +50,5 @@ abbrev pub once_now : (opening : State) (history : List Entry) (P : State → De
     → deed_of (after_due (replay opening history) entry.now) entry.uid entry.request ≡ Some deed
     → P (after_due (replay opening history) entry.now) deed
     → Once opening (history ++ entry ∷ []) P
-once_now opening history P entry deed kept did holds = record {
-  before = history;
-  at = entry;
-  after = [];
-  splits = refl;
-  kept = kept;
-  deed = deed;
-  did = did;
-  holds = holds;
-}
+once_now opening history P entry deed kept did holds =
+    record { before = history; at = entry; after = []; splits = refl; kept = kept; deed = deed; did = did; holds = holds }

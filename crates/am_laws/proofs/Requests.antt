@@ -58,23 +58,33 @@ use Rattle.am_laws.proofs.Tests.{neither}
 abbrev pub stopped_of : State → ℕ → State
 stopped_of state uid = let left = forget state uid in with_packages left (with_stopped left.board.packages uid true)
 
+-- this holds after each start of an activity that the request of a caller may make
+abbrev pub AfterStarts : (State → Type 0) → State → ℕ → Request → Type 0
+AfterStarts P state caller request =
+    (uid : ℕ) (intent : Intent) (source : Option ℕ) (component : Component) (found : ℕ × Decl)
+    (landed : Landed × Tasks)
+    → deed_of state caller request ≡ Some (Starts uid intent) → declared state.board.packages kinds.Activity component
+    ≡ Some found
+    → verdict state.board.grants uid found.0 found.1.exported found.1.permission ≡ Admit
+    → place state.tasks (start_call uid intent source component found) ≡ Ok landed
+    → P (record (with_packages state (with_stopped state.board.packages found.0 false)) { tasks = landed.1 })
+
+-- and after each start of a service
+abbrev pub AfterServes : (State → Type 0) → State → ℕ → Request → Type 0
+AfterServes P state caller request =
+    (uid : ℕ) (intent : Intent) (component : Component) (found : ℕ × Decl) → deed_of state caller request
+    ≡ Some (Serves uid intent)
+    → declared state.board.packages kinds.Service component ≡ Some found
+    → verdict state.board.grants uid found.0 found.1.exported found.1.permission ≡ Admit
+    → P (record (with_packages state (with_stopped state.board.packages found.0 false)) {
+      services = with_start state.services component found.0 intent (running state.services component);
+    })
+
 -- this holds in the state, and after each step that the request of a caller may take
 pub record Steps (P : State → Type 0) (state : State) (caller : ℕ) (request : Request) : Type 0 where
   pub here : P state
-  pub started : (uid : ℕ) (intent : Intent) (source : Option ℕ) (component : Component) (found : ℕ × Decl)
-      (landed : Landed × Tasks)
-      → deed_of state caller request ≡ Some (Starts uid intent) → declared state.board.packages kinds.Activity component
-      ≡ Some found
-      → verdict state.board.grants uid found.0 found.1.exported found.1.permission ≡ Admit
-      → place state.tasks (start_call uid intent source component found) ≡ Ok landed
-      → P (record (with_packages state (with_stopped state.board.packages found.0 false)) { tasks = landed.1 })
-  pub served : (uid : ℕ) (intent : Intent) (component : Component) (found : ℕ × Decl) → deed_of state caller request
-      ≡ Some (Serves uid intent)
-      → declared state.board.packages kinds.Service component ≡ Some found
-      → verdict state.board.grants uid found.0 found.1.exported found.1.permission ≡ Admit
-      → P (record (with_packages state (with_stopped state.board.packages found.0 false)) {
-        services = with_start state.services component found.0 intent (running state.services component);
-      })
+  pub started : AfterStarts P state caller request
+  pub served : AfterServes P state caller request
   pub sent : (sender : ℕ) (intent : Intent) (permission : Option (List ℕ)) (ordered : Option Ordered)
       → deed_of state caller request ≡ Some (Sends sender intent permission ordered)
       → is_protected state.board.protected intent.action && not (is_privileged sender) ≡ false
@@ -114,37 +124,49 @@ pub record Steps (P : State → Type 0) (state : State) (caller : ℕ) (request 
       → P (record state { board = record (state.board) { links = with_link state.board.links uid host approved } })
   pub advanced : (by : ℕ) → state.moment + by ≤ latest_moment → P (at_moment state (state.moment + by))
 
+module _ (Q : Tasks → List Service → ℕ → Type 0) (state : State) (caller : ℕ) (request : Request) where
+  abbrev Holds : State → Type 0
+  Holds s = Q s.tasks s.services s.moment
+
+  -- the steps of what is said of the tasks, the services and the moment alone
+  pub running_steps : Holds state → AfterStarts Holds state caller request → AfterServes Holds state caller request
+      → ((keeps : Instance → Bool) → Q (record (state.tasks) { tasks = tasks_keeping keeps state.tasks.tasks })
+      state.services state.moment)
+      → ((keeps : Service → Bool) → Q state.tasks (filter keeps state.services) state.moment)
+      → ((uid : ℕ) → Holds (forget state uid))
+      → ((by : ℕ) → state.moment + by ≤ latest_moment → Q state.tasks state.services (state.moment + by))
+      → Steps Holds state caller request
+  running_steps here starts serves keeping left forgotten moves = record {
+    here = here;
+    started = starts;
+    served = serves;
+    sent = λ sender intent permission ordered did unprotected. here;
+    ended = keeping;
+    unserved = left;
+    registered = λ filter permission. here;
+    taken_back = λ found. here;
+    finished = λ number answer holder asked is own. here;
+    got = λ left few. here;
+    changed = λ after left same one. one;
+    installed = λ text key manifest is name_unused key_unused room. here;
+    gone = forgotten;
+    stopped = forgotten;
+    granted = λ uid permission held live room. here;
+    linked = λ uid host approved live room. here;
+    advanced = moves;
+  }
+
 -- the steps of what is said of the tasks and the moment alone
 pub task_steps : (Q : Tasks → ℕ → Type 0) (state : State) (caller : ℕ) (request : Request) → Q state.tasks state.moment
-    → ((uid : ℕ) (intent : Intent) (source : Option ℕ) (component : Component) (found : ℕ × Decl)
-    (landed : Landed × Tasks)
-    → deed_of state caller request ≡ Some (Starts uid intent) → declared state.board.packages kinds.Activity component
-    ≡ Some found
-    → verdict state.board.grants uid found.0 found.1.exported found.1.permission ≡ Admit
-    → place state.tasks (start_call uid intent source component found) ≡ Ok landed → Q landed.1 state.moment)
+    → AfterStarts (λ (s : State). Q s.tasks s.moment) state caller request
     → ((keeps : Instance → Bool) → Q (record (state.tasks) { tasks = tasks_keeping keeps state.tasks.tasks })
     state.moment)
     → ((by : ℕ) → state.moment + by ≤ latest_moment → Q state.tasks (state.moment + by))
     → Steps (λ (s : State). Q s.tasks s.moment) state caller request
-task_steps Q state caller request here starts keeping moves = record {
-  here = here;
-  started = starts;
-  served = λ uid intent component found did is admits. here;
-  sent = λ sender intent permission ordered did unprotected. here;
-  ended = keeping;
-  unserved = λ keeps. here;
-  registered = λ filter permission. here;
-  taken_back = λ found. here;
-  finished = λ number answer holder asked is own. here;
-  got = λ left few. here;
-  changed = λ after left same one. one;
-  installed = λ text key manifest is name_unused key_unused room. here;
-  gone = λ uid. keeping (λ (i : Instance). not (i.owner == uid));
-  stopped = λ uid. keeping (λ (i : Instance). not (i.owner == uid));
-  granted = λ uid permission held live room. here;
-  linked = λ uid host approved live room. here;
-  advanced = moves;
-}
+task_steps Q state caller request here starts keeping moves =
+    running_steps (λ (tasks : Tasks) (services : List Service) (moment : ℕ). Q tasks moment) state caller request here
+    starts (λ uid intent component found did is admits. here) keeping (λ keeps. here)
+    (λ uid. keeping (λ (i : Instance). not (i.owner == uid))) moves
 
 module _ (P : State → Type 0) (state : State) (caller : ℕ) where
   -- the end of an instance

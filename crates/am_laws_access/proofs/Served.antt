@@ -10,12 +10,13 @@ use Rattle.am_types.specs.declared.manifest.Kind.TheVariants as kinds
 use Rattle.am_types.specs.declared.history.Entry.{Entry}
 use Rattle.am_model.specs.Gates.{verdict, Admit}
 use Rattle.am_model.specs.Receivers.{declared}
+use Rattle.am_model.specs.Tasks.{Tasks}
 use Rattle.am_history.specs.State.{State, Service}
 use Rattle.am_history.specs.Services.{is_service, running, restarted, with_start}
 use Rattle.am_history.specs.Steps.{after_due, step}
 use Rattle.am_history.specs.History.{replay}
 use Rattle.am_laws.specs.Access.{Serves, deed_of, IsServed}
-use Rattle.am_laws.proofs.Requests.{Steps, step_leaves}
+use Rattle.am_laws.proofs.Requests.{Steps, step_leaves, running_steps}
 use Rattle.am_laws_access.specs.Intents.{HasDone}
 use Rattle.am_laws_access.specs.Adds.{AService, IsAddedBy}
 use Rattle.am_laws_access.proofs.Owners.{uid_named, declared_named}
@@ -81,26 +82,13 @@ module _ (opening : State) (h : List Entry) (entry : Entry) (known : Known openi
 
   -- each step
   steps : entry.kept ≡ true → Steps Holds due entry.uid entry.request
-  steps kept = record {
-    here = here;
-    started = λ uid intent source component found landed did is admits placed. here;
-    served = λ uid intent component found did is admits. served_on uid intent component found kept did is admits
-        (running due.services component) refl;
-    sent = λ sender intent permission ordered did unprotected. here;
-    ended = λ keeps. here;
-    unserved = λ keeps. All-filter keeps N due.services here;
-    registered = λ filter permission. here;
-    taken_back = λ found. here;
-    finished = λ number answer holder asked is own. here;
-    got = λ left few. here;
-    changed = λ after left same one. one;
-    installed = λ text key manifest is name_unused key_unused room. here;
-    gone = λ uid. All-filter (λ (service : Service). not (service.owner == uid)) N due.services here;
-    stopped = λ uid. All-filter (λ (service : Service). not (service.owner == uid)) N due.services here;
-    granted = λ uid permission held live room. here;
-    linked = λ uid host approved live room. here;
-    advanced = λ by fits. here;
-  }
+  steps kept =
+      running_steps (λ (tasks : Tasks) (services : List Service) (moment : ℕ). All N services) due entry.uid
+      entry.request here (λ uid intent source component found landed did is admits placed. here)
+      (λ uid intent component found did is admits. served_on uid intent component found kept did is admits
+      (running due.services component) refl)
+      (λ keeps. here) (λ keeps. All-filter keeps N due.services here)
+      (λ uid. All-filter (λ (service : Service). not (service.owner == uid)) N due.services here) (λ by fits. here)
 
   pub served : Holds (step (replay opening h) h entry).1
   served = step_leaves Holds (replay opening h) h entry here steps

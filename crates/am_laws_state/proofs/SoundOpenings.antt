@@ -1,6 +1,6 @@
 -- The state in which a manager of a sound device begins is sound.
 use Rattle.std.proofs.Common.{◌≡◌, ℕ, ◌+◌, ◌<◌, ◌≤◌, Bool, true, false, not, ◌&&◌, ◌||◌, cond, eqb, List, [], ◌∷◌, ◌++◌, length, map, refl, sym, ◌∙◌, subst, arith}
-use Rattle.std.specs.Prelude.{All, codes, filter, IsTrue, Option, Some, None, Result, Ok, Err, ◌==◌, nat_lt}
+use Rattle.std.specs.Prelude.{All, codes, filter, Option, Some, None, Result, Ok, Err, ◌==◌, nat_lt}
 use Rattle.std.specs.List.{AllByRecursion, count_by, fold, find}
 use Rattle.std.specs.List.Sorted.{IsStrictlySortedBy}
 use Rattle.std.specs.Cmp.Lexicographic.{bytes_decides}
@@ -18,11 +18,11 @@ use Rattle.am_keeper.specs.declared.rows.GrantRow.{GrantRow}
 use Rattle.am_keeper.specs.declared.rows.LinkRow.{LinkRow}
 use Rattle.am_keeper.specs.declared.rows.Rows.{Rows}
 use Rattle.am_model.specs.Texts.{is_same, lowered}
-use Rattle.am_model.specs.Sound.{IsSound, IsSoundPackage, is_package_name, owner_keys, rights_granted, rights_approved, right_cmp}
+use Rattle.am_model.specs.Sound.{IsSound, IsSoundPackage, owner_keys, rights_granted, rights_approved, right_cmp}
 use Rattle.am_model.specs.Boards.{Board, is_package_uid, with_grant, with_link}
 use Rattle.am_model.specs.Rights.{of_grant, of_link}
 use Rattle.am_installed.proofs.Orders.{fewer_grants, fewer_links, grants_in_order, links_in_order}
-use Rattle.am_manifest.specs.Manifests.{IsAppManifest}
+use Rattle.am_manifest.specs.Manifests.{IsAppManifest, IsSoundManifest}
 use Rattle.am_manifest.proofs.Soundness.{manifest_sound}
 use Rattle.am_history.specs.State.{State, opening, uid_after, uids_of}
 use Rattle.am_history.specs.Packages.{removed}
@@ -34,7 +34,7 @@ use Rattle.am_laws_state.specs.Sound.{IsSoundApp, AreSoundApps, AreSoundReceiver
 use Rattle.am_laws.proofs.Openings.{IsSameElse, rights_else}
 use Rattle.am_laws.proofs.Tests.{neither}
 use Rattle.am_laws_state.proofs.FreeNames.{name_is_free, key_is_free}
-use Rattle.am_laws_state.proofs.SoundPackages.{apps_inserted, apps_without}
+use Rattle.am_laws_state.proofs.SoundPackages.{apps_inserted, apps_without, manifest_app}
 use Rattle.am_laws_state.proofs.SoundRights.{IsHeld, AreFew, counted, held_through, inserted_stays, grants_held, links_held, rights_held_without}
 
 -- grants and links in order, of installed packages
@@ -156,13 +156,8 @@ row_opens bound state row manifest below app good opens =
     let named : manifest.«package» ≡ row.name = (bytes_decides manifest.«package» row.name).0 good.same in
     let apps = apps_inserted (owner_keys state.system_key state.root_key) state.board.packages bound p opens.packages
     (record {
-      sound = record {
-        lowest = leb-true 10000 row.uid good.lowest;
-        name = subst (λ (name : List ℕ). IsTrue (is_package_name name)) named app.sound.name;
-        few = app.sound.few;
-        classes = app.sound.classes;
-        decls = app.sound.decls;
-      };
+      sound = manifest_app p (leb-true 10000 row.uid good.lowest)
+          (subst (λ (name : List ℕ). IsSoundManifest (record manifest { «package» = name })) named app.sound);
       room = ltb-true (length state.board.packages) 256 good.room;
       new = good.new;
       below = below;

@@ -16,6 +16,7 @@ use Rattle.am_model.specs.Lists.{inserted}
 use Rattle.am_model.proofs.Lists.{all_inserted, all_map_inserted, all_map_filter, length_inserted, length_left}
 use Rattle.am_model.specs.Sound.{AreDistinct, keys_of, names_of, uids_of}
 use Rattle.am_model.specs.Texts.{is_same}
+use Rattle.am_manifest.specs.Manifests.{IsSoundManifest}
 use Rattle.am_installed.proofs.Changed.{uids_stopped}
 use Rattle.am_installed.proofs.Rising.{Above, Rises, rises, increasing_without}
 use Rattle.am_history.specs.Opening.{before_package}
@@ -206,6 +207,12 @@ last_is_new uid (first ∷ others) below = by (eqb first.uid uid) refl (last_is_
     by true is rest = absurd (let same : first.uid ≡ uid = eqb-true first.uid uid is in let less : first.uid < uid =
         below.0 in omega arith)
     by false is rest = rest
+
+-- a package with an app's uid and what a sound manifest declares
+pub manifest_app : (p : Package) → 10000 ≤ p.uid → IsSoundManifest (record { «package» = p.name; decls = p.decls })
+    → IsSoundApp p
+manifest_app p lowest sound =
+    record { lowest = lowest; name = sound.name; few = sound.few; classes = sound.classes; decls = sound.decls }
 
 -- what a package needs to come
 pub record IsFreeApp (owners : List (List ℕ)) (packages : List Package) (next_uid : ℕ) (p : Package) : Type 0 where

@@ -19,7 +19,7 @@ use Rattle.am_laws_state.proofs.FreeNames.{name_is_free, key_is_free}
 use Rattle.am_model.specs.Lists.{inserted}
 use Rattle.am_laws.proofs.Requests.{Steps}
 use Rattle.am_laws_state.proofs.SoundBoards.{board_stopped, board_without, board_receivers}
-use Rattle.am_laws_state.proofs.SoundPackages.{apps_inserted, apps_raised, inserted_last, last_is_new}
+use Rattle.am_laws_state.proofs.SoundPackages.{apps_inserted, apps_raised, inserted_last, last_is_new, manifest_app}
 use Rattle.am_laws_state.proofs.SoundReceivers.{receivers_left, receivers_more}
 use Rattle.am_laws_state.proofs.SoundRights.{rights_through, inserted_stays, grants_given, links_given}
 use Rattle.am_laws.proofs.Tests.{neither}
@@ -38,14 +38,7 @@ module _ (state : State) (sound : IsSoundState state) where
       let apps = apps_inserted owners state.board.packages (state.next_uid + 1) new
       (apps_raised owners state.board.packages state.next_uid (state.next_uid + 1) (omega arith) sound.packages)
       (record {
-        sound = record {
-          lowest = sound.packages.next;
-          name = app.sound.name;
-          few = app.sound.few;
-          classes =
-              app.sound.classes;
-          decls = app.sound.decls;
-        };
+        sound = manifest_app new sound.packages.next app.sound;
         room = leb-false 256 (length state.board.packages) (neither (nat_le 256 (length state.board.packages))
             (state.next_uid == no_uid) room).0;
         new = last_is_new state.next_uid state.board.packages below;
