@@ -4,7 +4,7 @@ ghost use Rattle.toml.specs.Data.{as_str};
 ghost use Rattle.toml.specs.View.{view};
 ghost use Rattle.am_types.specs.Reading.{Gives, GivesBy};
 ghost use Rattle.am_manifest_filters.specs.Tables.{each};
-ghost use Rattle.am_manifest.specs.Components.{has_dot, full_class, heading_of, is_activity, mode_named, mode_at, activity_launch, launch_of, exported_of, declared, component_of, component_entry, components_at};
+ghost use Rattle.am_manifest.specs.Components.{has_dot, full_class, heading_of, is_activity, mode_named, mode_at, activity_launch, launch_of, exported_of, declared, component_entry, components_at};
 
 use am_manifest_filters::{
     Filters, Position, ReadFault, entry_table, filters_at, optional_text, optional_truth,
@@ -211,25 +211,8 @@ fn declared(
     }
 }
 
-/// The component in a table.
-#[tactic(auto, unfolding(crate::specs::Components::component_of))]
-fn component_of(
-    alloc: Global,
-    kind: Kind,
-    package: &Text,
-    at: &str,
-    table: &Value,
-) -> Result<Decl, ReadFault>
-    ensures { Gives result (component_of kind «package».now at.now (view table.now)) }
-{
-    let heading = heading_of(alloc, package, at, table)?;
-    let launch = launch_of(alloc, kind, package, at, table)?;
-    let filters = filters_at(alloc, at, table)?;
-    declared(kind, heading, launch, filters)
-}
-
 /// An entry of the components at a key.
-#[tactic(auto, unfolding(crate::specs::Components::component_entry))]
+#[tactic(auto, unfolding(crate::specs::Components::component_entry, crate::specs::Components::component_of))]
 fn component_entry(
     alloc: Global,
     kind: Kind,
@@ -242,7 +225,11 @@ fn component_entry(
     ensures { Gives result (component_entry kind «package».now at.now key.now i (view value.now)) }
 {
     let within = entry_table(alloc, at, key, i, value)?;
-    component_of(alloc, kind, package, within.as_str(), value)
+    let at = within.as_str();
+    let heading = heading_of(alloc, package, at, value)?;
+    let launch = launch_of(alloc, kind, package, at, value)?;
+    let filters = filters_at(alloc, at, value)?;
+    declared(kind, heading, launch, filters)
 }
 
 /// Each value as a component.

@@ -11,4 +11,3 @@ pub use am_manifest_filters::ReadFault;
 pub use device::{read_device, text_of};
 pub use manifest::{read_package, root_of};
 pub use print::print_fault;
-pub use rights::{as_grants, as_links};

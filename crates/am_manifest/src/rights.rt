@@ -31,6 +31,9 @@ pub struct Rights {
     pub links: List<Link>,
 }
 
+/// The texts to which each package of a device has a right.
+type Held = Vec<BTreeSet<Text>>;
+
 fn array_key(kind: RightKind) -> &'static str
     ensures { result.now ≡ array_key kind }
 {
@@ -152,12 +155,7 @@ fn more_texts(
 }
 
 /// Adds a right of a package of the device.
-fn right_put(
-    alloc: Global,
-    kind: RightKind,
-    held: Vec<BTreeSet<Text>>,
-    right: Right,
-) -> Result<Vec<BTreeSet<Text>>, ReadFault>
+fn right_put(alloc: Global, kind: RightKind, held: Held, right: Right) -> Result<Held, ReadFault>
     requires { right.holder < vec_len held }
     ensures { GivesBy texts_in result (right_put kind (texts_in held) right) }
 {
@@ -170,12 +168,7 @@ fn right_put(
 
 /// Adds a right. A right without a package changes nothing.
 #[tactic(auto, unfolding(crate::specs::Rights::with_right))]
-fn with_right(
-    alloc: Global,
-    kind: RightKind,
-    held: Vec<BTreeSet<Text>>,
-    right: Right,
-) -> Result<Vec<BTreeSet<Text>>, ReadFault>
+fn with_right(alloc: Global, kind: RightKind, held: Held, right: Right) -> Result<Held, ReadFault>
     ensures { GivesBy texts_in result (with_right kind (texts_in held) right) }
 {
     if right.holder < held.len() {
@@ -189,9 +182,9 @@ fn rights_from(
     alloc: Global,
     places: &BTreeMap<String, usize>,
     kind: RightKind,
-    held: Vec<BTreeSet<Text>>,
+    held: Held,
     values: &[Value],
-) -> Result<Vec<BTreeSet<Text>>, ReadFault>
+) -> Result<Held, ReadFault>
     ensures { GivesBy texts_in result (rights_from (place_in places.now) kind (texts_in held) 0 (map view values.now)) }
 {
     let mut held = held;
@@ -217,7 +210,7 @@ fn places_of(alloc: Global, packages: &[Package]) -> Result<BTreeMap<String, usi
 }
 
 /// No rights for this many packages.
-fn no_rights(alloc: Global, count: usize) -> Result<Vec<BTreeSet<Text>>, AllocError>
+fn no_rights(alloc: Global, count: usize) -> Result<Held, AllocError>
     ensures { IfOk result (λ held. texts_in held ≡ replicate count []) }
 {
     let mut held = Vec::new(alloc);
@@ -234,7 +227,7 @@ fn rights_of(
     kind: RightKind,
     packages: &[Package],
     table: &Value,
-) -> Result<Vec<BTreeSet<Text>>, ReadFault>
+) -> Result<Held, ReadFault>
     ensures { GivesBy texts_in result (rights_of kind packages.now (view table.now)) }
 {
     let values = optional_values(alloc, "", array_key(kind), table)?;
@@ -263,9 +256,13 @@ pub fn rights_in(alloc: Global, packages: &[Package], table: &Value) -> Result<R
 {
     let granted = rights_given(alloc, RightKind::Permission, packages, table)?;
     let approved = rights_given(alloc, RightKind::Host, packages, table)?;
+    let grants = granted
+        .into_iter()
+        .map(|(uid, permission)| Grant { uid, permission });
+    let links = approved.into_iter().map(|(uid, host)| Link { uid, host });
     Ok(Rights {
-        grants: List::new(as_grants(alloc, granted)?),
-        links: List::new(as_links(alloc, approved)?),
+        grants: List::new(grants.collect(alloc)?),
+        links: List::new(links.collect(alloc)?),
     })
 }
 
@@ -300,32 +297,4 @@ fn with_uids(
         rights = with_uid(rights, package.uid, &held[i])?;
     }
     Ok(rights)
-}
-
-/// The grants that the rights to permissions are.
-///
-/// # Errors
-///
-/// Only if memory runs out.
-pub fn as_grants(alloc: Global, rights: Vec<(u32, Text)>) -> Result<Vec<Grant>, AllocError>
-    ensures { IfOk result (λ grants. grants.items ≡ map (λ r. record { uid = r.0; permission = r.1 }) rights.items) }
-{
-    rights
-        .into_iter()
-        .map(|(uid, permission)| Grant { uid, permission })
-        .collect(alloc)
-}
-
-/// The links that the rights to hosts are.
-///
-/// # Errors
-///
-/// Only if memory runs out.
-pub fn as_links(alloc: Global, rights: Vec<(u32, Text)>) -> Result<Vec<Link>, AllocError>
-    ensures { IfOk result (λ links. links.items ≡ map (λ r. record { uid = r.0; host = r.1 }) rights.items) }
-{
-    rights
-        .into_iter()
-        .map(|(uid, host)| Link { uid, host })
-        .collect(alloc)
 }

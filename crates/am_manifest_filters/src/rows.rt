@@ -3,7 +3,7 @@ ghost use Rattle.std.specs.Prelude.{◌≡◌, codes, map};
 ghost use Rattle.toml.specs.View.{view};
 ghost use Rattle.am_types.specs.Reading.{Gives, GivesBy};
 ghost use Rattle.am_manifest_filters.specs.Texts.{key_place};
-ghost use Rattle.am_manifest_filters.specs.Tables.{each, only_keys};
+ghost use Rattle.am_manifest_filters.specs.Tables.{only_keys};
 ghost use Rattle.am_manifest_filters.specs.Rows.{authority_at, is_row_key, mime_at, mime_in, paths_at, pattern_at, pattern_in, port_at, row_entry, row_of, rows_at, scheme_at, scheme_in};
 
 use crate::ReadFault;
@@ -199,13 +199,6 @@ fn row_entry(alloc: Global, at: &str, i: usize, value: &Value) -> Result<DataRow
     row_of(alloc, within.as_str(), value)
 }
 
-/// Each value as a data row.
-fn each_row(alloc: Global, at: &str, values: &[Value]) -> Result<Vec<DataRow>, ReadFault>
-    ensures { GivesBy (λ rows. rows.items) result (each (row_entry at.now) 0 (map view values.now)) }
-{
-    read_each(alloc, values, |i, value| row_entry(alloc, at, i, value))
-}
-
 /// The data rows of a filter, merged.
 #[tactic(auto, unfolding(crate::specs::Rows::rows_at))]
 pub fn rows_at(alloc: Global, at: &str, table: &Value) -> Result<DataRows, ReadFault>
@@ -213,6 +206,6 @@ pub fn rows_at(alloc: Global, at: &str, table: &Value) -> Result<DataRows, ReadF
 {
     let values = optional_values(alloc, at, "data", table)?;
     at_most(alloc, 64, "list", values.len())?;
-    let rows = each_row(alloc, at, values)?;
+    let rows = read_each(alloc, values, |i, value| row_entry(alloc, at, i, value))?;
     Ok(merge_rows(alloc, rows)?)
 }

@@ -3,8 +3,7 @@ ghost use Rattle.std.specs.Prelude.{◌≡◌, map, option_and_then, option_map}
 ghost use Rattle.toml.specs.Data.{get};
 ghost use Rattle.toml.specs.View.{view};
 ghost use Rattle.am_types.specs.Reading.{Gives, GivesBy};
-ghost use Rattle.am_manifest_filters.specs.Tables.{each};
-ghost use Rattle.am_manifest_queries.specs.Queries.{no_queries, queries_in, queries_table, signature_entry, signatures_at};
+ghost use Rattle.am_manifest_queries.specs.Queries.{no_queries, queries_in, queries_table, signatures_at};
 
 use crate::signature::signature_of;
 use am_manifest_filters::{
@@ -15,34 +14,17 @@ use am_uri::Form;
 use std::alloc::Global;
 use toml::Value;
 
-/// A queried intent, as an entry.
-#[tactic(auto, unfolding(crate::specs::Queries::signature_entry))]
-fn signature_entry(alloc: Global, at: &str, i: usize, value: &Value) -> Result<Signature, ReadFault>
-    ensures { Gives result (signature_entry at.now i (view value.now)) }
-{
-    let within = entry_table(alloc, at, "intent", i, value)?;
-    signature_of(alloc, within.as_str(), value)
-}
-
-/// Each value as a queried intent.
-fn each_signature(alloc: Global, at: &str, values: &[Value]) -> Result<Vec<Signature>, ReadFault>
-    ensures { GivesBy (λ signatures. signatures.items) result (each (signature_entry at.now) 0 (map view values.now)) }
-{
-    read_each(
-        alloc,
-        values,
-        |i, value| signature_entry(alloc, at, i, value),
-    )
-}
-
 /// The queried intents, at most 64.
-#[tactic(auto, unfolding(crate::specs::Queries::signatures_at))]
+#[tactic(auto, unfolding(crate::specs::Queries::signatures_at, crate::specs::Queries::signature_entry))]
 fn signatures_at(alloc: Global, at: &str, table: &Value) -> Result<Vec<Signature>, ReadFault>
     ensures { GivesBy (λ signatures. signatures.items) result (signatures_at at.now (view table.now)) }
 {
     let values = optional_values(alloc, at, "intent", table)?;
     at_most(alloc, 64, "list", values.len())?;
-    each_signature(alloc, at, values)
+    read_each(alloc, values, |i, value| {
+        let within = entry_table(alloc, at, "intent", i, value)?;
+        signature_of(alloc, within.as_str(), value)
+    })
 }
 
 /// The queries in their table.

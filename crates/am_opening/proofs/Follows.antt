@@ -207,15 +207,11 @@ module _ {R : Type 0} (right_of : R → Right) where
           by false = refl
 
       -- and what is made of the rights that followed
-      pub made_of : ((r : R) → made (right_of r).0 (right_of r).1 ≡ r)
-          → (rs : List R) (rows : List Row) (rights after : List Right) (all : List R) → rights ≡ map right_of rs
-          → after ≡ fold (follow row_right held live) rights rows → all ≡ map (λ (r : Right). made r.0 r.1) after → all
+      pub made_of : ((r : R) → made (right_of r).0 (right_of r).1 ≡ r) → (rs : List R) (rows : List Row)
+          → map (λ (r : Right). made r.0 r.1) (fold (follow row_right held live) (map right_of rs) rows)
           ≡ fold after_one rs rows
-      made_of itself rs rows rights after all from follows is =
-          is
-          ∙ ap (map (λ (r : Right). made r.0 r.1))
-          (follows ∙ ap (λ (l : List Right). fold (follow row_right held live) l rows) from ∙ sym (of_followed rs rows))
-          ∙ back (fold after_one rs rows)
+      made_of itself rs rows =
+          ap (map (λ (r : Right). made r.0 r.1)) (sym (of_followed rs rows)) ∙ back (fold after_one rs rows)
         where
           back : (rs : List R) → map (λ (r : Right). made r.0 r.1) (map right_of rs) ≡ rs
           back [] = refl

@@ -9,13 +9,13 @@ ghost use Rattle.am_history.specs.Opening.{has_too_many, unless_too_many};
 ghost use Rattle.am_history.specs.Packages.{no_uid};
 ghost use Rattle.am_opening.specs.Openings.{Opens, completed_from, grants_after, links_after, opened_from, state_of};
 
-use crate::merging::{grants_after, links_after};
+use crate::merging::after_rows;
 use crate::opened::{BeginFault, Opened};
 use crate::packages::refused;
 use crate::uids;
 use am_installed::{Right, take};
 use am_keeper::Rows;
-use am_types::{Device, Grant, Link, List, NoMemory, Package};
+use am_types::{Device, Grant, Link, List, NoMemory, Package, RightKind};
 use std::alloc::Global;
 
 /// The grants and the links after the rows that were kept.
@@ -32,8 +32,8 @@ fn rights_after(
     ensures grants { IfOk result (λ after. after.0.items ≡ grants_after packages.now grants.items rows.now.grants) }
     ensures links { IfOk result (λ after. after.1.items ≡ links_after packages.now links.items rows.now.links) }
 {
-    let grants = grants_after(alloc, packages, grants, rows.grants.as_slice())?;
-    let links = links_after(alloc, packages, links, rows.links.as_slice())?;
+    let grants = after_rows(alloc, RightKind::Permission, packages, grants, &rows.grants)?;
+    let links = after_rows(alloc, RightKind::Host, packages, links, &rows.links)?;
     Ok((grants, links))
 }
 

@@ -1,19 +1,37 @@
 //! Merges grants and links with their rows, which are in the same order.
-ghost use Rattle.std.specs.Prelude.{◌≡◌, IfOk, IsTrue, OnOk, ◌++◌};
+ghost use Rattle.std.specs.Prelude.{◌≡◌, IfOk, IsTrue, OnOk, ◌++◌, map};
 ghost use Rattle.std.specs.List.{fold};
 ghost use Rattle.std.specs.List.Sorted.{IsStrictlySortedBy};
-ghost use Rattle.am_keeper.specs.Rows.{by_grant, by_link, rises};
-ghost use Rattle.am_model.specs.Sound.{right_cmp, rights_approved, rights_granted};
+ghost use Rattle.am_keeper.specs.Rows.{rises};
+ghost use Rattle.am_model.specs.Sound.{right_cmp};
 ghost use Rattle.am_opening.specs.Merging.{after_right, is_live, merge_if};
-ghost use Rattle.am_opening.specs.Openings.{grants_after, links_after};
 
 use crate::rights::merge_one;
 use crate::rows::{RightRow, is_live};
-use am_keeper::{GrantRow, LinkRow};
-use am_manifest::{as_grants, as_links};
-use am_types::{Grant, Link, NoMemory, Package, RightKind, Text};
+use am_installed::Right;
+use am_types::{Grant, Link, List, NoMemory, Package, RightKind, Text};
 use std::alloc::{AllocError, Global};
 use std::collections::VecDeque;
+
+/// A right that comes apart into its uid and its text.
+pub(crate) trait IntoParts: Right {
+    ghost use Rattle.std.specs.Prelude.{◌≡◌};
+
+    fn into_parts(self) -> (u32, Text)
+        ensures { result ≡ Self.right_of self };
+}
+
+impl IntoParts for Grant {
+    fn into_parts(self) -> (u32, Text) {
+        (self.uid, self.permission)
+    }
+}
+
+impl IntoParts for Link {
+    fn into_parts(self) -> (u32, Text) {
+        (self.uid, self.host)
+    }
+}
 
 /// Merges one more row of a right of this kind, if it counts.
 fn merge_row<T: RightRow>(
@@ -63,52 +81,41 @@ fn merged<T: RightRow>(
     joined(done, left)
 }
 
-fn rights_granted(alloc: Global, grants: Vec<Grant>) -> Result<Vec<(u32, Text)>, AllocError>
-    ensures { IfOk result (λ rights. rights.items ≡ rights_granted grants.items) }
+/// The uid and the text of each right.
+fn in_parts<K: IntoParts>(alloc: Global, rights: Vec<K>) -> Result<Vec<(u32, Text)>, AllocError>
+    ensures { IfOk result (λ parts. parts.items ≡ map K.right_of rights.items) }
 {
-    grants
+    rights
         .into_iter()
-        .map(|grant| (grant.uid, grant.permission))
+        .map(|right| right.into_parts())
         .collect(alloc)
 }
 
-fn rights_approved(alloc: Global, links: Vec<Link>) -> Result<Vec<(u32, Text)>, AllocError>
-    ensures { IfOk result (λ rights. rights.items ≡ rights_approved links.items) }
+/// The rights with these uids and texts.
+fn of_parts<K: Right>(alloc: Global, parts: Vec<(u32, Text)>) -> Result<Vec<K>, AllocError>
+    ensures { IfOk result (λ rights. rights.items ≡ map (λ part. K.made part.0 part.1) parts.items) }
 {
-    links
+    parts
         .into_iter()
-        .map(|link| (link.uid, link.host))
+        .map(|(uid, text)| K::new(uid, text))
         .collect(alloc)
 }
 
-/// The grants after grant rows, both in order.
-pub(crate) fn grants_after(
+/// The rights of one kind after rows, both in order.
+pub(crate) fn after_rows<K: IntoParts, T: RightRow>(
     alloc: Global,
+    kind: RightKind,
     packages: &[Package],
-    grants: Vec<Grant>,
-    rows: &[GrantRow],
-) -> Result<Vec<Grant>, NoMemory>
-    requires sorted { IsStrictlySortedBy right_cmp (rights_granted grants.items) }
-    requires order { IsTrue (rises by_grant rows.now) }
-    ensures { IfOk result (λ after. after.items ≡ grants_after packages.now grants.items rows.now) }
+    rights: Vec<K>,
+    rows: &List<T>,
+) -> Result<Vec<K>, NoMemory>
+    requires sorted { IsStrictlySortedBy right_cmp (map K.right_of rights.items) }
+    requires order { IsTrue (rises (λ row other. right_cmp (T.right row) (T.right other)) rows.now) }
+    ensures { IfOk result (λ after. after.items ≡ map (λ right. K.made right.0 right.1)
+        (fold (after_right T.right T.is_held (λ row. is_live kind packages.now (T.right row)))
+        (map K.right_of rights.items) rows.now)) }
 {
-    let rights = rights_granted(alloc, grants)?;
-    let after = merged(alloc, RightKind::Permission, packages, rights, rows)?;
-    Ok(as_grants(alloc, after)?)
-}
-
-/// The links after link rows, both in order.
-pub(crate) fn links_after(
-    alloc: Global,
-    packages: &[Package],
-    links: Vec<Link>,
-    rows: &[LinkRow],
-) -> Result<Vec<Link>, NoMemory>
-    requires sorted { IsStrictlySortedBy right_cmp (rights_approved links.items) }
-    requires order { IsTrue (rises by_link rows.now) }
-    ensures { IfOk result (λ after. after.items ≡ links_after packages.now links.items rows.now) }
-{
-    let rights = rights_approved(alloc, links)?;
-    let after = merged(alloc, RightKind::Host, packages, rights, rows)?;
-    Ok(as_links(alloc, after)?)
+    let parts = in_parts(alloc, rights)?;
+    let after = merged(alloc, kind, packages, parts, rows.as_slice())?;
+    Ok(of_parts(alloc, after)?)
 }

@@ -1,5 +1,6 @@
 //! The result of opening a device.
 ghost use Rattle.std.specs.Prelude.{◌≡◌};
+ghost use Rattle.am_opening.specs.declared.opened.BeginFault.TheVariants.{NoMemory};
 
 use am_types::{Device, NoMemory, Text};
 use std::alloc::{AllocError, AllocFailed};
@@ -23,8 +24,6 @@ pub enum BeginFault {
 }
 
 impl From<AllocError> for BeginFault {
-    ghost use Rattle.am_opening.specs.declared.opened.BeginFault.TheVariants.{NoMemory};
-
     ghost from_gives = { λ _ e. e ≡ NoMemory };
 
     fn from(_error: AllocError) -> BeginFault {
@@ -33,8 +32,6 @@ impl From<AllocError> for BeginFault {
 }
 
 impl From<NoMemory> for BeginFault {
-    ghost use Rattle.am_opening.specs.declared.opened.BeginFault.TheVariants.{NoMemory};
-
     ghost from_gives = { λ _ e. e ≡ NoMemory };
 
     fn from(_error: NoMemory) -> BeginFault {
@@ -43,8 +40,6 @@ impl From<NoMemory> for BeginFault {
 }
 
 impl<T: Drop> From<AllocFailed<T>> for BeginFault {
-    ghost use Rattle.am_opening.specs.declared.opened.BeginFault.TheVariants.{NoMemory};
-
     ghost from_gives = { λ _ e. e ≡ NoMemory };
 
     fn from(_error: AllocFailed<T>) -> BeginFault {

@@ -28,7 +28,7 @@ use Rattle.am_wire.specs.Accounts.{asks_receivers, explain_fields, permission_fo
 use Rattle.am_wire.specs.Activities.{fields_of, two_in, number_in, greatest_advance, advance_in, query_in, start_in, start_service_in, stop_service_in, plain_in}
 use Rattle.am_wire.specs.Broadcasts.{is_ordered, send_fields, ordered_if, sets_outcome, finish_fields, outcome_if, send_in, sent_with, required_filter, register_in, finish_in}
 use Rattle.am_wire.specs.Pendings.{pending_get_in, pending_send_in, pending_give_in}
-use Rattle.am_wire.specs.Packages.{package_in, key_of, key_in, install_in, grant_fields, grant_in, link_in}
+use Rattle.am_wire.specs.Packages.{package_in, key_of, key_in, install_in, right_in, grant_in, link_in}
 use Rattle.am_wire.specs.Words.{kind_of, pending_kind_of, pending_flags_of}
 use Rattle.am_wire.specs.Requests.{request_of, request_in, posted}
 
@@ -58,6 +58,17 @@ two_is_made endpoint first read_first second read_second make value made =
     bound endpoint (fields_of (first ∷ second ∷ []) value) _
     (λ known. bound endpoint (read_first first value) _
     (λ x. bound endpoint (read_second second value) _ (λ y. made x y)))
+
+-- a request that gives or takes a right, if what the values of its fields make is made so
+right_is_made : (endpoint : Endpoint) (text_name held_name : List ℕ) (make : List ℕ → List ℕ → Bool → Request)
+    (value : Data) → ((name text : List ℕ) (held : Bool) → IsMade endpoint (make name text held))
+    → IfOk (right_in text_name held_name make value) (IsMade endpoint)
+unfolding right_in
+right_is_made endpoint text_name held_name make value made =
+    bound endpoint (fields_of (codes "package" ∷ text_name ∷ held_name ∷ []) value) _
+    (λ known. bound endpoint (required_text Any 1024 (codes "package") value) _
+    (λ name. bound endpoint (required_text Any 1024 text_name value) _
+    (λ text. bound endpoint (required_truth held_name value) _ (λ held. made name text held))))
 
 -- what is in lower case stays as it is
 pub lowered_again : (text : List ℕ) → lowered (lowered text) ≡ lowered text
@@ -160,15 +171,10 @@ value_is_made at.Install value =
     (λ x1. install_is_made x1 (required (codes "key") value)))
 value_is_made at.Uninstall value = bound at.Uninstall (package_in value) _ (λ x0. (refl, tt))
 value_is_made at.Grant value =
-    bound at.Grant (fields_of grant_fields value) _ (λ x0. bound at.Grant
-    (required_text Any 1024 (codes "package") value) _ (λ x1. bound at.Grant
-    (required_text Any 1024 (codes "permission") value) _ (λ x2. bound at.Grant
-    (required_truth (codes "held") value) _ (λ x3. (refl, tt)))))
+    right_is_made at.Grant (codes "permission") (codes "held") asks.Grant value (λ name permission held. (refl, tt))
 value_is_made at.Link value =
-    bound at.Link (fields_of (codes "package" ∷ codes "host" ∷ codes "approved" ∷ []) value) _
-    (λ x0. bound at.Link (required_text Any 1024 (codes "package") value) _
-    (λ x1. bound at.Link (required_text Any 1024 (codes "host") value) _
-    (λ x2. bound at.Link (required_truth (codes "approved") value) _ (λ x3. (refl, lowered_again x2)))))
+    right_is_made at.Link (codes "host") (codes "approved") (λ name host approved. asks.Link name (lowered host) approved)
+    value (λ name host approved. (refl, lowered_again host))
 value_is_made at.ForceStop value = bound at.ForceStop (package_in value) _ (λ x0. (refl, tt))
 value_is_made at.Tick value = bound at.Tick (fields_of [] value) _ (λ x0. (refl, tt))
 value_is_made at.Advance value =

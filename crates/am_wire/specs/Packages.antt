@@ -1,5 +1,5 @@
 -- Packages, grants and links.
-use Rattle.std.specs.Prelude.{ℕ, ◌==◌, nat_lt, List, [], ◌∷◌, length, codes, if◌then◌else◌, Option, Some, None, Result, Ok, Err}
+use Rattle.std.specs.Prelude.{ℕ, Bool, ◌==◌, nat_lt, List, [], ◌∷◌, length, codes, if◌then◌else◌, Option, Some, None, Result, Ok, Err}
 use Rattle.serde_json.specs.Data.{Data}
 use Rattle.serde_json.specs.Find.{as_str}
 use Rattle.am_types.specs.Bounds.{longest_manifest}
@@ -42,23 +42,19 @@ package_in body = do
   known ← fields_of (codes "package" ∷ []) body
   required_text Any 1024 (codes "package") body
 
--- the fields of a grant
-unfoldable pub grant_fields : List (List ℕ)
-grant_fields = codes "package" ∷ codes "permission" ∷ codes "held" ∷ []
+-- a right given or taken: a body with only `package` and these two fields, a text and a boolean, and what is made of it
+unfoldable pub right_in : {A : Type 0} → List ℕ → List ℕ → (List ℕ → List ℕ → Bool → A) → Data → Result A WireFault
+right_in text_name held_name make body = do
+  known ← fields_of (codes "package" ∷ text_name ∷ held_name ∷ []) body
+  name ← required_text Any 1024 (codes "package") body
+  text ← required_text Any 1024 text_name body
+  held ← required_truth held_name body
+  Ok (make name text held)
 
 unfoldable pub grant_in : Data → Result Request WireFault
-grant_in body = do
-  known ← fields_of grant_fields body
-  name ← required_text Any 1024 (codes "package") body
-  permission ← required_text Any 1024 (codes "permission") body
-  held ← required_truth (codes "held") body
-  Ok (asks.Grant name permission held)
+grant_in body = right_in (codes "permission") (codes "held") asks.Grant body
 
 -- a link; its host is put in lower case (ASCII)
 unfoldable pub link_in : Data → Result Request WireFault
-link_in body = do
-  known ← fields_of (codes "package" ∷ codes "host" ∷ codes "approved" ∷ []) body
-  name ← required_text Any 1024 (codes "package") body
-  host ← required_text Any 1024 (codes "host") body
-  approved ← required_truth (codes "approved") body
-  Ok (asks.Link name (lowered host) approved)
+link_in body =
+    right_in (codes "host") (codes "approved") (λ name host approved. asks.Link name (lowered host) approved) body

@@ -47,7 +47,7 @@ fn permission_for(alloc: Global, kind: Kind, body: &Value) -> Result<Option<Text
 {
     match kind {
         Kind::Activity | Kind::Service => Ok(None),
-        Kind::Receiver => optional_text(alloc, Form::Any, 1024, "permission", body),
+        Kind::Receiver => optional_text(alloc, Form::Any, "permission", body),
     }
 }
 
@@ -60,9 +60,9 @@ fn asked_with(
 ) -> Result<(Option<Text>, Option<Text>, Option<Text>), Unread>
     ensures { Gives result (asked_with (λ caller permission shown. (caller, permission, shown)) kind (view body.now)) }
 {
-    let caller = optional_text(alloc, Form::Any, 1024, "as", body)?;
+    let caller = optional_text(alloc, Form::Any, "as", body)?;
     let permission = permission_for(alloc, kind, body)?;
-    let shown = optional_text(alloc, Form::Any, 1024, "of", body)?;
+    let shown = optional_text(alloc, Form::Any, "of", body)?;
     Ok((caller, permission, shown))
 }
 

@@ -68,7 +68,7 @@ fn only_send_fields(alloc: Global, ordered: bool, body: &Value) -> Result<(), Un
 fn outcome_of(alloc: Global, code: i64, body: &Value) -> Result<Outcome, Unread>
     ensures { Gives result (outcome_of code (λ outcome. Ok outcome) (view body.now)) }
 {
-    let text = optional_text(alloc, Form::Any, 1024, "data", body)?;
+    let text = optional_text(alloc, Form::Any, "data", body)?;
     let extras = optional_extras(alloc, body)?;
     Ok(Outcome { code, text, extras })
 }
@@ -99,7 +99,7 @@ fn ordered_if(alloc: Global, ordered: bool, body: &Value) -> Result<Option<Order
 fn sent_with(alloc: Global, body: &Value) -> Result<(Option<Text>, Option<Ordered>), Unread>
     ensures { Gives result (sent_with (λ permission ordered. (permission, ordered)) (view body.now)) }
 {
-    let permission = optional_text(alloc, Form::Any, 1024, "permission", body)?;
+    let permission = optional_text(alloc, Form::Any, "permission", body)?;
     let is_ordered = optional_truth(alloc, "ordered", body)?;
     let ordered = ordered_if(alloc, is_ordered, body)?;
     Ok((permission, ordered))
@@ -144,10 +144,7 @@ pub fn register_in(alloc: Global, body: &Value) -> Result<Request, Unread>
 {
     only_register_fields(alloc, body)?;
     let filter = required_filter(alloc, body)?;
-    let permission = or_drop!(
-        optional_text(alloc, Form::Any, 1024, "permission", body),
-        filter
-    );
+    let permission = or_drop!(optional_text(alloc, Form::Any, "permission", body), filter);
     Ok(Request::Register { filter, permission })
 }
 

@@ -48,6 +48,6 @@ pub fn pending_give_in(alloc: Global, body: &Value) -> Result<Request, Unread>
 {
     fields_of(alloc, &["token", "package"], body)?;
     let token = required_natural(alloc, "token", body)?;
-    let package = required_text(alloc, Form::Any, 1024, "package", body)?;
+    let package = required_text(alloc, Form::Any, "package", body)?;
     Ok(Request::PendingGive { token, package })
 }

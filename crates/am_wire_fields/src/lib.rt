@@ -15,7 +15,7 @@ mod texts;
 pub use body::json_value;
 pub use fault::{Unread, WireFault};
 pub use fields::{field, is_listed, only_fields, optional_truth, required, required_truth};
-pub use lists::{list_in, optional_list, optional_texts, texts_in, word_in, words_in};
+pub use lists::{list_in, optional_list, texts_in, word_in, words_in};
 pub use naming::{too_long, wrong_kind};
 pub use numbers::{
     natural_in, optional_natural, optional_whole, required_natural, required_up_to, required_whole,

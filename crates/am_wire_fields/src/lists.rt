@@ -3,7 +3,7 @@ ghost use Rattle.std.specs.Prelude.{◌≡◌, map};
 ghost use Rattle.serde_json.specs.View.{view};
 ghost use Rattle.am_model.specs.Texts.{lists};
 ghost use Rattle.am_types.specs.Reading.{Gives, GivesBy};
-ghost use Rattle.am_wire_fields.specs.Lists.{few, list_in, optional_list, optional_texts, texts_in, word_in, words_in};
+ghost use Rattle.am_wire_fields.specs.Lists.{few, list_in, optional_list, texts_in, word_in, words_in};
 
 use crate::Unread;
 use crate::fields::{field, is_listed};
@@ -78,25 +78,6 @@ pub fn texts_in(
         texts.push(text)?;
     }
     Ok(texts)
-}
-
-/// The texts in a field, 64 at most, each of the form and of at most 1,024 bytes: none if the field is absent or null.
-///
-/// # Errors
-///
-/// If the field's value isn't an array, then if that has more than 64 entries, and then the first fault of its entries
-/// in order.
-#[tactic(auto, unfolding(crate::specs::Lists::optional_texts))]
-pub fn optional_texts(
-    alloc: Global,
-    form: Form,
-    name: &str,
-    object: &Value,
-) -> Result<Vec<Text>, Unread>
-    ensures { GivesBy (λ texts. texts.items) result (optional_texts form name.now (view object.now)) }
-{
-    let values = optional_list(alloc, name, object)?;
-    texts_in(alloc, form, name, values)
 }
 
 /// The word in a value, which is one of these. `name` is what a fault calls the value.

@@ -58,26 +58,20 @@ pub fn text_in(
     }
 }
 
-/// The text of the form in a required field, of at most `limit` bytes.
+/// The text of the form in a required field, of at most 1,024 bytes.
 ///
 /// # Errors
 ///
 /// If the field is absent or null, then if its value isn't a text of the form, and then if that is too long.
 #[tactic(auto, unfolding(crate::specs::Texts::required_text))]
-pub fn required_text(
-    alloc: Global,
-    form: Form,
-    limit: usize,
-    name: &str,
-    object: &Value,
-) -> Result<Text, Unread>
-    ensures { Gives result (required_text form limit name.now (view object.now)) }
+pub fn required_text(alloc: Global, form: Form, name: &str, object: &Value) -> Result<Text, Unread>
+    ensures { Gives result (required_text form 1024 name.now (view object.now)) }
 {
     let value = required(alloc, name, object)?;
-    text_in(alloc, form, limit, name, value)
+    text_in(alloc, form, 1024, name, value)
 }
 
-/// The text of the form in a field, of at most `limit` bytes: none if the field is absent or null.
+/// The text of the form in a field, of at most 1,024 bytes: none if the field is absent or null.
 ///
 /// # Errors
 ///
@@ -86,15 +80,14 @@ pub fn required_text(
 pub fn optional_text(
     alloc: Global,
     form: Form,
-    limit: usize,
     name: &str,
     object: &Value,
 ) -> Result<Option<Text>, Unread>
-    ensures { Gives result (optional_text form limit name.now (view object.now)) }
+    ensures { Gives result (optional_text form 1024 name.now (view object.now)) }
 {
     if_said!(
         name,
         object,
-        |value| text_in(alloc, form, limit, name, value)
+        |value| text_in(alloc, form, 1024, name, value)
     )
 }

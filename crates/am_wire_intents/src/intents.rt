@@ -12,7 +12,8 @@ use crate::flags::flags_of;
 use am_types::{Intent, List, Mime, MimeFault, Text, Unmade, Uri, UriFault};
 use am_uri::{Form, parse_mime, parse_uri, sorted};
 use am_wire_fields::{
-    Unread, WireFault, if_said, only_fields, optional_text, optional_texts, required, text_in,
+    Unread, WireFault, if_said, only_fields, optional_list, optional_text, required, text_in,
+    texts_in,
 };
 use serde_json::Value;
 use std::alloc::Global;
@@ -72,11 +73,12 @@ pub fn optional_mime(
 }
 
 /// The categories that an intent or a filter lists, each of the form, sorted by bytes, each once.
-#[tactic(auto, unfolding(crate::specs::Intents::categories_of))]
+#[tactic(auto, unfolding(crate::specs::Intents::categories_of, am_wire_fields::specs::Lists::optional_texts))]
 pub fn categories_of(alloc: Global, form: Form, object: &Value) -> Result<List<Text>, Unread>
     ensures { Gives result (categories_of form (view object.now)) }
 {
-    let texts = optional_texts(alloc, form, "categories", object)?;
+    let values = optional_list(alloc, "categories", object)?;
+    let texts = texts_in(alloc, form, "categories", values)?;
     Ok(sorted(alloc, texts)?)
 }
 
@@ -85,14 +87,14 @@ pub fn categories_of(alloc: Global, form: Form, object: &Value) -> Result<List<T
 fn intent_of(alloc: Global, object: &Value) -> Result<Intent, Unread>
     ensures { Gives result (intent_of (view object.now)) }
 {
-    let action = optional_text(alloc, Form::Any, 1024, "action", object)?;
+    let action = optional_text(alloc, Form::Any, "action", object)?;
     let categories = categories_of(alloc, Form::Any, object)?;
     let component = optional_component(alloc, "component", object)?;
     let uri = optional_uri(alloc, "data", object)?;
     let extras = optional_extras(alloc, object)?;
     let flags = flags_of(alloc, object)?;
-    let identifier = optional_text(alloc, Form::Any, 1024, "identifier", object)?;
-    let package = optional_text(alloc, Form::Any, 1024, "package", object)?;
+    let identifier = optional_text(alloc, Form::Any, "identifier", object)?;
+    let package = optional_text(alloc, Form::Any, "package", object)?;
     let mime = optional_mime(alloc, Form::Any, "type", object)?;
     Ok(Intent {
         action,

@@ -72,7 +72,7 @@ fn port_at(alloc: Global, row: &Value) -> Result<Option<u32>, Unread>
 fn authority_at(alloc: Global, row: &Value) -> Result<Option<Authority>, Unread>
     ensures { Gives result (authority_at (view row.now)) }
 {
-    let host = optional_text(alloc, Form::Filled, 1024, "host", row)?;
+    let host = optional_text(alloc, Form::Filled, "host", row)?;
     let port = port_at(alloc, row)?;
     match host {
         None => Ok(None),
@@ -84,7 +84,7 @@ fn authority_at(alloc: Global, row: &Value) -> Result<Option<Authority>, Unread>
 fn pattern_at(alloc: Global, row: &Value) -> Result<Option<Glob>, Unread>
     ensures { Gives result (optional_text Filled 1024 (codes "pathPattern") (view row.now)) }
 {
-    let Some(text) = optional_text(alloc, Form::Filled, 1024, "pathPattern", row)? else {
+    let Some(text) = optional_text(alloc, Form::Filled, "pathPattern", row)? else {
         return Ok(None);
     };
     match Glob::new(text) {
@@ -98,9 +98,9 @@ fn pattern_at(alloc: Global, row: &Value) -> Result<Option<Glob>, Unread>
 fn paths_at(alloc: Global, row: &Value) -> Result<Paths, Unread>
     ensures { Gives result (paths_at (view row.now)) }
 {
-    let literal = optional_text(alloc, Form::Filled, 1024, "path", row)?;
-    let prefix = optional_text(alloc, Form::Filled, 1024, "pathPrefix", row)?;
-    let suffix = optional_text(alloc, Form::Filled, 1024, "pathSuffix", row)?;
+    let literal = optional_text(alloc, Form::Filled, "path", row)?;
+    let prefix = optional_text(alloc, Form::Filled, "pathPrefix", row)?;
+    let suffix = optional_text(alloc, Form::Filled, "pathSuffix", row)?;
     let pattern = pattern_at(alloc, row)?;
     Ok(Paths {
         literal,

@@ -12,7 +12,7 @@ use Rattle.am_wire_fields.specs.declared.fault.WireFault.TheVariants.{WrongKind,
 use Rattle.am_wire_fields.specs.Fields.{required, required_truth}
 use Rattle.am_wire_fields.specs.Texts.{text_of, text_in, required_text}
 use Rattle.am_wire.specs.Activities.{fields_of}
-use Rattle.am_wire.specs.Packages.{key_of, key_in, package_in, link_in}
+use Rattle.am_wire.specs.Packages.{key_of, key_in, package_in, right_in, link_in}
 use Rattle.am_wire.proofs.Made.{lowered_again}
 use Rattle.am_wire_values.specs.Requests.{with_one, link_data, request_data}
 use Rattle.am_wire_read_back.proofs.Kept.{IsKept}
@@ -84,7 +84,7 @@ host_at value host es h apart is =
     (required_at (codes "host") es (string (lowered host)) apart is refl) (host_of (as_str one.value) host one.later)
 
 pub link_again : (value : Data) (r : Request) → IsKept value → link_in value ≡ Ok r → link_in (request_data r) ≡ Ok r
-unfolding link_in request_data link_data
+unfolding link_in right_in request_data link_data
 link_again value r k h =
     let fields = codes "package" ∷ codes "host" ∷ codes "approved" ∷ [] in
     let one = step (fields_of fields value) _ r h in

@@ -11,7 +11,7 @@ use Rattle.am_types.specs.declared.request.Request.TheVariants as asks
 use Rattle.am_wire_fields.specs.declared.fault.WireFault.TheVariants.{NotJson}
 use Rattle.am_wire_fields.specs.Bodies.{json_of, value_of}
 use Rattle.am_wire.specs.Activities.{greatest_advance, advance_in, query_in, start_in, start_service_in, stop_service_in}
-use Rattle.am_wire.specs.Packages.{install_in, package_in, grant_fields, grant_in}
+use Rattle.am_wire.specs.Packages.{install_in, package_in, right_in, grant_in}
 use Rattle.am_wire.specs.Pendings.{pending_send_in, pending_give_in}
 use Rattle.am_wire_routes.specs.Table.{endpoint_for}
 use Rattle.am_wire.specs.Requests.{request_in, posted, request_of}
@@ -32,7 +32,7 @@ use Rattle.am_wire_read_back.proofs.Texts.{if_read}
 -- a request that was read of a value is read of its own value
 value_again : (value : Data) (r : Request) → IsKept value → HasFewRows r → request_in (endpoint_for r) value ≡ Ok r
     → request_in (endpoint_for r) (request_data r) ≡ Ok r
-unfolding request_in advance_in query_in start_in start_service_in stop_service_in install_in grant_fields grant_in
+unfolding request_in advance_in query_in start_in start_service_in stop_service_in install_in right_in grant_in
     pending_send_in pending_give_in query_data start_data pending_send_data grant_data request_data
 value_again value (asks.Query kind intent default_only) k few h =
     parts.three_again kind_part (parts.intent (codes "intent")) (parts.truth_or_false (codes "defaultOnly")) asks.Query
