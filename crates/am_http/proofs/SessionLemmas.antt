@@ -17,7 +17,7 @@ use Rattle.am_http.specs.Framing.{IsFraming}
 use Rattle.am_http.specs.Frames.{Splits, Leaves, Drops}
 use Rattle.am_http.specs.Exchanges.{Exchange, AreAnswered, frames_of, bytes_of, moments_of}
 use Rattle.am_http.specs.Links.{Link, Midway, Server, Moments, Gives, rest_of, GoesOn, IsSameLink}
-use Rattle.am_http.specs.Sessions.{most_held, most_taken, GivesAtMost, MayGoOn, defect_text, VisitEnds, Writes, Visit, Going, Serves, IsUnasked, Replies, Stops}
+use Rattle.am_http.specs.Sessions.{most_held, most_taken, GivesAtMost, MayGoOn, defect_text, VisitEnds, Writes, Visit, Going, Serves, IsLast, Replies, Stops}
 use Rattle.am_http.specs.Sending.{StopsInside}
 use Rattle.am_http.proofs.FramingLemmas.{whole_fits}
 use Rattle.am_http.proofs.SendLemmas.{appends_trans, appends_none, appends_self, inside_more}
@@ -217,30 +217,30 @@ same_answers first mid new es same so_far =
     })
 
 -- a connection that ends with what was written last, after nothing more was asked of the desk
-ended : (limit : ℕ) (first : Link) (mid new : Midway) (count : ℕ) (end : End) (last : List ℕ) → count < limit
-    → GivesAtMost (most_taken limit) first.source.left new.link.source.left
-    → (so_far : Going first mid count) → IsUnasked mid.link.server new.link.server
-    → VisitEnds limit end count so_far.exchanges (record {
-      rest = rest_of mid;
-      left = new.link.source.left;
-      last = last;
-    })
-    → Writes (record { end = end; answered = count }) first.sink.taken new.link.sink.taken so_far.exchanges last
+ended : {Takes : Option (List ℕ) → Option (List ℕ) → Type 0} (limit : ℕ) (first : Link) (mid new : Midway) (count : ℕ)
+    (end : End) (last : List ℕ) → count < limit → GivesAtMost (most_taken limit) first.source.left new.link.source.left
+    → (so_far : Going first mid count) → IsLast mid new Takes
+    → (Takes mid.link.sink.taken new.link.sink.taken
+    → Writes (record { end = end; answered = count }) first.sink.taken new.link.sink.taken so_far.exchanges last)
+    → (count ≡ length so_far.exchanges → MayGoOn limit so_far.exchanges → VisitEnds limit end count so_far.exchanges
+    (record { rest = rest_of mid; left = new.link.source.left; last = last }))
     → Visit limit first new.link (record { end = end; answered = count })
-ended limit first mid new count end last below gives so_far unasked ends output =
+ended limit first mid new count end last below gives so_far stop writes ends =
     let es = so_far.exchanges in
+    let asked = stop.unasked in
     record {
       exchanges = es;
       rest = rest_of mid;
       last = last;
-      answers = same_answers first.server.desk mid.link.server.desk new.link.server.desk es unasked.seen so_far.answers;
+      answers = same_answers first.server.desk mid.link.server.desk new.link.server.desk es asked.seen so_far.answers;
       moments = unasked_moments first.server.clock mid.link.server.clock new.link.server.clock (moments_of es)
-          so_far.moments unasked.clock;
+          so_far.moments asked.clock;
       frames = so_far.frames;
       most = omega (arith, below, so_far.counted);
       taken = gives;
-      end = ends;
-      output = output;
+      end = ends (sym so_far.counted)
+          (record { stays = so_far.stays; below = omega (arith, so_far.counted, below) });
+      output = writes stop.output;
     }
 
 -- what the source gave behind a frame that still stands in the window
@@ -287,43 +287,30 @@ kept first mid new count so_far keeps =
     appends_trans first.sink.taken mid.link.sink.taken new.link.sink.taken (bytes_of so_far.exchanges) [] so_far.output
     (appends_none mid.link.sink.taken new.link.sink.taken keeps)
 
--- a connection that goes on may have a further frame
-may_more : (limit : ℕ) (first : Link) (mid : Midway) (count : ℕ) (so_far : Going first mid count) → count < limit
-    → MayGoOn limit so_far.exchanges
-may_more limit first mid count so_far below = record {
-  stays = so_far.stays;
-  below = omega
-      (arith, so_far.counted, below);
-}
-
 -- a connection that ends before a further frame is answered
 stopped : (limit : ℕ) (first : Link) (mid new : Midway) (count : ℕ) (end : End) → count < limit
     → GivesAtMost (most_taken limit) first.source.left new.link.source.left
     → IsSameDesk first.server.desk mid.link.server.desk
     → Going first mid count → Stops end mid new → Visit limit first new.link (record { end = end; answered = count })
 stopped limit first mid new count Input below gives same so_far stop =
-    ended limit first mid new count Input [] below gives so_far stop.1.unasked
-    (sym so_far.counted, may_more limit first mid count so_far below, stop.0, refl)
-    (kept first mid new count so_far stop.1.output)
+    ended limit first mid new count Input [] below gives so_far stop.1 (kept first mid new count so_far)
+    (λ counted more. (counted, more, stop.0, refl))
 stopped limit first mid new count Close below gives same so_far stop = absurd stop
 stopped limit first mid new count Refused below gives same so_far stop =
-    ended limit first mid new count Refused (defect_text stop.0) below gives so_far stop.2.unasked
-    (sym so_far.counted, (may_more limit first mid count so_far below, (stop.0, stop.1, refl), stop.3))
+    ended limit first mid new count Refused (defect_text stop.0) below gives so_far stop.2
     (appends_trans first.sink.taken mid.link.sink.taken new.link.sink.taken (bytes_of so_far.exchanges)
-    (defect_text stop.0) so_far.output stop.2.output)
+    (defect_text stop.0) so_far.output)
+    (λ counted more. (counted, (more, (stop.0, stop.1, refl), stop.3)))
 stopped limit first mid new count Cut below gives same so_far stop =
-    ended limit first mid new count Cut [] below gives so_far stop.1.unasked
-    (sym so_far.counted, may_more limit first mid count so_far below, stop.0, refl)
-    (kept first mid new count so_far stop.1.output)
+    ended limit first mid new count Cut [] below gives so_far stop.1 (kept first mid new count so_far)
+    (λ counted more. (counted, more, stop.0, refl))
 stopped limit first mid new count Limit below gives same so_far stop = absurd stop
 stopped limit first mid new count Idle below gives same so_far stop =
-    ended limit first mid new count Idle [] below gives so_far stop.1.unasked
-    (sym so_far.counted, may_more limit first mid count so_far below, stop.0, refl)
-    (kept first mid new count so_far stop.1.output)
+    ended limit first mid new count Idle [] below gives so_far stop.1 (kept first mid new count so_far)
+    (λ counted more. (counted, more, stop.0, refl))
 stopped limit first mid new count ReadFault below gives same so_far stop =
-    ended limit first mid new count ReadFault [] below gives so_far stop.2.unasked
-    (sym so_far.counted, may_more limit first mid count so_far below, (new.window, stop.0, stop.1), refl)
-    (kept first mid new count so_far stop.2.output)
+    ended limit first mid new count ReadFault [] below gives so_far stop.2 (kept first mid new count so_far)
+    (λ counted more. (counted, more, (new.window, stop.0, stop.1), refl))
 stopped limit first mid new count WriteFault below gives same so_far (inl next) =
     let es = so_far.exchanges in
     let e = next.exchange in
@@ -355,11 +342,11 @@ stopped limit first mid new count WriteFault below gives same so_far (inl next) 
           next.output);
     }
 stopped limit first mid new count WriteFault below gives same so_far (inr stop) =
-    ended limit first mid new count WriteFault (defect_text stop.0) below gives so_far stop.2.unasked
-    (inr (sym so_far.counted, (may_more limit first mid count so_far below, (stop.0, stop.1, refl), stop.3)))
-    (inside_behind first.sink.taken new.link.sink.taken so_far.exchanges (defect_text stop.0) count so_far.counted
+    ended limit first mid new count WriteFault (defect_text stop.0) below gives so_far stop.2
+    (λ part. inside_behind first.sink.taken new.link.sink.taken so_far.exchanges (defect_text stop.0) count so_far.counted
     (inside_more first.sink.taken mid.link.sink.taken new.link.sink.taken (bytes_of so_far.exchanges)
-    (defect_text stop.0) so_far.output stop.2.output))
+    (defect_text stop.0) so_far.output part))
+    (λ counted more. inr (counted, (more, (stop.0, stop.1, refl), stop.3)))
 
 pub session_stop : (limit : ℕ) (first : Link) (mid : Midway) (link : Link) (window : List ℕ) (count : ℕ) (end : End)
     → count < limit

@@ -2,7 +2,7 @@
 ghost use Rattle.std.specs.Prelude.{◌≡◌, ◌<◌, ◌≤◌, true, [], length, IfOk, IfSome, OnErr, IsNone};
 ghost use Rattle.std.specs.Io.KnownBytes.{Keeps, prepend_known};
 ghost use Rattle.am_outside.specs.Counts.{HasRisen};
-ghost use Rattle.am_http.specs.Links.{source_of};
+ghost use Rattle.am_http.specs.Links.{IsSameSource, source_of};
 ghost use Rattle.am_http.specs.Sessions.{IsPartial, GivesAtMost, most_held};
 ghost use Rattle.am_http.specs.Windows.{Finds, Reads, is_open};
 
@@ -29,9 +29,8 @@ fn look<S: Source>(source: &mut S, window: &mut Window) -> Result<Option<Found>,
     ensures more { IfOk result (λ answer. IsNone answer → length window.old < length window.new) }
     ensures fits { length window.new ≤ most_held }
     ensures partial { OnErr result (IsPartial window.new) }
-    ensures never_falls { S.faults source.old ≤ S.faults source.new }
+    ensures same { IsSameSource (source_of S.Source source.old) (source_of S.Source source.new) }
     ensures failed { OnErr result (HasRisen (S.faults source.old) (S.faults source.new)) }
-    ensures mark { S.mark source.new ≡ S.mark source.old }
     ensures waits { S.waits source.new ≡ S.waits source.old }
 {
     let found = find_frame(window.bytes());
@@ -59,9 +58,8 @@ pub fn next_frame<S: Source>(source: &mut S, window: &mut Window) -> Result<Foun
     ensures found { IfOk result (Finds window.new (S.left source.new)) }
     ensures fits { length window.new ≤ most_held }
     ensures partial { OnErr result (IsPartial window.new) }
-    ensures never_falls { S.faults source.old ≤ S.faults source.new }
+    ensures same { IsSameSource (source_of S.Source source.old) (source_of S.Source source.new) }
     ensures failed { OnErr result (HasRisen (S.faults source.old) (S.faults source.new)) }
-    ensures mark { S.mark source.new ≡ S.mark source.old }
     ensures waits { S.waits source.new ≡ S.waits source.old }
 {
     loop {

@@ -2,6 +2,7 @@
 ghost use Rattle.std.specs.Prelude.{◌≡◌, ℕ, ◌<◌, ◌≤◌, List, length, vec_capacity, IfOk, OnErr};
 ghost use Rattle.am_outside.specs.Counts.{HasRisen};
 ghost use Rattle.am_http.specs.Answering.{Says};
+ghost use Rattle.am_http.specs.Links.{IsSameSink, sink_of};
 ghost use Rattle.am_http.specs.Requests.{refusal_text};
 ghost use Rattle.am_http.specs.Responses.{response};
 ghost use Rattle.am_http.specs.Sending.{Sends, SendsFrom};
@@ -18,9 +19,8 @@ use std::alloc::Global;
 fn write_from<W: Sink>(sink: &mut W, bytes: &[u8], at: usize) -> Result<usize, Failed>
     requires { at < length bytes.now }
     ensures sent { SendsFrom (W.taken sink.old) (W.taken sink.new) bytes.now at result }
-    ensures never_falls { W.faults sink.old ≤ W.faults sink.new }
+    ensures same { IsSameSink (sink_of W.Sink sink.old) (sink_of W.Sink sink.new) }
     ensures failed { OnErr result (HasRisen (W.faults sink.old) (W.faults sink.new)) }
-    ensures mark { W.mark sink.new ≡ W.mark sink.old }
 {
     let count = sink.write(&bytes[at..])?;
     Ok(at + count)
@@ -29,9 +29,8 @@ fn write_from<W: Sink>(sink: &mut W, bytes: &[u8], at: usize) -> Result<usize, F
 /// Writes all the bytes, in as many pieces as the sink takes.
 pub fn write_all<W: Sink>(sink: &mut W, bytes: &[u8]) -> Result<(), Failed>
     ensures sent { Sends (W.taken sink.old) (W.taken sink.new) bytes.now result }
-    ensures never_falls { W.faults sink.old ≤ W.faults sink.new }
+    ensures same { IsSameSink (sink_of W.Sink sink.old) (sink_of W.Sink sink.new) }
     ensures failed { OnErr result (HasRisen (W.faults sink.old) (W.faults sink.new)) }
-    ensures mark { W.mark sink.new ≡ W.mark sink.old }
 {
     let mut at = 0;
     while at < bytes.len() {
@@ -74,9 +73,8 @@ pub fn write_answer<W: Sink>(
 ) -> Result<(), Failed>
     requires room { 192 ≤ vec_capacity room.old }
     ensures sent { (bytes : List ℕ) × Says answer bytes × Sends (W.taken sink.old) (W.taken sink.new) bytes result }
-    ensures never_falls { W.faults sink.old ≤ W.faults sink.new }
+    ensures same { IsSameSink (sink_of W.Sink sink.old) (sink_of W.Sink sink.new) }
     ensures failed { OnErr result (HasRisen (W.faults sink.old) (W.faults sink.new)) }
-    ensures mark { W.mark sink.new ≡ W.mark sink.old }
     ensures capacity { vec_capacity room.new ≡ vec_capacity room.old }
 {
     match answer {
@@ -101,9 +99,8 @@ pub fn write_answer<W: Sink>(
 /// Writes the text for a defect, which ends the connection.
 pub fn write_defect<W: Sink>(sink: &mut W, defect: Defect) -> Result<(), Failed>
     ensures sent { Sends (W.taken sink.old) (W.taken sink.new) (defect_text defect) result }
-    ensures never_falls { W.faults sink.old ≤ W.faults sink.new }
+    ensures same { IsSameSink (sink_of W.Sink sink.old) (sink_of W.Sink sink.new) }
     ensures failed { OnErr result (HasRisen (W.faults sink.old) (W.faults sink.new)) }
-    ensures mark { W.mark sink.new ≡ W.mark sink.old }
 {
     write_all(sink, defect_bytes(defect))
 }

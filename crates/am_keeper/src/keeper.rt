@@ -1,5 +1,5 @@
 //! A keeper, which puts rows, and a store, which hands keepers out and takes them back.
-ghost use Rattle.std.specs.Prelude.{◌≡◌, ◌≢◌, ◌↔◌, ◌⊎◌, ℕ, ◌≤◌, List as Items, Bool, Option, Some, None, is_some, IsTrue, IfOk, OnErr, Err, OnOk};
+ghost use Rattle.std.specs.Prelude.{◌≡◌, ◌≢◌, ◌↔◌, ◌⊎◌, ℕ, ◌≤◌, List as Items, Bool, false, Option, Some, None, is_some, IsTrue, IfOk, OnErr, Err, OnOk, ⊤};
 ghost use Rattle.std.specs.Option.{option_copied};
 ghost use Rattle.am_outside.specs.Counts.{HasRisen};
 ghost use Rattle.am_keeper.specs.declared.rows.Rows.{Rows as Told};
@@ -57,14 +57,14 @@ pub struct Attached<K> {
 pub trait Store {
     type Kept: Keeper;
 
-    /// Whether it tells its rows. No call changes this.
-    ghost tells: { Self → Bool };
+    /// Whether it tells its rows, which it doesn't by default. No call changes this.
+    ghost tells: { Self → Bool } = { λ _. false };
 
     /// The rows at a path, if it tells its rows. At a path without rows this is empty.
-    ghost rows_at: { Self → Items ℕ → Told };
+    ghost rows_at: { Self → Items ℕ → Told } = { λ _ _. no_rows };
 
     /// The paths for which `attach` returned a keeper, if it tells its rows.
-    ghost has_attached: { Self → Items ℕ → Type 0 };
+    ghost has_attached: { Self → Items ℕ → Type 0 } = { λ _ _. ⊤ };
 
     /// How many calls of `attach` failed. The count stops at the greatest 64-bit number.
     ghost failed_attaches: { Self → ℕ };

@@ -41,17 +41,9 @@ fn make_private(rt: &HostRuntime, path: &Text) {
 }
 
 impl Store for SqlStore {
-    ghost use Rattle.std.specs.Prelude.{false, ⊤};
     ghost use Rattle.std.proofs.lemmas.Bool.{false≢true};
-    ghost use Rattle.am_keeper.specs.Rows.{no_rows};
 
     type Kept = FileKeeper;
-
-    ghost tells = { λ s. false };
-
-    ghost rows_at = { λ s path. no_rows };
-
-    ghost has_attached = { λ s path. ⊤ };
 
     ghost failed_attaches = { λ s. s.failed_attaches };
 

@@ -5,3 +5,4 @@ pub mod Reading
 pub mod Honest
 pub mod Image
 pub mod Failing
+pub mod Fresh

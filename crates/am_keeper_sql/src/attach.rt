@@ -6,6 +6,7 @@ ghost use Rattle.sqlite.specs.Files.{over_files, IsCleanLeft};
 ghost use Rattle.am_keeper.specs.declared.rows.Rows.{Rows as Told};
 ghost use Rattle.am_keeper.specs.Rows.{IsInOrder, no_rows};
 ghost use Rattle.am_keeper_sql.specs.Told.{told_in};
+ghost use Rattle.am_keeper_sql.specs.Fresh.{IsFresh};
 ghost use Rattle.am_keeper_sql.specs.Image.{HoldsRows, FindsRows, IsRefused};
 ghost use Rattle.am_keeper_sql.specs.Honest.{IsHonest, IsInMemory, IsHonestForGood, state_of};
 
@@ -25,7 +26,7 @@ fn in_memory<S: Start>(
         told_in (state_of over_files attached.keeper.database).now.trees ≡ Some attached.rows) }
     ensures honest { IfOk result (λ attached. IsHonestForGood over_files attached.keeper.database) }
     ensures in_order { IfOk result (λ attached. IsInOrder attached.rows) }
-    ensures fresh { IfOk result (λ attached. (attached.keeper.place ≡ None) × (attached.keeper.faults ≡ 0)) }
+    ensures fresh { IfOk result (λ attached. IsFresh None attached.keeper) }
     ensures memory { IfErr result (λ fail. fail ≡ KeepFail.NoMemory) }
 {
     let conn = Connection::open_in_memory(alloc)?;
@@ -56,7 +57,7 @@ fn in_file<S: Start>(
         → FindsRows (image_at S.Start) attached.rows) }
     ensures stored { IfOk result (λ attached. ¬ IsInMemory attached.keeper.database) }
     ensures in_order { IfOk result (λ attached. IsInOrder attached.rows) }
-    ensures fresh { IfOk result (λ attached. (attached.keeper.place ≡ Some path.now) × (attached.keeper.faults ≡ 0)) }
+    ensures fresh { IfOk result (λ attached. IsFresh (Some path.now) attached.keeper) }
     ensures refused { IfErr result (λ refused. refused.0 ≡ KeepFail.Failed
         → IfSome refused.1 (λ left. IsCleanLeft left → IsRefused (image_at S.Start) left)) }
 {
@@ -105,8 +106,7 @@ pub fn attach_from<S: Start>(
     ensures pathless { option_copied path.entry ≡ None
         → IfOk result (λ attached. (attached.rows ≡ no_rows) × IsHonestForGood over_files attached.keeper.database) }
     ensures in_order { IfOk result (λ attached. IsInOrder attached.rows) }
-    ensures place { IfOk result (λ attached. attached.keeper.place ≡ option_copied path.entry) }
-    ensures no_faults { IfOk result (λ attached. attached.keeper.faults ≡ 0) }
+    ensures fresh { IfOk result (λ attached. IsFresh (option_copied path.entry) attached.keeper) }
     ensures memory { option_copied path.entry ≡ None → IfErr result (λ refused. refused.0 ≡ KeepFail.NoMemory) }
     ensures refused { IfErr result (λ refused. refused.0 ≡ KeepFail.Failed
         → IfSome refused.1 (λ left. IsCleanLeft left → IsRefused (image_at S.Start) left)) }

@@ -103,7 +103,6 @@ fn has_no_rules(table: &Table) -> bool
         && !table.is_counted
 }
 
-#[tactic(auto, using(crate::proofs::Shapes::table_is))]
 fn is_table(table: &Table) -> bool
     ensures { IsTrue result ↔ (table.now ≡ kept) }
 {

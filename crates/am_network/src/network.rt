@@ -1,5 +1,5 @@
 //! Gates at which links arrive, and the network that they belong to.
-ghost use Rattle.std.specs.Prelude.{◌≡◌, ℕ, ◌≤◌, Option, Some, Err, length, slice_get, IfOk, IfSome, OnErr, OnOk};
+ghost use Rattle.std.specs.Prelude.{◌≡◌, ℕ, ◌≤◌, Option, Some, None, Err, length, slice_get, IfOk, IfSome, OnErr, OnOk};
 ghost use Rattle.std.specs.Option.{option_map};
 ghost use Rattle.am_outside.specs.Counts.{HasRisen};
 ghost use Rattle.am_outside.specs.Memory.{one_more};
@@ -137,8 +137,8 @@ pub trait Network {
     /// A gate of this network.
     type Gate: Acceptor;
 
-    /// What it was asked for last, if it tells that.
-    ghost listening: { Self → Option Listening };
+    /// What it was asked for last, if it tells that. By default it doesn't.
+    ghost listening: { Self → Option Listening } = { λ _. None };
 
     /// How many calls of `listen` there were. It stays at the greatest 64-bit number.
     ghost listens: { Self → ℕ };

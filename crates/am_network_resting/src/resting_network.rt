@@ -77,11 +77,7 @@ impl RestingNetwork {
 }
 
 impl Network for RestingNetwork {
-    ghost use Rattle.std.specs.Prelude.{None};
-
     type Gate = RestingGate;
-
-    ghost listening = { λ n. None };
 
     ghost listens = { λ n. n.listens };
 

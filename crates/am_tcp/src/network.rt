@@ -107,11 +107,7 @@ fn open_gates<R: Time + Wait + Copy + Drop>(
 }
 
 impl<R: Net + Time + Wait + Copy + Drop + Send> Network for TcpNetwork<R> {
-    ghost use Rattle.std.specs.Prelude.{None};
-
     type Gate = TcpGate<R>;
-
-    ghost listening = { λ n. None };
 
     ghost listens = { λ n. n.listens };
 

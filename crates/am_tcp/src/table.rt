@@ -27,8 +27,8 @@ pub(crate) struct Link<R> {
     /// Whether it was reported while none could look at it.
     pub(crate) is_reported: bool,
     /// It waits since that moment, and for so long.
-    pub(crate) since: Instant,
-    pub(crate) limit: Duration,
+    since: Instant,
+    limit: Duration,
 }
 
 impl<R> Link<R> {

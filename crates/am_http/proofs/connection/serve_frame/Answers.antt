@@ -1,7 +1,6 @@
-use Rattle.std.proofs.Common.{◌≡◌, ◌≤◌, refl, inl, inr, arith}
+use Rattle.std.proofs.Common.{refl, inl, inr}
 use Rattle.am_http.specs.FrameSpans.{frame_held}
-use Rattle.am_history.specs.Desks.{DeskView}
-use Rattle.am_http.specs.Links.{GoesOn, IsSameLink, Link, Server}
+use Rattle.am_http.specs.Links.{Server}
 use Rattle.am_http.specs.Sessions.{IsUnasked}
 use Rattle.am_http.proofs.FramingLemmas.{whole_key, whole_body}
 use Rattle.am_http.proofs.NextLemmas.{keeps_refl}
@@ -11,10 +10,6 @@ use Rattle.am_http.proofs.connection.serve_frame.Goals as goal
 -- nothing is asked of a server that stays
 unasked : (server : Server) → IsUnasked server server
 unasked server = record { seen = refl; clock = λ calls. refl }
-
--- a desk that was asked for nothing stays
-stays : (desk : DeskView) → GoesOn desk desk
-stays desk = record { desk = record { origin = refl; number = refl; sharing = refl }; legal = λ h. h }
 
 pub returns-in-Empty-clause-turn : goal.returns-in-Empty-clause-turn
 returns-in-Empty-clause-turn g c = (
@@ -79,49 +74,3 @@ returns-else-spans-clause-turn g c =
     turn_held _ _ _ c.in-Ok.ensures.kept c.in-Ok.ensures.found c.in-Whole.is c.bytes.ensures.bytes c.of.ensures
     c.consume.ensures c.answer_frame-answer.ensures.answer c.write_answer-written.ensures.sent.1
     c.if-is_err.ensures.value c.write_answer-written.ensures.sent.2 c.if-spans.false
-
--- the same link, whose source and sink have their marks and whose faults don't fall
-same_link : (old new : Link) → GoesOn old.server.desk new.server.desk → new.source.mark ≡ old.source.mark
-    → old.source.faults ≤ new.source.faults
-    → new.sink.mark ≡ old.sink.mark → old.sink.faults ≤ new.sink.faults → IsSameLink old new
-same_link old new desk source source_faults sink sink_faults = record {
-  desk = desk;
-  source = record { mark = source; never_falls = source_faults };
-  sink = record { mark = sink; never_falls = sink_faults };
-}
-
-pub returns-in-Empty-clause-same : goal.returns-in-Empty-clause-same
-returns-in-Empty-clause-same g c = same_link _ _ (stays _) c.in-Ok.ensures.mark c.in-Ok.ensures.never_falls refl
-    (omega arith)
-
-pub returns-in-Cut-clause-same : goal.returns-in-Cut-clause-same
-returns-in-Cut-clause-same g c = same_link _ _ (stays _) c.in-Ok.ensures.mark c.in-Ok.ensures.never_falls refl
-    (omega arith)
-
-pub returns-in-Ok-write_defect-clause-same : goal.returns-in-Ok-write_defect-clause-same
-returns-in-Ok-write_defect-clause-same g c =
-    same_link _ _ (stays _) c.in-Ok.ensures.mark c.in-Ok.ensures.never_falls c.in-Ok-write_defect.ensures.mark
-    c.in-Ok-write_defect.ensures.never_falls
-
-pub returns-in-Err-clause-same : goal.returns-in-Err-clause-same
-returns-in-Err-clause-same g c =
-    same_link _ _ (stays _) c.in-Ok.ensures.mark c.in-Ok.ensures.never_falls c.in-Err.ensures.mark
-    c.in-Err.ensures.never_falls
-
-pub returns-then-is_err-clause-same : goal.returns-then-is_err-clause-same
-returns-then-is_err-clause-same g c =
-    let written = c.write_answer-written.ensures in
-    same_link _ _ c.answer_frame-answer.ensures.goes_on c.in-Ok.ensures.mark c.in-Ok.ensures.never_falls written.mark
-    written.never_falls
-
-pub returns-then-spans-clause-same : goal.returns-then-spans-clause-same
-returns-then-spans-clause-same g c =
-    let written = c.write_answer-written.ensures in
-    same_link _ _ c.answer_frame-answer.ensures.goes_on c.in-Ok.ensures.mark c.in-Ok.ensures.never_falls written.mark
-    written.never_falls
-
-pub returns-else-spans-clause-same : goal.returns-else-spans-clause-same
-returns-else-spans-clause-same g c =
-    let written = c.write_answer-written.ensures in
-    same_link _ _ c.answer_frame-answer.ensures.goes_on c.in-Ok.ensures.mark c.in-Ok.ensures.never_falls written.mark
-    written.never_falls

@@ -22,6 +22,6 @@ loop-at-preserved g c =
       sent = sent_more (taken c.args.sink.now) (taken c.loop-at.sink) (taken c.write_from.new.sink) c.args.bytes.now
           c.loop-at.at c.in_ok-at.at
           sent.0 c.loop-at.invariant.sent sent.2;
-      never_falls = omega (arith, c.loop-at.invariant.never_falls, c.in_ok-at.ensures.never_falls);
-      mark = c.in_ok-at.ensures.mark ∙ c.loop-at.invariant.mark;
+      never_falls = omega (arith, c.loop-at.invariant.never_falls, c.in_ok-at.ensures.same.never_falls);
+      mark = c.in_ok-at.ensures.same.mark ∙ c.loop-at.invariant.mark;
     }
