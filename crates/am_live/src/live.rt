@@ -41,18 +41,9 @@ impl Model for Live {
 
     ghost Value = { State };
 
-    ghost view = { λ l. record {
-      system_key = l.system_key;
-      root_key = l.root_key;
-      board = l.board;
-      broadcasts = l.queues;
-      pendings = l.pending;
-      tasks = l.tasks;
-      services = l.services;
-      next_uid = l.next_uid;
-      next_registration = l.next_registration;
-      moment = l.moment;
-    } };
+    ghost use Rattle.am_live.specs.States.{state_of};
+
+    ghost view = { state_of };
 
     // Deadlines after a moment are below 2^64, and a device has at most 256 packages.
     ghost invariant = { λ l. (l.moment ≤ latest_moment) × (length l.board.packages ≤ 256) };

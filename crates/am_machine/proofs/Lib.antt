@@ -1,5 +1,5 @@
 pub mod Stored
-pub mod Beginning
+pub mod Fresh
 pub mod Kept
 pub mod FoundRows
 pub mod Shown

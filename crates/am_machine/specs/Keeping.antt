@@ -59,7 +59,11 @@ module _ {K : Type 0} where
   abbrev pub CountsNone : Ghosts K → Reply → K → K → Type 0
   CountsNone g reply old new = (reply ≡ Refused KeeperFault → ⊥) → g.faults new ≡ g.faults old
 
-  -- and the keeper counted a fault for it
+  -- for a row that wasn't kept the keeper counted a fault
+  abbrev pub CountsFault : Ghosts K → Bool → K → K → Type 0
+  CountsFault g kept old new = kept ≡ false → HasRisen (g.faults old) (g.faults new)
+
+  -- one more call was stored, its row wasn't kept, and the keeper counted a fault for it
   abbrev pub IsFault : Ghosts K → Managed K → Managed K → Type 0
   IsFault g old new = HasRisen (g.faults old.keeper) (g.faults new.keeper) × AddsUnkept old.history new.history
 

@@ -12,7 +12,7 @@ ghost use Rattle.std.specs.Option.{option_map};
 ghost use Rattle.am_history.specs.Steps.{asks_keeper, after_due, at_moment, keeps_row, step};
 ghost use Rattle.am_laws_state.specs.Sound.{IsSoundState};
 ghost use Rattle.am_live_packages.specs.Changes.{Fits, changed};
-ghost use Rattle.am_machine.specs.Keeping.{AsksAtMostOnce, GoesOn, Leaves, LeavesUnmade, TellsSame, with_kept};
+ghost use Rattle.am_machine.specs.Keeping.{AsksAtMostOnce, CountsFault, GoesOn, Leaves, LeavesUnmade, TellsSame, with_kept};
 
 use am_keeper::{KeepFail, Keeper, Row, put_row};
 use am_live::{Change, Live, Plan};
@@ -59,8 +59,7 @@ pub(crate) fn keep<K: Keeper, L: Ledger>(
     ensures leaves { IfOk result (λ answered. Leaves K.Keeper
         (record { state = live.old; request = call.entry.now.request; reply = answered.reply })
         keeper.old keeper.new) }
-    ensures fault { IfOk result (λ answered. answered.kept ≡ false →
-        HasRisen (K.faults keeper.old) (K.faults keeper.new)) }
+    ensures fault { IfOk result (λ answered. CountsFault K.Keeper answered.kept keeper.old keeper.new) }
     ensures unmade { OnErr result (LeavesUnmade K.Keeper keeper.old keeper.new) }
 {
     let moment = live.moment_after(call.now);
@@ -96,8 +95,7 @@ fn make<K: Keeper, L: Ledger>(
     ensures put { IfOk result (λ answered. K.is_honest keeper.new → K.rows keeper.new
         ≡ (if answered.kept then option_map (λ told. with_row told row) (K.rows keeper.old) else K.rows keeper.old)) }
     ensures refused { OnErr result (TellsSame K.Keeper keeper.old keeper.new) }
-    ensures fault { IfOk result (λ answered. answered.kept ≡ false →
-        HasRisen (K.faults keeper.old) (K.faults keeper.new)) }
+    ensures fault { IfOk result (λ answered. CountsFault K.Keeper answered.kept keeper.old keeper.new) }
     ensures counts { IfOk result (λ answered. answered.kept ≡ true → K.faults keeper.new ≡ K.faults keeper.old) }
     ensures uncounted { OnErr result (K.faults keeper.new ≡ K.faults keeper.old) }
     ensures asks { IfOk result (λ answered. K.puts keeper.new ≡ raised_by 1 (K.puts keeper.old)) }

@@ -3,7 +3,7 @@
 
 mod acts;
 mod archive;
-mod fresh;
+mod beginning;
 mod keeping;
 mod laws;
 mod manager;
@@ -15,6 +15,6 @@ mod step;
 
 pub use am_desk::Desk;
 pub use am_opening::BeginFault;
-pub use fresh::begin_fresh;
-pub use manager::{Manager, begin, begin_keyed};
+pub use beginning::{begin, begin_fresh, begin_keyed};
+pub use manager::Manager;
 pub use sole::SoleDesk;

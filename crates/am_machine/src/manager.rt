@@ -1,31 +1,24 @@
 //! The manager: the live state of a device, and the history of the calls that made it.
-ghost use Rattle.std.specs.Prelude.{◌≡◌, ◌≤◌, [], length, count_by, IfOk, IfErr, OnOk, Some, Ok};
+ghost use Rattle.std.specs.Prelude.{◌≡◌, ◌≤◌, length, count_by, OnOk, Some};
 ghost use Rattle.std.specs.Option.{option_copied};
 ghost use Rattle.am_keeper.specs.declared.rows.Rows.{Rows as Told};
-ghost use Rattle.am_keeper.specs.Rows.{IsInOrder};
-ghost use Rattle.am_model.specs.Sound.{IsSound};
 ghost use Rattle.am_history.specs.Desks.{opening_of};
 ghost use Rattle.am_history.specs.History.{IsLegal, replay};
-ghost use Rattle.am_history.specs.Opening.{opening_with};
 ghost use Rattle.am_history.specs.State.{key_of};
 ghost use Rattle.am_laws_kept.specs.Found.{rows_after};
-ghost use Rattle.am_opening.specs.Openings.{Refuses};
 ghost use Rattle.am_machine.specs.Managed.{is_unkept};
 
 use crate::archive::Archive;
 use crate::opened::Opened;
-use am_keeper::{Attached, Keeper, Rows};
+use am_keeper::Keeper;
 use am_live::Live;
-use am_opening::{BeginFault, open};
-use am_types::{Device, NoMemory, Text, drop_parts};
-use std::alloc::Global;
-use std::hash::RandomState;
+use am_types::{NoMemory, Text, drop_parts};
 use std::marker::Model;
 
 /// The activity manager of one device. Contracts see where it comes from, its history, how many more
 /// calls it has room for, and its keeper.
 pub struct Manager<K: Keeper> {
-    opened: Opened,
+    pub(crate) opened: Opened,
     pub(crate) live: Live,
     pub(crate) history: Archive,
     // What the entries weigh together, in bytes.
@@ -54,91 +47,6 @@ impl<K: Keeper> Model for Manager<K> {
 impl<K: Keeper> Drop for Manager<K> {
     fn drop(self) {
         drop_parts!(self, Manager: opened live history weight keeper);
-    }
-}
-
-/// A manager of a sound device over a keeper and the rows that were there when it came, with no history. It
-/// keeps the allocator for its later calls. It is refused by `Rows`, with the name of the first row with which the
-/// device can't be opened.
-pub fn begin<K: Keeper>(
-    alloc: Global,
-    device: Device,
-    attached: Attached<K>,
-) -> Result<Manager<K>, BeginFault>
-    requires sound { IsSound device }
-    requires order { IsInOrder attached.rows }
-    requires told { K.is_honest attached.keeper → (told : Told) → K.rows attached.keeper ≡ Some told
-        → attached.rows ≡ told }
-    ensures begun { IfOk result (λ manager. manager ≡ record {
-      origin = record { device = device; rows = attached.rows; place = K.place attached.keeper };
-      history = [];
-      spare = 0;
-      keeper = attached.keeper;
-    }) }
-    ensures opens { IfOk result (λ manager. opening_with device attached.rows ≡ Ok (opening_of manager.origin)) }
-    ensures refused { IfErr result (λ fault. Refuses fault (opening_with device attached.rows)) }
-{
-    begin_keyed(alloc, device, attached, None)
-}
-
-/// The same, but what callers choose is hashed under the keys that were drawn, if some were. Draw them if callers
-/// aren't trusted: without them a caller can make its own look-ups, and those of others, slow.
-pub fn begin_keyed<K: Keeper>(
-    alloc: Global,
-    device: Device,
-    attached: Attached<K>,
-    drawn: Option<RandomState>,
-) -> Result<Manager<K>, BeginFault>
-    requires sound { IsSound device }
-    requires order { IsInOrder attached.rows }
-    requires told { K.is_honest attached.keeper → (told : Told) → K.rows attached.keeper ≡ Some told
-        → attached.rows ≡ told }
-    ensures begun { IfOk result (λ manager. manager ≡ record {
-      origin = record { device = device; rows = attached.rows; place = K.place attached.keeper };
-      history = [];
-      spare = 0;
-      keeper = attached.keeper;
-    }) }
-    ensures opens { IfOk result (λ manager. opening_with device attached.rows ≡ Ok (opening_of manager.origin)) }
-    ensures refused { IfErr result (λ fault. Refuses fault (opening_with device attached.rows)) }
-{
-    let Attached { keeper, rows } = attached;
-    let opened = Opened::with(&device, &rows);
-    let live = open_live(alloc, drawn, device, &rows);
-    drop(rows);
-    match live {
-        Ok(live) => Ok(Manager {
-            opened,
-            live,
-            history: Archive::new(alloc),
-            weight: 0,
-            keeper,
-        }),
-        Err(fault) => {
-            drop(keeper);
-            Err(fault)
-        }
-    }
-}
-
-/// The live state in which a device is opened with those rows.
-fn open_live(
-    alloc: Global,
-    drawn: Option<RandomState>,
-    device: Device,
-    rows: &Rows,
-) -> Result<Live, BeginFault>
-    requires sound { IsSound device }
-    requires order { IsInOrder rows.now }
-    ensures opens { IfOk result (λ live. opening_with device rows.now ≡ Ok live) }
-    ensures refused { IfErr result (λ fault. Refuses fault (opening_with device rows.now)) }
-{
-    match open(alloc, device, rows) {
-        Ok(opened) => {
-            let live = Live::from_device(alloc, drawn, opened.device, opened.next_uid)?;
-            Ok(live)
-        }
-        Err(fault) => Err(fault),
     }
 }
 

@@ -2,14 +2,13 @@
 ghost use Rattle.std.specs.Prelude.{◌≡◌, ◌≤◌, ◌<◌, ◌+◌, ◌||◌, Some, false, true, if◌then◌else◌, length, IfOk, OnErr, IsOk, IsTrue};
 ghost use Rattle.am_types.specs.declared.reply.Reply.TheVariants.{Refused};
 ghost use Rattle.am_types.specs.declared.rule.Rule.TheVariants.{KeeperFault};
-ghost use Rattle.am_outside.specs.Counts.{HasRisen};
 ghost use Rattle.am_history.specs.Desks.{opening_of, ShowsAt};
 ghost use Rattle.am_history.specs.History.{IsLegal, replay, may_change, has_room, entry_of};
 ghost use Rattle.am_history.specs.State.{uid_of, has_uid};
 ghost use Rattle.am_history.specs.Numbers.{HasNumbers};
 ghost use Rattle.am_history.specs.Steps.{Call, after_due, asks_keeper, is_calm, is_formed, keeps_row, step};
 ghost use Rattle.am_laws_state.specs.Sound.{IsSoundState};
-ghost use Rattle.am_machine.specs.Keeping.{AsksAtMostOnce, AsksOnce, CountsNone, GoesOn, IsFault, IsUnasked, Leaves, LeavesUnmade, TellsSame, told_after, with_kept};
+ghost use Rattle.am_machine.specs.Keeping.{AsksAtMostOnce, AsksOnce, CountsFault, CountsNone, GoesOn, IsFault, IsUnasked, Leaves, LeavesUnmade, TellsSame, told_after, with_kept};
 
 use crate::acts::act;
 use crate::archive::Archive;
@@ -195,8 +194,7 @@ fn answer<K: Keeper, L: Ledger>(
     ensures leaves { IfOk result (λ answered. Leaves K.Keeper
         (record { state = live.old; request = call.entry.now.request; reply = answered.reply })
         keeper.old keeper.new) }
-    ensures fault { IfOk result (λ answered. answered.kept ≡ false →
-        HasRisen (K.faults keeper.old) (K.faults keeper.new)) }
+    ensures fault { IfOk result (λ answered. CountsFault K.Keeper answered.kept keeper.old keeper.new) }
     ensures unmade { OnErr result (LeavesUnmade K.Keeper keeper.old keeper.new) }
     ensures calm { IsTrue (is_calm call.entry.now.request) → IsOk result }
 {

@@ -128,41 +128,12 @@ gate_served most origin sharing clock k ended old new worked begins w grows own 
     }
 
 -- a clock that tells the same will do
-as_timed : (most : Option ℕ) (begun : Begun) (clock : Moments) (ended : Ended) (number : ℕ) (works : List Gatework)
-    → ((calls : ℕ) → begun.clock calls ≡ clock calls)
-    → AreServed most begun ended number works → AreServed most (record begun { clock = clock }) ended number works
-as_timed most begun clock ended number [] same served = tt
-as_timed most begun clock ended number (work ∷ works) same served = (
-  record {
-    worked = served.0.worked;
-    links = served.0.links;
-    few = served.0.few;
-    told = served.0.told;
-    moments = gives_as clock begun.clock (moments_of_all work.services) served.0.told same served.0.moments;
-    ends = served.0.ends;
-  },
-  as_timed most begun clock ended (suc number) works same served.1,
-)
-
 pub serves_timed : (most : Option ℕ) (count : ℕ) (begun : Begun) (clock : Moments) (ended : Ended)
     (old new : NetworkView) → ((calls : ℕ) → begun.clock calls ≡ clock calls)
     → ServesAll most count begun ended old new → ServesAll most count (record begun { clock = clock }) ended old new
 serves_timed most count begun clock ended old new same serves =
-    record {
-      legal = serves.legal;
-      numbered = serves.numbered;
-      formed = serves.formed;
-      works = serves.works;
-      count = serves.count;
-      served = as_timed most begun clock ended 0 serves.works same serves.served;
-      told = serves.told;
-      total = serves.total;
-      failed = serves.failed;
-      risen = serves.risen;
-      listens = serves.listens;
-      faults = serves.faults;
-      gate_faults = serves.gate_faults;
-    }
+    subst (λ (c : Moments). ServesAll most count (record begun { clock = c }) ended old new) (λ i calls. same calls i)
+    serves
 
 -- what the entries of each number are, all are
 pub formed_all : (n : ℕ) (entries : List Entry) → All (λ (entry : Entry). entry.desk < n) entries

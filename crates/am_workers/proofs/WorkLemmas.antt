@@ -577,14 +577,7 @@ works_enough most first new services served count ended enough one has calm long
     record {
       services = services;
       links = new.gate.links;
-      has = record {
-        desk = has.desk;
-        grows = has.grows;
-        worked = has.worked;
-        links = has.links;
-        moments = has.moments;
-        faults = has.faults;
-      };
+      has = has;
       few = subst P (sym reached) (omega (arith, long));
       served = held ∙ ap (λ n. min 18446744073709551615 n) (sym long);
       ends = (calm, refl, inl (reached ∙ ap Some (sym long)));
