@@ -83,17 +83,9 @@ struct FailingStore {
 }
 
 impl Store for FailingStore {
-    ghost use Rattle.std.specs.Prelude.{false, ⊤};
     ghost use Rattle.std.proofs.lemmas.Bool.{false≢true};
-    ghost use Rattle.am_keeper.specs.Rows.{no_rows};
 
     type Kept = SilentKeeper;
-
-    ghost tells = { λ s. false };
-
-    ghost rows_at = { λ s path. no_rows };
-
-    ghost has_attached = { λ s path. ⊤ };
 
     ghost failed_attaches = { λ s. 0 };
 

@@ -5,12 +5,11 @@ ghost use Rattle.am_network_resting.specs.Gates.{AreNew, AreUnused, HasUnusedEnd
 mod rows;
 
 use self::rows::{ALONE, INTERLEAVED};
-use crate::servings::{fault, gate_parts};
-use crate::sessions::{device_file, text_of, try_end};
+use crate::servings::{fault, gate_parts, try_gates, try_head};
+use crate::sessions::text_of;
 use am_network_resting::{RestingGate, RestingLink, RestingNetwork, RestingPlan};
-use am_trials_runs::{Asked, Outside, QUIET, Runtime, run_on, sink, source, store};
-use am_trials_spelling::EMPTY;
-use am_trials_words::{parts, try_sections};
+use am_trials_runs::{Outside, QUIET, Runtime, sink, source, store};
+use am_trials_words::try_sections;
 use am_types::List;
 use std::alloc::Global;
 use std::process::Abort;
@@ -28,38 +27,6 @@ const RESTING: Manner = Manner {
     more: 0,
     rests: true,
 };
-
-/// The links of a gate that is to come.
-#[derive(Drop)]
-struct Links {
-    planned: Vec<RestingPlan>,
-    ghost unused: { AreUnused planned.items },
-}
-
-impl Links {
-    fn add(&mut self, link: RestingPlan) -> Result<(), Fail>
-        requires { HasUnusedEnds link }
-    {
-        self.planned.push(link)?;
-        Ok(())
-    }
-}
-
-/// The gates of a network that is to come.
-#[derive(Drop)]
-struct Gates {
-    made: Vec<RestingGate>,
-    ghost new: { AreNew made.items },
-}
-
-impl Gates {
-    fn add(&mut self, gate: RestingGate) -> Result<(), Fail>
-        requires { IsNew gate }
-    {
-        self.made.push(gate)?;
-        Ok(())
-    }
-}
 
 /// The numbers between spaces; `-` is none.
 fn numbers(alloc: Global, words: &str) -> Result<List<u32>, Fail> {
@@ -122,12 +89,12 @@ fn planned_link(alloc: Global, manner: Manner, row: &str) -> Result<RestingPlan,
 }
 
 /// The links of the rows.
-fn planned_links(alloc: Global, manner: Manner, rows: &str) -> Result<Links, Fail> {
-    let mut links = Links {
-        planned: Vec::new(alloc),
-    };
+fn planned_links(alloc: Global, manner: Manner, rows: &str) -> Result<Vec<RestingPlan>, Fail>
+    ensures { IfOk result (λ links. AreUnused links.items) }
+{
+    let mut links = Vec::new(alloc);
     for row in rows.lines() {
-        links.add(planned_link(alloc, manner, row)?)?;
+        links.push(planned_link(alloc, manner, row)?)?;
     }
     Ok(links)
 }
@@ -136,25 +103,20 @@ fn planned_links(alloc: Global, manner: Manner, rows: &str) -> Result<Links, Fai
 fn planned_gate(alloc: Global, manner: Manner, gate: &str) -> Result<RestingGate, Fail>
     ensures { IfOk result IsNew }
 {
-    let (failing, rows) = gate_parts(gate);
-    let mut calls = Vec::new(alloc);
-    if let Some(call) = failing {
-        calls.push(call)?;
-    }
-    let Links { planned } = planned_links(alloc, manner, rows)?;
-    Ok(RestingGate::new(alloc, List::new(planned), List::new(calls))?)
+    let (failing, rows) = gate_parts(alloc, gate)?;
+    let links = List::new(planned_links(alloc, manner, rows)?);
+    Ok(RestingGate::new(alloc, links, failing)?)
 }
 
-/// The network of these gates.
-fn network(alloc: Global, manner: Manner, gates: &str) -> Result<RestingNetwork, Fail> {
-    let mut all = Gates {
-        made: Vec::new(alloc),
-    };
+/// The gates of a serving.
+fn planned_gates(alloc: Global, manner: Manner, gates: &str) -> Result<Vec<RestingGate>, Fail>
+    ensures { IfOk result (λ made. AreNew made.items) }
+{
+    let mut made = Vec::new(alloc);
     for part in gates.split("\n: ") {
-        all.add(planned_gate(alloc, manner, part)?)?;
+        made.push(planned_gate(alloc, manner, part)?)?;
     }
-    let Gates { made } = all;
-    Ok(RestingNetwork::new(alloc, made))
+    Ok(made)
 }
 
 /// The link with this number, if the gate ended it.
@@ -169,7 +131,7 @@ fn ended_as(gate: &RestingGate, number: u64) -> Option<&RestingLink> {
 
 /// The link with this number was ended, and took what the row has; or it was left or is parked, as the row says.
 fn try_link(
-    rt: &(impl Runtime + Abort),
+    rt: &impl Abort,
     alloc: Global,
     gate: &RestingGate,
     number: u64,
@@ -187,13 +149,11 @@ fn try_link(
     Ok(())
 }
 
-/// The gate ended all links of the rows but those that are left or parked, each once, and has so many parked.
-fn try_gate(
-    rt: &(impl Runtime + Abort),
-    alloc: Global,
-    gate: &RestingGate,
-    rows: &str,
-) -> Result<(), Fail> {
+/// The gate ended all links of its rows but those that are left or parked, each once, has so many parked, and failed at
+/// its call.
+fn try_gate(rt: &impl Abort, alloc: Global, gate: &RestingGate, part: &str) -> Result<(), Fail> {
+    let (failing, rows) = gate_parts(alloc, part)?;
+    assert_eq!(rt; gate.faults(), failing.as_slice().len() as u64, "{rows}");
     let mut number: u64 = 0;
     let mut left: usize = 0;
     let mut parked: usize = 0;
@@ -213,23 +173,6 @@ fn try_gate(
     Ok(())
 }
 
-/// The network took its gates back in their order, and all of them.
-fn try_gates(
-    rt: &(impl Runtime + Abort),
-    alloc: Global,
-    network: &RestingNetwork,
-    gates: &str,
-) -> Result<(), Fail> {
-    let released = network.released();
-    assert_eq!(rt; released.len(), gates.split("\n: ").count(), "{gates}");
-    for (gate, part) in released.iter().zip(gates.split("\n: ")) {
-        let (failing, rows) = gate_parts(part);
-        try_gate(rt, alloc, gate, rows)?;
-        assert_eq!(rt; gate.faults() == 1, failing.is_some(), "{rows}");
-    }
-    Ok(())
-}
-
 /// Runs the serving of the rows in this manner.
 fn try_rows(
     rt: &(impl Runtime + Abort),
@@ -239,14 +182,12 @@ fn try_rows(
 ) -> Result<(), Fail> {
     let (_, serving) = rows.split_once('\n').ok_or("a serving")?;
     let (head, gates) = serving.split_once("\n: ").ok_or("gates")?;
-    let (run, wanted, output) = parts(head);
-    let (device, words) = run.split_once(' ').ok_or("words")?;
     let mut store = store(alloc, &QUIET)?;
-    let mut network = network(alloc, manner, gates)?;
-    let asked = Asked::new(words, device_file(device), b"");
-    let left = run_on(rt, alloc, &asked, &QUIET, &mut store, &mut network)?;
-    try_end(rt, alloc, &left, wanted, output, head)?;
-    try_gates(rt, alloc, &network, gates)
+    let mut network = RestingNetwork::new(alloc, planned_gates(alloc, manner, gates)?);
+    try_head(rt, alloc, &mut store, &mut network, head)?;
+    try_gates(rt, network.released(), gates, |gate, part| {
+        try_gate(rt, alloc, gate, part)
+    })
 }
 
 /// Runs the serving of the rows whose links rest, in pieces of one byte, seven bytes and more, and one link after the
@@ -305,33 +246,24 @@ fn long_network(alloc: Global, rests: &str) -> Result<RestingNetwork, Fail> {
     let room = MOST_FRAMES
         .saturating_mul(ANSWER.len())
         .saturating_add(4096);
-    let mut links = Links {
-        planned: Vec::new(alloc),
-    };
-    links.add(link_of(
+    let link = link_of(
         alloc,
         input.as_slice(),
         room,
         numbers(alloc, rests)?,
         &FRAMES,
-    )?)?;
-    let Links { planned } = links;
-    let mut gates = Gates {
-        made: Vec::new(alloc),
-    };
-    gates.add(RestingGate::new(alloc, List::new(planned), List::new(Vec::new(alloc)))?)?;
-    let Gates { made } = gates;
-    Ok(RestingNetwork::new(alloc, made))
+    )?;
+    let links = List::new(vec![in alloc; link]?);
+    let gate = RestingGate::new(alloc, links, List::new(Vec::new(alloc)))?;
+    Ok(RestingNetwork::new(alloc, vec![in alloc; gate]?))
 }
 
 /// A connection is answered as many frames as it may have, however often it rested.
 fn try_long(rt: &(impl Runtime + Abort), alloc: Global, rests: &str) -> Result<(), Fail> {
     let mut network = long_network(alloc, rests)?;
     let mut store = store(alloc, &QUIET)?;
-    let words = "serve --device d --port 1 --workers 1";
-    let asked = Asked::new(words, EMPTY, b"");
-    let left = run_on(rt, alloc, &asked, &QUIET, &mut store, &mut network)?;
-    assert!(rt; left.is(0, b"history 0 served 1\n", b""), "{rests}");
+    let head = r"empty serve --device d --port 1 --workers 1 | 0 - | history 0 served 1\n";
+    try_head(rt, alloc, &mut store, &mut network, head)?;
     let gate = network.released().first().ok_or("a gate")?;
     let link = gate.ended().first().ok_or("a link")?;
     let taken = link.writer.sink.taken();

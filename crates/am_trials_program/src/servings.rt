@@ -7,7 +7,7 @@ mod rows;
 use self::rows::{KEEPING, SERVINGS};
 use crate::sessions::{device_file, text_of, try_end};
 use am_keeper::MemoryStore;
-use am_network::{GatePlan, LinkPlan, MemoryGate, MemoryLink, MemoryNetwork};
+use am_network::{GatePlan, LinkPlan, MemoryGate, MemoryLink, Network};
 use am_trials_runs::{
     Asked, Outside, QUIET, Runtime, asked_over, network_of, run_on, sink, source, store,
 };
@@ -16,38 +16,6 @@ use am_types::List;
 use std::alloc::Global;
 use std::process::Abort;
 use std::test::Fail;
-
-/// The links of a gate that is to come.
-#[derive(Drop)]
-struct Links {
-    planned: Vec<LinkPlan>,
-    ghost unused: { AreUnused planned.items },
-}
-
-impl Links {
-    fn add(&mut self, link: LinkPlan) -> Result<(), Fail>
-        requires { IsUnused link }
-    {
-        self.planned.push(link)?;
-        Ok(())
-    }
-}
-
-/// The gates of a network that is to come.
-#[derive(Drop)]
-struct Gates {
-    planned: Vec<GatePlan>,
-    ghost unused: { ArePlans planned.items },
-}
-
-impl Gates {
-    fn add(&mut self, gate: GatePlan) -> Result<(), Fail>
-        requires { AreUnused gate.links }
-    {
-        self.planned.push(gate)?;
-        Ok(())
-    }
-}
 
 /// Which end of a link fails, and at which of its calls.
 pub fn fault(words: &str) -> Result<Outside, Fail>
@@ -89,53 +57,49 @@ fn planned_link(alloc: Global, row: &str) -> Result<LinkPlan, Fail>
 }
 
 /// The links of the rows.
-fn planned_links(alloc: Global, rows: &str) -> Result<Links, Fail> {
-    let mut links = Links {
-        planned: Vec::new(alloc),
-    };
+fn planned_links(alloc: Global, rows: &str) -> Result<Vec<LinkPlan>, Fail>
+    ensures { IfOk result (λ links. AreUnused links.items) }
+{
+    let mut links = Vec::new(alloc);
     for row in rows.lines() {
-        links.add(planned_link(alloc, row)?)?;
+        links.push(planned_link(alloc, row)?)?;
     }
     Ok(links)
 }
 
-/// The number of the call of `accept` that fails, and the rows of the links.
-pub fn gate_parts(gate: &str) -> (Option<u32>, &str) {
+/// The number of the call for a link that fails, if one does, and the rows of the links.
+pub fn gate_parts(alloc: Global, gate: &str) -> Result<(List<u32>, &str), Fail> {
     let (failing, rows) = gate.split_once('\n').unwrap_or((gate, ""));
-    (failing.parse::<u32>().ok(), rows)
+    let mut calls = Vec::new(alloc);
+    if let Some(call) = failing.parse::<u32>().ok() {
+        calls.push(call)?;
+    }
+    Ok((List::new(calls), rows))
 }
 
 /// The gate of these rows.
 fn planned_gate(alloc: Global, gate: &str) -> Result<GatePlan, Fail>
     ensures { IfOk result (λ made. AreUnused made.links) }
 {
-    let (failing, rows) = gate_parts(gate);
-    let mut calls = Vec::new(alloc);
-    if let Some(call) = failing {
-        calls.push(call)?;
-    }
-    let Links { planned } = planned_links(alloc, rows)?;
-    Ok(GatePlan {
-        links: List::new(planned),
-        failing: List::new(calls),
-    })
+    let (failing, rows) = gate_parts(alloc, gate)?;
+    let links = List::new(planned_links(alloc, rows)?);
+    Ok(GatePlan { links, failing })
 }
 
-/// The network of these gates.
-fn network(alloc: Global, gates: &str) -> Result<MemoryNetwork, Fail> {
-    let mut all = Gates {
-        planned: Vec::new(alloc),
-    };
+/// The gates of a serving.
+fn planned_gates(alloc: Global, gates: &str) -> Result<Vec<GatePlan>, Fail>
+    ensures { IfOk result (λ planned. ArePlans planned.items) }
+{
+    let mut planned = Vec::new(alloc);
     for part in gates.split("\n: ") {
-        all.add(planned_gate(alloc, part)?)?;
+        planned.push(planned_gate(alloc, part)?)?;
     }
-    let Gates { planned } = all;
-    Ok(network_of(alloc, List::new(planned), &QUIET)?)
+    Ok(planned)
 }
 
 /// The link has its number at both ends, and took what the row has.
 fn try_link(
-    rt: &(impl Runtime + Abort),
+    rt: &impl Abort,
     alloc: Global,
     link: &MemoryLink,
     number: usize,
@@ -149,13 +113,10 @@ fn try_link(
     Ok(())
 }
 
-/// The gate took its links back in their order, except those that are left.
-fn try_gate(
-    rt: &(impl Runtime + Abort),
-    alloc: Global,
-    gate: &MemoryGate,
-    rows: &str,
-) -> Result<(), Fail> {
+/// The gate took its links back in their order, except those that are left, and failed at its call.
+fn try_gate(rt: &impl Abort, alloc: Global, gate: &MemoryGate, part: &str) -> Result<(), Fail> {
+    let (failing, rows) = gate_parts(alloc, part)?;
+    assert_eq!(rt; gate.faults(), failing.as_slice().len() as u64, "{rows}");
     let mut number: usize = 0;
     for row in rows.lines() {
         if !row.starts_with("left") {
@@ -169,20 +130,34 @@ fn try_gate(
 }
 
 /// The network took its gates back in their order, and all of them.
-fn try_gates(
-    rt: &(impl Runtime + Abort),
-    alloc: Global,
-    network: &MemoryNetwork,
+pub fn try_gates<G, F: FnMut(&G, &str) -> Result<(), Fail>>(
+    rt: &impl Abort,
+    released: &[G],
     gates: &str,
-) -> Result<(), Fail> {
-    let released = network.released();
+    mut try_gate: F,
+) -> Result<(), Fail>
+    requires { F.IsAlwaysCallable try_gate }
+{
     assert_eq!(rt; released.len(), gates.split("\n: ").count(), "{gates}");
     for (gate, part) in released.iter().zip(gates.split("\n: ")) {
-        let (failing, rows) = gate_parts(part);
-        try_gate(rt, alloc, gate, rows)?;
-        assert_eq!(rt; gate.faults() == 1, failing.is_some(), "{rows}");
+        try_gate(gate, part)?;
     }
     Ok(())
+}
+
+/// Runs what the head of a serving says over the store and the network, and looks at how it ends.
+pub fn try_head<N: Network>(
+    rt: &(impl Runtime + Abort),
+    alloc: Global,
+    store: &mut MemoryStore,
+    network: &mut N,
+    head: &str,
+) -> Result<(), Fail> {
+    let (run, wanted, output) = parts(head);
+    let (device, words) = run.split_once(' ').ok_or("words")?;
+    let asked = Asked::new(words, device_file(device), b"");
+    let left = run_on(rt, alloc, &asked, &QUIET, store, network)?;
+    try_end(rt, alloc, &left, wanted, output, head)
 }
 
 /// Runs the serving over the store.
@@ -193,13 +168,12 @@ fn try_serving(
     serving: &str,
 ) -> Result<(), Fail> {
     let (head, gates) = serving.split_once("\n: ").ok_or("gates")?;
-    let (run, wanted, output) = parts(head);
-    let (device, words) = run.split_once(' ').ok_or("words")?;
-    let mut network = network(alloc, gates)?;
-    let asked = Asked::new(words, device_file(device), b"");
-    let left = run_on(rt, alloc, &asked, &QUIET, store, &mut network)?;
-    try_end(rt, alloc, &left, wanted, output, head)?;
-    try_gates(rt, alloc, &network, gates)
+    let planned = List::new(planned_gates(alloc, gates)?);
+    let mut network = network_of(alloc, planned, &QUIET)?;
+    try_head(rt, alloc, store, &mut network, head)?;
+    try_gates(rt, network.released(), gates, |gate, part| {
+        try_gate(rt, alloc, gate, part)
+    })
 }
 
 /// Runs the serving of the rows over a store of its own.

@@ -2,10 +2,10 @@
 ghost use Rattle.std.specs.Prelude.{◌≡◌, ◌+◌, ◌<◌, ◌≤◌, [], length, vec_len, vec_capacity};
 ghost use Rattle.std.specs.Io.{ReadsAtMost};
 
+use crate::servings::try_head;
 use am_network::{Acceptor, ListenFail, Network};
 use am_outside::{Failed, MemorySink, MemorySource, Sink, Source};
-use am_trials_runs::{Asked, QUIET, Runtime, run_on, sink, source, store};
-use am_trials_spelling::EMPTY;
+use am_trials_runs::{QUIET, Runtime, sink, source, store};
 use std::alloc::Global;
 use std::collections::VecDeque;
 use std::process::Abort;
@@ -227,11 +227,7 @@ fn gates_of(coming: &mut VecDeque<Link>, gates: u32, mut made: Vec<Gate>) -> Vec
 }
 
 impl Network for Pair {
-    ghost use Rattle.std.specs.Prelude.{None};
-
     type Gate = Gate;
-
-    ghost listening = { λ n. None };
 
     ghost listens = { λ n. n.listens };
 
@@ -295,10 +291,9 @@ fn try_gate(rt: &(impl Runtime + Abort), gate: &Gate, place: &str) -> Result<(),
 fn try_waiting(rt: &(impl Runtime + Abort), alloc: Global, waiting: u32) -> Result<(), Fail> {
     let mut network = pair_of(alloc, waiting)?;
     let mut store = store(alloc, &QUIET)?;
-    let words = "serve --device d --port 1 --workers 2 --connections 1";
-    let asked = Asked::new(words, EMPTY, b"");
-    let left = run_on(rt, alloc, &asked, &QUIET, &mut store, &mut network)?;
-    assert!(rt; left.is(0, b"history 2 served 2\n", b""), "{words}");
+    let head =
+        r"empty serve --device d --port 1 --workers 2 --connections 1 | 0 - | history 2 served 2\n";
+    try_head(rt, alloc, &mut store, &mut network, head)?;
     try_places(rt, network.released.as_slice(), waiting)
 }
 
