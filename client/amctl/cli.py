@@ -315,9 +315,9 @@ def survey(
 def serve(
     device: Path = typer.Argument(..., metavar="DEVICE", help="The device file."),
     port: Optional[int] = option(None, "--port", min=1, max=65535, help="A free one is taken if left out."),
-    workers: int = option(4, "--workers", min=1, max=64, help="How many connections are served at once; 4 if left out."),
+    workers: int = option(4, "--workers", min=1, max=64, help="How many requests are answered at once; 4 if left out."),
     store: Optional[Path] = option(None, "--store", metavar="FILE", help="Keeps what is installed, granted and linked."),
-    connections: Optional[int] = option(None, "--connections", min=1, max=1_000_000, help="Each worker ends once it has served so many."),
+    connections: Optional[int] = option(None, "--connections", min=1, max=1_000_000, help="Each worker ends once so many have ended at it."),
     at: Optional[int] = option(None, "--at", metavar="MOMENT", min=0, max=LAST_MOMENT, help="The clock stands at this moment, in milliseconds."),
     am: Optional[Path] = option(None, "--am", metavar="PROGRAM", help="The program `am`. Else AM, PATH, or the repository's."),
 ) -> int:

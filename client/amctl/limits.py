@@ -6,8 +6,10 @@ from pathlib import Path
 from amctl import words_serve
 from amctl.errors import BadWords
 
-# the program, its store and its listener have some in addition to the connections'
+# the program, its store and its port have some in addition to the connections'
 OWN_DESCRIPTORS = 16
+# a connection has one; if they run out, the program closes one that rests for each new one
+ENOUGH_DESCRIPTORS = 4096
 OWN_GROUP = Path("/proc/self/cgroup")
 GROUPS = Path("/sys/fs/cgroup")
 
@@ -18,15 +20,15 @@ def check_limits(workers: int) -> None:
 
 
 def check_descriptors(workers: int) -> None:
-    """A connection has one descriptor."""
+    """Raises the limit to what is enough, as far as it may. Each worker needs one for the connection that it has."""
     needed = workers + OWN_DESCRIPTORS
-    limit = raised(resource.RLIMIT_NOFILE, needed)
+    limit = raised(resource.RLIMIT_NOFILE, ENOUGH_DESCRIPTORS)
     if limit is not None and limit < needed:
         raise BadWords(words_serve.few_descriptors(limit, needed, max(limit - OWN_DESCRIPTORS, 1)))
 
 
 def check_threads(workers: int) -> None:
-    """A worker has a thread. With fewer the program would serve fewer connections at once, and say nothing."""
+    """A worker has a thread. With fewer the program would answer fewer requests at once, and say nothing."""
     left = [it for it in (threads_left_to_user(workers), threads_left_to_groups()) if it is not None]
     if left and min(left) < workers:
         raise BadWords(words_serve.few_threads(min(left), workers))

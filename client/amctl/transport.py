@@ -116,7 +116,7 @@ class Pipes:
 
 
 class Web:
-    """A server. Each request has a connection of its own, so no worker is held in between."""
+    """A server. Each request has a connection of its own, so none meets the end of one that rested too long."""
 
     def __init__(self, url: str) -> None:
         # only who speaks with a server waits for this library

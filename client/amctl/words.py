@@ -633,7 +633,7 @@ def no_server(url: str) -> str:
 
 
 def silent_server(url: str, seconds: float) -> str:
-    return f"{url} didn't answer in {seconds:.0f} seconds: its workers may all be held by open connections; close them, or give it more `--workers`."
+    return f"{url} didn't answer in {seconds:.0f} seconds, and may have made the call: check that it is `am`, or give it more `--workers` if many ask at once."
 
 
 def other_server(url: str) -> str:

@@ -1,5 +1,6 @@
 """The Device apart from what docs/HTTP.md shows: sessions, keys, refusals, stores and servers."""
 import http.server
+import socket
 import threading
 from collections.abc import Iterator
 from pathlib import Path
@@ -317,6 +318,15 @@ def test_what_is_silent_is_not_waited_for_without_end(tmp_path: Path, monkeypatc
     monkeypatch.setattr(transport, "SESSION_PATIENCE_SECONDS", 0.2)
     with pytest.raises(NoProgram, match="the program didn't answer in 0 seconds: check that it is this project's `am`"):
         Device.open(EXAMPLES / "device.toml", am=answering(tmp_path))
+
+
+def test_a_silent_server_is_not_waited_for_without_end(monkeypatch: pytest.MonkeyPatch) -> None:
+    monkeypatch.setattr(transport, "PATIENCE_SECONDS", 0.2)
+    with socket.create_server(("127.0.0.1", 0)) as silent:
+        url = f"http://127.0.0.1:{silent.getsockname()[1]}"
+        said = f"{url} didn't answer in 0 seconds, and may have made the call: check that it is `am`"
+        with Device.connect(url, EXAMPLES / "device.toml") as device, pytest.raises(NoServer, match=said):
+            device.system.status()
 
 
 def test_an_answer_of_another_version_is_told_from_a_refusal(tmp_path: Path, monkeypatch: pytest.MonkeyPatch) -> None:

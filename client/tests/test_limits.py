@@ -56,17 +56,18 @@ def test_few_descriptors_are_said(given: Limits) -> None:
     assert given.now == (20, 20)
 
 
-def test_descriptors_are_raised_as_far_as_they_may(given: Limits) -> None:
-    given.now = 20, 200
+@pytest.mark.parametrize(("hard", "soft"), [(200, 200), (10_000, 4096), (resource.RLIM_INFINITY, 4096)])
+def test_descriptors_are_raised_as_far_as_they_may(given: Limits, hard: int, soft: int) -> None:
+    given.now = 20, hard
     check_descriptors(64)
-    assert given.now == (80, 200)
+    assert given.now == (soft, hard)
 
 
-@pytest.mark.parametrize("hard", [80, resource.RLIM_INFINITY])
-def test_a_limit_that_is_enough_stays(given: Limits, hard: int) -> None:
-    given.now = 80, hard
+@pytest.mark.parametrize(("soft", "hard"), [(80, 80), (4096, 10_000), (5000, resource.RLIM_INFINITY)])
+def test_a_limit_that_is_enough_stays(given: Limits, soft: int, hard: int) -> None:
+    given.now = soft, hard
     check_descriptors(64)
-    assert given.now == (80, hard)
+    assert given.now == (soft, hard)
 
 
 def test_no_limit_is_enough(given: Limits) -> None:
