@@ -15,11 +15,11 @@ use Rattle.am_http.specs.Exchanges.{Exchange, IsAnswer, IsCalled, IsMarked, Poin
 use Rattle.am_http.specs.Head.{Frame}
 use Rattle.am_http.specs.Requests.{call_of, request_of}
 use Rattle.am_http.specs.Responses.{response, want_after, want_before}
+use Rattle.am_audit_history.specs.Replays.{Replay}
 use Rattle.am_audit_answers.specs.declared.judging.Accepted.{Accepted}
-use Rattle.am_audit_answers.specs.declared.judging.Bench.{Bench}
 use Rattle.am_audit_answers.specs.Audits.{IsAudited}
 use Rattle.am_audit_answers.specs.Judged.{IsAccepted, IsShownBy, Judges, ShowsAs}
-use Rattle.am_audit_answers.specs.Judging.{Answers, Case, OnlyWants, Suits}
+use Rattle.am_audit_answers.specs.Judging.{Answers, Case, OnlyWants}
 use Rattle.am_audit_answers.specs.Marks.{HasMark, SaysOnly}
 use Rattle.am_audit_answers.specs.Matching.{IsReplayed}
 use Rattle.am_audit_answers.proofs.TextLemmas.{response_marked, want_after_marked, want_before_unmarked}
@@ -29,8 +29,9 @@ abbrev pub shown_at : State → List Entry → Point → Call → Bool → Shown
 shown_at start history point call kept =
     record { at = point.at; stored = point.stored; reply = reply_after start (take point.at history) call kept }
 
--- the exchange shows the call of a request at that point
-pub record IsPlaced (c : Case) (request : Request) (point : Point) (desk : ℕ) (e : Exchange) : Type 0 where
+-- the exchange shows the call of a request at that point, on some desk
+pub record IsPlaced (c : Case) (request : Request) (point : Point) (e : Exchange) : Type 0 where
+  pub desk : ℕ
   pub now : ℕ
   pub kept : Bool
   pub asked : e.now ≡ Some now
@@ -57,7 +58,7 @@ placed_by : (c : Case) (request : Request) (point : Point) (desk : ℕ) (e : Exc
     × (called.point.stored ≡ point.stored)
     → IsShownBy (shown_at c.ground.start c.ground.history called.point (call_of desk e.frame called.now called.request)
     called.kept) e.bytes
-    → IsPlaced c request point desk e
+    → IsPlaced c request point e
 placed_by c request point desk e asks frame called same shows =
     let start : State = c.ground.start in
     let history : List Entry = c.ground.history in
@@ -66,6 +67,7 @@ placed_by c request point desk e asks frame called same shows =
     let call : call_of desk e.frame called.now called.request ≡ call_of desk c.frame called.now request =
     λ i. call_of desk (frame i) called.now (read i) in
     record {
+      desk = desk;
       now = called.now;
       kept = called.kept;
       asked = called.asked;
@@ -81,13 +83,16 @@ placed_by c request point desk e asks frame called same shows =
 pub each_placed : (c : Case) (request : Request) (point : Point) → request_of c.frame ≡ Ok request
     → SaysOnly c.left point.at point.stored
     → length c.ground.history < 2 ^ 64 → length c.left < 2 ^ 64
-    → (desk : ℕ) (e : Exchange) (rest : List ℕ) → Answers c desk e rest → IsPlaced c request point desk e
-each_placed c request point asks says short few desk e rest answers = by answers.audited.answer
+    → (e : Exchange) (rest : List ℕ) → Answers c e rest → IsPlaced c request point e
+each_placed c request point asks says short few e rest answers = by answers.audited.answer
   where
     begins : (text : List ℕ) → e.bytes ≡ text → c.left ≡ text ++ rest
     begins text is = answers.bytes ∙ ap (λ (l : List ℕ). l ++ rest) is
 
-    by : IsAnswer c.ground.start desk c.ground.history e → IsPlaced c request point desk e
+    desk : ℕ
+    desk = answers.audited.desk
+
+    by : IsAnswer c.ground.start desk c.ground.history e → IsPlaced c request point e
     by (by_refusal refused refuses none point_none is) =
         absurd (no_refusal (request_of c.frame) request refused asks (ap request_of (sym answers.frame) ∙ refuses))
     by (by_reply called is) =
@@ -109,10 +114,13 @@ each_placed c request point asks says short few desk e rest answers = by answers
 pub unmarked_wants : (c : Case) (request : Request) → request_of c.frame ≡ Ok request
     → ((at : ℕ) (stored : Bool) → HasMark c.left at stored → ⊥)
     → length c.ground.history < 2 ^ 64 → length c.left < 2 ^ 64 → OnlyWants c
-unmarked_wants c request asks none short few desk e rest answers = by answers.audited.answer
+unmarked_wants c request asks none short few e rest answers = by answers.audited.answer
   where
     begins : (text : List ℕ) → e.bytes ≡ text → c.left ≡ text ++ rest
     begins text is = answers.bytes ∙ ap (λ (l : List ℕ). l ++ rest) is
+
+    desk : ℕ
+    desk = answers.audited.desk
 
     by : IsAnswer c.ground.start desk c.ground.history e → (e.point ≡ None) × (e.bytes ≡ want_before)
     by (by_refusal refused refuses never point_none is) =
@@ -133,33 +141,27 @@ abbrev pub exchange_at : Case → Point → Option ℕ → ℕ → Exchange
 exchange_at c point now taken = record { frame = c.frame; now = now; point = Some point; bytes = take taken c.left }
 
 -- a frame is accepted by those bytes, if each of its exchanges has the point and leads on as they do
-pub accepted_at : (c : Case) (point : Point) (accepted : Accepted) (now : Option ℕ) → c.standing.floor ≤ point.at
+pub accepted_at : (c : Case) (point : Point) (accepted : Accepted) (now : Option ℕ) → c.floor ≤ point.at
     → accepted.taken ≤ length c.left
-    → ((desk : ℕ) → Suits accepted.bench.desk desk
-    → Suits c.standing.desk desk × IsAudited c.ground desk (exchange_at c point now accepted.taken))
-    → ((desk : ℕ) (e : Exchange) (rest : List ℕ) → Answers c desk e rest
-    → (e.point ≡ Some point) × (rest ≡ drop accepted.taken c.left) × Suits accepted.bench.desk desk)
-    → floor_after c.standing.floor (Some point) ≡ length accepted.bench.replayed.history
-    → accepted.bench.replayed.start ≡ c.ground.start → IsReplayed c.ground accepted.bench.replayed
+    → IsAudited c.ground (exchange_at c point now accepted.taken)
+    → ((e : Exchange) (rest : List ℕ) → Answers c e rest
+    → (e.point ≡ Some point) × (rest ≡ drop accepted.taken c.left))
+    → floor_after c.floor (Some point) ≡ length accepted.replayed.history
+    → accepted.replayed.start ≡ c.ground.start → IsReplayed c.ground accepted.replayed
     → IsAccepted c accepted
-accepted_at c point accepted now low fits each only floor start replayed = record {
+accepted_at c point accepted now low fits audited only floor start replayed = record {
   accepts = record {
     exchange = exchange_at c point now accepted.taken;
-    answers = λ desk suits. record {
+    answers = record {
       frame = refl;
-      suits = (each desk suits).0;
-      audited = (each desk suits).1;
+      audited = audited;
       above = low;
       bytes = sym (take-append-drop accepted.taken c.left);
     };
     floor = floor;
-    only = λ desk e rest answers.
-        let is = only desk e rest answers in
-        record {
-          ends = is.1;
-          suits = is.2;
-          floor = ap (λ (o : Option Point). floor_after c.standing.floor o) is.0 ∙ floor;
-        };
+    only = λ e rest answers.
+        let is = only e rest answers in
+        (is.1, ap (λ (o : Option Point). floor_after c.floor o) is.0 ∙ floor);
   };
   taken = fits;
   start = start;
@@ -194,18 +196,18 @@ answer_at c request point desk now taken asks marked =
     })
 
 -- a frame each of whose exchanges shows this is judged by the bytes that show it, if any do
-pub judged_by : (c : Case) (stored : Bool) (shown : Shown) (bench : Bench)
-    → ((desk : ℕ) (e : Exchange) (rest : List ℕ) → Answers c desk e rest
+pub judged_by : (c : Case) (stored : Bool) (shown : Shown) (after : Replay)
+    → ((e : Exchange) (rest : List ℕ) → Answers c e rest
     → (shown.stored ≡ stored) × IsShownBy shown e.bytes)
-    → ((taken : ℕ) → ShowsAs stored shown c.left (Some taken) → IsAccepted c (record { bench = bench; taken = taken }))
+    → ((taken : ℕ) → ShowsAs stored shown c.left (Some taken) → IsAccepted c (record { replayed = after; taken = taken }))
     → (taken : Option ℕ) (result : Option Accepted) → ShowsAs stored shown c.left taken
-    → MatchOption result (taken ≡ None) (λ a. (a.bench ≡ bench) × (taken ≡ Some a.taken))
+    → MatchOption result (taken ≡ None) (λ a. (a.replayed ≡ after) × (taken ≡ Some a.taken))
     → Judges c result
-judged_by c stored shown bench each accepts taken None shows is = λ desk e rest answers.
-    let there = each desk e rest answers in
+judged_by c stored shown after each accepts taken None shows is = λ e rest answers.
+    let there = each e rest answers in
     subst (ShowsAs stored shown c.left) is shows there.0 e.bytes rest there.1 answers.bytes
-judged_by c stored shown bench each accepts taken (Some a) shows is =
-    let same : record { bench = bench; taken = a.taken } ≡ a = λ i. record { bench = sym is.0 i; taken = a.taken } in
+judged_by c stored shown after each accepts taken (Some a) shows is =
+    let same : record { replayed = after; taken = a.taken } ≡ a = λ i. record { replayed = sym is.0 i; taken = a.taken } in
     subst (IsAccepted c) same
     (accepts a.taken (subst (ShowsAs stored shown c.left) is.1 shows))
 

@@ -12,7 +12,6 @@ use Rattle.am_http.specs.Head.{Frame}
 use Rattle.am_http.specs.Requests.{call_of, request_of}
 use Rattle.am_audit_history.specs.Replays.{Replay, ShowsKept}
 use Rattle.am_audit_answers.specs.declared.judging.Accepted.{Accepted}
-use Rattle.am_audit_answers.specs.declared.judging.Bench.{Bench}
 use Rattle.am_audit_answers.specs.Audits.{IsTimedBy}
 use Rattle.am_audit_answers.specs.Judged.{IsAccepted, IsShownBy, Judges, ShowsAs, case_of, ground_of}
 use Rattle.am_audit_answers.specs.Judging.{Answers, Case}
@@ -20,111 +19,108 @@ use Rattle.am_audit_answers.specs.Marks.{SaysOnly}
 use Rattle.am_audit_answers.specs.Matching.{IsReplayed}
 use Rattle.am_audit_answers.proofs.Placed.{IsPlaced, accepted_at, answer_at, each_placed, exchange_at, judged_by, shown_at, unstored_reply}
 
-module _ (history : List Entry) (bench : Bench) (frame : Frame) (left : List ℕ) (request : Request) (number : ℕ)
-    (first : IsReplayed (ground_of history bench) bench.replayed)
-    (after : Replay) (shown : Shown) (shows : ShowsKept bench.replayed (call_of number frame 0 request) after shown)
+module _ (history : List Entry) (replayed : Replay) (frame : Frame) (left : List ℕ) (request : Request)
+    (first : IsReplayed (ground_of history replayed) replayed)
+    (after : Replay) (shown : Shown) (shows : ShowsKept replayed (call_of 0 frame 0 request) after shown)
   where
     -- the case, and its call's place
     abbrev c : Case
-    c = case_of history bench frame left
+    c = case_of history replayed frame left
 
     abbrev point : Point
-    point = record { at = length bench.replayed.history; stored = false }
+    point = record { at = length replayed.history; stored = false }
 
     -- what was replayed are the entries before the place
     abbrev before : List Entry
-    before = take (length bench.replayed.history) history
+    before = take (length replayed.history) history
 
     -- whether it is stored there, on whichever desk
-    stored_is : (desk : ℕ) → shown.stored ≡ is_stored (replay bench.replayed.start before) before
+    stored_is : (desk : ℕ) → shown.stored ≡ is_stored (replay replayed.start before) before
         (call_of desk frame 0 request)
     stored_is desk =
-        let P : List Entry → Type 0 = λ h. shown.stored ≡ is_stored (replay bench.replayed.start h) h
+        let P : List Entry → Type 0 = λ h. shown.stored ≡ is_stored (replay replayed.start h) h
         (call_of desk frame 0 request) in
         subst P first.first shows.stored
 
     -- what is shown of it, on whichever desk
     shown_is : (desk : ℕ) (kept : Bool) → shown.stored ≡ false
-        → shown_at bench.replayed.start history point (call_of desk frame 0 request) kept ≡ shown
+        → shown_at replayed.start history point (call_of desk frame 0 request) kept ≡ shown
     shown_is desk kept unstored =
-        let reply : reply_after bench.replayed.start before (call_of desk frame 0 request) kept ≡ shown.reply =
-        unstored_reply bench.replayed.start before frame 0 request desk number kept (sym (stored_is desk) ∙ unstored)
-        ∙ (ap (λ (h : List Entry). reply_after bench.replayed.start h (call_of number frame 0 request) true)
+        let reply : reply_after replayed.start before (call_of desk frame 0 request) kept ≡ shown.reply =
+        unstored_reply replayed.start before frame 0 request desk 0 kept (sym (stored_is desk) ∙ unstored)
+        ∙ (ap (λ (h : List Entry). reply_after replayed.start h (call_of 0 frame 0 request) true)
         (sym first.first) ∙ sym shows.reply) in
         λ i. record { at = sym shows.at i; stored = sym unstored i; reply = reply i }
 
     -- nothing is added
-    after_is : shown.stored ≡ false → after.history ≡ bench.replayed.history
+    after_is : shown.stored ≡ false → after.history ≡ replayed.history
     after_is unstored =
         let P : Bool → Type 0 =
-        λ b. Follows bench.replayed.history after.history b (IsEntryOf
-        (replay bench.replayed.start bench.replayed.history) (call_of number frame 0 request) true) in
+        λ b. Follows replayed.history after.history b (IsEntryOf
+        (replay replayed.start replayed.history) (call_of 0 frame 0 request) true) in
         subst P unstored shows.follows
 
-    module _ (asks : request_of frame ≡ Ok request) (says : SaysOnly left (length bench.replayed.history) false)
+    module _ (asks : request_of frame ≡ Ok request) (says : SaysOnly left (length replayed.history) false)
         (short : length history < 2 ^ 64) (few : length left < 2 ^ 64) where
       -- an exchange of the frame shows that call
-      placed : (desk : ℕ) (e : Exchange) (rest : List ℕ) → Answers c desk e rest → IsPlaced c request point desk e
-      placed desk e rest answers = each_placed c request point asks says short few desk e rest answers
+      placed : (e : Exchange) (rest : List ℕ) → Answers c e rest → IsPlaced c request point e
+      placed e rest answers = each_placed c request point asks says short few e rest answers
 
       -- at moment 0
-      now_is : (desk : ℕ) (e : Exchange) (rest : List ℕ) (answers : Answers c desk e rest)
-          (p : IsPlaced c request point desk e) → p.now ≡ 0
-      now_is desk e rest answers p =
+      now_is : (e : Exchange) (rest : List ℕ) (answers : Answers c e rest)
+          (p : IsPlaced c request point e) → p.now ≡ 0
+      now_is e rest answers p =
           let timed : IsTimedBy (Some point) e.now = subst (λ (o : Option Point). IsTimedBy o e.now) p.placed
           answers.audited.timed in
           same_Some _ _ (sym p.asked ∙ timed refl)
 
       -- so it isn't stored
-      isnt_stored : (desk : ℕ) (e : Exchange) (rest : List ℕ) → Answers c desk e rest → shown.stored ≡ false
-      isnt_stored desk e rest answers =
-          let p = placed desk e rest answers in
-          let there : false ≡ is_stored (replay bench.replayed.start before) before (call_of desk frame 0 request) =
+      isnt_stored : (e : Exchange) (rest : List ℕ) → Answers c e rest → shown.stored ≡ false
+      isnt_stored e rest answers =
+          let p = placed e rest answers in
+          let there : false ≡ is_stored (replay replayed.start before) before (call_of p.desk frame 0 request) =
           subst (λ (n : ℕ). false
-          ≡ is_stored (replay bench.replayed.start before) before (call_of desk frame n request))
-          (now_is desk e rest answers p) p.marked.stored in
-          stored_is desk ∙ sym there
+          ≡ is_stored (replay replayed.start before) before (call_of p.desk frame n request))
+          (now_is e rest answers p) p.marked.stored in
+          stored_is p.desk ∙ sym there
 
       -- and its bytes show what was shown
-      shows_it : (desk : ℕ) (e : Exchange) (rest : List ℕ) → Answers c desk e rest → IsShownBy shown e.bytes
-      shows_it desk e rest answers =
-          let p = placed desk e rest answers in
+      shows_it : (e : Exchange) (rest : List ℕ) → Answers c e rest → IsShownBy shown e.bytes
+      shows_it e rest answers =
+          let p = placed e rest answers in
           let here : IsShownBy
-          (shown_at bench.replayed.start history point (call_of desk frame 0 request) p.kept) e.bytes
+          (shown_at replayed.start history point (call_of p.desk frame 0 request) p.kept) e.bytes
           =
           subst (λ (n : ℕ). IsShownBy
-          (shown_at bench.replayed.start history point (call_of desk frame n request) p.kept)
-          e.bytes) (now_is desk e rest answers p) p.shows in
-          subst (λ (s : Shown). IsShownBy s e.bytes) (shown_is desk p.kept (isnt_stored desk e rest answers)) here
+          (shown_at replayed.start history point (call_of p.desk frame n request) p.kept)
+          e.bytes) (now_is e rest answers p) p.shows in
+          subst (λ (s : Shown). IsShownBy s e.bytes) (shown_is p.desk p.kept (isnt_stored e rest answers)) here
 
       -- the call is marked at its place
-      marked : (desk : ℕ) → shown.stored ≡ false
-          → IsMarked bench.replayed.start history (call_of desk frame 0 request) true point
-      marked desk unstored = record { within = first.within; stored = sym unstored ∙ stored_is desk; entry = tt }
+      marked : shown.stored ≡ false
+          → IsMarked replayed.start history (call_of 0 frame 0 request) true point
+      marked unstored = record { within = first.within; stored = sym unstored ∙ stored_is 0; entry = tt }
 
       -- it is accepted by them
       accepts : (taken : ℕ) → ShowsAs false shown left (Some taken)
-          → IsAccepted c (record { bench = record { replayed = after; desk = bench.desk }; taken = taken })
+          → IsAccepted c (record { replayed = after; taken = taken })
       accepts taken takes =
-          accepted_at c point
-          (record { bench = record { replayed = after; desk = bench.desk }; taken = taken }) (Some 0)
-          (omega arith) takes.1.0
-          (λ desk suits. (suits, record { answer = answer desk; timed = λ _. refl }))
-          (λ desk e rest answers. (
-            (placed desk e rest answers).placed,
-            takes.1.2 e.bytes rest (shows_it desk e rest answers) answers.bytes,
-            answers.suits,
+          accepted_at c point (record { replayed = after; taken = taken }) (Some 0) (omega arith) takes.1.0
+          (record { desk = 0; answer = answer; timed = λ _. refl })
+          (λ e rest answers. (
+            (placed e rest answers).placed,
+            takes.1.2 e.bytes rest (shows_it e rest answers) answers.bytes,
           ))
-          (sym (ap (λ (h : List Entry). length h) (after_is takes.0))) shows.start replayed
+          (sym (ap (λ (h : List Entry). length h) (after_is takes.0))) shows.start goes
         where
-          answer : (desk : ℕ) → IsAnswer bench.replayed.start desk history (exchange_at c point (Some 0) taken)
-          answer desk =
-              answer_at c request point desk 0 taken asks (marked desk takes.0)
-              (subst (λ (s : Shown). IsShownBy s (take taken left)) (sym (shown_is desk true takes.0)) takes.1.1)
+          answer : IsAnswer replayed.start 0 history (exchange_at c point (Some 0) taken)
+          answer =
+              answer_at c request point 0 0 taken asks (marked takes.0)
+              (subst (λ (s : Shown). IsShownBy s (take taken left)) (sym (shown_is 0 true takes.0)) takes.1.1)
 
-          replayed : IsReplayed (ground_of history bench) after
-          replayed =
-              let same : bench.replayed.history ≡ after.history = sym (after_is takes.0) in
+          goes : IsReplayed (ground_of history replayed) after
+          goes =
+              let same : replayed.history ≡ after.history = sym (after_is takes.0) in
               let P : List Entry → Type 0 = λ h. h ≡ take (length h) history in
               record {
                 start = shows.start;
@@ -134,9 +130,8 @@ module _ (history : List Entry) (bench : Bench) (frame : Frame) (left : List ℕ
 
       -- so the frame is judged by the bytes that show it
       pub unstored_judged : (taken : Option ℕ) (result : Option Accepted) → ShowsAs false shown left taken
-          → MatchOption result (taken ≡ None) (λ a. (a.bench ≡ record { replayed = after; desk = bench.desk })
-          × (taken ≡ Some a.taken))
+          → MatchOption result (taken ≡ None) (λ a. (a.replayed ≡ after) × (taken ≡ Some a.taken))
           → Judges c result
       unstored_judged =
-          judged_by c false shown (record { replayed = after; desk = bench.desk })
-          (λ desk e rest answers. (isnt_stored desk e rest answers, shows_it desk e rest answers)) accepts
+          judged_by c false shown after
+          (λ e rest answers. (isnt_stored e rest answers, shows_it e rest answers)) accepts

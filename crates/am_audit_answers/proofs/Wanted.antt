@@ -9,7 +9,7 @@ use Rattle.am_http.specs.Exchanges.{Exchange, IsAnswer, Point, by_late_want, by_
 use Rattle.am_http.specs.Head.{Frame}
 use Rattle.am_http.specs.Requests.{refusal_text, request_of}
 use Rattle.am_http.specs.Responses.{want_before}
-use Rattle.am_audit_answers.specs.declared.judging.Bench.{Bench}
+use Rattle.am_audit_history.specs.Replays.{Replay}
 use Rattle.am_audit_answers.specs.Judged.{IsAccepted, case_of, ground_of}
 use Rattle.am_audit_answers.specs.Judging.{Answers, Asks, Case, OnlyWants, Refuses}
 use Rattle.am_audit_answers.specs.Matching.{IsReplayed}
@@ -24,32 +24,29 @@ abbrev unmade : Frame → List ℕ → Exchange
 unmade frame text = record { frame = frame; now = None; point = None; bytes = text }
 
 -- a frame that has that response alone, without a call, is accepted by it
-accepts_text : (history : List Entry) (bench : Bench) (frame : Frame) (left text : List ℕ) (taken : ℕ)
-    → IsReplayed (ground_of history bench) bench.replayed → ((desk : ℕ)
-    → IsAnswer bench.replayed.start desk history (unmade frame text))
-    → ((desk : ℕ) (e : Exchange) (rest : List ℕ) → Answers (case_of history bench frame left) desk e rest
+accepts_text : (history : List Entry) (replayed : Replay) (frame : Frame) (left text : List ℕ) (taken : ℕ)
+    → IsReplayed (ground_of history replayed) replayed
+    → IsAnswer replayed.start 0 history (unmade frame text)
+    → ((e : Exchange) (rest : List ℕ) → Answers (case_of history replayed frame left) e rest
     → (e.point ≡ None) × (e.bytes ≡ text))
     → left ≡ text ++ drop (length text) left → length text ≤ length left → taken ≡ length text
-    → IsAccepted (case_of history bench frame left) (record { bench = bench; taken = taken })
-accepts_text history bench frame left text taken first answer only begins fits size = record {
+    → IsAccepted (case_of history replayed frame left) (record { replayed = replayed; taken = taken })
+accepts_text history replayed frame left text taken first answer only begins fits size = record {
   accepts = record {
     exchange = unmade frame text;
-    answers = λ desk suits. record {
+    answers = record {
       frame = refl;
-      suits = suits;
-      audited = record { answer = answer desk; timed = tt };
+      audited = record { desk = 0; answer = answer; timed = tt };
       above = tt;
       bytes = begins ∙ ap (λ (n : ℕ). text ++ drop n left) (sym size);
     };
     floor = refl;
-    only = λ desk e rest answers.
-        let is = only desk e rest answers in
-        record {
-          ends = sym (front_rest left text rest (answers.bytes ∙ ap (λ (l : List ℕ). l ++ rest) is.1))
-              ∙ ap (λ (n : ℕ). drop n left) (sym size);
-          suits = answers.suits;
-          floor = ap (λ (o : Option Point). floor_after (length bench.replayed.history) o) is.0;
-        };
+    only = λ e rest answers.
+        let is = only e rest answers in (
+          sym (front_rest left text rest (answers.bytes ∙ ap (λ (l : List ℕ). l ++ rest) is.1))
+              ∙ ap (λ (n : ℕ). drop n left) (sym size),
+          ap (λ (o : Option Point). floor_after (length replayed.history) o) is.0,
+        );
   };
   taken = subst (λ (n : ℕ). n ≤ length left) (sym size) fits;
   start = refl;
@@ -57,20 +54,20 @@ accepts_text history bench frame left text taken first answer only begins fits s
 }
 
 -- where memory ran out before the call
-pub accepts_want : (history : List Entry) (bench : Bench) (frame : Frame) (left text : List ℕ) (taken : ℕ)
-    → IsReplayed (ground_of history bench) bench.replayed → OnlyWants (case_of history bench frame left) → text
+pub accepts_want : (history : List Entry) (replayed : Replay) (frame : Frame) (left text : List ℕ) (taken : ℕ)
+    → IsReplayed (ground_of history replayed) replayed → OnlyWants (case_of history replayed frame left) → text
     ≡ want_before
     → left ≡ text ++ drop (length text) left → length text ≤ length left → taken ≡ length text
-    → IsAccepted (case_of history bench frame left) (record { bench = bench; taken = taken })
-accepts_want history bench frame left text taken first only is begins fits size =
-    accepts_text history bench frame left text taken first (λ desk. by_want refl is)
-    (λ desk e rest answers. let wants = only desk e rest answers in (wants.0, wants.1 ∙ sym is)) begins fits size
+    → IsAccepted (case_of history replayed frame left) (record { replayed = replayed; taken = taken })
+accepts_want history replayed frame left text taken first only is begins fits size =
+    accepts_text history replayed frame left text taken first (by_want refl is)
+    (λ e rest answers. let wants = only e rest answers in (wants.0, wants.1 ∙ sym is)) begins fits size
 
-pub refuses_want : (history : List Entry) (bench : Bench) (frame : Frame) (left text : List ℕ)
-    → OnlyWants (case_of history bench frame left)
-    → text ≡ want_before → ((rest : List ℕ) → left ≡ text ++ rest → ⊥) → Refuses (case_of history bench frame left)
-refuses_want history bench frame left text only is none desk e rest answers =
-    none rest (answers.bytes ∙ ap (λ (l : List ℕ). l ++ rest) ((only desk e rest answers).1 ∙ sym is))
+pub refuses_want : (history : List Entry) (replayed : Replay) (frame : Frame) (left text : List ℕ)
+    → OnlyWants (case_of history replayed frame left)
+    → text ≡ want_before → ((rest : List ℕ) → left ≡ text ++ rest → ⊥) → Refuses (case_of history replayed frame left)
+refuses_want history replayed frame left text only is none e rest answers =
+    none rest (answers.bytes ∙ ap (λ (l : List ℕ). l ++ rest) ((only e rest answers).1 ∙ sym is))
 
 -- a frame that makes no request
 same_refusal : (read : Result Request Refusal) (one other : Refusal) → read ≡ Err one → read ≡ Err other → one ≡ other
@@ -82,11 +79,11 @@ no_request read refused request refuses asks = absurd cc
 
 module _ (c : Case) (text : List ℕ) (asked : Asks c.frame (Err text)) where
   -- has the text that refuses it, or says that memory ran out
-  refused_or : (desk : ℕ) (e : Exchange) (rest : List ℕ) → Answers c desk e rest → (e.point ≡ None)
+  refused_or : (e : Exchange) (rest : List ℕ) → Answers c e rest → (e.point ≡ None)
       × ((e.bytes ≡ text) ⊎ (e.bytes ≡ want_before))
-  refused_or desk e rest answers = by answers.audited.answer
+  refused_or e rest answers = by answers.audited.answer
     where
-      by : IsAnswer c.ground.start desk c.ground.history e → (e.point ≡ None)
+      by : IsAnswer c.ground.start answers.audited.desk c.ground.history e → (e.point ≡ None)
           × ((e.bytes ≡ text) ⊎ (e.bytes ≡ want_before))
       by (by_refusal refused refuses never none is) =
           let same : refused ≡ asked.0 = same_refusal (request_of e.frame) refused asked.0 refuses
@@ -100,11 +97,11 @@ module _ (c : Case) (text : List ℕ) (asked : Asks c.frame (Err text)) where
 
   -- has the text alone, if the bytes begin with it
   only_refused : (behind : List ℕ) → c.left ≡ text ++ behind
-      → (desk : ℕ) (e : Exchange) (rest : List ℕ) → Answers c desk e rest → (e.point ≡ None) × (e.bytes ≡ text)
-  only_refused behind begins desk e rest answers = (is.0, by is.1)
+      → (e : Exchange) (rest : List ℕ) → Answers c e rest → (e.point ≡ None) × (e.bytes ≡ text)
+  only_refused behind begins e rest answers = (is.0, by is.1)
     where
       is : (e.point ≡ None) × ((e.bytes ≡ text) ⊎ (e.bytes ≡ want_before))
-      is = refused_or desk e rest answers
+      is = refused_or e rest answers
 
       by : (e.bytes ≡ text) ⊎ (e.bytes ≡ want_before) → e.bytes ≡ text
       by (inl refuses) = refuses
@@ -115,19 +112,19 @@ module _ (c : Case) (text : List ℕ) (asked : Asks c.frame (Err text)) where
 
   -- and says that memory ran out, if they don't
   pub refused_wants : ((rest : List ℕ) → c.left ≡ text ++ rest → ⊥) → OnlyWants c
-  refused_wants none desk e rest answers = (is.0, by is.1)
+  refused_wants none e rest answers = (is.0, by is.1)
     where
       is : (e.point ≡ None) × ((e.bytes ≡ text) ⊎ (e.bytes ≡ want_before))
-      is = refused_or desk e rest answers
+      is = refused_or e rest answers
 
       by : (e.bytes ≡ text) ⊎ (e.bytes ≡ want_before) → e.bytes ≡ want_before
       by (inl refuses) = absurd (none rest (answers.bytes ∙ ap (λ (l : List ℕ). l ++ rest) refuses))
       by (inr wants) = wants
 
-pub accepts_refused : (history : List Entry) (bench : Bench) (frame : Frame) (left text : List ℕ) (taken : ℕ)
-    → IsReplayed (ground_of history bench) bench.replayed → Asks frame (Err text)
+pub accepts_refused : (history : List Entry) (replayed : Replay) (frame : Frame) (left text : List ℕ) (taken : ℕ)
+    → IsReplayed (ground_of history replayed) replayed → Asks frame (Err text)
     → left ≡ text ++ drop (length text) left → length text ≤ length left → taken ≡ length text
-    → IsAccepted (case_of history bench frame left) (record { bench = bench; taken = taken })
-accepts_refused history bench frame left text taken first asked begins fits size =
-    accepts_text history bench frame left text taken first (λ desk. by_refusal asked.0 asked.1 refl refl asked.2)
-    (only_refused (case_of history bench frame left) text asked (drop (length text) left) begins) begins fits size
+    → IsAccepted (case_of history replayed frame left) (record { replayed = replayed; taken = taken })
+accepts_refused history replayed frame left text taken first asked begins fits size =
+    accepts_text history replayed frame left text taken first (by_refusal asked.0 asked.1 refl refl asked.2)
+    (only_refused (case_of history replayed frame left) text asked (drop (length text) left) begins) begins fits size

@@ -16,23 +16,22 @@ abbrev pub IsTimedBy : Option Point → Option ℕ → Type 0
 IsTimedBy None now = ⊤
 IsTimedBy (Some point) now = point.stored ≡ false → now ≡ Some 0
 
--- the response to a frame on a desk is one that the history has
-pub record IsAudited (ground : Ground) (desk : ℕ) (e : Exchange) : Type 0 where
+-- the response to a frame is one that the history has, on some desk: a connection that rested may go on at another
+pub record IsAudited (ground : Ground) (e : Exchange) : Type 0 where
+  pub desk : ℕ
   pub answer : IsAnswer ground.start desk ground.history e
   pub timed : IsTimedBy e.point e.now
 
 -- the history has each of these, and along them no place is below an earlier one
-pub record AreAudited (ground : Ground) (desk : ℕ) (es : List Exchange) : Type 0 where
-  pub each : AllByRecursion (IsAudited ground desk) es
+pub record AreAudited (ground : Ground) (es : List Exchange) : Type 0 where
+  pub each : AllByRecursion (IsAudited ground) es
   pub order : AreInOrder 0 es
 
--- the bytes are responses to these frames that the history has; the entries that their stored calls became carry one
--- desk's number
+-- the bytes are responses to these frames that the history has
 pub record AreResponses (ground : Ground) (frames : List Frame) (bytes : List ℕ) : Type 0 where
-  pub desk : ℕ
   pub exchanges : List Exchange
   pub asked : frames_of exchanges ≡ frames
-  pub audited : AreAudited ground desk exchanges
+  pub audited : AreAudited ground exchanges
   pub output : bytes_of exchanges ≡ bytes
 
 -- some first bytes are such responses

@@ -10,34 +10,29 @@ use Rattle.am_http.specs.Responses.{response, want_after}
 use Rattle.am_audit_history.specs.Replays.{Replay, ShowsKept, state_of}
 use Rattle.am_audit_answers.specs.declared.calls.Making.{Making}
 use Rattle.am_audit_answers.specs.declared.judging.Accepted.{Accepted}
-use Rattle.am_audit_answers.specs.declared.judging.Bench.{Bench}
 use Rattle.am_audit_answers.specs.Audits.{Ground}
-use Rattle.am_audit_answers.specs.Judging.{Accepts, Case, Refuses, Standing, Suits, case_at}
+use Rattle.am_audit_answers.specs.Judging.{Accepts, Case, Refuses, case_at}
 use Rattle.am_audit_answers.specs.Matching.{IsItsCall, IsRecord, IsReplayed}
 
--- how far an audit has come, as clauses see it
-abbrev pub standing_of : Bench → Standing
-standing_of bench = record { floor = length bench.replayed.history; desk = bench.desk }
-
 -- what an audit by this history is held against
-abbrev pub ground_of : List Entry → Bench → Ground
-ground_of history bench = record { start = bench.replayed.start; history = history }
+abbrev pub ground_of : List Entry → Replay → Ground
+ground_of history replayed = record { start = replayed.start; history = history }
 
 -- an audit by a history that could have been made has replayed the first of its entries
-pub record Stands (history : List Entry) (bench : Bench) : Type 0 where
-  pub made : IsRecord (ground_of history bench)
-  pub first : IsReplayed (ground_of history bench) bench.replayed
+pub record Stands (history : List Entry) (replayed : Replay) : Type 0 where
+  pub made : IsRecord (ground_of history replayed)
+  pub first : IsReplayed (ground_of history replayed) replayed
 
 -- a frame that is judged after an audit by this history has come so far, by the bytes that are left
-abbrev pub case_of : List Entry → Bench → Frame → List ℕ → Case
-case_of history bench frame left = case_at (ground_of history bench) (standing_of bench) frame left
+abbrev pub case_of : List Entry → Replay → Frame → List ℕ → Case
+case_of history replayed frame left = case_at (ground_of history replayed) (length replayed.history) frame left
 
 -- the frame is accepted, by so many bytes, with the history replayed up to the next place
 pub record IsAccepted (c : Case) (accepted : Accepted) : Type 0 where
-  pub accepts : Accepts c (standing_of accepted.bench) (drop accepted.taken c.left)
+  pub accepts : Accepts c (length accepted.replayed.history) (drop accepted.taken c.left)
   pub taken : accepted.taken ≤ length c.left
-  pub start : accepted.bench.replayed.start ≡ c.ground.start
-  pub replayed : IsReplayed c.ground accepted.bench.replayed
+  pub start : accepted.replayed.start ≡ c.ground.start
+  pub replayed : IsReplayed c.ground accepted.replayed
 
 -- the frame is accepted, or refused
 abbrev pub Judges : Case → Option Accepted → Type 0
@@ -69,32 +64,29 @@ pub record IsMade (before : Replay) (call : Call) (stored : Bool) (left : List �
   pub shows : ShowsKept before call made.0 shown
   pub taken : ShowsAs stored shown left made.1
 
--- the entry after those that were replayed is the frame's call, on a desk that fits
-pub record IsNext (history : List Entry) (bench : Bench) (frame : Frame) (request : Request)
+-- the entry after those that were replayed is the frame's call
+pub record IsNext (history : List Entry) (replayed : Replay) (frame : Frame) (request : Request)
     (next : Entry) : Type 0 where
-  pub there : slice_get history (length bench.replayed.history) ≡ Some next
-  pub suits : Suits bench.desk next.desk
-  pub its : IsItsCall (state_of bench.replayed) frame request next
+  pub there : slice_get history (length replayed.history) ≡ Some next
+  pub its : IsItsCall (state_of replayed) frame request next
 
 -- the call is made as that entry was; or there is none
-abbrev pub IsNextMaking : List Entry → Bench → Frame → Request → Option Making → Type 0
-IsNextMaking history bench frame request (Some making) =
-    (next : Entry) × IsNext history bench frame request next
-    × (making ≡ record { desk = next.desk; now = next.now; stored = true; known = Some next.desk })
-IsNextMaking history bench frame request None = (next : Entry) → IsNext history bench frame request next → ⊥
+abbrev pub IsNextMaking : List Entry → Replay → Frame → Request → Option Making → Type 0
+IsNextMaking history replayed frame request (Some making) =
+    (next : Entry) × IsNext history replayed frame request next
+    × (making ≡ record { desk = next.desk; now = next.now; stored = true })
+IsNextMaking history replayed frame request None = (next : Entry) → IsNext history replayed frame request next → ⊥
 
 -- a call that is stored is made as the next entry was, and another at moment 0
-abbrev pub IsMakingOf : List Entry → Bench → Frame → Request → Bool → Option Making → Type 0
-IsMakingOf history bench frame request true making = IsNextMaking history bench frame request making
-IsMakingOf history bench frame request false (Some making) =
-    making ≡ record { desk = making.desk; now = 0; stored = false; known = bench.desk }
-IsMakingOf history bench frame request false None = ⊥
+abbrev pub IsMakingOf : List Entry → Replay → Frame → Request → Bool → Option Making → Type 0
+IsMakingOf history replayed frame request true making = IsNextMaking history replayed frame request making
+IsMakingOf history replayed frame request false (Some making) = making ≡ record { desk = 0; now = 0; stored = false }
+IsMakingOf history replayed frame request false None = ⊥
 
 -- a call that was made so at the end of the history that was replayed: the frame is accepted by the bytes that show it,
 -- or it isn't
-pub record ComesTo (bench : Bench) (frame : Frame) (request : Request) (making : Making) (left : List ℕ)
+pub record ComesTo (replayed : Replay) (frame : Frame) (request : Request) (making : Making) (left : List ℕ)
     (judged : Option Accepted) : Type 0 where
   pub made : Replay × Option ℕ
-  pub shows : IsMade bench.replayed (call_of making.desk frame making.now request) making.stored left made
-  pub takes : MatchOption judged (made.1 ≡ None)
-      (λ a. (a.bench ≡ record { replayed = made.0; desk = making.known }) × (made.1 ≡ Some a.taken))
+  pub shows : IsMade replayed (call_of making.desk frame making.now request) making.stored left made
+  pub takes : MatchOption judged (made.1 ≡ None) (λ a. (a.replayed ≡ made.0) × (made.1 ≡ Some a.taken))

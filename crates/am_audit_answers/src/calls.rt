@@ -12,14 +12,12 @@ use am_http::{key_text, response_bytes};
 use am_types::{NoMemory, Request, Shown};
 use std::alloc::Global;
 
-/// How a call is made: its desk, its moment, whether it is to be stored, and what is known of the desk's
-/// number afterwards.
+/// How a call is made: its desk, its moment, and whether it is to be stored.
 #[derive(Clone, Copy)]
 pub(crate) struct Making {
     pub(crate) desk: u32,
     pub(crate) now: u64,
     pub(crate) stored: bool,
-    pub(crate) known: Option<u32>,
 }
 
 // How many bytes the response has that shows this, or that says that memory ran out after it, if the bytes

@@ -22,82 +22,73 @@ use am_types::{Entry, NoMemory, Request};
 use am_wire_routes::Routes;
 use std::alloc::Global;
 
-/// How far an audit has come: the history is replayed up to the least place of the next call, and the desk's
-/// number is known once a stored call has told it.
-#[derive(Drop)]
-pub struct Bench {
-    pub replayed: Replayed,
-    pub desk: Option<u32>,
-}
-
-/// A frame that was accepted: how far the audit has come, and how many bytes its response has.
+/// A frame that was accepted: the history, replayed up to the least place of the next call, and how many bytes the
+/// frame's response has.
 #[derive(Drop)]
 pub struct Accepted {
-    pub bench: Bench,
+    pub replayed: Replayed,
     pub taken: usize,
 }
 
 // Accepts the frame by so many bytes, if any were found.
-fn accept_by(bench: Bench, taken: Option<usize>) -> Option<Accepted>
-    ensures { MatchOption result (taken ≡ None) (λ a. (a.bench ≡ bench) × (taken ≡ Some a.taken)) }
+fn accept_by(replayed: Replayed, taken: Option<usize>) -> Option<Accepted>
+    ensures { MatchOption result (taken ≡ None) (λ a. (a.replayed ≡ replayed) × (taken ≡ Some a.taken)) }
 {
     match taken {
-        Some(taken) => Some(Accepted { bench, taken }),
+        Some(taken) => Some(Accepted { replayed, taken }),
         None => {
-            drop(bench);
+            drop(replayed);
             None
         }
     }
 }
 
 // A frame whose response can only say that memory ran out before its call.
-fn judge_want(bench: Bench, left: &[u8]) -> Option<Accepted>
-    ensures { (history : Items Entry) (frame : Frame) → IsReplayed (ground_of history bench) bench.replayed
-        → OnlyWants (case_of history bench frame left.now) → Judges (case_of history bench frame left.now) result }
+fn judge_want(replayed: Replayed, left: &[u8]) -> Option<Accepted>
+    ensures { (history : Items Entry) (frame : Frame) → IsReplayed (ground_of history replayed) replayed
+        → OnlyWants (case_of history replayed frame left.now) → Judges (case_of history replayed frame left.now) result }
 {
     let want = want_before();
     if begins(left, want) {
         Some(Accepted {
-            bench,
+            replayed,
             taken: want.len(),
         })
     } else {
-        drop(bench);
+        drop(replayed);
         None
     }
 }
 
 // A frame that makes no request: it is refused by this text, or memory ran out.
-fn judge_refused(bench: Bench, text: &[u8], left: &[u8]) -> Option<Accepted>
-    ensures { (history : Items Entry) (frame : Frame) → IsReplayed (ground_of history bench) bench.replayed
-        → Asks frame (Err text.now) → Judges (case_of history bench frame left.now) result }
+fn judge_refused(replayed: Replayed, text: &[u8], left: &[u8]) -> Option<Accepted>
+    ensures { (history : Items Entry) (frame : Frame) → IsReplayed (ground_of history replayed) replayed
+        → Asks frame (Err text.now) → Judges (case_of history replayed frame left.now) result }
 {
     if begins(left, text) {
         Some(Accepted {
-            bench,
+            replayed,
             taken: text.len(),
         })
     } else {
-        judge_want(bench, left)
+        judge_want(replayed, left)
     }
 }
 
 // The call of a frame, made so at the end of the history that was replayed.
 fn judge_made(
     alloc: Global,
-    bench: Bench,
+    replayed: Replayed,
     making: Making,
     frame: &WholeFrame<'_>,
     request: Request,
     left: &[u8],
 ) -> Result<Option<Accepted>, NoMemory>
     requires { MakesRequest (frame_held frame.now) request }
-    ensures { IfOk result (λ judged. ComesTo bench (frame_held frame.now) request making left.now judged) }
+    ensures { IfOk result (λ judged. ComesTo replayed (frame_held frame.now) request making left.now judged) }
 {
-    let Bench { replayed, desk: _ } = bench;
     let (replayed, taken) = make_call(alloc, replayed, making, frame, request, left)?;
-    let desk = making.known;
-    Ok(accept_by(Bench { replayed, desk }, taken))
+    Ok(accept_by(replayed, taken))
 }
 
 // The entry of the history after those that were replayed.
@@ -111,25 +102,24 @@ fn next_of<'h>(history: &'h [Entry], replayed: &Replayed) -> Option<&'h Entry>
 fn next_making(
     alloc: Global,
     history: &[Entry],
-    bench: &Bench,
+    replayed: &Replayed,
     frame: &WholeFrame<'_>,
     request: &Request,
 ) -> Result<Option<Making>, NoMemory>
-    requires stands { Stands history.now bench.now }
+    requires stands { Stands history.now replayed.now }
     requires makes { MakesRequest (frame_held frame.now) request.now }
     ensures { IfOk result
-        (λ making. IsNextMaking history.now bench.now (frame_held frame.now) request.now making) }
+        (λ making. IsNextMaking history.now replayed.now (frame_held frame.now) request.now making) }
 {
-    let next = match next_of(history, &bench.replayed) {
+    let next = match next_of(history, replayed) {
         Some(next) => next,
         None => return Ok(None),
     };
-    match is_its_call(alloc, bench, next, frame, request) {
+    match is_its_call(alloc, replayed, next, frame, request) {
         Ok(true) => Ok(Some(Making {
             desk: next.desk,
             now: next.now,
             stored: true,
-            known: Some(next.desk),
         })),
         Ok(false) => Ok(None),
         Err(error) => Err(error),
@@ -140,24 +130,23 @@ fn next_making(
 fn making_of(
     alloc: Global,
     history: &[Entry],
-    bench: &Bench,
+    replayed: &Replayed,
     frame: &WholeFrame<'_>,
     request: &Request,
     stored: bool,
 ) -> Result<Option<Making>, NoMemory>
-    requires stands { Stands history.now bench.now }
+    requires stands { Stands history.now replayed.now }
     requires makes { MakesRequest (frame_held frame.now) request.now }
     ensures { IfOk result
-        (λ making. IsMakingOf history.now bench.now (frame_held frame.now) request.now stored making) }
+        (λ making. IsMakingOf history.now replayed.now (frame_held frame.now) request.now stored making) }
 {
     if stored {
-        next_making(alloc, history, bench, frame, request)
+        next_making(alloc, history, replayed, frame, request)
     } else {
         Ok(Some(Making {
-            desk: bench.desk.unwrap_or(0),
+            desk: 0,
             now: 0,
             stored: false,
-            known: bench.desk,
         }))
     }
 }
@@ -166,27 +155,27 @@ fn making_of(
 fn judge_call(
     alloc: Global,
     history: &[Entry],
-    bench: Bench,
+    replayed: Replayed,
     frame: &WholeFrame<'_>,
     request: Request,
     stored: bool,
     left: &[u8],
 ) -> Result<Option<Accepted>, NoMemory>
-    requires stands { Stands history.now bench }
+    requires stands { Stands history.now replayed }
     requires makes { MakesRequest (frame_held frame.now) request }
-    requires says { SaysOnly left.now (length bench.replayed.history) stored }
-    ensures { IfOk result (λ judged. Judges (case_of history.now bench (frame_held frame.now) left.now) judged) }
+    requires says { SaysOnly left.now (length replayed.history) stored }
+    ensures { IfOk result (λ judged. Judges (case_of history.now replayed (frame_held frame.now) left.now) judged) }
 {
-    match making_of(alloc, history, &bench, frame, &request, stored) {
-        Ok(Some(making)) => judge_made(alloc, bench, making, frame, request, left),
+    match making_of(alloc, history, &replayed, frame, &request, stored) {
+        Ok(Some(making)) => judge_made(alloc, replayed, making, frame, request, left),
         Ok(None) => {
             drop(request);
-            drop(bench);
+            drop(replayed);
             Ok(None)
         }
         Err(error) => {
             drop(request);
-            drop(bench);
+            drop(replayed);
             Err(error)
         }
     }
@@ -196,27 +185,25 @@ fn judge_call(
 fn judge_request(
     alloc: Global,
     history: &[Entry],
-    bench: Bench,
+    replayed: Replayed,
     frame: &WholeFrame<'_>,
     request: Request,
     left: &[u8],
 ) -> Result<Option<Accepted>, NoMemory>
-    requires stands { Stands history.now bench }
+    requires stands { Stands history.now replayed }
     requires makes { MakesRequest (frame_held frame.now) request }
-    ensures { IfOk result (λ judged. Judges (case_of history.now bench (frame_held frame.now) left.now) judged) }
+    ensures { IfOk result (λ judged. Judges (case_of history.now replayed (frame_held frame.now) left.now) judged) }
 {
     let mark = match mark_in(left) {
         Some(mark) => mark,
         None => {
             drop(request);
-            return Ok(judge_want(bench, left));
+            return Ok(judge_want(replayed, left));
         }
     };
-    let Bench { replayed, desk } = bench;
     match go_to(history, replayed, mark.at) {
         Ok(Some(replayed)) => {
-            let bench = Bench { replayed, desk };
-            judge_call(alloc, history, bench, frame, request, mark.stored, left)
+            judge_call(alloc, history, replayed, frame, request, mark.stored, left)
         }
         Ok(None) => {
             drop(request);
@@ -235,25 +222,25 @@ pub fn judge(
     alloc: Global,
     routes: &Routes,
     history: &[Entry],
-    bench: Bench,
+    replayed: Replayed,
     frame: &WholeFrame<'_>,
     left: &[u8],
 ) -> Result<Option<Accepted>, NoMemory>
-    requires record { IsRecord (ground_of history.now bench) }
-    requires first { IsReplayed (ground_of history.now bench) bench.replayed }
+    requires record { IsRecord (ground_of history.now replayed) }
+    requires first { IsReplayed (ground_of history.now replayed) replayed }
     requires key { IsUtf8 (frame_held frame.now).key }
     requires body { length (frame_held frame.now).body ≤ longest_body }
-    ensures { IfOk result (λ judged. Judges (case_of history.now bench (frame_held frame.now) left.now) judged) }
+    ensures { IfOk result (λ judged. Judges (case_of history.now replayed (frame_held frame.now) left.now) judged) }
 {
     match request_in(alloc, routes, frame) {
-        Ok(Ok(request)) => judge_request(alloc, history, bench, frame, request, left),
+        Ok(Ok(request)) => judge_request(alloc, history, replayed, frame, request, left),
         Ok(Err(text)) => {
-            let judged = judge_refused(bench, text.as_slice(), left);
+            let judged = judge_refused(replayed, text.as_slice(), left);
             drop(text);
             Ok(judged)
         }
         Err(error) => {
-            drop(bench);
+            drop(replayed);
             Err(error)
         }
     }

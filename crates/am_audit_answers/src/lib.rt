@@ -9,4 +9,4 @@ mod places;
 mod requests;
 mod texts;
 
-pub use judging::{Accepted, Bench, judge};
+pub use judging::{Accepted, judge};

@@ -4,24 +4,12 @@ ghost use Rattle.am_history.specs.State.{uid_of};
 ghost use Rattle.am_http.specs.FrameSpans.{frame_held};
 ghost use Rattle.am_audit_history.specs.Lines.{IsReadAgain};
 ghost use Rattle.am_audit_history.specs.Replays.{state_of};
-ghost use Rattle.am_audit_answers.specs.Judging.{Suits};
 ghost use Rattle.am_audit_answers.specs.Matching.{IsItsCall, MakesRequest};
 
-use crate::judging::Bench;
 use am_audit_history::{Replayed, is_same_request};
 use am_http::frame::WholeFrame;
 use am_types::{Entry, NoMemory, Request};
 use std::alloc::Global;
-
-// Whether a desk may have the number that is known.
-fn suits(known: Option<u32>, desk: u32) -> bool
-    ensures { IsTrue result ↔ Suits known desk }
-{
-    match known {
-        Some(known) => desk == known,
-        None => true,
-    }
-}
 
 // Whether this is the key of the caller with this uid, after the history that was replayed.
 fn has_key(replayed: &Replayed, uid: u32, key: &[u8]) -> bool
@@ -34,27 +22,23 @@ fn has_key(replayed: &Replayed, uid: u32, key: &[u8]) -> bool
     }
 }
 
-/// Whether the entry is the call of a frame that makes this request, after the history that was replayed, on a
-/// desk that may be the connection's.
+/// Whether the entry is the call of a frame that makes this request, after the history that was replayed.
 pub(crate) fn is_its_call(
     alloc: Global,
-    bench: &Bench,
+    replayed: &Replayed,
     next: &Entry,
     frame: &WholeFrame<'_>,
     request: &Request,
 ) -> Result<bool, NoMemory>
     requires makes { MakesRequest (frame_held frame.now) request.now }
     requires again { IsReadAgain next.now.request }
-    ensures { IfOk result (λ is. IsTrue is ↔ (Suits bench.now.desk next.entry.now.desk
-        × IsItsCall (state_of bench.now.replayed) (frame_held frame.now) request.now next.entry.now)) }
+    ensures { IfOk result (λ is. IsTrue is
+        ↔ IsItsCall (state_of replayed.now) (frame_held frame.now) request.now next.entry.now) }
 {
-    if !suits(bench.desk, next.desk) {
-        return Ok(false);
-    }
     if next.weight as usize != frame.body.len() {
         return Ok(false);
     }
-    if !has_key(&bench.replayed, next.uid, frame.key) {
+    if !has_key(replayed, next.uid, frame.key) {
         return Ok(false);
     }
     is_same_request(alloc, request, &next.request)

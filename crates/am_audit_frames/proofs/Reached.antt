@@ -1,14 +1,14 @@
 -- The exchanges with which the responses begin: what one more frame adds to them, and what they show.
-use Rattle.std.proofs.Common.{◌≡◌, ℕ, List, [], ◌∷◌, ◌++◌, refl, sym, ap, ◌∙◌, subst, append_assoc, append-nil, Option, Some, None}
+use Rattle.std.proofs.Common.{◌≡◌, ℕ, List, [], ◌∷◌, ◌++◌, refl, sym, ap, ◌∙◌, subst, append_assoc, append-nil}
 use Rattle.std.specs.List.{AllByRecursion}
 use Rattle.std.proofs.lemmas.Grind.{flat_map-append}
 use Rattle.am_http.specs.Head.{Frame}
 use Rattle.am_http.specs.Exchanges.{Exchange, IsAbove, AreInOrder, floor_after, floor_of, frames_of, bytes_of}
 use Rattle.am_http.proofs.ExchangeLemmas.{all_more}
 use Rattle.am_audit_answers.specs.Audits.{AreAudited, AreResponses, BeginsAudited, Ground, IsAudited}
-use Rattle.am_audit_answers.specs.Judging.{Accepts, Answers, Case, Refuses, Standing, Suits}
+use Rattle.am_audit_answers.specs.Judging.{Accepts, Answers, Case, Refuses}
 use Rattle.am_audit_frames.specs.Verdicts.{Transcript}
-use Rattle.am_audit_frames.specs.Walks.{Begin, LeadTo, Place, Reaches}
+use Rattle.am_audit_frames.specs.Walks.{Begin, Place, Reaches}
 
 -- ---- exchanges one after the other
 
@@ -78,27 +78,25 @@ part (g ∷ fs) f others (e ∷ es) asked =
 
 -- the frame behind a place is judged
 abbrev pub case_behind : Ground → Place → Frame → Case
-case_behind ground place f = record { ground = ground; standing = place.standing; frame = f; left = place.left }
+case_behind ground place f = record { ground = ground; floor = place.floor; frame = f; left = place.left }
 
 -- the exchange of the frame behind a place, among exchanges of that and further frames
-record Following (ground : Ground) (place : Place) (f : Frame) (others : List Frame) (desk : ℕ) (es : List Exchange)
+record Following (ground : Ground) (place : Place) (f : Frame) (others : List Frame) (es : List Exchange)
     (rest : List ℕ) : Type 0 where
   parts : Parts place.frames f others es
-  floor : floor_of 0 parts.before ≡ place.standing.floor
-  answers : Answers (case_behind ground place f) desk parts.one (bytes_of parts.later ++ rest)
+  floor : floor_of 0 parts.before ≡ place.floor
+  answers : Answers (case_behind ground place f) parts.one (bytes_of parts.later ++ rest)
 
-following : (ground : Ground) (t : Transcript) (place : Place) (f : Frame) (others : List Frame) (desk : ℕ)
-    (es : List Exchange)
-    (rest : List ℕ) → Reaches ground t place → frames_of es ≡ place.frames ++ f ∷ others → Begin ground t desk es rest
-    → Following ground place f others desk es rest
-following ground t place f others desk es rest reaches asked begin =
+following : (ground : Ground) (t : Transcript) (place : Place) (f : Frame) (others : List Frame) (es : List Exchange)
+    (rest : List ℕ) → Reaches ground t place → frames_of es ≡ place.frames ++ f ∷ others → Begin ground t es rest
+    → Following ground place f others es rest
+following ground t place f others es rest reaches asked begin =
     let parts = part place.frames f others es asked in
     let before = parts.before in
     let one = parts.one in
     let later = parts.later in
-    let audited : AreAudited ground desk (before ++ one ∷ later) = subst (AreAudited ground desk) parts.same
-    begin.audited in
-    let each = each_apart (IsAudited ground desk) before (one ∷ later) audited.each in
+    let audited : AreAudited ground (before ++ one ∷ later) = subst (AreAudited ground) parts.same begin.audited in
+    let each = each_apart (IsAudited ground) before (one ∷ later) audited.each in
     let order = order_apart 0 before (one ∷ later) audited.order in
     let rest_of_one = bytes_of later ++ rest in
     let splits : t.responses ≡ bytes_of before ++ (one.bytes ++ rest_of_one) =
@@ -106,92 +104,76 @@ following ground t place f others desk es rest reaches asked begin =
     ∙ ap (λ (x : List ℕ). x ++ rest) (flat_map-append (λ (x : Exchange). x.bytes) before (one ∷ later))
     ∙ append_assoc (bytes_of before) (one.bytes ++ bytes_of later) rest
     ∙ ap (λ (x : List ℕ). bytes_of before ++ x) (append_assoc one.bytes (bytes_of later) rest) in
-    let first : Begin ground t desk before (one.bytes ++ rest_of_one) =
+    let first : Begin ground t before (one.bytes ++ rest_of_one) =
     record { audited = record { each = each.0; order = order.0 }; splits = splits } in
-    let leads = reaches.only desk before (one.bytes ++ rest_of_one) parts.frames first in
+    let leads = reaches.only before (one.bytes ++ rest_of_one) parts.frames first in
     record {
       parts = parts;
-      floor = leads.floor;
+      floor = leads.1;
       answers = record {
         frame = parts.frame;
-        suits = leads.suits;
         audited = each.1.0;
-        above = subst (λ (n : ℕ). IsAbove n one.point) leads.floor order.1.0;
-        bytes = sym leads.ends;
+        above = subst (λ (n : ℕ). IsAbove n one.point) leads.1 order.1.0;
+        bytes = sym leads.0;
       };
     }
 
 -- ---- one more frame
 
-any_desk : (known : Option ℕ) → (desk : ℕ) × Suits known desk
-any_desk None = (0, tt)
-any_desk (Some desk) = (desk, refl)
-
 -- Where a frame is accepted, the exchanges with its own lead to the place behind it.
-pub reaches_more : (ground : Ground) (t : Transcript) (place : Place) (f : Frame) (after : Standing) (left : List ℕ)
+pub reaches_more : (ground : Ground) (t : Transcript) (place : Place) (f : Frame) (after : ℕ) (left : List ℕ)
     → Reaches ground t place → Accepts (case_behind ground place f) after left
-    → Reaches ground t (record { frames = place.frames ++ f ∷ []; standing = after; left = left })
+    → Reaches ground t (record { frames = place.frames ++ f ∷ []; floor = after; left = left })
 reaches_more ground t place f after left reaches accepts =
     let es = reaches.exchanges in
     let e = accepts.exchange in
-    let some = any_desk after.desk in
-    let frame = (accepts.answers some.0 some.1).frame in
+    let a = accepts.answers in
+    let b = reaches.begin in
     record {
       exchanges = es ++ e ∷ [];
-      asked = frames_more es e ∙ (λ i. reaches.asked i ++ frame i ∷ []);
-      begin = λ desk suits.
-          let a = accepts.answers desk suits in
-          let b = reaches.begin desk a.suits in
-          record {
-            audited = record {
-              each = all_more (IsAudited ground desk) es e b.audited.each a.audited;
-              order =
-                  order_more 0 es e b.audited.order
-                  (subst (λ (n : ℕ). IsAbove n e.point) (sym reaches.floor) a.above);
-            };
-            splits = b.splits ∙ ap (λ (x : List ℕ). bytes_of es ++ x) a.bytes
-                ∙ sym (append_assoc (bytes_of es) e.bytes left)
-                ∙ ap (λ (x : List ℕ). (bytes_of es ++ x) ++ left) (sym (append-nil e.bytes))
-                ∙ ap (λ (x : List ℕ). x ++ left) (sym (flat_map-append (λ (x : Exchange). x.bytes) es (e ∷ [])));
-          };
+      asked = frames_more es e ∙ (λ i. reaches.asked i ++ a.frame i ∷ []);
+      begin = record {
+        audited = record {
+          each = all_more (IsAudited ground) es e b.audited.each a.audited;
+          order =
+              order_more 0 es e b.audited.order (subst (λ (n : ℕ). IsAbove n e.point) (sym reaches.floor) a.above);
+        };
+        splits = b.splits ∙ ap (λ (x : List ℕ). bytes_of es ++ x) a.bytes
+            ∙ sym (append_assoc (bytes_of es) e.bytes left)
+            ∙ ap (λ (x : List ℕ). (bytes_of es ++ x) ++ left) (sym (append-nil e.bytes))
+            ∙ ap (λ (x : List ℕ). x ++ left) (sym (flat_map-append (λ (x : Exchange). x.bytes) es (e ∷ [])));
+      };
       floor = floor_more 0 es e ∙ ap (λ (n : ℕ). floor_after n e.point) reaches.floor ∙ accepts.floor;
-      only = λ desk gs rest asked begin. leads desk gs rest asked begin;
+      only = λ gs rest asked begin. leads gs rest asked begin;
     }
   where
-    leads : (desk : ℕ) (gs : List Exchange) (rest : List ℕ) → frames_of gs ≡ place.frames ++ f ∷ []
-        → Begin ground t desk gs rest
-        → LeadTo (record { frames = place.frames ++ f ∷ []; standing = after; left = left }) desk gs rest
-    leads desk gs rest asked begin =
-        let follows = following ground t place f [] desk gs rest reaches asked begin in
+    leads : (gs : List Exchange) (rest : List ℕ) → frames_of gs ≡ place.frames ++ f ∷ [] → Begin ground t gs rest
+        → (rest ≡ left) × (floor_of 0 gs ≡ after)
+    leads gs rest asked begin =
+        let follows = following ground t place f [] gs rest reaches asked begin in
         let parts = follows.parts in
         let none = no_exchange parts.later parts.more in
         let one = parts.one in
-        let answers : Answers (case_behind ground place f) desk one rest =
-        subst (λ (x : List Exchange). Answers (case_behind ground place f) desk one (bytes_of x ++ rest)) none
+        let answers : Answers (case_behind ground place f) one rest =
+        subst (λ (x : List Exchange). Answers (case_behind ground place f) one (bytes_of x ++ rest)) none
         follows.answers in
-        let lead = accepts.only desk one rest answers in
-        record {
-          ends = lead.ends;
-          suits = lead.suits;
-          floor = ap (floor_of 0) (parts.same ∙ ap (λ (x : List Exchange). parts.before ++ one ∷ x) none)
-              ∙ floor_more 0 parts.before one ∙ ap (λ (n : ℕ). floor_after n one.point) follows.floor ∙ lead.floor;
-        }
+        let lead = accepts.only one rest answers in (
+          lead.0,
+          ap (floor_of 0) (parts.same ∙ ap (λ (x : List Exchange). parts.before ++ one ∷ x) none)
+              ∙ floor_more 0 parts.before one ∙ ap (λ (n : ℕ). floor_after n one.point) follows.floor ∙ lead.1,
+        )
 
 -- Where a connection begins, no frame was passed.
 pub reaches_none : (ground : Ground) (t : Transcript)
-    → Reaches ground t (record { frames = []; standing = record { floor = 0; desk = None }; left = t.responses })
+    → Reaches ground t (record { frames = []; floor = 0; left = t.responses })
 reaches_none ground t = record {
   exchanges = [];
   asked = refl;
-  begin = λ desk suits. record { audited = record { each = tt; order = tt }; splits = refl };
+  begin = record { audited = record { each = tt; order = tt }; splits = refl };
   floor = refl;
-  only = λ desk es rest asked begin.
+  only = λ es rest asked begin.
       let none = no_exchange es asked in
-      record {
-        ends = sym (begin.splits ∙ ap (λ (x : List Exchange). bytes_of x ++ rest) none);
-        suits = tt;
-        floor = ap (floor_of 0) none;
-      };
+      (sym (begin.splits ∙ ap (λ (x : List Exchange). bytes_of x ++ rest) none), ap (floor_of 0) none);
 }
 
 -- ---- what the exchanges show
@@ -199,21 +181,16 @@ reaches_none ground t = record {
 -- The exchanges are responses to the frames before the place.
 pub responses_to : (ground : Ground) (t : Transcript) (place : Place) (reaches : Reaches ground t place)
     → AreResponses ground place.frames (bytes_of reaches.exchanges)
-responses_to ground t place reaches =
-    let some = any_desk place.standing.desk in
-    record {
-      desk = some.0;
-      exchanges = reaches.exchanges;
-      asked = reaches.asked;
-      audited = (reaches.begin some.0 some.1).audited;
-      output = refl;
-    }
+responses_to ground t place reaches = record {
+  exchanges = reaches.exchanges;
+  asked = reaches.asked;
+  audited = reaches.begin.audited;
+  output = refl;
+}
 
 pub splits_at : (ground : Ground) (t : Transcript) (place : Place) (reaches : Reaches ground t place)
     → t.responses ≡ bytes_of reaches.exchanges ++ place.left
-splits_at ground t place reaches =
-    let some = any_desk place.standing.desk in
-    (reaches.begin some.0 some.1).splits
+splits_at ground t place reaches = reaches.begin.splits
 
 -- So some first bytes are responses to them.
 pub begins_to : (ground : Ground) (t : Transcript) (place : Place) → Reaches ground t place
@@ -227,7 +204,7 @@ begins_to ground t place reaches = record {
 
 begin_from : (ground : Ground) (t : Transcript) (fs : List Frame) (bytes rest : List ℕ)
     (r : AreResponses ground fs bytes)
-    → t.responses ≡ bytes ++ rest → Begin ground t r.desk r.exchanges rest
+    → t.responses ≡ bytes ++ rest → Begin ground t r.exchanges rest
 begin_from ground t fs bytes rest r splits =
     record { audited = r.audited; splits = splits ∙ ap (λ (x : List ℕ). x ++ rest) (sym r.output) }
 
@@ -236,7 +213,7 @@ pub same_left : (ground : Ground) (t : Transcript) (place : Place) (fs : List Fr
     → Reaches ground t place → fs ≡ place.frames → AreResponses ground fs bytes → t.responses ≡ bytes ++ rest
     → rest ≡ place.left
 same_left ground t place fs bytes rest reaches same r splits =
-    (reaches.only r.desk r.exchanges rest (r.asked ∙ same) (begin_from ground t fs bytes rest r splits)).ends
+    (reaches.only r.exchanges rest (r.asked ∙ same) (begin_from ground t fs bytes rest r splits)).0
 
 -- Where a frame is refused, no first bytes are responses to the frames with it.
 pub refused_there : (ground : Ground) (t : Transcript) (place : Place) (f : Frame) (others : List Frame)
@@ -245,5 +222,5 @@ pub refused_there : (ground : Ground) (t : Transcript) (place : Place) (f : Fram
 refused_there ground t place f others reaches refuses b =
     let r = b.audited in
     let begin = begin_from ground t (place.frames ++ f ∷ others) b.first b.rest r b.splits in
-    let follows = following ground t place f others r.desk r.exchanges b.rest reaches r.asked begin in
-    refuses r.desk follows.parts.one (bytes_of follows.parts.later ++ b.rest) follows.answers
+    let follows = following ground t place f others r.exchanges b.rest reaches r.asked begin in
+    refuses follows.parts.one (bytes_of follows.parts.later ++ b.rest) follows.answers

@@ -7,7 +7,7 @@ use Rattle.am_http.specs.Framing.{IsFraming}
 use Rattle.am_http.specs.Sessions.{most_frames}
 use Rattle.am_http.proofs.FramingLemmas.{whole_only}
 use Rattle.am_audit_answers.specs.Audits.{Ground}
-use Rattle.am_audit_answers.specs.Judging.{Accepts, Standing}
+use Rattle.am_audit_answers.specs.Judging.{Accepts}
 use Rattle.am_audit_frames.specs.declared.audit.Verdict.TheVariants.{Whole, UpTo}
 use Rattle.am_audit_frames.specs.Streams.{EndsWith, IsLast}
 use Rattle.am_audit_frames.specs.Verdicts.{IsVerdict, Transcript}
@@ -24,8 +24,8 @@ pub record IsAt (ground : Ground) (t : Transcript) (place : Place) (input : List
   pub reaches : Reaches ground t place
 
 -- the place behind one more frame
-abbrev pub place_behind : Place → Frame → Standing → List ℕ → Place
-place_behind place f after left = record { frames = place.frames ++ f ∷ []; standing = after; left = left }
+abbrev pub place_behind : Place → Frame → ℕ → List ℕ → Place
+place_behind place f after left = record { frames = place.frames ++ f ∷ []; floor = after; left = left }
 
 -- Where the input has no further whole frame, the audit is whole exactly if what is left may be written last.
 pub settles_at_end : (ground : Ground) (t : Transcript) (place : Place) (input : List ℕ) (count : ℕ) (o : Outcome)
@@ -64,7 +64,7 @@ one_more fs f count counted = omega (arith, counted, length-append fs (f ∷ [])
 
 -- Behind an accepted frame that asks to close it is so too.
 pub settles_at_close : (ground : Ground) (t : Transcript) (place : Place) (input : List ℕ) (count : ℕ) (f : Frame)
-    (after : Standing) (left : List ℕ) (is_end : Bool) → IsAt ground t place input count → count < most_frames
+    (after : ℕ) (left : List ℕ) (is_end : Bool) → IsAt ground t place input count → count < most_frames
     → IsFraming input (whole f) → f.close ≡ true → Accepts (case_behind ground place f) after left
     → (is_end ≡ true → left ≡ []) → (left ≡ [] → is_end ≡ true)
     → IsVerdict ground t (cond is_end (Whole (count + 1)) (UpTo (count + 1)))
@@ -80,7 +80,7 @@ settles_at_close ground t place input count f after left is_end at room is close
 
 -- Behind one that doesn't, the walk has come one frame further.
 pub goes_further : (ground : Ground) (t : Transcript) (place : Place) (input : List ℕ) (count : ℕ) (f : Frame)
-    (after : Standing) (left : List ℕ) → IsAt ground t place input count → count < most_frames
+    (after : ℕ) (left : List ℕ) → IsAt ground t place input count → count < most_frames
     → IsFraming input (whole f)
     → f.close ≡ false → Accepts (case_behind ground place f) after left
     → IsAt ground t (place_behind place f after left) (drop f.length input) (count + 1)

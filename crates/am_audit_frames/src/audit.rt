@@ -8,7 +8,7 @@ ghost use Rattle.am_audit_frames.specs.Verdicts.{IsVerdict, Transcript};
 ghost use Rattle.am_audit_frames.specs.Walks.{GoesOn, Walked, ground_at};
 
 use crate::endings::may_end;
-use am_audit_answers::{Bench, judge};
+use am_audit_answers::judge;
 use am_audit_history::Replayed;
 use am_http::MAX_FRAMES;
 use am_http::frame::{Framing, frame};
@@ -28,7 +28,8 @@ pub enum Verdict {
 // How far the audit of a connection has come.
 #[derive(Drop)]
 struct Walk<'t> {
-    bench: Bench,
+    // The history, replayed up to the least place of the next call.
+    replayed: Replayed,
     // What is left of the frames and of the responses.
     input: &'t [u8],
     left: &'t [u8],
@@ -54,32 +55,32 @@ fn next_frame<'t>(
     walk: Walk<'t>,
 ) -> Result<Result<Walk<'t>, Verdict>, NoMemory>
     requires record { IsRecord (ground_at history.now walk) }
-    requires first { IsReplayed (ground_at history.now walk) walk.bench.replayed }
+    requires first { IsReplayed (ground_at history.now walk) walk.replayed }
     requires room { walk.count < most_frames }
     ensures { IfOk result (λ next. (t : Transcript) → Walked (ground_at history.now walk.entry) t walk.entry
         → GoesOn (ground_at history.now walk.entry) t walk.entry next) }
 {
     let Walk {
-        bench,
+        replayed,
         input,
         left,
         count,
     } = walk;
     let Framing::Whole(frame) = frame(input) else {
-        drop(bench);
+        drop(replayed);
         return Ok(Err(ended(count, may_end(input, left))));
     };
-    let Some(accepted) = judge(alloc, routes, history, bench, &frame, left)? else {
+    let Some(accepted) = judge(alloc, routes, history, replayed, &frame, left)? else {
         return Ok(Err(Verdict::UpTo(count)));
     };
     let input = &input[frame.length..];
     let left = &left[accepted.taken..];
     if frame.close {
-        drop(accepted.bench);
+        drop(accepted.replayed);
         return Ok(Err(ended(count + 1, left.is_empty())));
     }
     Ok(Ok(Walk {
-        bench: accepted.bench,
+        replayed: accepted.replayed,
         input,
         left,
         count: count + 1,
@@ -105,10 +106,7 @@ pub fn audit_frames(
     let routes = Routes::new(alloc)?;
     let replayed = Replayed::begin(alloc, device)?;
     let mut walk = Walk {
-        bench: Bench {
-            replayed,
-            desk: None,
-        },
+        replayed,
         input: frames,
         left: responses,
         count: 0,

@@ -26,19 +26,19 @@ pub returns-in-None : goal.returns-in-None
 returns-in-None c =
     let short : length c.args.history.now < 2 ^ 64 = omega arith in
     let few : length c.args.left.now < 2 ^ 64 = omega arith in
-    let here = case_of c.args.history.now c.args.bench (frame_held c.args.frame.now) c.args.left.now in
+    let here = case_of c.args.history.now c.args.replayed (frame_held c.args.frame.now) c.args.left.now in
     c.judge_want.ensures c.args.history.now (frame_held c.args.frame.now) c.requires.stands.first
     (unmarked_wants here c.args.request c.requires.makes.asks (λ at stored has. none-some _
     (c.in-None.ensures.marked at stored has)) short few)
 
 pub judge_call-requires-clause-stands : goal.judge_call-requires-clause-stands
 judge_call-requires-clause-stands c =
-    stands_there c.args.history.now c.args.bench c.in-Some.mark.at c.in-Ok-Some.replayed c.requires.stands
+    stands_there c.args.history.now c.args.replayed c.in-Some.mark.at c.in-Ok-Some.replayed c.requires.stands
     (rw c.in-Ok-Some.field-0-is at c.in-Ok-Some.ensures)
 
 pub judge_call-requires-clause-says : goal.judge_call-requires-clause-says
 judge_call-requires-clause-says c =
-    let goes : GoesTo (ground_of c.args.history.now c.args.bench) c.args.bench.replayed c.in-Some.mark.at
+    let goes : GoesTo (ground_of c.args.history.now c.args.replayed) c.args.replayed c.in-Some.mark.at
     (Some c.in-Ok-Some.replayed) =
     rw c.in-Ok-Some.field-0-is at c.in-Ok-Some.ensures in
     subst (λ (at : ℕ). SaysOnly c.args.left.now at c.in-Some.mark.stored) (sym goes.1)
@@ -48,10 +48,10 @@ pub returns-in-Ok-Some : goal.returns-in-Ok-Some
 returns-in-Ok-Some c =
     let short : length c.args.history.now < 2 ^ 64 = omega arith in
     let few : length c.args.left.now < 2 ^ 64 = omega arith in
-    let goes : GoesTo (ground_of c.args.history.now c.args.bench) c.args.bench.replayed c.in-Some.mark.at
+    let goes : GoesTo (ground_of c.args.history.now c.args.replayed) c.args.replayed c.in-Some.mark.at
     (Some c.in-Ok-Some.replayed) =
     rw c.in-Ok-Some.field-0-is at c.in-Ok-Some.ensures in
-    raised_if c.args.history.now c.args.bench (frame_held c.args.frame.now) c.args.left.now c.args.request
+    raised_if c.args.history.now c.args.replayed (frame_held c.args.frame.now) c.args.left.now c.args.request
     c.in-Some.mark.at c.in-Some.mark.stored
     c.in-Ok-Some.replayed c.judge_call.result c.requires.makes.asks
     (says_only c.args.left.now c.in-Some.mark c.in-Some.ensures.marked c.in-Some.ensures.unmarked) short few goes
@@ -61,9 +61,9 @@ pub returns-in-Ok-None : goal.returns-in-Ok-None
 returns-in-Ok-None c =
     let short : length c.args.history.now < 2 ^ 64 = omega arith in
     let few : length c.args.left.now < 2 ^ 64 = omega arith in
-    let goes : GoesTo (ground_of c.args.history.now c.args.bench) c.args.bench.replayed c.in-Some.mark.at None =
+    let goes : GoesTo (ground_of c.args.history.now c.args.replayed) c.args.replayed c.in-Some.mark.at None =
     rw c.in-Ok-None.field-0-is at c.in-Ok-None.ensures in
-    unreached c.args.history.now c.args.bench (frame_held c.args.frame.now) c.args.left.now c.args.request
+    unreached c.args.history.now c.args.replayed (frame_held c.args.frame.now) c.args.left.now c.args.request
     c.in-Some.mark.at c.in-Some.mark.stored
     c.requires.makes.asks (says_only c.args.left.now c.in-Some.mark c.in-Some.ensures.marked c.in-Some.ensures.unmarked)
     short few goes

@@ -1,11 +1,10 @@
-use Rattle.std.proofs.Common.{◌≡◌, ℕ, List, [], length, refl, sym, ap, ◌∙◌, subst, arith, Result, None}
+use Rattle.std.proofs.Common.{◌≡◌, ℕ, List, [], length, refl, sym, ap, ◌∙◌, subst, arith, Result}
 use Rattle.std.proofs.lemmas.Bool.{eq-eqb, eqb-true}
 use Rattle.std.proofs.lemmas.List.{nil_from_length}
 use Rattle.am_types.specs.declared.history.Entry.{Entry}
 use Rattle.am_history.specs.State.{State, opening}
 use Rattle.am_audit_history.specs.Replays.{Replay}
 use Rattle.am_audit_answers.specs.Audits.{Ground}
-use Rattle.am_audit_answers.specs.Judged.{standing_of}
 use Rattle.am_audit_frames.specs.declared.audit.Verdict.{Verdict}
 use Rattle.am_audit_frames.specs.declared.audit.Walk.{Walk}
 use Rattle.am_audit_frames.specs.Verdicts.{IsVerdict, Transcript}
@@ -34,7 +33,7 @@ loop-walk-init c =
     let ground : Ground = record { start = opening c.args.device; history = c.args.history.now } in
     let t = told c.args.frames.now c.args.responses.now in
     let walk_of : Replay → Walk = λ r. record {
-      bench = record { replayed = r; desk = None };
+      replayed = r;
       input = c.args.frames;
       left = c.args.responses;
       count = 0;
@@ -79,7 +78,7 @@ returns c =
     let w = c.loop-walk.invariant.walked in
     let left = walk.left.now in
     subst (IsVerdict ground t) (sym c.ended.ensures)
-    (settles_at_limit ground t (record { frames = w.frames; standing = standing_of walk.bench; left = left })
+    (settles_at_limit ground t (record { frames = w.frames; floor = length walk.replayed.history; left = left })
     walk.input.now
     walk.count c.is_empty.result (record { counted = w.counted; passes = w.passes; reaches = w.reaches })
     (omega (arith, c.loop-walk.invariant.few, c.loop-walk-test.false))

@@ -9,7 +9,7 @@ use Rattle.am_http.specs.FrameSpans.{frame_held, outcome_held}
 use Rattle.am_http.specs.Sessions.{most_frames}
 use Rattle.am_http.proofs.FramingLemmas.{whole_body, whole_fits, whole_key}
 use Rattle.am_audit_answers.specs.Audits.{Ground}
-use Rattle.am_audit_answers.specs.Judged.{IsAccepted, Judges, standing_of}
+use Rattle.am_audit_answers.specs.Judged.{IsAccepted, Judges}
 use Rattle.am_audit_frames.specs.declared.audit.Walk.{Walk}
 use Rattle.am_audit_frames.specs.Verdicts.{IsVerdict, Transcript}
 use Rattle.am_audit_frames.specs.Walks.{Passes, Place, Reaches, Walked, ground_at}
@@ -20,7 +20,7 @@ use Rattle.am_audit_frames.proofs.audit.next_frame.Goals as goal
 
 -- the place to which a walk has come
 abbrev place_of : (ground : Ground) (t : Transcript) (walk : Walk) → Walked ground t walk → Place
-place_of ground t walk w = record { frames = w.frames; standing = standing_of walk.bench; left = walk.left.now }
+place_of ground t walk w = record { frames = w.frames; floor = length walk.replayed.history; left = walk.left.now }
 
 at_place : (ground : Ground) (t : Transcript) (walk : Walk) (w : Walked ground t walk)
     → IsAt ground t (place_of ground t walk w) walk.input.now walk.count
@@ -88,7 +88,7 @@ returns-then-frame c = λ t w.
     let accepted = c.in-Some.accepted in
     let tested = c.is_empty.ensures in
     subst (IsVerdict ground t) (sym c.ended-then-frame.ensures)
-    (settles_at_close ground t place walk.input.now walk.count f (standing_of accepted.bench)
+    (settles_at_close ground t place walk.input.now walk.count f (length accepted.replayed.history)
     (drop accepted.taken walk.left.now) c.is_empty.result (at_place ground t walk w) c.requires.room
     c.in-Whole.ensures.framing c.if-frame.true
     (subst (Judges (case_behind ground place f)) c.in-Some.is c.in_ok-accepted.ensures).accepts
@@ -106,7 +106,7 @@ returns c = λ t w.
     subst (Judges (case_behind ground place f)) c.in-Some.is c.in_ok-accepted.ensures in
     let left = drop accepted.taken walk.left.now in
     let at =
-    goes_further ground t place walk.input.now walk.count f (standing_of accepted.bench) left (at_place ground t walk w)
+    goes_further ground t place walk.input.now walk.count f (length accepted.replayed.history) left (at_place ground t walk w)
     c.requires.room c.in-Whole.ensures.framing c.if-frame.false judged.accepts in (
       record {
         frames = w.frames ++ f ∷ [];
@@ -117,7 +117,7 @@ returns c = λ t w.
         reaches =
             subst
             (λ (x : List ℕ). Reaches ground t
-            (record { frames = w.frames ++ f ∷ []; standing = standing_of accepted.bench; left = x }))
+            (record { frames = w.frames ++ f ∷ []; floor = length accepted.replayed.history; left = x }))
             (sym (take_rest walk.left.now accepted.taken)) at.reaches;
         start = judged.start;
         replayed = judged.replayed;
