@@ -3,7 +3,7 @@
 
 use am_host::{Counted, SystemClock, SystemFiles, read_words};
 use am_keeper_files::SqlStore;
-use am_shell::{run_keyed, tell_want};
+use am_shell::{run_keyed, tell_no_memory};
 use am_tcp::TcpNetwork;
 use std::hash::RandomState;
 use std::process::ExitCode;
@@ -17,7 +17,7 @@ fn main(rt: HostRuntime) -> ExitCode {
     let mut store = SqlStore::new(rt);
     let mut clock = SystemClock::new(rt);
     ExitCode::from(match read_words(&rt) {
-        Err(_) => tell_want(&mut errors),
+        Err(_) => tell_no_memory(&mut errors),
         Ok(words) => run_keyed(
             &rt,
             rt.alloc(),

@@ -1,7 +1,7 @@
 //! The checker of transcripts, as a program.
 #![tactic(auto)]
 
-use am_audit_shell::{audit, tell_want};
+use am_audit_shell::{audit, tell_no_memory};
 use am_host::{Counted, SystemFiles, read_words};
 use std::process::ExitCode;
 
@@ -10,7 +10,7 @@ fn main(rt: HostRuntime) -> ExitCode {
     let mut output = Counted::new(rt.stdout());
     let mut errors = Counted::new(rt.stderr());
     ExitCode::from(match read_words(&rt) {
-        Err(_) => tell_want(&mut errors),
+        Err(_) => tell_no_memory(&mut errors),
         Ok(words) => audit(
             rt.alloc(),
             words.as_slice(),

@@ -1,9 +1,7 @@
 -- Whether an entry of the history is the call of a frame.
-use Rattle.std.proofs.Common.{◌≡◌, ℕ, Bool, List, length, refl, sym, ap, ◌∙◌, IsTrue}
-use Rattle.std.specs.Prelude.{◌↔◌, Some, Result, Ok, Err}
-use Rattle.am_types.specs.declared.history.Entry.{Entry}
+use Rattle.std.proofs.Common.{◌≡◌, ℕ, List, refl, ap, ◌∙◌}
+use Rattle.std.specs.Prelude.{Result, Ok, Err}
 use Rattle.am_types.specs.declared.request.Request.{Request}
-use Rattle.am_history.specs.State.{State, uid_of}
 use Rattle.am_wire_routes.specs.declared.endpoint.Endpoint.{Endpoint}
 use Rattle.am_wire_routes.specs.declared.routes.RouteFault.{RouteFault}
 use Rattle.am_wire_routes.specs.declared.routes.RouteFault.TheVariants as faults
@@ -12,9 +10,8 @@ use Rattle.am_wire_fields.specs.declared.fault.WireFault.{WireFault}
 use Rattle.am_wire.specs.Requests.{request_of as request_at}
 use Rattle.am_wire.proofs.Made.{read_is_made}
 use Rattle.am_wire_read_back.specs.Written.{IsReadable}
-use Rattle.am_http.specs.Head.{Frame}
+use Rattle.am_frames.specs.Head.{Frame}
 use Rattle.am_http.specs.Requests.{asked_at, request_of, request_or}
-use Rattle.am_audit_answers.specs.Matching.{IsItsCall}
 
 ok_is : {A B : Type 0} {x y : A} → ◌≡◌ {A = Result A B} (Ok x) (Ok y) → x ≡ y
 ok_is e = cc
@@ -36,11 +33,3 @@ readable_at (Err (faults.NoMethod endpoint)) body request is = absurd cc
 
 pub readable : (frame : Frame) (request : Request) → request_of frame ≡ Ok request → IsReadable request
 readable frame request is = readable_at (endpoint_of frame.method frame.target) frame.body request is
-
--- an entry of the frame's weight and caller is its call if it has the frame's request
-pub its_call : (state : State) (frame : Frame) (request : Request) (next : Entry) (same : Bool) → next.weight
-    ≡ length frame.body
-    → uid_of state frame.key ≡ Some next.uid → IsTrue same ↔ (request ≡ next.request)
-    → IsTrue same ↔ IsItsCall state frame request next
-its_call state frame request next same weight uid decides =
-    (λ is. record { uid = uid; weight = weight; asks = sym (decides.0 is) }, λ its. decides.1 (sym its.asks))

@@ -8,4 +8,4 @@ pub mod Unstored
 pub mod Stored
 pub mod Made
 pub mod Raised
-pub mod Wanted
+pub mod RunsOut

@@ -4,7 +4,7 @@ use Rattle.std.specs.Prelude.{Option, Some, None, Result, Ok, Err, IfOk}
 use Rattle.am_types.specs.declared.failure.NoMemory.{NoMemory}
 use Rattle.am_types.specs.declared.history.Entry.{Entry}
 use Rattle.am_types.specs.declared.request.Request.{Request}
-use Rattle.am_http.specs.Head.{Frame}
+use Rattle.am_frames.specs.Head.{Frame}
 use Rattle.am_http.specs.Requests.{request_of}
 use Rattle.am_audit_history.specs.Replays.{Replay}
 use Rattle.am_audit_answers.specs.declared.calls.Making.{Making}
@@ -43,7 +43,7 @@ pub made_judged_if : (history : List Entry) (replayed : Replay) (frame : Frame) 
     → IfOk result (λ judged. Judges (case_of history replayed frame left) judged)
 made_judged_if history replayed frame left request stored making (Ok judged) stands asks says short few is comes =
     made_judged history replayed frame left request stored making judged stands asks says short few is comes
-made_judged_if history replayed frame left request stored making (Err want) stands asks says short few is comes = tt
+made_judged_if history replayed frame left request stored making (Err ran_out) stands asks says short few is comes = tt
 
 -- and refused if its call can't be made so
 pub unmade_refused : (history : List Entry) (replayed : Replay) (frame : Frame) (left : List ℕ) (request : Request)

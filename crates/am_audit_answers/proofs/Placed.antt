@@ -11,18 +11,18 @@ use Rattle.am_history.specs.State.{State, uid_of}
 use Rattle.am_history.specs.Steps.{Call, act, step}
 use Rattle.am_history.specs.History.{entry_of, has_room, is_stored, may_change, replay, reply_after, reply_to}
 use Rattle.am_http.specs.declared.answer.Refusal.{Refusal}
-use Rattle.am_http.specs.Exchanges.{Exchange, IsAnswer, IsCalled, IsMarked, Point, by_late_want, by_refusal, by_reply, by_want, floor_after, reply_of}
-use Rattle.am_http.specs.Head.{Frame}
+use Rattle.am_http.specs.Exchanges.{Exchange, IsAnswer, IsCalled, IsMarked, Point, by_late_no_memory, by_refusal, by_reply, by_no_memory, floor_after, reply_of}
+use Rattle.am_frames.specs.Head.{Frame}
 use Rattle.am_http.specs.Requests.{call_of, request_of}
-use Rattle.am_http.specs.Responses.{response, want_after, want_before}
+use Rattle.am_http.specs.Responses.{response, no_memory_at, no_memory_before}
 use Rattle.am_audit_history.specs.Replays.{Replay}
 use Rattle.am_audit_answers.specs.declared.judging.Accepted.{Accepted}
 use Rattle.am_audit_answers.specs.Audits.{IsAudited}
 use Rattle.am_audit_answers.specs.Judged.{IsAccepted, IsShownBy, Judges, ShowsAs}
-use Rattle.am_audit_answers.specs.Judging.{Answers, Case, OnlyWants}
+use Rattle.am_audit_answers.specs.Judging.{Answers, Case, OnlyRunsOut}
 use Rattle.am_audit_answers.specs.Marks.{HasMark, SaysOnly}
 use Rattle.am_audit_answers.specs.Matching.{IsReplayed}
-use Rattle.am_audit_answers.proofs.TextLemmas.{response_marked, want_after_marked, want_before_unmarked}
+use Rattle.am_audit_answers.proofs.TextLemmas.{response_marked, no_memory_at_marked, no_memory_before_unmarked}
 
 -- what is shown of a call at a point of the history
 abbrev pub shown_at : State → List Entry → Point → Call → Bool → Shown
@@ -102,18 +102,18 @@ each_placed c request point asks says short few e rest answers = by answers.audi
         (begins (response called.point.at called.point.stored reply) is) in
         placed_by c request point desk e asks answers.frame called (says.place called.point.at called.point.stored has)
         (inl is)
-    by (by_want none is) = absurd (says.made (want_before_unmarked rest c.left few (begins want_before is)))
-    by (by_late_want called is) =
+    by (by_no_memory none is) = absurd (says.made (no_memory_before_unmarked rest c.left few (begins no_memory_before is)))
+    by (by_late_no_memory called is) =
         let has : HasMark c.left called.point.at called.point.stored =
-        want_after_marked called.point.at called.point.stored rest c.left (omega (arith, called.marked.within)) few
-        (begins (want_after called.point.at called.point.stored) is) in
+        no_memory_at_marked called.point.at called.point.stored rest c.left (omega (arith, called.marked.within)) few
+        (begins (no_memory_at called.point.at called.point.stored) is) in
         placed_by c request point desk e asks answers.frame called (says.place called.point.at called.point.stored has)
         (inr is)
 
 -- if the bytes say no place, memory ran out before the call
 pub unmarked_wants : (c : Case) (request : Request) → request_of c.frame ≡ Ok request
     → ((at : ℕ) (stored : Bool) → HasMark c.left at stored → ⊥)
-    → length c.ground.history < 2 ^ 64 → length c.left < 2 ^ 64 → OnlyWants c
+    → length c.ground.history < 2 ^ 64 → length c.left < 2 ^ 64 → OnlyRunsOut c
 unmarked_wants c request asks none short few e rest answers = by answers.audited.answer
   where
     begins : (text : List ℕ) → e.bytes ≡ text → c.left ≡ text ++ rest
@@ -122,7 +122,7 @@ unmarked_wants c request asks none short few e rest answers = by answers.audited
     desk : ℕ
     desk = answers.audited.desk
 
-    by : IsAnswer c.ground.start desk c.ground.history e → (e.point ≡ None) × (e.bytes ≡ want_before)
+    by : IsAnswer c.ground.start desk c.ground.history e → (e.point ≡ None) × (e.bytes ≡ no_memory_before)
     by (by_refusal refused refuses never point_none is) =
         absurd (no_refusal (request_of c.frame) request refused asks (ap request_of (sym answers.frame) ∙ refuses))
     by (by_reply called is) =
@@ -130,11 +130,11 @@ unmarked_wants c request asks none short few e rest answers = by answers.audited
         absurd (none called.point.at called.point.stored
         (response_marked called.point.at called.point.stored reply rest c.left (omega (arith, called.marked.within)) few
         (begins (response called.point.at called.point.stored reply) is)))
-    by (by_want point_none is) = (point_none, is)
-    by (by_late_want called is) =
+    by (by_no_memory point_none is) = (point_none, is)
+    by (by_late_no_memory called is) =
         absurd (none called.point.at called.point.stored
-        (want_after_marked called.point.at called.point.stored rest c.left (omega (arith, called.marked.within)) few
-        (begins (want_after called.point.at called.point.stored) is)))
+        (no_memory_at_marked called.point.at called.point.stored rest c.left (omega (arith, called.marked.within)) few
+        (begins (no_memory_at called.point.at called.point.stored) is)))
 
 -- the exchange that shows the frame's call at the point by so many bytes
 abbrev pub exchange_at : Case → Point → Option ℕ → ℕ → Exchange
@@ -175,7 +175,7 @@ answer_by : (start : State) (desk : ℕ) (history : List Entry) (e : Exchange)
     e.bytes
     → IsAnswer start desk history e
 answer_by start desk history e called (inl is) = by_reply called is
-answer_by start desk history e called (inr is) = by_late_want called is
+answer_by start desk history e called (inr is) = by_late_no_memory called is
 
 -- a call at a moment that so many bytes show, and whose row is kept if it has one
 pub answer_at : (c : Case) (request : Request) (point : Point) (desk now taken : ℕ) → request_of c.frame ≡ Ok request

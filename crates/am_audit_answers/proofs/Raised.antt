@@ -6,7 +6,7 @@ use Rattle.am_types.specs.declared.history.Entry.{Entry}
 use Rattle.am_types.specs.declared.request.Request.{Request}
 use Rattle.am_history.specs.State.{State}
 use Rattle.am_http.specs.Exchanges.{Exchange, IsAbove, Point, floor_after}
-use Rattle.am_http.specs.Head.{Frame}
+use Rattle.am_frames.specs.Head.{Frame}
 use Rattle.am_http.specs.Requests.{request_of}
 use Rattle.am_audit_history.specs.Replays.{Replay}
 use Rattle.am_audit_answers.specs.declared.judging.Accepted.{Accepted}
@@ -120,7 +120,7 @@ pub raised_if : (history : List Entry) (replayed : Replay) (frame : Frame) (left
     → IfOk result (λ judged. Judges (case_of history replayed frame left) judged)
 raised_if history replayed frame left request at stored after (Ok judged) asks says short few goes is =
     raised history replayed frame left request at stored after judged asks says short few goes is
-raised_if history replayed frame left request at stored after (Err want) asks says short few goes is = tt
+raised_if history replayed frame left request at stored after (Err ran_out) asks says short few goes is = tt
 
 -- or there is none if it can't be
 pub unreached : (history : List Entry) (replayed : Replay) (frame : Frame) (left : List ℕ) (request : Request) (at : ℕ)

@@ -16,24 +16,24 @@ use Rattle.am_wire_values.specs.Rules.{error_data}
 use Rattle.am_http.specs.declared.answer.Refusal.{Refusal}
 use Rattle.am_http.specs.declared.answer.Refusal.TheVariants.{NoRoute, NoMethod, BadRequest}
 use Rattle.am_http.specs.Requests.{refusal_text}
-use Rattle.am_http.specs.Responses.{head, message, phrase_in, phrases, place_lines, refusal, response, want_after, want_before, want_body}
+use Rattle.am_http.specs.Responses.{head, message, phrase_in, phrases, place_lines, refusal, response, no_memory_at, no_memory_before, no_memory_body}
 use Rattle.am_http.proofs.Phrases.{every_status_has_a_phrase}
 use Rattle.am_audit_answers.specs.Marks.{HasMark, HasNoMark}
 use Rattle.am_audit_answers.proofs.Lines.{same_status}
 
 -- no rule has the status that says that memory ran out
-rule_status_is_no_want : (r : Rule) → eqb (status_of (says.Refused r)) 507 ≡ false
-rule_status_is_no_want rule.UnknownKey = refl
-rule_status_is_no_want r = refl
+rule_status_is_not_507 : (r : Rule) → eqb (status_of (says.Refused r)) 507 ≡ false
+rule_status_is_not_507 rule.UnknownKey = refl
+rule_status_is_not_507 r = refl
 
-status_is_no_want : (reply : Reply) → eqb (status_of reply) 507 ≡ false
-status_is_no_want (says.Refused r) = rule_status_is_no_want r
-status_is_no_want reply = refl
+status_is_not_507 : (reply : Reply) → eqb (status_of reply) 507 ≡ false
+status_is_not_507 (says.Refused r) = rule_status_is_not_507 r
+status_is_not_507 reply = refl
 
 -- no reply has the status that says that memory ran out
 pub no_reply_wants : (reply : Reply) → status_of reply ≡ 507 → ⊥
 no_reply_wants reply is =
-    let test : true ≡ false = sym (ap (λ (n : ℕ). eqb n 507) is) ∙ status_is_no_want reply in
+    let test : true ≡ false = sym (ap (λ (n : ℕ). eqb n 507) is) ∙ status_is_not_507 reply in
     absurd cc
 
 -- a status with a phrase is small
@@ -95,21 +95,21 @@ response_marked at stored reply rest bytes fits few is =
     message_marked (status_of reply) at stored (compact_text (reply_data reply)) rest bytes small fits few is
 
 -- and so has the response where memory ran out after the call
-pub want_after_marked : (at : ℕ) (stored : Bool) (rest bytes : List ℕ) → at < 2 ^ 64 → length bytes < 2 ^ 64
-    → bytes ≡ want_after at stored ++ rest → HasMark bytes at stored
-unfolding want_after
-want_after_marked at stored rest bytes fits few is = message_marked 507 at stored want_body rest bytes (omega arith)
+pub no_memory_at_marked : (at : ℕ) (stored : Bool) (rest bytes : List ℕ) → at < 2 ^ 64 → length bytes < 2 ^ 64
+    → bytes ≡ no_memory_at at stored ++ rest → HasMark bytes at stored
+unfolding no_memory_at
+no_memory_at_marked at stored rest bytes fits few is = message_marked 507 at stored no_memory_body rest bytes (omega arith)
     fits few is
 
 -- where memory ran out before the call there is none
-pub want_before_unmarked : (rest bytes : List ℕ) → length bytes < 2 ^ 64 → bytes ≡ want_before ++ rest → HasNoMark bytes
-unfolding want_before
-want_before_unmarked rest bytes few is = record {
+pub no_memory_before_unmarked : (rest bytes : List ℕ) → length bytes < 2 ^ 64 → bytes ≡ no_memory_before ++ rest → HasNoMark bytes
+unfolding no_memory_before
+no_memory_before_unmarked rest bytes few is = record {
   status = 507;
-  length = length want_body;
-  rest = (codes "\r\n" ++ want_body) ++ rest;
-  fits = (omega arith, body_fits 507 (2 ^ 64) (codes "AM-Stored: 0\r\n") want_body rest bytes is few);
-  begins = is ∙ message_is 507 (codes "AM-Stored: 0\r\n") want_body rest;
+  length = length no_memory_body;
+  rest = (codes "\r\n" ++ no_memory_body) ++ rest;
+  fits = (omega arith, body_fits 507 (2 ^ 64) (codes "AM-Stored: 0\r\n") no_memory_body rest bytes is few);
+  begins = is ∙ message_is 507 (codes "AM-Stored: 0\r\n") no_memory_body rest;
 }
 
 -- messages that begin the same bytes have one status
@@ -121,57 +121,48 @@ messages_agree s t lines body rest lines' body' rest' fits few is =
     (sym (message_is s lines body rest) ∙ (is ∙ message_is t lines' body' rest'))
 
 -- no bytes begin with a response and with one where memory ran out after the call
-pub response_or_want : (at at' : ℕ) (stored stored' : Bool) (reply : Reply) (rest rest' : List ℕ)
-    → response at stored reply ++ rest ≡ want_after at' stored' ++ rest' → ⊥
-unfolding response want_after
-response_or_want at at' stored stored' reply rest rest' is =
+pub response_or_no_memory : (at at' : ℕ) (stored stored' : Bool) (reply : Reply) (rest rest' : List ℕ)
+    → response at stored reply ++ rest ≡ no_memory_at at' stored' ++ rest' → ⊥
+unfolding response no_memory_at
+response_or_no_memory at at' stored stored' reply rest rest' is =
     no_reply_wants reply (messages_agree (status_of reply) 507 (place_lines at stored) (compact_text (reply_data reply))
     rest
-    (place_lines at' stored') want_body rest' (omega (arith, status_is_small reply)) (omega arith) is)
-
--- nor with a response and with one where memory ran out before the call
-pub response_or_want_before : (at : ℕ) (stored : Bool) (reply : Reply) (rest rest' : List ℕ) → response at stored reply
-    ++ rest ≡ want_before ++ rest' → ⊥
-unfolding response want_before
-response_or_want_before at stored reply rest rest' is =
-    no_reply_wants reply (messages_agree (status_of reply) 507 (place_lines at stored) (compact_text (reply_data reply))
-    rest
-    (codes "AM-Stored: 0\r\n") want_body rest' (omega (arith, status_is_small reply)) (omega arith) is)
+    (place_lines at' stored') no_memory_body rest' (omega (arith, status_is_small reply)) (omega arith) is)
 
 -- nor with a refusal and with one where memory ran out before the call
-refusal_or_want : (status : ℕ) (error : List ℕ) (name : Option (List ℕ)) (rest rest' : List ℕ) → status < 507
-    → refusal status error name ++ rest ≡ want_before ++ rest' → ⊥
-unfolding refusal want_before
-refusal_or_want status error name rest rest' small is =
+refusal_or_no_memory : (status : ℕ) (error : List ℕ) (name : Option (List ℕ)) (rest rest' : List ℕ) → status < 507
+    → refusal status error name ++ rest ≡ no_memory_before ++ rest' → ⊥
+unfolding refusal no_memory_before
+refusal_or_no_memory status error name rest rest' small is =
     let same : status ≡ 507 =
-    messages_agree status 507 [] (compact_text (error_data error name)) rest (codes "AM-Stored: 0\r\n") want_body rest'
+    messages_agree status 507 [] (compact_text (error_data error name)) rest (codes "AM-Stored: 0\r\n") no_memory_body rest'
     (omega arith) (omega arith) is in
     absurd (omega arith)
 
-pub refused_or_want : (refused : Refusal) (rest rest' : List ℕ) → refusal_text refused ++ rest ≡ want_before ++ rest'
+pub refused_or_no_memory : (refused : Refusal) (rest rest' : List ℕ) → refusal_text refused ++ rest ≡ no_memory_before ++ rest'
     → ⊥
-refused_or_want NoRoute rest rest' is = refusal_or_want 404 (codes "no_route") None rest rest' (omega arith) is
-refused_or_want NoMethod rest rest' is = refusal_or_want 405 (codes "no_method") None rest rest' (omega arith) is
-refused_or_want (BadRequest fault) rest rest' is = refusal_or_want 400 (codes "bad_request") (Some (printed fault)) rest
+refused_or_no_memory NoRoute rest rest' is = refusal_or_no_memory 404 (codes "no_route") None rest rest' (omega arith) is
+refused_or_no_memory NoMethod rest rest' is = refusal_or_no_memory 405 (codes "no_method") None rest rest' (omega arith) is
+refused_or_no_memory (BadRequest fault) rest rest' is = refusal_or_no_memory 400 (codes "bad_request") (Some (printed fault)) rest
     rest' (omega arith) is
 
 -- what bytes that begin with a response have behind it is behind all that can show the same
 pub behind_response : (at : ℕ) (stored : Bool) (reply : Reply) (left bytes rest : List ℕ)
     → left ≡ response at stored reply ++ drop (length (response at stored reply)) left
-    → (bytes ≡ response at stored reply) ⊎ (bytes ≡ want_after at stored) → left ≡ bytes ++ rest
+    → (bytes ≡ response at stored reply) ⊎ (bytes ≡ no_memory_at at stored) → left ≡ bytes ++ rest
     → rest ≡ drop (length (response at stored reply)) left
 behind_response at stored reply left bytes rest begins (inl is) splits =
     sym (front_rest left (response at stored reply) rest (splits ∙ ap (λ (l : List ℕ). l ++ rest) is))
 behind_response at stored reply left bytes rest begins (inr is) splits =
-    absurd (response_or_want at at stored stored reply (drop (length (response at stored reply)) left) rest
+    absurd (response_or_no_memory at at stored stored reply (drop (length (response at stored reply)) left) rest
     (sym begins ∙ (splits ∙ ap (λ (l : List ℕ). l ++ rest) is)))
 
 -- the first bytes are the response, and nothing else shows the same
 pub response_first : (at : ℕ) (stored : Bool) (reply : Reply) (text left : List ℕ) (taken : ℕ) → text
     ≡ response at stored reply → taken ≡ length text
     → left ≡ text ++ drop (length text) left → length text ≤ length left
-    → (taken ≤ length left) × ((take taken left ≡ response at stored reply) ⊎ (take taken left ≡ want_after at stored))
-    × ((bytes rest : List ℕ) → (bytes ≡ response at stored reply) ⊎ (bytes ≡ want_after at stored) → left ≡ bytes
+    → (taken ≤ length left) × ((take taken left ≡ response at stored reply) ⊎ (take taken left ≡ no_memory_at at stored))
+    × ((bytes rest : List ℕ) → (bytes ≡ response at stored reply) ⊎ (bytes ≡ no_memory_at at stored) → left ≡ bytes
     ++ rest → rest ≡ drop taken left)
 response_first at stored reply text left taken is all begins fits =
     let whole : List ℕ = response at stored reply in

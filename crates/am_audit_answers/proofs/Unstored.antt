@@ -8,7 +8,7 @@ use Rattle.am_types.specs.declared.request.Request.{Request}
 use Rattle.am_history.specs.History.{IsEntryOf, is_stored, replay, reply_after}
 use Rattle.am_history.specs.Desks.{Follows}
 use Rattle.am_http.specs.Exchanges.{Exchange, IsAnswer, IsMarked, Point}
-use Rattle.am_http.specs.Head.{Frame}
+use Rattle.am_frames.specs.Head.{Frame}
 use Rattle.am_http.specs.Requests.{call_of, request_of}
 use Rattle.am_audit_history.specs.Replays.{Replay, ShowsKept}
 use Rattle.am_audit_answers.specs.declared.judging.Accepted.{Accepted}

@@ -3,7 +3,7 @@ use Rattle.std.specs.Prelude.{◌≡◌, ℕ, false, List, ◌++◌, Option, Som
 use Rattle.std.specs.List.{AllByRecursion}
 use Rattle.am_types.specs.declared.history.Entry.{Entry}
 use Rattle.am_history.specs.State.{State}
-use Rattle.am_http.specs.Head.{Frame}
+use Rattle.am_frames.specs.Head.{Frame}
 use Rattle.am_http.specs.Exchanges.{Exchange, IsAnswer, AreInOrder, Point, bytes_of, frames_of}
 
 -- the state with which a history begins, and the history

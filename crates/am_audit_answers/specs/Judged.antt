@@ -4,9 +4,9 @@ use Rattle.am_types.specs.declared.history.Entry.{Entry}
 use Rattle.am_types.specs.declared.history.Shown.{Shown}
 use Rattle.am_types.specs.declared.request.Request.{Request}
 use Rattle.am_history.specs.Steps.{Call}
-use Rattle.am_http.specs.Head.{Frame}
+use Rattle.am_frames.specs.Head.{Frame}
 use Rattle.am_http.specs.Requests.{call_of}
-use Rattle.am_http.specs.Responses.{response, want_after}
+use Rattle.am_http.specs.Responses.{response, no_memory_at}
 use Rattle.am_audit_history.specs.Replays.{Replay, ShowsKept, state_of}
 use Rattle.am_audit_answers.specs.declared.calls.Making.{Making}
 use Rattle.am_audit_answers.specs.declared.judging.Accepted.{Accepted}
@@ -42,7 +42,7 @@ Judges c None = Refuses c
 -- the bytes are the response that shows this, or the one that says that memory ran out after it
 abbrev pub IsShownBy : Shown → List ℕ → Type 0
 IsShownBy shown bytes =
-    (bytes ≡ response shown.at shown.stored shown.reply) ⊎ (bytes ≡ want_after shown.at shown.stored)
+    (bytes ≡ response shown.at shown.stored shown.reply) ⊎ (bytes ≡ no_memory_at shown.at shown.stored)
 
 -- so many bytes are such a response, and the bytes begin with no other one; or they begin with none
 abbrev pub ShowsFirst : Shown → List ℕ → Option ℕ → Type 0

@@ -2,10 +2,10 @@
 use Rattle.std.specs.Prelude.{◌≡◌, ℕ, List, ◌++◌, None, Result, Ok, Err}
 use Rattle.am_types.specs.declared.request.Request.{Request}
 use Rattle.am_http.specs.declared.answer.Refusal.{Refusal}
-use Rattle.am_http.specs.Head.{Frame}
+use Rattle.am_frames.specs.Head.{Frame}
 use Rattle.am_http.specs.Exchanges.{Exchange, IsAbove, floor_after}
 use Rattle.am_http.specs.Requests.{request_of, refusal_text}
-use Rattle.am_http.specs.Responses.{want_before}
+use Rattle.am_http.specs.Responses.{no_memory_before}
 use Rattle.am_audit_answers.specs.Audits.{Ground, IsAudited}
 
 -- a frame to judge: the history to judge it by, the least place of its call, the frame, and the bytes that are left of
@@ -40,8 +40,8 @@ abbrev pub Refuses : Case → Type 0
 Refuses c = (e : Exchange) (rest : List ℕ) → Answers c e rest → ⊥
 
 -- each exchange of the frame says that memory ran out before its call was made
-abbrev pub OnlyWants : Case → Type 0
-OnlyWants c = (e : Exchange) (rest : List ℕ) → Answers c e rest → (e.point ≡ None) × (e.bytes ≡ want_before)
+abbrev pub OnlyRunsOut : Case → Type 0
+OnlyRunsOut c = (e : Exchange) (rest : List ℕ) → Answers c e rest → (e.point ≡ None) × (e.bytes ≡ no_memory_before)
 
 -- the request that a frame makes, or the text that refuses it
 abbrev pub Asks : Frame → Result Request (List ℕ) → Type 0

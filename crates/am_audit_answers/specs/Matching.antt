@@ -5,7 +5,7 @@ use Rattle.am_types.specs.declared.history.Entry.{Entry}
 use Rattle.am_types.specs.declared.request.Request.{Request}
 use Rattle.am_history.specs.State.{State, uid_of}
 use Rattle.am_history.specs.History.{IsLegal}
-use Rattle.am_http.specs.Head.{Frame}
+use Rattle.am_frames.specs.Head.{Frame}
 use Rattle.am_http.specs.Requests.{request_of}
 use Rattle.am_audit_history.specs.Replays.{Replay}
 use Rattle.am_audit_history.specs.Lines.{IsWhole}

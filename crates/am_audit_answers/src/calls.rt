@@ -1,13 +1,13 @@
 //! The call of a frame, made at the end of a history.
 ghost use Rattle.std.specs.Prelude.{IfOk};
-ghost use Rattle.am_http.specs.FrameSpans.{frame_held};
+ghost use Rattle.am_frames.specs.FrameSpans.{frame_held};
 ghost use Rattle.am_http.specs.Requests.{call_of};
 ghost use Rattle.am_audit_answers.specs.Judged.{IsMade, ShowsAs, ShowsFirst};
 ghost use Rattle.am_audit_answers.specs.Matching.{MakesRequest};
 
-use crate::texts::{begins, want_after};
+use crate::texts::{begins, no_memory_at};
 use am_audit_history::{Call, Replayed};
-use am_http::frame::WholeFrame;
+use am_frames::frame::WholeFrame;
 use am_http::{key_text, response_bytes};
 use am_types::{NoMemory, Request, Shown};
 use std::alloc::Global;
@@ -29,9 +29,9 @@ fn shown_length(alloc: Global, shown: &Shown, left: &[u8]) -> Result<Option<usiz
     if begins(left, response.as_slice()) {
         return Ok(Some(response.len()));
     }
-    let want = want_after(alloc, shown.at, shown.stored)?;
-    if begins(left, want.as_slice()) {
-        Ok(Some(want.len()))
+    let text = no_memory_at(alloc, shown.at, shown.stored)?;
+    if begins(left, text.as_slice()) {
+        Ok(Some(text.len()))
     } else {
         Ok(None)
     }

@@ -2,9 +2,9 @@
 ghost use Rattle.std.specs.Prelude.{◌≡◌, ◌≤◌, List as Items, Err, Some, None, IfOk, IsUtf8, MatchOption, length, option_copied, slice_get};
 ghost use Rattle.am_types.specs.Bounds.{longest_body};
 ghost use Rattle.am_types.specs.declared.history.Entry.{Entry};
-ghost use Rattle.am_http.specs.FrameSpans.{frame_held};
-ghost use Rattle.am_http.specs.Head.{Frame};
-ghost use Rattle.am_audit_answers.specs.Judging.{Asks, OnlyWants};
+ghost use Rattle.am_frames.specs.FrameSpans.{frame_held};
+ghost use Rattle.am_frames.specs.Head.{Frame};
+ghost use Rattle.am_audit_answers.specs.Judging.{Asks, OnlyRunsOut};
 ghost use Rattle.am_audit_answers.specs.Judged.{ComesTo, IsMakingOf, IsNextMaking, Judges, Stands, case_of, ground_of};
 ghost use Rattle.am_audit_answers.specs.Marks.{SaysOnly};
 ghost use Rattle.am_audit_answers.specs.Matching.{IsRecord, IsReplayed, MakesRequest};
@@ -16,8 +16,8 @@ use crate::places::go_to;
 use crate::requests::request_in;
 use crate::texts::begins;
 use am_audit_history::Replayed;
-use am_http::frame::WholeFrame;
-use am_http::want_before;
+use am_frames::frame::WholeFrame;
+use am_http::no_memory_before;
 use am_types::{Entry, NoMemory, Request};
 use am_wire_routes::Routes;
 use std::alloc::Global;
@@ -44,15 +44,15 @@ fn accept_by(replayed: Replayed, taken: Option<usize>) -> Option<Accepted>
 }
 
 // A frame whose response can only say that memory ran out before its call.
-fn judge_want(replayed: Replayed, left: &[u8]) -> Option<Accepted>
+fn judge_no_memory(replayed: Replayed, left: &[u8]) -> Option<Accepted>
     ensures { (history : Items Entry) (frame : Frame) → IsReplayed (ground_of history replayed) replayed
-        → OnlyWants (case_of history replayed frame left.now) → Judges (case_of history replayed frame left.now) result }
+        → OnlyRunsOut (case_of history replayed frame left.now) → Judges (case_of history replayed frame left.now) result }
 {
-    let want = want_before();
-    if begins(left, want) {
+    let text = no_memory_before();
+    if begins(left, text) {
         Some(Accepted {
             replayed,
-            taken: want.len(),
+            taken: text.len(),
         })
     } else {
         drop(replayed);
@@ -71,7 +71,7 @@ fn judge_refused(replayed: Replayed, text: &[u8], left: &[u8]) -> Option<Accepte
             taken: text.len(),
         })
     } else {
-        judge_want(replayed, left)
+        judge_no_memory(replayed, left)
     }
 }
 
@@ -198,7 +198,7 @@ fn judge_request(
         Some(mark) => mark,
         None => {
             drop(request);
-            return Ok(judge_want(replayed, left));
+            return Ok(judge_no_memory(replayed, left));
         }
     };
     match go_to(history, replayed, mark.at) {

@@ -1,13 +1,13 @@
 //! Whether an entry of the history is a frame's call.
 ghost use Rattle.std.specs.Prelude.{◌≡◌, ◌↔◌, IsTrue, IfOk, Some};
 ghost use Rattle.am_history.specs.State.{uid_of};
-ghost use Rattle.am_http.specs.FrameSpans.{frame_held};
+ghost use Rattle.am_frames.specs.FrameSpans.{frame_held};
 ghost use Rattle.am_audit_history.specs.Lines.{IsReadAgain};
 ghost use Rattle.am_audit_history.specs.Replays.{state_of};
 ghost use Rattle.am_audit_answers.specs.Matching.{IsItsCall, MakesRequest};
 
 use am_audit_history::{Replayed, is_same_request};
-use am_http::frame::WholeFrame;
+use am_frames::frame::WholeFrame;
 use am_types::{Entry, NoMemory, Request};
 use std::alloc::Global;
 

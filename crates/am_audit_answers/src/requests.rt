@@ -1,9 +1,9 @@
 //! What a frame asks.
 ghost use Rattle.std.specs.Prelude.{IfOk};
-ghost use Rattle.am_http.specs.FrameSpans.{frame_held};
+ghost use Rattle.am_frames.specs.FrameSpans.{frame_held};
 ghost use Rattle.am_audit_answers.specs.Judging.{Asks};
 
-use am_http::frame::WholeFrame;
+use am_frames::frame::WholeFrame;
 use am_http::{refusal_text, request_of};
 use am_types::{List, NoMemory, Request, Unmade};
 use am_wire_routes::Routes;

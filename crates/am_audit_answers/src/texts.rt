@@ -1,8 +1,8 @@
 //! The texts of responses.
 ghost use Rattle.std.specs.Prelude.{◌≡◌, ◌≤◌, ◌++◌, ℕ, List as Items, IsTrue, IfOk, drop, length};
-ghost use Rattle.am_http.specs.Responses.{want_after};
+ghost use Rattle.am_http.specs.Responses.{no_memory_at};
 
-use am_http::{WANT_ROOM, put_want_after};
+use am_http::{NO_MEMORY_ROOM, put_no_memory_at};
 use am_types::NoMemory;
 use std::alloc::Global;
 
@@ -16,10 +16,10 @@ pub(crate) fn begins(bytes: &[u8], text: &[u8]) -> bool
 }
 
 /// The response if memory ran out after the call was made.
-pub(crate) fn want_after(alloc: Global, at: u64, stored: bool) -> Result<Vec<u8>, NoMemory>
-    ensures { IfOk result (λ text. text.items ≡ want_after at stored) }
+pub(crate) fn no_memory_at(alloc: Global, at: u64, stored: bool) -> Result<Vec<u8>, NoMemory>
+    ensures { IfOk result (λ text. text.items ≡ no_memory_at at stored) }
 {
-    let mut text = Vec::with_capacity(alloc, WANT_ROOM)?;
-    put_want_after(&mut text, at, stored);
+    let mut text = Vec::with_capacity(alloc, NO_MEMORY_ROOM)?;
+    put_no_memory_at(&mut text, at, stored);
     Ok(text)
 }

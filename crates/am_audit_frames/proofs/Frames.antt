@@ -7,11 +7,11 @@ use Rattle.httparse.specs.declared.spans.RequestSpans.{RequestSpans}
 use Rattle.httparse.specs.Grammar.{RequestHead, ReadsRequest}
 use Rattle.httparse.specs.Spans.{IsRequestAt}
 use Rattle.httparse.proofs.GrammarLemmas.{request_unique}
-use Rattle.am_http.specs.declared.frame.Defect.TheVariants.{BadHead, HeadTooLarge}
-use Rattle.am_http.specs.Head.{Frame, Outcome, whole, empty, refused, cut, head_of, after_head}
-use Rattle.am_http.specs.Framing.{window, BeginsWithHead, HasNoHead, IsDead, without_head, IsFraming, by_head, by_dead, by_wait}
+use Rattle.am_frames.specs.declared.frame.Defect.TheVariants.{BadHead, HeadTooLarge}
+use Rattle.am_frames.specs.Head.{Frame, Outcome, whole, empty, refused, cut, head_of, after_head}
+use Rattle.am_frames.specs.Framing.{window, BeginsWithHead, HasNoHead, IsDead, without_head, IsFraming, by_head, by_dead, by_wait}
 use Rattle.am_http.specs.Sessions.{defect_text}
-use Rattle.am_http.proofs.FramingLemmas.{whole_only}
+use Rattle.am_frames.proofs.FramingLemmas.{whole_only}
 use Rattle.am_audit_frames.specs.Streams.{IsLast, IsWrittenAt, IsWrittenAtDead, MayBeDead, waiting_text}
 
 -- ---- the frame at the front
@@ -127,10 +127,6 @@ whole_has_no_last input last f x l =
           let other = whole_only input f (without_head (window input)) x (by_wait m.none (inr m.overlooked) refl) in
           subst (λ (o : Outcome). IsWrittenAt o (waiting_text (window input))) other (waits_with (window input))
     ]
-
--- An input at its end has no whole frame.
-pub last_has_no_whole : (input last : List ℕ) (f : Frame) → IsLast input last → IsFraming input (whole f) → ⊥
-last_has_no_whole input last f l x = whole_has_no_last input last f x l
 
 -- An input, one of whose outcomes is known, has a whole frame or is at an end.
 pub frame_or_last : (input : List ℕ) (o : Outcome) → IsFraming input o

@@ -2,7 +2,7 @@
 use Rattle.std.proofs.Common.{◌≡◌, ℕ, List, [], ◌∷◌, ◌++◌, refl, sym, ap, ◌∙◌, subst, append_assoc, append-nil}
 use Rattle.std.specs.List.{AllByRecursion}
 use Rattle.std.proofs.lemmas.Grind.{flat_map-append}
-use Rattle.am_http.specs.Head.{Frame}
+use Rattle.am_frames.specs.Head.{Frame}
 use Rattle.am_http.specs.Exchanges.{Exchange, IsAbove, AreInOrder, floor_after, floor_of, frames_of, bytes_of}
 use Rattle.am_http.proofs.ExchangeLemmas.{all_more}
 use Rattle.am_audit_answers.specs.Audits.{AreAudited, AreResponses, BeginsAudited, Ground, IsAudited}

@@ -1,8 +1,8 @@
 -- What an audit comes to where no further frame follows, or the next one is refused.
 use Rattle.std.proofs.Common.{◌≡◌, ℕ, ◌-◌, ◌<◌, Bool, true, false, cond, List, [], ◌∷◌, ◌++◌, length, refl, ap, ◌∙◌, subst, arith, length-append}
 use Rattle.std.proofs.lemmas.Bool.{false≢true}
-use Rattle.am_http.specs.Head.{Frame, whole}
-use Rattle.am_http.specs.Framing.{IsFraming}
+use Rattle.am_frames.specs.Head.{Frame, whole}
+use Rattle.am_frames.specs.Framing.{IsFraming}
 use Rattle.am_http.specs.Exchanges.{bytes_of}
 use Rattle.am_http.specs.Sessions.{most_frames}
 use Rattle.am_audit_answers.specs.Audits.{BeginsAudited, Ground}

@@ -2,10 +2,10 @@
 -- that
 -- is accepted.
 use Rattle.std.proofs.Common.{◌≡◌, ℕ, ◌+◌, ◌<◌, Bool, true, false, cond, List, [], ◌∷◌, ◌++◌, length, drop, sym, ◌∙◌, subst, arith, length-append, inl, inr}
-use Rattle.am_http.specs.Head.{Frame, Outcome, whole}
-use Rattle.am_http.specs.Framing.{IsFraming}
+use Rattle.am_frames.specs.Head.{Frame, Outcome, whole}
+use Rattle.am_frames.specs.Framing.{IsFraming}
 use Rattle.am_http.specs.Sessions.{most_frames}
-use Rattle.am_http.proofs.FramingLemmas.{whole_only}
+use Rattle.am_frames.proofs.FramingLemmas.{whole_only}
 use Rattle.am_audit_answers.specs.Audits.{Ground}
 use Rattle.am_audit_answers.specs.Judging.{Accepts}
 use Rattle.am_audit_frames.specs.declared.audit.Verdict.TheVariants.{Whole, UpTo}

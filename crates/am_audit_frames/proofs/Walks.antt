@@ -1,7 +1,7 @@
 -- The frames of an input, one after the other: they are the only ones, and a walk over the first leaves the others.
 use Rattle.std.proofs.Common.{◌≡◌, ℕ, ◌-◌, ◌<◌, ◌≤◌, Bool, true, false, List, [], ◌∷◌, ◌++◌, length, take, drop, refl, sym, ap, ◌∙◌, subst, arith, append-nil, take-append-drop, inl, inr}
-use Rattle.am_http.specs.Head.{Frame, whole}
-use Rattle.am_http.specs.Framing.{IsFraming}
+use Rattle.am_frames.specs.Head.{Frame, whole}
+use Rattle.am_frames.specs.Framing.{IsFraming}
 use Rattle.am_audit_frames.specs.Streams.{AreFirst, Behind, EndsWith, IsLast}
 use Rattle.am_audit_frames.specs.Walks.{Passes}
 use Rattle.am_audit_frames.proofs.Frames.{frame_only, whole_has_no_last}

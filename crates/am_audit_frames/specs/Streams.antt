@@ -2,10 +2,10 @@
 use Rattle.std.specs.Prelude.{◌≡◌, ℕ, ◌-◌, ◌<◌, ◌==◌, ◌⊎◌, Bool, true, false, List, [], ◌∷◌, ◌++◌, drop, length, if◌then◌else◌, ⊤}
 use Rattle.httparse.specs.Ascii.{space}
 use Rattle.httparse.specs.Grammar.{AllPass, IsToken, is_uri_byte}
-use Rattle.am_http.specs.declared.frame.Defect.{Defect}
-use Rattle.am_http.specs.declared.frame.Defect.TheVariants.{BadHead, HeadTooLarge}
-use Rattle.am_http.specs.Head.{Frame, Outcome, whole, empty, refused, cut}
-use Rattle.am_http.specs.Framing.{HasNoHead, IsFraming, MayOverlook, window}
+use Rattle.am_frames.specs.declared.frame.Defect.{Defect}
+use Rattle.am_frames.specs.declared.frame.Defect.TheVariants.{BadHead, HeadTooLarge}
+use Rattle.am_frames.specs.Head.{Frame, Outcome, whole, empty, refused, cut}
+use Rattle.am_frames.specs.Framing.{HasNoHead, IsFraming, MayOverlook, window}
 use Rattle.am_http.specs.Sessions.{defect_text}
 
 -- after a frame that asks to close, and after another one

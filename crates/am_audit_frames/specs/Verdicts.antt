@@ -1,6 +1,6 @@
 -- The verdict of an audit of a connection.
 use Rattle.std.specs.Prelude.{◌≡◌, ℕ, ◌<◌, List, ◌++◌, length}
-use Rattle.am_http.specs.Head.{Frame}
+use Rattle.am_frames.specs.Head.{Frame}
 use Rattle.am_http.specs.Sessions.{most_frames}
 use Rattle.am_audit_answers.specs.Audits.{AreResponses, BeginsAudited, Ground}
 use Rattle.am_audit_frames.specs.declared.audit.Verdict.{Verdict}

@@ -1,8 +1,8 @@
 -- How far the audit of a connection has come.
 use Rattle.std.specs.Prelude.{◌≡◌, ℕ, ◌+◌, ◌-◌, ◌<◌, false, List, [], ◌∷◌, ◌++◌, drop, length, Result, Ok, Err}
 use Rattle.am_types.specs.declared.history.Entry.{Entry}
-use Rattle.am_http.specs.Head.{Frame, whole}
-use Rattle.am_http.specs.Framing.{IsFraming}
+use Rattle.am_frames.specs.Head.{Frame, whole}
+use Rattle.am_frames.specs.Framing.{IsFraming}
 use Rattle.am_http.specs.Exchanges.{Exchange, bytes_of, floor_of, frames_of}
 use Rattle.am_http.specs.Sessions.{most_frames}
 use Rattle.am_audit_answers.specs.Audits.{AreAudited, Ground}

@@ -1,12 +1,12 @@
 //! How a connection may end.
 ghost use Rattle.std.specs.Prelude.{◌≡◌, ◌↔◌, IsTrue};
-ghost use Rattle.am_http.specs.Head.{Outcome};
-ghost use Rattle.am_http.specs.Framing.{HasNoHead, IsFraming, window};
+ghost use Rattle.am_frames.specs.Head.{Outcome};
+ghost use Rattle.am_frames.specs.Framing.{HasNoHead, IsFraming, window};
 ghost use Rattle.am_audit_frames.specs.Streams.{IsLast, IsWrittenAt, IsWrittenAtDead, MayBeDead, waiting_text};
 
 use crate::target::may_overlook;
+use am_frames::frame::{Defect, Found, MAX_FIELDS, MAX_HEAD, find_frame};
 use am_http::defect_bytes;
-use am_http::frame::{Defect, Found, MAX_FIELDS, MAX_HEAD, find_frame};
 use httparse::Status;
 use httparse::spans::{EMPTY_HEADER_SPAN, parse_request};
 

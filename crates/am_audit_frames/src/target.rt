@@ -2,7 +2,7 @@
 ghost use Rattle.std.specs.Prelude.{◌≡◌, ◌≢◌, ℕ, ◌<◌, ◌≤◌, ◌==◌, ◌↔◌, List as Items, ◌++◌, IsTrue, MatchOption, EachIndex, length, slice_index, count_by};
 ghost use Rattle.httparse.specs.Ascii.{line_feed, space};
 ghost use Rattle.httparse.specs.Grammar.{AllPass, EndsInTarget, LineEnd, is_uri_byte, print_blank, print_end};
-ghost use Rattle.am_http.specs.Framing.{MayOverlook};
+ghost use Rattle.am_frames.specs.Framing.{MayOverlook};
 ghost use Rattle.am_audit_frames.specs.Streams.{IsOpenLine};
 
 use httparse::{is_token, is_uri_token};

@@ -7,7 +7,7 @@ use Rattle.am_history.specs.Steps.{is_formed}
 use Rattle.am_wire_routes.specs.Table.{endpoint_for, method_of, path_of}
 use Rattle.am_wire_routes.proofs.Paths.{own_route}
 use Rattle.am_wire_values.specs.Requests.{request_data}
-use Rattle.am_http.specs.Head.{Frame}
+use Rattle.am_frames.specs.Head.{Frame}
 use Rattle.am_http.specs.Requests.{asked_at, request_of, request_or}
 use Rattle.am_http.proofs.FormedLemmas.{a_read_request_is_formed}
 use Rattle.am_audit_history.specs.Lines.{IsReadAgain}

@@ -86,4 +86,4 @@ pub shows_kept : (start : State) (before after : List Entry) (call : Call) (answ
     (record { start = start; history = after }) shown)
 shows_kept start before after call (Ok shown) shows fault =
     kept_is (record { start = start; history = before }) after call shown shows (λ is. never_risen (fault is).0)
-shows_kept start before after call (Err want) shows fault = tt
+shows_kept start before after call (Err ran_out) shows fault = tt

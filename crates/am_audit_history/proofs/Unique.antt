@@ -1,6 +1,6 @@
 -- A line is at most one entry.
 use Rattle.std.proofs.Common.{◌≡◌, ℕ, List, length, refl, sym, ap, ◌∙◌, subst}
-use Rattle.std.specs.Prelude.{codes, Some, None}
+use Rattle.std.specs.Prelude.{codes, None}
 use Rattle.std.proofs.lemmas.List.{append_cancel_right}
 use Rattle.am_types.specs.declared.history.Entry.{Entry}
 use Rattle.am_types.specs.declared.request.Request.{Request}
@@ -12,7 +12,7 @@ use Rattle.am_wire_values.specs.Requests.{request_data}
 use Rattle.am_audit_history.specs.Lines.{IsReadAgain, IsWritten, number_in}
 use Rattle.am_audit_history.proofs.Entries.{request_said, route_said, says, some_is}
 use Rattle.am_audit_history.specs.Reading.{TakesLine}
-use Rattle.am_audit_history.specs.Replays.{GoesOnWith, Replay, state_of}
+use Rattle.am_audit_history.specs.Replays.{Replay, state_of}
 
 -- requests with one route and one value, which are read again of them
 same_request : (one other : Request) → IsReadAgain one → IsReadAgain other → path_of (endpoint_for one)
@@ -61,12 +61,3 @@ pub no_entry : (before : Replay) (line : List ℕ) (at : ℕ) → at ≡ length 
     → ((entry : Entry) → IsWritten at entry line → ⊥) → TakesLine before line None
 no_entry before line at number none entry is next = none entry (subst (λ (n : ℕ). IsWritten n entry line) (sym number)
     is)
-
--- one whose entry is next is taken
-pub is_taken : (before after : Replay) (line : List ℕ) (found : Entry) (at : ℕ) → at ≡ length before.history
-    → IsWritten at found line
-    → GoesOnWith before found after → TakesLine before line (Some (after, found))
-is_taken before after line found at number written goes = (
-  subst (λ (n : ℕ). IsWritten n found line) number written,
-  goes,
-)

@@ -10,7 +10,7 @@ use Rattle.am_audit_shell.specs.declared.finding.Finding.{Finding}
 use Rattle.am_audit_shell.specs.declared.finding.Finding.TheVariants as findings
 use Rattle.am_audit_shell.specs.Contents.{IsHistoryRefused, IsJudged, IsOverLimit, IsUnread}
 use Rattle.am_console.specs.Telling.{OnlyTold, Prints, Voices}
-use Rattle.am_audit_shell.specs.Lines.{history_line, limit_line, setback_line, verdict_line, verdict_status, want_line}
+use Rattle.am_audit_shell.specs.Lines.{history_line, limit_line, setback_line, verdict_line, verdict_status, no_memory_line}
 use Rattle.am_audit_shell.specs.Words.{Named, named_by}
 
 -- why there is no finding; running out of memory has no cause
@@ -40,7 +40,7 @@ TellsFinding (findings.OverLimit part) before after status = OnlyTold (limit_lin
 TellsFinding (findings.HistoryRefused line) before after status = OnlyTold line 5 before after status
 TellsFinding (findings.Judged verdict) before after status =
     Prints (codes "am_audit: write fault\n") (verdict_line verdict) (verdict_status verdict) before after status
-    ⊎ OnlyTold want_line 8 before after status
+    ⊎ OnlyTold no_memory_line 8 before after status
 
 -- how an audit is told: by what is found, or by the setback, on the errors
 abbrev pub TellsWork : Result Finding Setback → Voices → Voices → ℕ → Type 0

@@ -8,8 +8,8 @@ use Rattle.am_audit_shell.specs.declared.finding.Part.{Part}
 use Rattle.am_audit_shell.specs.declared.finding.Part.TheVariants as parts
 
 -- the line for running out of memory
-abbrev pub want_line : List ℕ
-want_line = codes "am_audit: out of memory\n"
+abbrev pub no_memory_line : List ℕ
+no_memory_line = codes "am_audit: out of memory\n"
 
 -- the line for a history that is refused
 abbrev pub history_line : ℕ → List ℕ
@@ -25,7 +25,7 @@ limit_line parts.Responses = codes "am_audit: over limit: responses\n"
 abbrev pub setback_line : Setback → List ℕ
 setback_line (setbacks.DeviceRefused line) = line
 setback_line setbacks.FileFault = codes "am_audit: file fault\n"
-setback_line setbacks.NoMemory = want_line
+setback_line setbacks.NoMemory = no_memory_line
 
 -- the line and the status of a verdict
 abbrev pub verdict_line : Verdict → List ℕ

@@ -9,4 +9,4 @@ mod words;
 
 pub use finding::{Finding, Part};
 pub use program::audit;
-pub use telling::tell_want;
+pub use telling::tell_no_memory;

@@ -14,7 +14,7 @@ ghost use Rattle.am_audit_shell.specs.Naming.{named_at};
 
 use crate::contents::{Held, over_limit, read_files};
 use crate::finding::{Finding, limit_line};
-use crate::telling::{setback_line, tell_want};
+use crate::telling::{setback_line, tell_no_memory};
 use crate::words::{NamedFiles, named_by};
 use am_audit_frames::{Verdict, audit_frames};
 use am_audit_history::read_history;
@@ -125,7 +125,7 @@ fn tell_finding<W: Sink, E: Sink>(
                 output,
                 errors,
             ),
-            Err(NoMemory) => tell_want(errors),
+            Err(NoMemory) => tell_no_memory(errors),
         },
     }
 }

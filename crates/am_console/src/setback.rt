@@ -22,7 +22,7 @@ impl From<NoMemory> for Setback {
 
     ghost from_gives = { λ _ setback. setback ≡ setbacks.NoMemory };
 
-    fn from(_want: NoMemory) -> Setback {
+    fn from(_: NoMemory) -> Setback {
         Setback::NoMemory
     }
 }

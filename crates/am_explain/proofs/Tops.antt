@@ -114,10 +114,6 @@ abbrev pub IsTop : (Hit → Bool) → List Hit → Hit → Bool
 IsTop keeps left hit = keeps hit && not (is_outranked hit.priority left)
 
 module _ (keeps : Hit → Bool) (found : List Hit) where
-  -- what is left, by falling priority
-  abbrev left_of : List Hit
-  left_of = filter keeps (by_priority found)
-
   nothing_left : (left : List Hit) → left ≡ filter keeps (by_priority found) → left ≡ [] → filter keeps found ≡ []
   nothing_left left is none =
       by (filter keeps found) (length_permutation (filter keeps found) (filter keeps (by_priority found))

@@ -29,11 +29,6 @@ end_test text end r test =
     simp (length-map, drop-map) (same_turned (map to_ascii_lowercase (drop (length text - length end) text))
     (map to_ascii_lowercase end) r (rw whole at test))
 
--- a host after a star
-pub star_host : (listed host end : List ℕ) → listed ≡ 42 ∷ end → has_host (lowered listed) (lowered host)
-    ≡ ends_with (lowered host) (lowered end)
-star_host listed host end split = rw split refl
-
 not_star : (b : ℕ) → b ≢ 42 → (to_ascii_lowercase b == 42) ≡ false
 not_star b other = grind (arith, common_steps)
 

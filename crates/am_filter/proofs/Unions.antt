@@ -21,9 +21,6 @@ covered false false implied = refl
 or_comm3 : (a b c : Bool) → a || (b || c) ≡ (a || b) || c
 or_comm3 a b c = grind arith
 
-or_swap : (a b c : Bool) → a || (b || c) ≡ (a || c) || b
-or_swap a b c = grind arith
-
 or_turn : (a b : Bool) → a || b ≡ b || a
 or_turn a b = grind arith
 

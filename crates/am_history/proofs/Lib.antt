@@ -1,10 +1,6 @@
 pub mod Acts
 pub mod Callers
-pub mod KeptExamples
 pub mod OnlyReads
-pub mod OpeningExamples
 pub mod OpeningLaws
 pub mod Places
-pub mod Samples
-pub mod StepExamples
 pub mod Uids

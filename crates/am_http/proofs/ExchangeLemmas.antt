@@ -16,9 +16,9 @@ use Rattle.am_history.specs.State.{State}
 use Rattle.am_history.specs.Steps.{Call}
 use Rattle.am_history.specs.History.{replay, is_stored, reply_after, IsEntryOf, entries_of, Extends}
 use Rattle.am_history.specs.Desks.{DeskView, IsSameDesk, SeesOthers, ShowsAt, Follows, start_of}
-use Rattle.am_http.specs.Responses.{response, want_after}
+use Rattle.am_http.specs.Responses.{response, no_memory_at}
 use Rattle.am_http.specs.Requests.{call_of}
-use Rattle.am_http.specs.Exchanges.{Point, Exchange, IsMarked, IsCalled, IsAnswer, by_refusal, by_reply, by_want, by_late_want, floor_after, IsAbove, AreInOrder, floor_of, entry_at, stored_entries, AreAnswered, ShowsIn, Answered, refused_at_once, replied, wanted, wanted_late}
+use Rattle.am_http.specs.Exchanges.{Point, Exchange, IsMarked, IsCalled, IsAnswer, by_refusal, by_reply, by_no_memory, by_late_no_memory, floor_after, IsAbove, AreInOrder, floor_of, entry_at, stored_entries, AreAnswered, ShowsIn, Answered, refused_at_once, replied, wanted, ran_out_late}
 
 -- a fact that holds on true, weakened
 on_true_map : (b : Bool) {P Q : Type 0} → (P → Q) → OnTrue b P → OnTrue b Q
@@ -88,8 +88,8 @@ answer_stays start desk history added e (by_reply c bytes) =
     (bytes ∙ ap (λ h. response c.point.at c.point.stored (reply_after start h (call_of desk e.frame c.now c.request)
     c.kept))
     (sym (take_stays history added c.point.at c.marked.within)))
-answer_stays start desk history added e (by_want point bytes) = by_want point bytes
-answer_stays start desk history added e (by_late_want c bytes) = by_late_want
+answer_stays start desk history added e (by_no_memory point bytes) = by_no_memory point bytes
+answer_stays start desk history added e (by_late_no_memory c bytes) = by_late_no_memory
     (called_stays start desk history added e c) bytes
 
 pub answers_stay : (start : State) (desk : ℕ) (history added : List Entry) (es : List Exchange)
@@ -126,9 +126,9 @@ entry_at_stays : (start : State) (desk : ℕ) (history added : List Entry) (e : 
 entry_at_stays start desk history added e (by_refusal refused asks unasked point bytes) =
     ap (entry_at (history ++ added)) point ∙ ap (entry_at history) (sym point)
 entry_at_stays start desk history added e (by_reply c bytes) = called_entry start desk history added e c
-entry_at_stays start desk history added e (by_want point bytes) =
+entry_at_stays start desk history added e (by_no_memory point bytes) =
     ap (entry_at (history ++ added)) point ∙ ap (entry_at history) (sym point)
-entry_at_stays start desk history added e (by_late_want c bytes) = called_entry start desk history added e c
+entry_at_stays start desk history added e (by_late_no_memory c bytes) = called_entry start desk history added e c
 
 pub stored_entries_stay : (start : State) (desk : ℕ) (history added : List Entry) (es : List Exchange)
     → AllByRecursion (IsAnswer start desk history) es → stored_entries (history ++ added) es ≡ stored_entries history es
@@ -337,12 +337,12 @@ stands old new e (replied shown s bytes) =
     ∙ ap (λ n. response n shown.stored shown.reply) shows.at
     ∙ ap (λ r. response (length before) shown.stored r)
     (shows.reply ∙ reply_there (start_of old) before new.seen call shows.kept grows)))
-stands old new e (wanted sees point bytes) = none_stands old new e point sees (by_want point bytes)
-stands old new e (wanted_late shown s bytes) =
+stands old new e (wanted sees point bytes) = none_stands old new e point sees (by_no_memory point bytes)
+stands old new e (ran_out_late shown s bytes) =
     let call = call_of old.number e.frame s.now s.request in
     let there = shown_point shown s.shows.0 e s.shows.2.at s.placed in
     some_stands old new s.shows.0 call shown e refl s.shows.1 s.shows.2 there
-    (by_late_want (called_there old new e shown s there) (bytes ∙ ap (λ n. want_after n shown.stored) s.shows.2.at))
+    (by_late_no_memory (called_there old new e shown s there) (bytes ∙ ap (λ n. no_memory_at n shown.stored) s.shows.2.at))
 
 -- one more at the end
 pub all_more : {X : Type 0} (P : X → Type 0) (xs : List X) (x : X) → AllByRecursion P xs → P x

@@ -12,7 +12,7 @@ use Rattle.am_wire.proofs.Made.{HasForm, IsMade, body_is_made}
 use Rattle.am_wire_routes.specs.declared.routes.RouteFault.{RouteFault}
 use Rattle.am_wire_routes.specs.declared.routes.RouteFault.TheVariants as faults
 use Rattle.am_wire_routes.specs.Table.{endpoint_of}
-use Rattle.am_http.specs.Head.{Frame}
+use Rattle.am_frames.specs.Head.{Frame}
 use Rattle.am_http.specs.Requests.{request_of, request_or, asked_at}
 
 abbrev IsFormed : Request → Type 0

@@ -1,7 +1,5 @@
 pub mod ExchangeLemmas
-pub mod FieldLemmas
 pub mod FillLemmas
-pub mod FramingLemmas
 pub mod Literals
 pub mod NextLemmas
 pub mod Phrases
@@ -9,6 +7,4 @@ pub mod SendLemmas
 pub mod FormedLemmas
 pub mod SessionLemmas
 pub mod TurnLemmas
-pub mod WaitLemmas
-pub mod Wants
-pub mod WindowLemmas
+pub mod NoMemoryTexts

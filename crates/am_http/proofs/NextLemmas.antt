@@ -2,14 +2,14 @@
 use Rattle.std.proofs.Common.{◌≡◌, ℕ, ◌+◌, ◌<◌, ◌≤◌, List, [], ◌∷◌, ◌++◌, length, true, false, Option, Some, None, Ok, Err, refl, sym, ap, ◌∙◌, subst, inl, inr, arith, append_assoc, append-nil, length-append}
 use Rattle.std.specs.Prelude.{IfSome, OnErr, Result}
 use Rattle.std.specs.Io.KnownBytes.{Keeps, Consumes, IsAtEnd, prepend_known}
-use Rattle.am_http.specs.Head.{Frame, Outcome, whole, refused}
-use Rattle.am_http.specs.Framing.{IsFraming}
-use Rattle.am_http.specs.declared.frame.Found.{Found}
-use Rattle.am_http.specs.declared.frame.Found.TheVariants as Spans
-use Rattle.am_http.specs.FrameSpans.{outcome_at, frame_at, IsFoundWithin}
+use Rattle.am_frames.specs.Head.{Frame, Outcome, whole, refused}
+use Rattle.am_frames.specs.Framing.{IsFraming}
+use Rattle.am_frames.specs.declared.frame.Found.{Found}
+use Rattle.am_frames.specs.declared.frame.Found.TheVariants as Spans
+use Rattle.am_frames.specs.FrameSpans.{outcome_at, frame_at, IsFoundWithin}
 use Rattle.am_http.specs.Sessions.{most_held, IsPartial, GivesAtMost}
 use Rattle.am_http.specs.Windows.{Finds, Reads, is_open}
-use Rattle.am_http.proofs.FramingLemmas.{whole_stays, refused_stays, empty_only, cut_fits}
+use Rattle.am_frames.proofs.FramingLemmas.{whole_stays, refused_stays, empty_only, cut_fits}
 
 pub keeps_refl : (a : Option (List ℕ)) → Keeps a a
 keeps_refl None = tt

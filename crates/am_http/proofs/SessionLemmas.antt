@@ -12,14 +12,14 @@ use Rattle.am_history.specs.Desks.{DeskView, Origin, opening_of, IsSameDesk}
 use Rattle.am_history.specs.History.{IsLegal}
 use Rattle.am_http.specs.declared.end.End.{End}
 use Rattle.am_http.specs.declared.end.End.TheVariants.{Input, Close, Refused, Cut, Limit, Idle, ReadFault, WriteFault}
-use Rattle.am_http.specs.Head.{Frame, whole}
-use Rattle.am_http.specs.Framing.{IsFraming}
+use Rattle.am_frames.specs.Head.{Frame, whole}
+use Rattle.am_frames.specs.Framing.{IsFraming}
 use Rattle.am_http.specs.Frames.{Splits, Leaves, Drops}
 use Rattle.am_http.specs.Exchanges.{Exchange, AreAnswered, frames_of, bytes_of, moments_of}
 use Rattle.am_http.specs.Links.{Link, Midway, Server, Moments, Gives, rest_of, GoesOn, IsSameLink}
 use Rattle.am_http.specs.Sessions.{most_held, most_taken, GivesAtMost, MayGoOn, defect_text, VisitEnds, Writes, Visit, Going, Serves, IsLast, Replies, Stops}
 use Rattle.am_http.specs.Sending.{StopsInside}
-use Rattle.am_http.proofs.FramingLemmas.{whole_fits}
+use Rattle.am_frames.proofs.FramingLemmas.{whole_fits}
 use Rattle.am_http.proofs.SendLemmas.{appends_trans, appends_none, appends_self, inside_more}
 use Rattle.am_http.proofs.ExchangeLemmas.{stands, one_more, none_yet, all_more}
 

@@ -7,23 +7,23 @@ use Rattle.am_outside.specs.declared.failure.Failed.{Failed}
 use Rattle.am_outside.specs.Clock.{IsTold}
 use Rattle.am_types.specs.declared.history.Shown.{Shown}
 use Rattle.am_history.specs.History.{entries_of}
-use Rattle.am_http.specs.declared.frame.Defect.{Defect}
-use Rattle.am_http.specs.declared.frame.FrameSpans.{FrameSpans}
-use Rattle.am_http.specs.declared.frame.Found.{Found}
-use Rattle.am_http.specs.declared.frame.Found.TheVariants as Spans
+use Rattle.am_frames.specs.declared.frame.Defect.{Defect}
+use Rattle.am_frames.specs.declared.frame.FrameSpans.{FrameSpans}
+use Rattle.am_frames.specs.declared.frame.Found.{Found}
+use Rattle.am_frames.specs.declared.frame.Found.TheVariants as Spans
 use Rattle.am_http.specs.declared.answer.Answer.{Answer}
-use Rattle.am_http.specs.declared.answer.Answer.TheVariants.{Refused, Shown as Reply, Want}
+use Rattle.am_http.specs.declared.answer.Answer.TheVariants.{Refused, Reply, NoMemory as RanOut}
 use Rattle.am_http.specs.Answering.{AnswersAt, AnswersFrame, Says}
-use Rattle.am_http.specs.Exchanges.{Answered, Exchange, ShowsIn, refused_at_once, replied, wanted, wanted_late}
-use Rattle.am_http.specs.FrameSpans.{outcome_at, frame_at}
+use Rattle.am_http.specs.Exchanges.{Answered, Exchange, ShowsIn, refused_at_once, replied, wanted, ran_out_late}
+use Rattle.am_frames.specs.FrameSpans.{outcome_at, frame_at}
 use Rattle.am_http.specs.Frames.{Drops}
-use Rattle.am_http.specs.Framing.{IsFraming}
-use Rattle.am_http.specs.Head.{Frame, empty, whole, refused, cut}
+use Rattle.am_frames.specs.Framing.{IsFraming}
+use Rattle.am_frames.specs.Head.{Frame, empty, whole, refused, cut}
 use Rattle.am_http.specs.Sending.{WritesPart, Sends}
 use Rattle.am_http.specs.Links.{Midway, Server, rest_of}
 use Rattle.am_http.specs.Sessions.{most_held, Serves, Replies, FailsAtAnswer, GivesAtMost, HasDefect}
 use Rattle.am_http.specs.Windows.{Finds}
-use Rattle.am_http.proofs.FramingLemmas.{empty_only, whole_stays, whole_fits}
+use Rattle.am_frames.proofs.FramingLemmas.{empty_only, whole_stays, whole_fits}
 
 -- what holds of the told rest now held of it before
 pub keeps_if : (a b : Option (List ℕ)) (P : List ℕ → Type 0) → Keeps a b → IfSome b P → IfSome a P
@@ -100,7 +100,7 @@ pub answered_at : (old new : Server) (f : Frame) (now : ℕ) (answer : Answer) �
     → IsTold (old.clock 0) now → ((calls : ℕ) → new.clock calls ≡ old.clock (suc calls)) → AnswersFrame old new f answer
 answered_at old new f now (Refused refusal) answers told next = absurd answers
 answered_at old new f now (Reply shown) answers told next = (now, answers.0, answers.1, answers.2, (told, next))
-answered_at old new f now Want answers told next = (answers, (Some now, (told, next)))
+answered_at old new f now RanOut answers told next = (answers, (Some now, (told, next)))
 
 -- a call that was shown is an exchange, whichever text says so
 shown_exchange : (old new : Server) (f : Frame) (shown : Shown) (bytes : List ℕ) → AnswersFrame old new f (Reply shown)
@@ -165,8 +165,8 @@ exchange_of old new f (Refused refusal) bytes answers (inr said) = (
 exchange_of old new f (Reply shown) bytes answers (inl said) =
     shown_exchange old new f shown bytes answers (λ e shows same. replied shown shows (same ∙ said))
 exchange_of old new f (Reply shown) bytes answers (inr said) =
-    shown_exchange old new f shown bytes answers (λ e shows same. wanted_late shown shows (same ∙ said))
-exchange_of old new f Want bytes answers said = (
+    shown_exchange old new f shown bytes answers (λ e shows same. ran_out_late shown shows (same ∙ said))
+exchange_of old new f RanOut bytes answers said = (
   record { frame = f; now = answers.1.0; point = None; bytes = bytes },
   record { answer = wanted answers.0 refl said; moment = answers.1.1 },
   refl,

@@ -12,9 +12,9 @@ use Rattle.am_history.specs.Steps.{Call}
 use Rattle.am_history.specs.History.{replay, is_stored, reply_after, IsEntryOf, entries_of, Extends}
 use Rattle.am_history.specs.Desks.{DeskView, start_of, Shows, SeesOthers}
 use Rattle.am_http.specs.declared.answer.Refusal.{Refusal}
-use Rattle.am_http.specs.Head.{Frame}
+use Rattle.am_frames.specs.Head.{Frame}
 use Rattle.am_http.specs.Requests.{request_of, refusal_text, call_of}
-use Rattle.am_http.specs.Responses.{response, want_before, want_after}
+use Rattle.am_http.specs.Responses.{response, no_memory_before, no_memory_at}
 
 -- the place in the history at which a call was made, and whether it was stored there
 pub record Point : Type 0 where
@@ -64,9 +64,9 @@ pub data IsAnswer (start : State) (desk : ℕ) (history : List Entry) (e : Excha
       → e.bytes ≡ refusal_text refused → IsAnswer start desk history e
   by_reply : (c : IsCalled start desk history e)
       → e.bytes ≡ response c.point.at c.point.stored (reply_of start desk history e c) → IsAnswer start desk history e
-  by_want : e.point ≡ None → e.bytes ≡ want_before → IsAnswer start desk history e
-  by_late_want : (c : IsCalled start desk history e)
-      → e.bytes ≡ want_after c.point.at c.point.stored → IsAnswer start desk history e
+  by_no_memory : e.point ≡ None → e.bytes ≡ no_memory_before → IsAnswer start desk history e
+  by_late_no_memory : (c : IsCalled start desk history e)
+      → e.bytes ≡ no_memory_at c.point.at c.point.stored → IsAnswer start desk history e
 
 -- the least place of a later call
 abbrev pub floor_after : ℕ → Option Point → ℕ
@@ -123,9 +123,9 @@ pub data Answered (old new : DeskView) (e : Exchange) : Type 0 where
       → e.bytes ≡ refusal_text refused → new.seen ≡ old.seen → Answered old new e
   replied : (shown : Shown) → ShowsIn old new e shown
       → e.bytes ≡ response shown.at shown.stored shown.reply → Answered old new e
-  wanted : SeesOthers old new.seen → e.point ≡ None → e.bytes ≡ want_before → Answered old new e
-  wanted_late : (shown : Shown) → ShowsIn old new e shown
-      → e.bytes ≡ want_after shown.at shown.stored → Answered old new e
+  wanted : SeesOthers old new.seen → e.point ≡ None → e.bytes ≡ no_memory_before → Answered old new e
+  ran_out_late : (shown : Shown) → ShowsIn old new e shown
+      → e.bytes ≡ no_memory_at shown.at shown.stored → Answered old new e
 
 -- the frames, and the responses one after the other
 abbrev pub frames_of : List Exchange → List Frame

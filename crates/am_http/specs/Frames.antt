@@ -1,7 +1,7 @@
 -- The frames of an input, one after the other.
 use Rattle.std.specs.Prelude.{◌≡◌, ℕ, List, [], ◌∷◌, drop, Option, Some, None, ⊤}
-use Rattle.am_http.specs.Head.{Frame, whole}
-use Rattle.am_http.specs.Framing.{IsFraming}
+use Rattle.am_frames.specs.Head.{Frame, whole}
+use Rattle.am_frames.specs.Framing.{IsFraming}
 
 -- the input is these whole frames, and then the rest
 abbrev pub Splits : List ℕ → List Frame → List ℕ → Type 0

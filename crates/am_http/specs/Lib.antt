@@ -1,10 +1,6 @@
 pub mod Answering
 pub mod Exchanges
-pub mod Fields
-pub mod FrameSpans
 pub mod Frames
-pub mod Framing
-pub mod Head
 pub mod Links
 pub mod Requests
 pub mod Responses

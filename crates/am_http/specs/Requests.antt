@@ -11,7 +11,7 @@ use Rattle.am_wire_fields.specs.Printing.{printed}
 use Rattle.am_wire.specs.Requests.{request_of as request_at}
 use Rattle.am_http.specs.declared.answer.Refusal.{Refusal}
 use Rattle.am_http.specs.declared.answer.Refusal.TheVariants.{NoRoute, NoMethod, BadRequest}
-use Rattle.am_http.specs.Head.{Frame}
+use Rattle.am_frames.specs.Head.{Frame}
 use Rattle.am_http.specs.Responses.{refusal}
 
 -- the request that was read of a body, or the refusal of its first fault

@@ -55,13 +55,13 @@ unfoldable pub refusal : ℕ → List ℕ → Option (List ℕ) → List ℕ
 refusal status error name = message status [] (compact_text (error_data error name))
 
 -- the body if memory ran out
-unfoldable pub want_body : List ℕ
-want_body = compact_text (error_data (codes "no_memory") None)
+unfoldable pub no_memory_body : List ℕ
+no_memory_body = compact_text (error_data (codes "no_memory") None)
 
 -- memory ran out before the call was made
-unfoldable pub want_before : List ℕ
-want_before = message 507 (codes "AM-Stored: 0\r\n") want_body
+unfoldable pub no_memory_before : List ℕ
+no_memory_before = message 507 (codes "AM-Stored: 0\r\n") no_memory_body
 
 -- memory ran out after the call was made
-unfoldable pub want_after : ℕ → Bool → List ℕ
-want_after at stored = message 507 (place_lines at stored) want_body
+unfoldable pub no_memory_at : ℕ → Bool → List ℕ
+no_memory_at at stored = message 507 (place_lines at stored) no_memory_body

@@ -4,13 +4,13 @@ use Rattle.std.specs.List.{AllByRecursion}
 use Rattle.std.specs.Option.{option_to_list}
 use Rattle.std.specs.Io.KnownBytes.{Appends, Consumes, Keeps, prepend_known}
 use Rattle.am_outside.specs.Counts.{HasRisen}
-use Rattle.am_http.specs.declared.frame.Defect.{Defect}
-use Rattle.am_http.specs.declared.frame.Defect.TheVariants.{BadHead, HeadTooLarge, TransferEncoding, LengthRequired, BodyTooLarge}
+use Rattle.am_frames.specs.declared.frame.Defect.{Defect}
+use Rattle.am_frames.specs.declared.frame.Defect.TheVariants.{BadHead, HeadTooLarge, TransferEncoding, LengthRequired, BodyTooLarge}
 use Rattle.am_http.specs.declared.end.End.{End}
 use Rattle.am_http.specs.declared.end.End.TheVariants.{Input, Close, Refused, Cut, Limit, Idle, ReadFault, WriteFault}
 use Rattle.am_http.specs.declared.end.Served.{Served}
-use Rattle.am_http.specs.Head.{empty, whole, refused, cut}
-use Rattle.am_http.specs.Framing.{IsFraming}
+use Rattle.am_frames.specs.Head.{empty, whole, refused, cut}
+use Rattle.am_frames.specs.Framing.{longest_frame, IsFraming}
 use Rattle.am_http.specs.Frames.{Leaves, Drops}
 use Rattle.am_http.specs.Exchanges.{Exchange, AreAnswered, Answered, frames_of, bytes_of, moments_of}
 use Rattle.am_http.specs.Links.{Link, Midway, Server, rest_of, Gives}
@@ -21,9 +21,9 @@ use Rattle.am_http.specs.Sending.{StopsInside, WritesPart}
 abbrev pub most_frames : ℕ
 most_frames = 65536
 
--- the most bytes that a window holds: a head and a body of the greatest length
+-- the most bytes that a window holds: a frame of the greatest length
 abbrev pub most_held : ℕ
-most_held = 73728
+most_held = longest_frame
 
 -- the most bytes that a connection of so many frames takes from its source: as many as a window holds, for each frame
 -- and once more

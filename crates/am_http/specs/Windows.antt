@@ -1,10 +1,10 @@
 -- What reading into a window does.
 use Rattle.std.specs.Prelude.{◌≡◌, ℕ, List, ◌++◌, length, Option, IfSome, Bool, true, false, Result, Ok, Err}
 use Rattle.std.specs.Io.KnownBytes.{Consumes, Keeps, IsAtEnd, prepend_known}
-use Rattle.am_http.specs.declared.frame.Found.{Found}
-use Rattle.am_http.specs.declared.frame.Found.TheVariants as Spans
-use Rattle.am_http.specs.Framing.{IsFraming}
-use Rattle.am_http.specs.FrameSpans.{outcome_at, IsFoundWithin}
+use Rattle.am_frames.specs.declared.frame.Found.{Found}
+use Rattle.am_frames.specs.declared.frame.Found.TheVariants as Spans
+use Rattle.am_frames.specs.Framing.{IsFraming}
+use Rattle.am_frames.specs.FrameSpans.{outcome_at, IsFoundWithin}
 use Rattle.am_outside.specs.declared.failure.Failed.{Failed}
 
 -- the bytes that were read follow those that were there, and the source gave them: none only at its end.

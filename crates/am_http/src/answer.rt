@@ -3,13 +3,13 @@ ghost use Rattle.std.specs.Prelude.{◌≡◌, ◌≤◌, length, IfOk, IsUtf8};
 ghost use Rattle.am_types.specs.Bounds.{longest_body};
 ghost use Rattle.am_types.specs.Reading.{Gives};
 ghost use Rattle.am_wire.specs.Requests.{request_of as request_at};
-ghost use Rattle.am_http.specs.FrameSpans.{frame_held};
+ghost use Rattle.am_frames.specs.FrameSpans.{frame_held};
 ghost use Rattle.am_http.specs.Requests.{request_of, request_or};
 ghost use Rattle.am_http.specs.Answering.{AnswersAt, AnswersFrame};
 ghost use Rattle.am_http.specs.Links.{GoesOn};
 
-use crate::frame::WholeFrame;
 use am_desk::{Desk, DeskCall};
+use am_frames::frame::WholeFrame;
 use am_outside::Clock;
 use am_types::{NoMemory, Request, Shown, Text, Unmade};
 use am_wire::read_request;
@@ -35,9 +35,9 @@ pub enum Answer {
     /// It makes no request.
     Refused(Refusal),
     /// The manager's reply, with its place in the history.
-    Shown(Shown),
+    Reply(Shown),
     /// Memory ran out before the call was made.
-    Want,
+    NoMemory,
 }
 
 // The request that the body makes at the endpoint, or why it makes none.
@@ -97,7 +97,7 @@ fn call<D: Desk>(
 {
     let Ok(key) = key_text(alloc, frame.key) else {
         drop(request);
-        return Answer::Want;
+        return Answer::NoMemory;
     };
     match desk.call(DeskCall {
         key: &key,
@@ -105,8 +105,8 @@ fn call<D: Desk>(
         weight: frame.body.len() as u32,
         request,
     }) {
-        Ok(shown) => Answer::Shown(shown),
-        Err(NoMemory) => Answer::Want,
+        Ok(shown) => Answer::Reply(shown),
+        Err(NoMemory) => Answer::NoMemory,
     }
 }
 
@@ -132,6 +132,6 @@ pub fn answer_frame<D: Desk, C: Clock>(
             call(alloc, desk, now, frame, request)
         }
         Err(Unmade::Fault(refusal)) => Answer::Refused(refusal),
-        Err(Unmade::NoMemory) => Answer::Want,
+        Err(Unmade::NoMemory) => Answer::NoMemory,
     }
 }

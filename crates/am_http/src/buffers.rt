@@ -1,7 +1,7 @@
 //! The memory of a connection, made once.
 ghost use Rattle.std.specs.Prelude.{◌≤◌, IfOk, vec_capacity};
 
-use crate::response::WANT_ROOM;
+use crate::response::NO_MEMORY_ROOM;
 use crate::window::Window;
 use am_types::NoMemory;
 use am_wire_routes::Routes;
@@ -22,7 +22,7 @@ impl Buffers {
     pub fn new(alloc: Global) -> Result<Buffers, NoMemory> {
         Ok(Buffers {
             window: Window::new(alloc)?,
-            room: Vec::with_capacity(alloc, WANT_ROOM)?,
+            room: Vec::with_capacity(alloc, NO_MEMORY_ROOM)?,
             routes: Routes::new(alloc)?,
         })
     }

@@ -6,8 +6,8 @@ ghost use Rattle.am_http.specs.Links.{IsSameSource, source_of};
 ghost use Rattle.am_http.specs.Sessions.{IsPartial, GivesAtMost, most_held};
 ghost use Rattle.am_http.specs.Windows.{Finds, Reads, is_open};
 
-use crate::frame::{Found, find_frame};
 use crate::window::Window;
+use am_frames::frame::{Found, find_frame};
 use am_outside::{Failed, Source};
 
 // Whether more bytes are needed to know the first frame.

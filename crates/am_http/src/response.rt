@@ -1,9 +1,9 @@
 //! The bytes of responses.
 ghost use Rattle.std.specs.Prelude.{◌≡◌, ◌+◌, ◌≤◌, ◌++◌, IfOk, length, string_bytes, option_copied, vec_len, vec_capacity};
 ghost use Rattle.am_http.specs.Sessions.{defect_text};
-ghost use Rattle.am_http.specs.Responses.{HasPhrase, phrase, head, digit, place_lines, message, response, refusal, want_before, want_after};
+ghost use Rattle.am_http.specs.Responses.{HasPhrase, phrase, head, digit, place_lines, message, response, refusal, no_memory_before, no_memory_at};
 
-use crate::frame::Defect;
+use am_frames::frame::Defect;
 use am_types::{NoMemory, Shown};
 use am_wire_replies::{error_text, reply_text};
 use am_wire_values::reply_status;
@@ -11,7 +11,7 @@ use itoa::Buffer;
 use std::alloc::{AllocError, Global};
 
 /// The room that the response takes if memory ran out after the call was made, in bytes.
-pub const WANT_ROOM: usize = 192;
+pub const NO_MEMORY_ROOM: usize = 192;
 
 /// The response that shows a reply and its place in the history. It is the reply's own text, printed once, with the
 /// lines put in front of it.
@@ -134,17 +134,17 @@ pub fn defect_bytes(defect: Defect) -> &'static [u8]
 
 /// The response if memory ran out before the call was made. Takes no memory.
 #[tactic(auto, unfolding(crate::proofs::Literals::responses_on_literals))]
-pub fn want_before() -> &'static [u8]
-    ensures { result.now ≡ want_before }
+pub fn no_memory_before() -> &'static [u8]
+    ensures { result.now ≡ no_memory_before }
 {
     b"HTTP/1.1 507 Insufficient Storage\r\nContent-Type: application/json\r\nContent-Length: 21\r\nAM-Stored: 0\r\n\r\n{\"error\":\"no_memory\"}"
 }
 
 /// Replaces what the vector holds by the response if memory ran out after the call was made.
 /// Takes no memory.
-pub fn put_want_after(into: &mut Vec<u8>, at: u64, stored: bool)
-    requires { WANT_ROOM ≤ vec_capacity into.old }
-    ensures text { into.new.items ≡ want_after at stored }
+pub fn put_no_memory_at(into: &mut Vec<u8>, at: u64, stored: bool)
+    requires { NO_MEMORY_ROOM ≤ vec_capacity into.old }
+    ensures text { into.new.items ≡ no_memory_at at stored }
     ensures capacity { vec_capacity into.new ≡ vec_capacity into.old }
 {
     into.clear();

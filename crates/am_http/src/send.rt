@@ -9,8 +9,10 @@ ghost use Rattle.am_http.specs.Sending.{Sends, SendsFrom};
 ghost use Rattle.am_http.specs.Sessions.{defect_text};
 
 use crate::answer::{Answer, Refusal};
-use crate::frame::Defect;
-use crate::response::{defect_bytes, put_want_after, refusal_bytes, response_bytes, want_before};
+use crate::response::{
+    defect_bytes, no_memory_before, put_no_memory_at, refusal_bytes, response_bytes,
+};
+use am_frames::frame::Defect;
 use am_outside::{Failed, Sink};
 use am_types::{NoMemory, Shown};
 use std::alloc::Global;
@@ -80,19 +82,19 @@ pub fn write_answer<W: Sink>(
     match answer {
         Answer::Refused(refusal) => match refusal_text(alloc, refusal) {
             Ok(bytes) => write_all(sink, bytes.as_slice()),
-            Err(NoMemory) => write_all(sink, want_before()),
+            Err(NoMemory) => write_all(sink, no_memory_before()),
         },
-        Answer::Shown(shown) => {
+        Answer::Reply(shown) => {
             let (at, stored) = (shown.at, shown.stored);
             match shown_text(alloc, shown) {
                 Ok(bytes) => write_all(sink, bytes.as_slice()),
                 Err(NoMemory) => {
-                    put_want_after(room, at, stored);
+                    put_no_memory_at(room, at, stored);
                     write_all(sink, room.as_slice())
                 }
             }
         }
-        Answer::Want => write_all(sink, want_before()),
+        Answer::NoMemory => write_all(sink, no_memory_before()),
     }
 }
 

@@ -6,13 +6,11 @@ ghost use Rattle.am_outside.specs.Counts.{HasRisen};
 ghost use Rattle.am_http.specs.Sessions.{most_held};
 ghost use Rattle.am_http.specs.Windows.{Fills};
 
+use am_frames::frame::MAX_FRAME;
 use am_outside::{Failed, Source};
 use am_types::NoMemory;
 use std::alloc::Global;
 use std::marker::Model;
-
-/// The most bytes that a window holds: a head and a body of the greatest length.
-pub const CAPACITY: usize = 73_728;
 
 /// The bytes that were read and aren't used yet. Contracts see them as a list.
 #[derive(Drop)]
@@ -39,7 +37,7 @@ impl Window {
         ensures { IfOk result (λ window. window ≡ []) }
     {
         Ok(Window {
-            bytes: vec![in alloc; 0; CAPACITY]?,
+            bytes: vec![in alloc; 0; MAX_FRAME]?,
             start: 0,
             end: 0,
         })

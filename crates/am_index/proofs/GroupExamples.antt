@@ -1,18 +1,34 @@
 -- Examples of groups: how many filters an intent is tested against at most, what it asks for, and what is listed.
-use Rattle.std.specs.Prelude.{◌≡◌, ℕ, pos, codes, List, [], ◌∷◌, None, Some, refl}
+use Rattle.std.specs.Prelude.{◌≡◌, ℕ, pos, false, codes, List, [], ◌∷◌, Option, None, Some, refl}
 use Rattle.am_types.specs.declared.device.Package.{Package}
 use Rattle.am_types.specs.declared.filter.Filter.{Filter}
+use Rattle.am_types.specs.declared.intent.Intent.{Intent}
 use Rattle.am_types.specs.declared.manifest.Kind.TheVariants.{Activity, Service}
 use Rattle.am_types.specs.declared.manifest.Decl.{Decl}
 use Rattle.am_types.specs.declared.uri.Mime.{Mime}
 use Rattle.am_types.specs.declared.uri.Uri.{Uri}
 use Rattle.am_types.specs.Intents.{no_intent}
 use Rattle.am_model.specs.Plain.{filter_for, open_decl}
-use Rattle.am_model.proofs.Samples.{asking, mime_at, package_with, uri_at}
 use Rattle.am_index.specs.declared.key.Group.TheVariants.{Action, Scheme, Typed, Main}
 use Rattle.am_index.specs.Groups.{group_size}
 use Rattle.am_index.specs.Keys.{groups_of_filter}
 use Rattle.am_index.specs.Lookups.{groups_for}
+
+-- the intent of an action
+abbrev asking : List ℕ → Intent
+asking action = record no_intent { action = Some action }
+
+-- a URI by its text, its scheme and its host
+abbrev uri_at : List ℕ → List ℕ → Option (List ℕ) → Uri
+uri_at text scheme host = record { text = text; scheme = scheme; host = host; port = None; path = codes "/" }
+
+-- a type by its two parts
+abbrev mime_at : List ℕ → List ℕ → Mime
+mime_at main sub = record { main = main; sub = sub }
+
+-- a package that isn't stopped
+abbrev package_with : ℕ → List ℕ → List Decl → Package
+package_with uid name decls = record { uid = uid; name = name; key = codes "k"; stopped = false; decls = decls }
 
 -- a filter of an action with schemes and types
 abbrev lists : List ℕ → List (List ℕ) → List Mime → Filter

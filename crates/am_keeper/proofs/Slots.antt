@@ -9,13 +9,6 @@ use Rattle.am_keeper.specs.declared.store.Slot.{Slot}
 use Rattle.am_keeper.specs.Keeping.{same_text}
 use Rattle.am_keeper.specs.Shelf.{rows_in_slots, has_slot}
 
--- a test whose outcome is known
-test_true : {X : Type 0} (b : Bool) (x y : X) → b ≡ true → (if b then x else y) ≡ x
-test_true b x y e = rw e
-
-test_false : {X : Type 0} (b : Bool) (x y : X) → b ≡ false → (if b then x else y) ≡ y
-test_false b x y e = rw e
-
 -- texts that are the same are so beside any third one
 alike : (a b c : List ℕ) → same_text a b ≡ true → same_text a c ≡ same_text b c
 alike a b c e = nat_list_eq_equiv.congr a b c e
@@ -78,18 +71,6 @@ never_lost place slots any lost P =
 -- a path is the same as itself
 own_text : (path at : List ℕ) → path ≡ at → same_text path at ≡ true
 own_text path at is = subst (λ other. same_text path other ≡ true) is (nat_list_eq_equiv.refl path)
-
--- a slot for the path is there already
-pub has_slot-there : (slots : List Slot) (path : List ℕ) → IsTrue (has_slot slots path) → (at : List ℕ)
-    → IsTrue (has_slot slots at) ↔ (IsTrue (has_slot slots at) ⊎ (path ≡ at))
-has_slot-there slots path there at = (
-  λ h. inl h,
-  λ h. elim h [
-    | inl was ↦ was
-    | inr is ↦ subst
-        (λ other. IsTrue (has_slot slots other)) is there
-  ],
-)
 
 -- and a new one is for its path
 pub has_slot-push : (slots : List Slot) (path at : List ℕ) → IsTrue

@@ -1,7 +1,10 @@
 -- The rows that small histories have kept, and what is found with them, worked.
-use Rattle.std.specs.Prelude.{◌≡◌, true, false, codes, List, [], ◌∷◌, Ok, refl}
+use Rattle.std.specs.Prelude.{◌≡◌, ℕ, true, false, codes, List, [], ◌∷◌, None, Ok, refl}
+use Rattle.am_types.specs.declared.device.Device.{Device}
 use Rattle.am_types.specs.declared.device.Package.{Package}
 use Rattle.am_types.specs.declared.history.Entry.{Entry}
+use Rattle.am_types.specs.declared.manifest.Decl.{Decl}
+use Rattle.am_types.specs.declared.request.Request.{Request}
 use Rattle.am_types.specs.declared.request.Request.TheVariants as asks
 use Rattle.am_keeper.specs.declared.rows.Rows.{Rows}
 use Rattle.am_keeper.specs.Rows.{no_rows}
@@ -10,8 +13,28 @@ use Rattle.am_history.specs.Opening.{opening_with}
 use Rattle.am_history.specs.Packages.{grant, link, uninstall, force_stop}
 use Rattle.am_history.specs.Steps.{act}
 use Rattle.am_history.specs.History.{replay}
-use Rattle.am_history.proofs.Samples.{app, device, entry}
 use Rattle.am_laws_kept.specs.Found.{as_stopped, kept_of, rows_after}
+
+-- a package that isn't stopped
+abbrev app : ℕ → List ℕ → List ℕ → List Decl → Package
+app uid name key decls = record { uid = uid; name = name; key = key; stopped = false; decls = decls }
+
+-- a device with those packages, whose system has the key `sys`
+abbrev device : List Package → Device
+device packages = record {
+  system_key = codes "sys";
+  root_key = None;
+  browser = None;
+  protected = [];
+  exempt = [];
+  packages = packages;
+  grants = [];
+  links = [];
+}
+
+-- a call that was kept
+abbrev entry : ℕ → ℕ → Request → Entry
+entry uid now request = record { desk = 0; uid = uid; now = now; weight = 2; request = request; kept = true }
 
 -- two apps
 abbrev apps : List Package

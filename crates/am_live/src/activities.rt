@@ -7,7 +7,7 @@ ghost use Rattle.am_history.specs.Steps.{at_moment};
 
 use crate::Live;
 use am_live_activities::Asked;
-use am_live_gate::Caller;
+use am_live_callers::Caller;
 use am_types::{Intent, NoMemory, Reply, Steps};
 use std::sync::ledger::Ledger;
 

@@ -9,7 +9,7 @@ ghost use Rattle.am_history.specs.Steps.{at_moment};
 
 use crate::Live;
 use am_live_broadcasts::Message;
-use am_live_gate::Caller;
+use am_live_callers::Caller;
 use am_types::{Answer, Filter, Intent, NoMemory, Ordered, Reply, Steps, Text};
 use std::sync::ledger::Ledger;
 

@@ -10,6 +10,6 @@ mod pendings;
 mod reads;
 mod services;
 
-pub use am_live_gate::Caller;
+pub use am_live_callers::Caller;
 pub use am_live_packages::{Change, Plan, RightChange};
 pub use live::Live;

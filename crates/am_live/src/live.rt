@@ -7,7 +7,7 @@ ghost use Rattle.am_history.specs.Answers.{for_admin};
 ghost use Rattle.am_history.specs.State.{key_of, opening, uid_of};
 ghost use Rattle.am_history.specs.Steps.{advance, advanced, at_moment, due, moment_after};
 
-use am_live_gate::{Caller, key_of_package, uid_of};
+use am_live_callers::{Caller, key_of_package, uid_of};
 use am_pending::Pending;
 use am_queue::{LAST_MOMENT, Queues};
 use am_resolve::Board;

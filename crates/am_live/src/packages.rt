@@ -10,7 +10,7 @@ ghost use Rattle.am_live_packages.specs.Changes.{changed, prepared, with_package
 
 use crate::Live;
 use am_gates::is_privileged;
-use am_live_gate::Caller;
+use am_live_callers::Caller;
 use am_live_packages::{Change, Known, Plan, set_right, take_right, take_unless_held};
 use am_types::{NoMemory, Package, Reply, Request, Rule, Steps, Text};
 use std::sync::ledger::Ledger;

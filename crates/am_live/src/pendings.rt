@@ -6,7 +6,7 @@ ghost use Rattle.am_history.specs.PendingCalls.{after_use, lend, pending_cancel,
 ghost use Rattle.am_history.specs.Steps.{at_moment};
 
 use crate::Live;
-use am_live_gate::Caller;
+use am_live_callers::Caller;
 use am_live_pendings::{in_new_task, refused};
 use am_types::{Intent, Kind, NoMemory, PendingFlags, Reply, Steps, Text, Used};
 use std::sync::ledger::Ledger;

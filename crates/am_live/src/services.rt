@@ -5,7 +5,7 @@ ghost use Rattle.am_history.specs.Services.{start_service, stop_service};
 ghost use Rattle.am_history.specs.Steps.{at_moment};
 
 use crate::Live;
-use am_live_gate::Caller;
+use am_live_callers::Caller;
 use am_types::{Component, Intent, NoMemory, Reply, Steps};
 use std::sync::ledger::Ledger;
 

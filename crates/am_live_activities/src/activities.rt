@@ -9,7 +9,7 @@ ghost use Rattle.am_history.specs.Answers.{for_admin};
 ghost use Rattle.am_history.specs.State.{State};
 
 use am_gates::is_privileged;
-use am_live_gate::gate;
+use am_live_callers::gate;
 use am_resolve::Board;
 use am_tasks::Tasks;
 use am_types::{

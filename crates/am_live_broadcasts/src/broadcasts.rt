@@ -12,7 +12,7 @@ ghost use Rattle.am_history.specs.Steps.{at_moment};
 
 use crate::sending::{send_at, send_rule, sending_of};
 use am_gates::is_withheld;
-use am_live_gate::Caller;
+use am_live_callers::Caller;
 use am_queue::Queues;
 use am_resolve::Board;
 use am_types::{

@@ -4,7 +4,7 @@ ghost use Rattle.am_types.specs.declared.reply.Reply.TheVariants.{Items};
 ghost use Rattle.am_model.specs.Broadcasts.{expired};
 ghost use Rattle.am_model.specs.Sending.{inbox};
 
-use am_live_gate::Caller;
+use am_live_callers::Caller;
 use am_queue::Queues;
 use am_types::{NoMemory, Reply, Steps};
 use std::mem;

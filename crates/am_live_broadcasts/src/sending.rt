@@ -8,7 +8,7 @@ ghost use Rattle.am_model.specs.Sending.{send};
 ghost use Rattle.am_history.specs.State.{State};
 ghost use Rattle.am_history.specs.BroadcastCalls.{send_rule, sending_of};
 
-use am_live_gate::Caller;
+use am_live_callers::Caller;
 use am_queue::Queues;
 use am_types::{
     Intent, Limit, List, NoMemory, Ordered, Receiving, Rule, SendFault, Sending, Spot, Steps,

@@ -14,7 +14,7 @@ use crate::{Change, Known, Plan, RightChange};
 use am_gates::{is_granted, is_privileged};
 use am_installed::Right;
 use am_keeper::{GrantRow, LinkRow, PackageRow, Row};
-use am_live_gate::is_key_used;
+use am_live_callers::is_key_used;
 use am_manifest::read_package;
 use am_types::{
     Limit, Link, List, Manifest, NoMemory, Package, Request, RightKind, Rule, Text, Unmade,

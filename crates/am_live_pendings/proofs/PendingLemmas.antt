@@ -12,22 +12,15 @@ use Rattle.am_types.specs.declared.reply.Reply.TheVariants.{Refused}
 use Rattle.am_model.specs.Boards.{package_named}
 use Rattle.am_model.specs.Pendings.{Pendings, give, use_token}
 use Rattle.am_history.specs.Answers.{for_found}
-use Rattle.am_history.specs.PendingCalls.{after_change, after_use, left_of, pending_give, pending_rule, pending_send}
+use Rattle.am_history.specs.PendingCalls.{after_change, after_use, pending_give, pending_rule, pending_send}
 use Rattle.am_history.specs.State.{State}
-use Rattle.am_pending.specs.Answers.{IsChange, IsRefusal}
+use Rattle.am_pending.specs.Answers.{IsRefusal}
 
--- a fault other than want of memory is the definitions'
+-- a fault other than running out of memory is the definitions'
 pub fault_is : {X : Type 0} (fault : PendingFault) (said : Result X PendingFault)
     → (fault ≡ faults.NoMemory → ⊥) → IsRefusal fault said → said ≡ Err fault
 fault_is faults.NoMemory said known is = absurd (known refl)
 fault_is _ said known is = is
-
--- a canceling leaves what the definitions leave, also where they refuse it
-pub left_is : (result : Result (Unit {0}) PendingFault) (old new : Pendings) (said : Result Pendings PendingFault)
-    → (result ≡ Err faults.NoMemory → ⊥) → IsChange result old new said → left_of old said ≡ new
-left_is (Ok done) old new said known is = ap (left_of old) is
-left_is (Err fault) old new said known answer =
-    ap (left_of old) (fault_is fault said (λ e. known (ap Err e)) answer.0) ∙ sym answer.1
 
 -- a call that is refused is refused by the definitions, and leaves what was there
 pub refused_is : {X : Type 0} (after : State → Result X PendingFault → Reply × State) (left : State → Pendings → State)

@@ -5,7 +5,7 @@ ghost use Rattle.am_model.specs.Receivers.{declared};
 ghost use Rattle.am_history.specs.Services.{start_maybe, start_service, stop_service};
 ghost use Rattle.am_history.specs.State.{Service, State};
 
-use am_live_gate::gate;
+use am_live_callers::gate;
 use am_resolve::Board;
 use am_services::Services;
 use am_types::{Component, Intent, Kind, Limit, NoMemory, Reply, Rule, Steps};

@@ -15,18 +15,18 @@ use Rattle.am_machine.specs.Managed.{Managed}
 use Rattle.am_opening.specs.declared.opened.BeginFault.{BeginFault}
 use Rattle.am_opening.specs.declared.opened.BeginFault.TheVariants as faults
 use Rattle.am_opening.specs.Openings.{Refuses}
-use Rattle.am_machine.specs.Beginnings.{Begins, BeginsWith, IsWant}
+use Rattle.am_machine.specs.Beginnings.{Begins, BeginsWith, IsNoMemory}
 
 -- without rows none is refused
-pub only_want : {X : Type 0} (begun : Result X BeginFault) (device : Device) (rows : Rows) → IsSound device → rows
+pub only_no_memory : {X : Type 0} (begun : Result X BeginFault) (device : Device) (rows : Rows) → IsSound device → rows
     ≡ no_rows
-    → IfErr begun (λ fault. Refuses fault (opening_with device rows)) → IfErr begun IsWant
-only_want (Ok manager) device rows sound none refuses = tt
-only_want (Err (faults.Rows name)) device rows sound none refuses =
+    → IfErr begun (λ fault. Refuses fault (opening_with device rows)) → IfErr begun IsNoMemory
+only_no_memory (Ok manager) device rows sound none refuses = tt
+only_no_memory (Err (faults.Rows name)) device rows sound none refuses =
     let opens : opening_with device rows ≡ Ok (opening device) = ap (opening_with device) none
     ∙ no_rows_open_the_device device sound in
     absurd cc
-only_want (Err faults.NoMemory) device rows sound none refuses = tt
+only_no_memory (Err faults.NoMemory) device rows sound none refuses = tt
 
 module _ {K : Type 0} where
   -- a manager that is begun without rows begins with the device's own state
@@ -49,4 +49,4 @@ module _ {K : Type 0} where
   begins_if g begun (Ok manager) device rows keeper sound none is begins =
       begins_with g manager device rows keeper sound none
       (subst (λ (b : Result (Managed K) BeginFault). IfOk b (Begins g device rows keeper)) is begins)
-  begins_if g begun (Err want) device rows keeper sound none is begins = tt
+  begins_if g begun (Err ran_out) device rows keeper sound none is begins = tt

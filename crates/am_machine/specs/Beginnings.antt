@@ -37,6 +37,6 @@ pub record BeginsWith {K : Type 0} (device : Device) (manager : Managed K) : Typ
   pub history : manager.history ≡ []
 
 -- memory ran out, and no row was refused
-abbrev pub IsWant : BeginFault → Type 0
-IsWant (faults.Rows name) = ⊥
-IsWant faults.NoMemory = Unit {0}
+abbrev pub IsNoMemory : BeginFault → Type 0
+IsNoMemory (faults.Rows name) = ⊥
+IsNoMemory faults.NoMemory = Unit {0}

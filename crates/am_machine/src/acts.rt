@@ -85,7 +85,17 @@ fn act_at<L: Ledger>(
             Ok(tick(by.uid))
         }
         Request::Advance { by: more } => Ok(live.advance(by, *more, steps)),
-        _ => read_at(live, history, by, request, steps),
+        Request::Query { .. }
+        | Request::Explain { .. }
+        | Request::ListTasks
+        | Request::Services
+        | Request::Inbox
+        | Request::History { .. }
+        | Request::Status => read_at(live, history, by, request, steps),
+        Request::Install { .. }
+        | Request::Uninstall { .. }
+        | Request::Grant { .. }
+        | Request::Link { .. } => unreachable!(),
     }
 }
 

@@ -6,7 +6,7 @@ ghost use Rattle.am_model.specs.Sound.{IsSound};
 ghost use Rattle.am_history.specs.Desks.{opening_of};
 ghost use Rattle.am_history.specs.Opening.{opening_with};
 ghost use Rattle.am_opening.specs.Openings.{Refuses};
-ghost use Rattle.am_machine.specs.Beginnings.{Begins, BeginsWith, CanBegin, IsWant};
+ghost use Rattle.am_machine.specs.Beginnings.{Begins, BeginsWith, CanBegin, IsNoMemory};
 
 use crate::archive::Archive;
 use crate::manager::Manager;
@@ -96,7 +96,7 @@ fn open_live(
 
 // The manager that began, unless memory ran out.
 fn begun<K: Keeper>(manager: Result<Manager<K>, BeginFault>) -> Result<Manager<K>, NoMemory>
-    requires { IfErr manager IsWant }
+    requires { IfErr manager IsNoMemory }
     ensures { IfOk result (λ begun. manager ≡ Ok begun) }
 {
     match manager {

@@ -5,7 +5,7 @@ ghost use Rattle.am_types.specs.declared.history.Entry.{Entry};
 ghost use Rattle.am_types.specs.declared.reply.Reply.TheVariants.{Refused};
 ghost use Rattle.am_types.specs.declared.rule.Rule.TheVariants.{KeeperFault};
 ghost use Rattle.am_outside.specs.Counts.{HasRisen};
-ghost use Rattle.am_keeper.specs.declared.failure.KeepFail.TheVariants.{Failed, NoMemory as Want};
+ghost use Rattle.am_keeper.specs.declared.failure.KeepFail.TheVariants.{Failed, NoMemory as RanOut};
 ghost use Rattle.am_keeper.specs.Keeping.{Puts, raised_by};
 ghost use Rattle.am_keeper.specs.Rows.{with_row};
 ghost use Rattle.std.specs.Option.{option_map};
@@ -130,7 +130,7 @@ fn unkept<L: Ledger>(
     ensures failed { IfOk result (λ answered. (answered ≡ record { reply = Refused KeeperFault; kept = false })
         × (live.new ≡ at_moment live.old moment) × (fail ≡ Failed)) }
     ensures same { OnErr result (live.new ≡ live.old) }
-    ensures wanting { OnErr result (fail ≡ Want) }
+    ensures ran_out { OnErr result (fail ≡ RanOut) }
 {
     match fail {
         KeepFail::Failed => {

@@ -21,14 +21,33 @@ pub(crate) fn is_changing(request: &Request) -> bool
     ensures { result ≡ is_changing request.now }
 {
     match request {
-        Request::Query { .. } => false,
-        Request::Explain { .. } => false,
-        Request::ListTasks => false,
-        Request::Services => false,
-        Request::Inbox => false,
-        Request::History { .. } => false,
-        Request::Status => false,
-        _ => true,
+        Request::Query { .. }
+        | Request::Explain { .. }
+        | Request::ListTasks
+        | Request::Services
+        | Request::Inbox
+        | Request::History { .. }
+        | Request::Status => false,
+        Request::Start { .. }
+        | Request::FinishActivity { .. }
+        | Request::Back
+        | Request::StartService { .. }
+        | Request::StopService { .. }
+        | Request::Send { .. }
+        | Request::Register { .. }
+        | Request::Unregister { .. }
+        | Request::Finish { .. }
+        | Request::PendingGet { .. }
+        | Request::PendingSend { .. }
+        | Request::PendingCancel { .. }
+        | Request::PendingGive { .. }
+        | Request::Install { .. }
+        | Request::Uninstall { .. }
+        | Request::Grant { .. }
+        | Request::Link { .. }
+        | Request::ForceStop { .. }
+        | Request::Tick
+        | Request::Advance { .. } => true,
     }
 }
 
@@ -131,7 +150,28 @@ fn steady<L: Ledger>(
         Request::ListTasks => live.tasks(caller),
         Request::Services => live.services(caller),
         Request::History { from } => entries(history, caller, *from),
-        _ => unreachable!(),
+        Request::Inbox
+        | Request::Status
+        | Request::Start { .. }
+        | Request::FinishActivity { .. }
+        | Request::Back
+        | Request::StartService { .. }
+        | Request::StopService { .. }
+        | Request::Send { .. }
+        | Request::Register { .. }
+        | Request::Unregister { .. }
+        | Request::Finish { .. }
+        | Request::PendingGet { .. }
+        | Request::PendingSend { .. }
+        | Request::PendingCancel { .. }
+        | Request::PendingGive { .. }
+        | Request::Install { .. }
+        | Request::Uninstall { .. }
+        | Request::Grant { .. }
+        | Request::Link { .. }
+        | Request::ForceStop { .. }
+        | Request::Tick
+        | Request::Advance { .. } => unreachable!(),
     }
 }
 

@@ -1,5 +1,5 @@
 -- The rights of packages whose uids count up are in order, each once.
-use Rattle.std.proofs.Common.{◌≡◌, ℕ, ◌+◌, ◌<◌, ◌≤◌, Bool, true, false, List, [], ◌∷◌, ◌++◌, length, map, refl, sym, ap, ◌∙◌, arith, rules, nat_cmp, cond, ◌*◌}
+use Rattle.std.proofs.Common.{◌≡◌, ℕ, ◌+◌, ◌<◌, ◌≤◌, Bool, true, false, List, [], ◌∷◌, ◌++◌, length, map, refl, sym, ap, ◌∙◌, arith, nat_cmp, cond, ◌*◌}
 use Rattle.std.specs.Prelude.{◌==◌, ◌||◌, All, IsTrue, count_by, ⊤}
 use Rattle.std.specs.declared.cmp.Ordering.TheVariants.{Less, Equal}
 use Rattle.std.specs.List.{AllByRecursion}
@@ -31,10 +31,6 @@ module _ {X : Type 0} (P : X → Type 0) where
   all_join : (xs ys : List X) → AllByRecursion P xs → AllByRecursion P ys → AllByRecursion P (xs ++ ys)
   all_join [] ys a b = b
   all_join (x ∷ xs) ys a b = (a.0, all_join xs ys a.1 b)
-
--- the test of a uid
-same_uid : (uid : ℕ) → (uid == uid) ≡ true
-same_uid uid = search rules
 
 other_uid : (a b : ℕ) → b < a → (a == b) ≡ false
 other_uid a b lt = grind arith

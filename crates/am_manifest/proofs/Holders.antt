@@ -1,7 +1,7 @@
 -- Rights of packages: the places of the packages, and one right after the other.
 use Rattle.std.proofs.Common.{◌≡◌, ℕ, ◌+◌, ◌-◌, ◌<◌, ◌≤◌, cond, List, [], ◌∷◌, ◌++◌, length, drop, get_or, map, Option, Some, Result, Ok, Err, refl, sym, ap, ◌∙◌, append_assoc, arith}
 use Rattle.std.proofs.Math.ListN.{set}
-use Rattle.std.proofs.lemmas.List.{append-nil, drop_more, drop_all, get_or-map, set-set, map-set}
+use Rattle.std.proofs.lemmas.List.{drop_more, drop_all, get_or-map, set-set, map-set}
 use Rattle.std.specs.BTreeSet.{BTreeSet}
 use Rattle.std.specs.Str.{bytes_eq}
 use Rattle.toml.specs.View.{view}
@@ -103,11 +103,6 @@ module _ (place : List ℕ → Option ℕ) (kind : RightKind) (held : List (List
       let one : rights_from place kind held i (map view (drop i values)) ≡ Ok held = rw (drop_all i values le) refl in
       sym so_far ∙ one
 
--- packages without rights
-with_uids-nil : (packages : List Package) → with_uids packages [] ≡ []
-with_uids-nil [] = refl
-with_uids-nil (p ∷ packages) = refl
-
 module _ (front : List (ℕ × List ℕ)) (packages : List Package) (held : List (BTreeSet (List ℕ))) (i : ℕ)
     (whole : List (ℕ × List ℕ)) where
   pub uids_more : (p : Package) (texts : BTreeSet (List ℕ)) → i < length packages → p ≡ get_or packages i p
@@ -123,19 +118,4 @@ module _ (front : List (ℕ × List ℕ)) (packages : List Package) (held : List
       (map (λ ts. ts.keys) (drop (i + 1) held)) =
       rw (e, e') (sym (append_assoc front (map (λ text. (p.uid, text)) texts.keys)
       (with_uids (drop (i + 1) packages) (map (λ ts. ts.keys) (drop (i + 1) held))))) in
-      sym one ∙ so_far
-
-  pub uids_short : length held ≤ i → front ++ with_uids (drop i packages) (map (λ ts. ts.keys) (drop i held)) ≡ whole
-      → front ≡ whole
-  uids_short le so_far =
-      let one : front ++ with_uids (drop i packages) (map (λ ts. ts.keys) (drop i held))
-      ≡ front = rw (drop_all i held le) (ap (λ (r : List (ℕ × List ℕ)). front ++ r)
-      (with_uids-nil (drop i packages)) ∙ append-nil front) in
-      sym one ∙ so_far
-
-  pub uids_done : length packages ≤ i → front ++ with_uids (drop i packages) (map (λ ts. ts.keys) (drop i held)) ≡ whole
-      → front ≡ whole
-  uids_done le so_far =
-      let one : front ++ with_uids (drop i packages) (map (λ ts. ts.keys) (drop i held))
-      ≡ front = rw (drop_all i packages le) (append-nil front) in
       sym one ∙ so_far

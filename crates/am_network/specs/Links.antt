@@ -1,6 +1,7 @@
 -- Links, the gates at which they arrive, and the network that the gates belong to, as clauses see them.
 use Rattle.std.specs.Prelude.{◌≡◌, ℕ, ◌+◌, ◌≤◌, ◌<◌, ◌⊎◌, Bool, true, false, List, [], ◌∷◌, ◌++◌, length, slice_get, Option, Some, None, IfSome, ⊤, min}
 use Rattle.std.specs.List.{AllByRecursion}
+use Rattle.am_outside.specs.Memory.{one_more}
 use Rattle.am_outside.specs.declared.outside.Source.{Ghosts as SourceGhosts}
 use Rattle.am_outside.specs.declared.outside.Sink.{Ghosts as SinkGhosts}
 
@@ -31,6 +32,16 @@ link_of r w reader writer = record {
 pub record Stand : Type 0 where
   pub link : LinkView
   pub answered : ℕ
+
+-- a link as it is handed out: how it is, and how many of its frames were answered so far if it is handed out again
+pub record Handed : Type 0 where
+  pub link : LinkView
+  pub before : Option ℕ
+
+-- how many links are handed out for the first time by that: one, or none if it is handed out again
+abbrev pub firsts : Option ℕ → ℕ
+firsts None = 1
+firsts (Some before) = 0
 
 -- the links of a gate that tells them: the bytes that come over each, how many were handed out (always the first
 -- ones), those that were taken back, those that are parked and come again, and how many had been handed out
@@ -77,6 +88,10 @@ AreBack links =
     (length links.ended + length links.parked ≡ links.handed)
     × AllByRecursion (λ (stand : Stand). HasOneMark stand.link) links.parked
 
+-- no link is parked
+abbrev pub IsNoneParked : Links → Type 0
+IsNoneParked links = links.parked ≡ []
+
 -- the gate handed out its next link for the first time, or none if no link is to come
 abbrev pub HandsOut : Option Links → Option Links → Option LinkView → Type 0
 HandsOut None new handed = (new ≡ None) × IfSome handed IsFaultless
@@ -85,21 +100,32 @@ HandsOut (Some links) new (Some link) =
     (bytes : List ℕ) × (slice_get links.sent links.handed ≡ Some bytes)
     × (link ≡ new_link links.handed bytes) × (new ≡ Some (record links { handed = links.handed + 1 }))
 
--- the gate handed out its next link for the first time, of which no frame was answered
-abbrev pub HandsNew : Links → Option Links → Stand → Type 0
-HandsNew links new stand = HandsOut (Some links) new (Some stand.link) × (stand.answered ≡ 0)
+-- the gate handed out its next link for the first time
+abbrev pub HandsNew : Links → Option Links → Handed → Type 0
+HandsNew links new handed = HandsOut (Some links) new (Some handed.link) × (handed.before ≡ None)
 
 -- it handed out a parked link again, as it was parked
-abbrev pub HandsAgain : Links → Option Links → Stand → Type 0
-HandsAgain links new stand =
-    (before : List Stand) × (after : List Stand)
+abbrev pub HandsAgain : Links → Option Links → Handed → Type 0
+HandsAgain links new handed =
+    (before : List Stand) × (stand : Stand) × (after : List Stand)
     × (links.parked ≡ before ++ stand ∷ after) × (new ≡ Some (record links { parked = before ++ after }))
+    × (handed ≡ record { link = stand.link; before = Some stand.answered })
 
--- the gate handed out a link for the first time or again, or none if no link is to come
-abbrev pub HandsOn : Option Links → Option Links → Option Stand → Type 0
+-- the gate handed out a link, for the first time or again
+abbrev pub HandsOn : Option Links → Option Links → Handed → Type 0
 HandsOn None new handed = new ≡ None
-HandsOn (Some links) new None = IsClosed links × (new ≡ Some links)
-HandsOn (Some links) new (Some stand) = HandsNew links new stand ⊎ HandsAgain links new stand
+HandsOn (Some links) new handed = HandsNew links new handed ⊎ HandsAgain links new handed
+
+-- no link is to come if new ones are taken, or aren't
+abbrev pub IsDone : Bool → Links → Type 0
+IsDone true links = IsClosed links
+IsDone false links = IsNoneParked links
+
+-- the gate handed out a link, and for the first time only if new ones are taken; or none if no link is to come
+abbrev pub HandsNext : Bool → Option Links → Option Links → Option Handed → Type 0
+HandsNext takes_new old new (Some handed) =
+    HandsOn old new handed × (takes_new ≡ false → firsts handed.before ≡ 0)
+HandsNext takes_new old new None = (new ≡ old) × IfSome old (IsDone takes_new)
 
 -- the links of a gate once a call for the next link failed and handed out none
 abbrev pub failed : Option Links → Option Links
@@ -115,11 +141,10 @@ abbrev pub IsUnread : Option Links → Option (List ℕ) → Type 0
 IsUnread None given = ⊤
 IsUnread (Some links) given = given ≡ Some []
 
--- the same of a link that may be handed out again: it came for the first time if the count of those rose
-abbrev pub IsUnreadAtFirst : Option Links → Option Links → Option (List ℕ) → Type 0
-IsUnreadAtFirst None new given = ⊤
-IsUnreadAtFirst (Some old) None given = ⊤
-IsUnreadAtFirst (Some old) (Some new) given = new.handed ≡ old.handed + 1 → given ≡ Some []
+-- the same of a link that was handed out, unless it was again
+abbrev pub IsUnreadAtFirst : Option Links → Option ℕ → Option (List ℕ) → Type 0
+IsUnreadAtFirst links None given = IsUnread links given
+IsUnreadAtFirst links (Some before) given = ⊤
 
 -- a link may be taken back or parked: one that was handed out is not back yet, and its two ends have one mark
 abbrev pub MayTakeBack : Option Links → LinkView → Type 0
@@ -141,6 +166,11 @@ set_aside (Some links) stand = Some (record links { parked = links.parked ++ sta
 abbrev pub Parks : Bool → Option Links → Option Links → Stand → Type 0
 Parks true old new stand = new ≡ set_aside old stand
 Parks false old new stand = new ≡ taken_back old stand.link
+
+-- the gate's count of faults once it parked the link, or didn't
+abbrev pub parking_counted : Bool → ℕ → ℕ
+parking_counted true faults = faults
+parking_counted false faults = one_more faults
 
 -- no link was handed out, none was taken back or parked, and no call for the next link failed
 abbrev pub AreUntouched : Links → Type 0

@@ -1,5 +1,5 @@
 -- Gates and a network in memory, as their calls see them.
-use Rattle.std.specs.Prelude.{◌≡◌, ℕ, zero, suc, ◌+◌, List, [], ◌∷◌, ◌++◌, map, drop, length, slice_index_or, All, Option, Some, None, Result, Ok, Err}
+use Rattle.std.specs.Prelude.{◌≡◌, ℕ, zero, suc, ◌+◌, Bool, true, false, List, [], ◌∷◌, ◌++◌, map, drop, length, slice_index_or, All, Option, Some, None, Result, Ok, Err}
 use Rattle.am_outside.specs.declared.failure.Failed.{Failed}
 use Rattle.am_outside.specs.Memory.{one_more}
 use Rattle.am_network.specs.declared.network.ListenFail.{ListenFail}
@@ -9,7 +9,7 @@ use Rattle.am_network.specs.declared.memory_link.MemoryReader.{MemoryReader}
 use Rattle.am_network.specs.declared.memory_link.MemoryWriter.{MemoryWriter}
 use Rattle.am_network.specs.declared.memory_link.MemoryLink.{MemoryLink}
 use Rattle.am_network.specs.declared.memory_gate.GatePlan.{GatePlan}
-use Rattle.am_network.specs.Links.{LinkView, Links, Listening, GateView, raised_by}
+use Rattle.am_network.specs.Links.{GateView, Handed, LinkView, Links, Listening, raised_by}
 
 -- the ends of a planned link are unused: nothing was given, nothing was taken, and no fault was counted
 abbrev pub IsUnused : LinkPlan → Type 0
@@ -37,13 +37,17 @@ ends_view ends = record {
   write_mark = ends.1.mark;
 }
 
+-- a link that is handed out, as clauses on any gate see it
+abbrev pub handed_view : MemoryReader × MemoryWriter × Option ℕ → Handed
+handed_view handed = record { link = ends_view (handed.0, handed.1); before = handed.2 }
+
 -- a link that was taken back, as clauses on any gate see it
 abbrev pub link_view : MemoryLink → LinkView
 link_view link = ends_view (link.reader, link.writer)
 
 -- what a gate in memory holds: the planned links, how many of them were handed out, those that were taken
--- back, the numbers of the calls of `accept` that fail, how many such calls there were and failed, and how many links
--- had been handed out at the last failure
+-- back, the numbers of the calls for a link that fail, how many such calls there were, how many failed or were to park a
+-- link, and how many links had been handed out at the last failure
 pub record GateInMemory : Type 0 where
   pub plan : List LinkPlan
   pub handed : ℕ
@@ -105,6 +109,15 @@ handed_out gate (Some ends) = record gate { handed = gate.handed + 1 }
 abbrev pub after_accept : {E : Type 0} → GateInMemory → Result (Option E) Failed → GateInMemory
 after_accept gate (Ok handed) = handed_out (record gate { accepts = one_more gate.accepts }) handed
 after_accept gate (Err e) = failed_once gate
+
+-- the gate after a call of `next_link`, which isn't counted if no new link is taken
+abbrev pub after_next : {E : Type 0} → Bool → GateInMemory → Result (Option E) Failed → GateInMemory
+after_next true gate done = after_accept gate done
+after_next false gate done = gate
+
+-- the gate with a link that it was to park, and ended
+abbrev pub unparked : GateInMemory → MemoryLink → GateInMemory
+unparked gate link = record gate { ended = gate.ended ++ link ∷ []; faults = one_more gate.faults }
 
 -- what a network in memory holds: the gates that are to come, what it was asked for last, the gates that were released
 -- since, the numbers of the calls of `listen` that fail, how many such calls there were and failed, and how many faults

@@ -1,9 +1,9 @@
 //! A gate in memory, whose links and failures are given.
-ghost use Rattle.std.specs.Prelude.{◌≡◌, ◌<◌, ◌≤◌, ◌↔◌, ◌++◌, ◌∷◌, [], Some, IsErr, IsTrue, IfOk, IfSome, OnErr, OnOk, length, slice_get, vec_capacity};
+ghost use Rattle.std.specs.Prelude.{◌≡◌, ◌<◌, ◌≤◌, ◌↔◌, ◌++◌, ◌∷◌, [], false, Some, IsErr, IsTrue, IfOk, IfSome, OnErr, OnOk, length, slice_get, vec_capacity};
 ghost use Rattle.std.specs.Option.{option_map};
 ghost use Rattle.am_outside.specs.Memory.{fails, one_more};
-ghost use Rattle.am_network.specs.Links.{HandsOut, IsUnread, MayTakeBack, link_of, taken_back};
-ghost use Rattle.am_network.specs.Memory.{AreUnused, IsUnused, after_accept, counted, ends_of, ends_view, handed_out, links_of, new_gate};
+ghost use Rattle.am_network.specs.Links.{HandsNext, HandsOut, IsUnread, MayTakeBack, failed, link_of, taken_back};
+ghost use Rattle.am_network.specs.Memory.{AreUnused, IsUnused, after_accept, after_next, counted, ends_of, ends_view, handed_out, handed_view, links_of, new_gate, unparked};
 
 use crate::memory_link::{LinkPlan, MemoryLink, MemoryReader, MemoryWriter};
 use crate::network::Acceptor;
@@ -14,8 +14,8 @@ use std::collections::VecDeque;
 use std::marker::Model;
 use std::snapshot::Snapshot;
 
-/// A gate that is to come: its links, whose readers and writers are unused, and the numbers of the calls of `accept`
-/// that fail, counted from 1.
+/// A gate that is to come: its links, whose readers and writers are unused, and the numbers of the calls for a link that
+/// fail, counted from 1.
 #[derive(Drop)]
 pub struct GatePlan {
     /// The links that arrive, in their order.
@@ -24,7 +24,8 @@ pub struct GatePlan {
     pub failing: List<u32>,
 }
 
-/// A gate in memory. The calls of `accept` with the numbers that it was given fail, and no others.
+/// A gate in memory. The calls for a link with the numbers that it was given fail, and no others. It parks no link, and
+/// counts a fault for each one that it was to park.
 #[derive(Drop)]
 pub struct MemoryGate {
     // The links as they were given, for contracts only.
@@ -107,14 +108,14 @@ impl MemoryGate {
         self.ended.as_slice()
     }
 
-    /// How many calls of `accept` failed. Takes no memory.
+    /// How many calls for a link failed, and how many links weren't parked that were to be. Takes no memory.
     pub fn faults(&self) -> u64
         ensures { result ≡ self.now.faults }
     {
         self.accepts.faults
     }
 
-    // Counts a call of `accept`, and tells whether it is to fail.
+    // Counts a call for a link, and tells whether it is to fail.
     fn count_accept(&mut self) -> Result<(), Failed>
         ensures exact { self.new ≡ counted self.old result }
         ensures fails { IsErr result ↔ IsTrue (fails self.old.failing (one_more self.old.accepts)) }
@@ -185,5 +186,40 @@ impl Acceptor for MemoryGate {
             ≡ taken_back (Some (links_of self.old)) (ends_view (reader, writer)) }
     {
         self.ended.push_reserved(MemoryLink { reader, writer });
+    }
+
+    fn next_link(
+        &mut self,
+        takes_new: bool,
+    ) -> Result<Option<(MemoryReader, MemoryWriter, Option<u32>)>, Failed>
+        ensures exact { self.new ≡ after_next takes_new self.old result }
+        ensures next { IfOk result (λ handed. HandsNext takes_new (Some (links_of self.old))
+            (Some (links_of self.new)) (option_map handed_view handed)) }
+        ensures unread { IfOk result (λ handed. IfSome handed (λ link. link.0.source.given ≡ [])) }
+        ensures none { OnErr result (Some (links_of self.new) ≡ failed (Some (links_of self.old))) }
+        ensures never_falls { self.old.faults ≤ self.new.faults }
+        ensures failed { OnErr result (self.new.faults ≡ one_more self.old.faults) }
+        ensures counted { OnOk result (self.new.faults ≡ self.old.faults) }
+    {
+        if !takes_new {
+            return Ok(None);
+        }
+        let Some((reader, writer)) = self.accept()? else {
+            return Ok(None);
+        };
+        Ok(Some((reader, writer, None)))
+    }
+
+    fn park(&mut self, reader: MemoryReader, writer: MemoryWriter, _answered: u32) -> bool
+        requires { MayTakeBack (Some (links_of self.old)) (ends_view (reader, writer)) }
+        ensures exact { self.new ≡ unparked self.old (record { reader = reader; writer = writer }) }
+        ensures parks { result ≡ false }
+        ensures never_falls { self.old.faults ≤ self.new.faults }
+        ensures back { Some (links_of self.new)
+            ≡ taken_back (Some (links_of self.old)) (ends_view (reader, writer)) }
+    {
+        self.finish(reader, writer);
+        self.accepts.faults = self.accepts.faults.saturating_add(1);
+        false
     }
 }

@@ -3,7 +3,7 @@ ghost use Rattle.std.specs.Prelude.{◌≡◌, ℕ, ◌≤◌, Option, Some, Non
 ghost use Rattle.std.specs.Option.{option_map};
 ghost use Rattle.am_outside.specs.Counts.{HasRisen};
 ghost use Rattle.am_outside.specs.Memory.{one_more};
-ghost use Rattle.am_network.specs.Links.{GateView, HandsOn, HandsOut, IsNewGate, IsUnread, IsUnreadAtFirst, Links, Listening, MayRelease, MayTakeBack, Parks, failed, link_of, listening_at, raised_by, released, taken_back};
+ghost use Rattle.am_network.specs.Links.{AreBack, GateView, HandsNext, HandsOut, IsNewGate, IsNoneParked, IsUnread, IsUnreadAtFirst, Links, Listening, MayRelease, MayTakeBack, Parks, failed, link_of, listening_at, parking_counted, raised_by, released, taken_back};
 
 use am_outside::{Failed, Sink, Source};
 use std::alloc::{AllocError, AllocFailed};
@@ -22,17 +22,21 @@ pub trait Acceptor: Drop + Send {
     /// Its links, if it tells them. Then their readers and writers tell their bytes.
     ghost links: { Self → Option Links };
 
-    /// How many calls of `accept` or `next_link` failed. It stays at the greatest 64-bit number.
+    /// How many calls of `accept` or `next_link` failed, and how many links weren't parked that were to be. It stays at
+    /// the greatest 64-bit number.
     ghost faults: { Self → ℕ };
 
     /// Hands out the next link: its reader and its writer, which have counted no fault yet. If the gate tells its
     /// links, they have given and taken nothing yet, and their mark is the link's number, counted from 0. It answers
-    /// `None` if no link is to come, and waits until one arrives if it can't tell that.
+    /// `None` if no link is to come, and waits until one arrives if it can't tell that. If it tells its links, each one
+    /// that was handed out is back, and none is parked.
     ///
     /// # Errors
     /// `Failed` if the gate failed: its count of faults rose by one, while a call that doesn't fail leaves it as it is.
     /// Its links are as they were, except for how many had been handed out at the last failure.
     fn accept(&mut self) -> Result<Option<(Self::Reader, Self::Writer)>, Failed>
+        requires back { IfSome (links self.old) AreBack }
+        requires none_parked { IfSome (links self.old) IsNoneParked }
         ensures next { IfOk result (λ handed. HandsOut (links self.old) (links self.new)
             (option_map (λ link. link_of Self.Reader.Source Self.Writer.Sink link.0 link.1) handed)) }
         ensures unread { IfOk result (λ handed. IfSome handed (λ link.
@@ -49,45 +53,41 @@ pub trait Acceptor: Drop + Send {
             ≡ taken_back (links self.old) (link_of Self.Reader.Source Self.Writer.Sink reader writer) }
         ensures faults { faults self.new ≡ faults self.old };
 
-    /// Hands out the next link, and how many of its frames were answered before: a link for the first time, as
-    /// `accept` does, with 0, or one that was parked, as it was then and with its count. A gate that parks links hands
-    /// one out again when its reader is ready. This body is for gates that park none.
+    /// Hands out the next link: one for the first time, as `accept` does, if new ones are taken, or one that was parked,
+    /// as it was then and with the count of its frames that were answered. A gate that parks links hands one out again
+    /// when its reader is ready. If no new ones are taken, it answers `None` once no link is left that was handed out.
+    /// If it tells its links, each one that was handed out is back.
     ///
     /// # Errors
     /// `Failed` as in `accept`.
-    fn next_link(&mut self) -> Result<Option<(Self::Reader, Self::Writer, u32)>, Failed>
-        ensures next { IfOk result (λ handed. HandsOn (links self.old) (links self.new)
+    fn next_link(
+        &mut self,
+        takes_new: bool,
+    ) -> Result<Option<(Self::Reader, Self::Writer, Option<u32>)>, Failed>
+        requires back { IfSome (links self.old) AreBack }
+        ensures next { IfOk result (λ handed. HandsNext takes_new (links self.old) (links self.new)
             (option_map (λ link. record {
               link = link_of Self.Reader.Source Self.Writer.Sink link.0 link.1;
-              answered = link.2;
+              before = link.2;
             }) handed)) }
         ensures unread { IfOk result (λ handed. IfSome handed (λ link.
-            IsUnreadAtFirst (links self.old) (links self.new) (Self.Reader.given link.0))) }
+            IsUnreadAtFirst (links self.old) link.2 (Self.Reader.given link.0))) }
         ensures none { OnErr result (links self.new ≡ failed (links self.old)) }
         ensures never_falls { faults self.old ≤ faults self.new }
         ensures failed { OnErr result (faults self.new ≡ one_more (faults self.old)) }
-        ensures counted { OnOk result (faults self.new ≡ faults self.old) }
-    {
-        let Some((reader, writer)) = self.accept()? else {
-            return Ok(None);
-        };
-        Ok(Some((reader, writer, 0)))
-    }
+        ensures counted { OnOk result (faults self.new ≡ faults self.old) };
 
     /// Takes back a link whose reader isn't ready, with the count of its frames that were answered so far, and answers
-    /// whether it is parked, that is, handed out again later. Otherwise it is ended, as by `finish`, which is what this
-    /// body does. Takes no memory.
+    /// whether it is parked, that is, handed out again later. Otherwise it is ended, as by `finish`, and that is a fault
+    /// of the gate. Takes no memory.
     fn park(&mut self, reader: Self::Reader, writer: Self::Writer, answered: u32) -> bool
         requires { MayTakeBack (links self.old) (link_of Self.Reader.Source Self.Writer.Sink reader writer) }
         ensures parks { Parks result (links self.old) (links self.new) (record {
           link = link_of Self.Reader.Source Self.Writer.Sink reader writer;
           answered = answered;
         }) }
-        ensures faults { faults self.new ≡ faults self.old }
-    {
-        self.finish(reader, writer);
-        false
-    }
+        ensures faults { faults self.new ≡ parking_counted result (faults self.old) }
+        ensures never_falls { faults self.old ≤ faults self.new };
 }
 
 /// Why a network doesn't listen.

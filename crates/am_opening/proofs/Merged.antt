@@ -5,7 +5,7 @@ use Rattle.std.specs.List.Sorted.{IsStrictlySortedBy}
 use Rattle.std.specs.Cmp.Lexicographic.{bytes_decides, nat_list_eq_equiv, slice_cmp}
 use Rattle.std.specs.Ordering.{nat_cmp, is_lt, ordering_reverse}
 use Rattle.std.specs.declared.cmp.Ordering.TheVariants.{Less, Equal, Greater}
-use Rattle.std.proofs.lemmas.Bool.{false≢true, and_from, eq-eqb, eqb-true}
+use Rattle.std.proofs.lemmas.Bool.{false≢true, and_from, eq-eqb, eqb-true, false_from_ne_true}
 use Rattle.std.proofs.lemmas.Map.Lookups.{exact_bytes, exact_unsigned}
 use Rattle.am_model.specs.Sound.{right_cmp}
 use Rattle.am_model.specs.Texts.{is_same}
@@ -36,16 +36,11 @@ tied_is r s e =
 never_itself : (r : Right) → right_cmp r r ≡ Less → ⊥
 never_itself r e = let turned : Less ≡ Greater = sym e ∙ right_total.antisymm r r ∙ ap ordering_reverse e in cc
 
--- what stands before isn't the same
-isnt : (b : Bool) → (b ≡ true → ⊥) → b ≡ false
-isnt true never = absurd (never refl)
-isnt false never = refl
-
 apart : (r s : Right) → right_cmp r s ≡ Less → is_right r s ≡ false
-apart r s l = isnt (is_right r s) (λ e. never_itself r (subst (λ (t : Right). right_cmp r t ≡ Less) (same_is r s e) l))
+apart r s l = false_from_ne_true (is_right r s) (λ e. never_itself r (subst (λ (t : Right). right_cmp r t ≡ Less) (same_is r s e) l))
 
 apart_back : (r s : Right) → right_cmp s r ≡ Less → is_right r s ≡ false
-apart_back r s l = isnt (is_right r s) (λ e. never_itself r (subst (λ (t : Right). right_cmp t r ≡ Less) (same_is r s e)
+apart_back r s l = false_from_ne_true (is_right r s) (λ e. never_itself r (subst (λ (t : Right). right_cmp t r ≡ Less) (same_is r s e)
     l))
 
 not_before : (r s : Right) → right_cmp s r ≡ Less → is_before r s ≡ false

@@ -1,7 +1,7 @@
 -- Rights that are moved one by one.
 use Rattle.std.proofs.Common.{◌≡◌, ◌<◌, true, false, cond, List, [], ◌∷◌, ◌++◌, length, take, drop, refl, sym, ap, ◌∙◌, append_assoc, append-nil, arith}
 use Rattle.am_model.specs.Rights.{Right}
-use Rattle.am_opening.specs.Merging.{front, behind_front, unless_first, is_first_before, is_first}
+use Rattle.am_opening.specs.Merging.{front, behind_front, is_first_before}
 
 -- what was moved and what is still to be moved is what is to be moved in all
 pub record IsMoving (r : Right) (done' left' done left : List Right) : Type 0 where
@@ -47,11 +47,3 @@ moved_all r done' left' done left first moving =
 pub left_all : (r : Right) (done' left' done left : List Right) → is_first_before r left ≡ false
     → IsMoving r done' left' done left → left ≡ behind_front r left'
 left_all r done' left' done left first moving = sym (behind_all r left first) ∙ moving.behind
-
-pub first_dropped : (r : Right) (left : List Right) → is_first r left ≡ true → drop 1 left ≡ unless_first r left
-first_dropped r [] first = absurd cc
-first_dropped r (s ∷ more) first = sym (ap (λ b. cond b more (s ∷ more)) first)
-
-pub first_kept : (r : Right) (left : List Right) → is_first r left ≡ false → left ≡ unless_first r left
-first_kept r [] first = refl
-first_kept r (s ∷ more) first = sym (ap (λ b. cond b more (s ∷ more)) first)

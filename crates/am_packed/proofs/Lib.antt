@@ -1,3 +1,4 @@
 pub mod Digits
 pub mod Reading
 pub mod Back
+pub mod Light

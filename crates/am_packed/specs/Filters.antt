@@ -1,11 +1,11 @@
 -- Filters as bytes.
-use Rattle.std.specs.Prelude.{◌≡◌, ℕ, zero, suc, List, refl}
+use Rattle.std.specs.Prelude.{◌≡◌, ℕ, zero, suc, false, List, refl}
 use Rattle.am_types.specs.declared.filter.Authority.{Authority}
 use Rattle.am_types.specs.declared.filter.PathRule.{PathRule}
 use Rattle.am_types.specs.declared.filter.PathRule.TheVariants as rules
 use Rattle.am_types.specs.declared.filter.Filter.{Filter}
 use Rattle.am_packed.specs.Forms.{Form, ◌and◌, ◌&◌, made_of}
-use Rattle.am_packed.specs.Numbers.{number, whole}
+use Rattle.am_packed.specs.Numbers.{number, short_number, short_whole}
 use Rattle.am_packed.specs.Texts.{text}
 use Rattle.am_packed.specs.Lists.{option_of, list_of}
 use Rattle.am_packed.specs.Intents.{mime_form}
@@ -13,7 +13,7 @@ use Rattle.am_packed.specs.Intents.{mime_form}
 -- a host and its port
 unfoldable pub authority_form : Form Authority
 authority_form =
-    made_of (text and option_of number) (λ x. x.host & x.port) (λ p. record { host = p.0; port = p.1 })
+    made_of (text and option_of short_number) (λ x. x.host & x.port) (λ p. record { host = p.0; port = p.1 })
     (λ x. refl)
 
 -- the number of a rule on paths
@@ -43,15 +43,24 @@ rule_back (rules.Prefix words) = refl
 rule_back (rules.Suffix words) = refl
 rule_back (rules.Pattern words) = refl
 
--- a rule on paths
+-- a rule on paths as its number and its text
+abbrev pub path_parts : Form PathRule
+path_parts = made_of (number and text) (λ x. rule_number x & rule_text x) (λ p. rule_of p.0 p.1) rule_back
+
+-- a rule on paths, which has a text and so isn't light
 unfoldable pub path_form : Form PathRule
-path_form = made_of (number and text) (λ x. rule_number x & rule_text x) (λ p. rule_of p.0 p.1) rule_back
+path_form = record {
+  bytes = path_parts.bytes;
+  read = path_parts.read;
+  light = λ rule. false;
+  again = path_parts.again;
+}
 
 -- a filter
 unfoldable pub filter_form : Form Filter
 filter_form =
     made_of (list_of text and list_of text and list_of text and list_of authority_form and list_of path_form and
-    list_of mime_form and whole)
+    list_of mime_form and short_whole)
     (λ x. x.actions & x.categories & x.schemes & x.authorities & x.paths & x.types & x.priority)
     (λ p. record {
       actions = p.0;

@@ -1,11 +1,13 @@
 -- What the packed form of a value is, and how forms are put together.
-use Rattle.std.specs.Prelude.{◌≡◌, ℕ, List, ◌++◌, refl}
+use Rattle.std.specs.Prelude.{◌≡◌, ℕ, Bool, ◌&&◌, List, ◌++◌, refl}
 use Rattle.std.proofs.Common.{ap, ◌∙◌, append_assoc}
 
--- the bytes of each value, and a reading of bytes that gives back the value that they begin with, and what follows
+-- the bytes of each value, a reading of bytes that gives back the value that they begin with, and what follows, and
+-- which values are light: reading them takes no memory
 pub record Form (A : Type 0) : Type 0 where
   pub bytes : A → List ℕ
   pub read : List ℕ → A × List ℕ
+  pub light : A → Bool
   pub again : (x : A) (rest : List ℕ) → read (bytes x ++ rest) ≡ (x, rest)
 
 module _ {A B : Type 0} where
@@ -23,6 +25,7 @@ module _ {A B : Type 0} where
   both f g = record {
     bytes = λ x. f.bytes x.0 ++ g.bytes x.1;
     read = λ s. then_read g.read (f.read s);
+    light = λ x. f.light x.0 && g.light x.1;
     again = both_again f g;
   }
 
@@ -41,5 +44,6 @@ module _ {A B : Type 0} where
   made_of f to from back = record {
     bytes = λ x. f.bytes (to x);
     read = λ s. (from (f.read s).0, (f.read s).1);
+    light = λ x. f.light (to x);
     again = λ x s. ap (λ (r : B × List ℕ). (from r.0, r.1)) (f.again (to x) s) ∙ ap (λ (y : A). (y, s)) (back x);
   }

@@ -1,5 +1,5 @@
 -- Intents as bytes.
-use Rattle.std.specs.Prelude.{◌≡◌, ℕ, zero, suc, false, List, [], ◌∷◌, ◌++◌, if◌then◌else◌, nat_eq, refl}
+use Rattle.std.specs.Prelude.{◌≡◌, ℕ, zero, suc, Bool, true, false, List, [], ◌∷◌, ◌++◌, if◌then◌else◌, nat_eq, refl}
 use Rattle.am_types.specs.declared.manifest.Kind.{Kind}
 use Rattle.am_types.specs.declared.manifest.Kind.TheVariants as kinds
 use Rattle.am_types.specs.declared.intent.Component.{Component}
@@ -12,7 +12,7 @@ use Rattle.am_types.specs.declared.uri.Uri.{Uri}
 use Rattle.am_types.specs.declared.uri.Mime.{Mime}
 use Rattle.am_types.specs.declared.pending.PendingFlags.{PendingFlags}
 use Rattle.am_packed.specs.Forms.{Form, ◌and◌, ◌&◌, made_of}
-use Rattle.am_packed.specs.Numbers.{number, flag, whole}
+use Rattle.am_packed.specs.Numbers.{short_number, flag, whole}
 use Rattle.am_packed.specs.Texts.{text}
 use Rattle.am_packed.specs.Lists.{option_of, list_of}
 
@@ -26,14 +26,24 @@ kind_number kinds.Receiver = 2
 abbrev pub kind_of : ℕ → Kind
 kind_of n = if nat_eq n 0 then kinds.Activity else (if nat_eq n 1 then kinds.Service else kinds.Receiver)
 
-pub kind_back : (kind : Kind) → kind_of (kind_number kind) ≡ kind
-kind_back kinds.Activity = refl
-kind_back kinds.Service = refl
-kind_back kinds.Receiver = refl
+-- the kind that bytes begin with, and what follows the first
+abbrev pub kind_at : List ℕ → Kind × List ℕ
+kind_at [] = (kinds.Activity, [])
+kind_at (first ∷ others) = (kind_of first, others)
 
--- a kind of component
+pub kind_again : (kind : Kind) (rest : List ℕ) → kind_at ((kind_number kind ∷ []) ++ rest) ≡ (kind, rest)
+kind_again kinds.Activity rest = refl
+kind_again kinds.Service rest = refl
+kind_again kinds.Receiver rest = refl
+
+-- a kind of component, as the byte of its number
 unfoldable pub kind_form : Form Kind
-kind_form = made_of number kind_number kind_of kind_back
+kind_form = record {
+  bytes = λ kind. kind_number kind ∷ [];
+  read = kind_at;
+  light = λ kind. true;
+  again = kind_again;
+}
 
 -- the name of a component
 unfoldable pub component_form : Form Component
@@ -43,7 +53,7 @@ component_form =
 -- a URI with its parts
 unfoldable pub uri_form : Form Uri
 uri_form =
-    made_of (text and text and option_of text and option_of number and text)
+    made_of (text and text and option_of text and option_of short_number and text)
     (λ x. x.text & x.scheme & x.host & x.port & x.path)
     (λ p. record { text = p.0; scheme = p.1.0; host = p.1.1.0; port = p.1.1.1.0; path = p.1.1.1.1 }) (λ x. refl)
 
@@ -70,9 +80,15 @@ extra_again (extras.Word words) rest = rw (text.again words rest) refl
 extra_again (extras.Whole x) rest = rw (whole.again x rest) refl
 extra_again (extras.Truth so) rest = rw (flag.again so rest) refl
 
+-- a number or a truth is light, and a text isn't
+abbrev pub extra_light : Extra → Bool
+extra_light (extras.Word words) = text.light words
+extra_light (extras.Whole x) = whole.light x
+extra_light (extras.Truth so) = flag.light so
+
 -- the value of an extra
 unfoldable pub extra_form : Form Extra
-extra_form = record { bytes = extra_bytes; read = extra_at; again = extra_again }
+extra_form = record { bytes = extra_bytes; read = extra_at; light = extra_light; again = extra_again }
 
 -- an extra under its key
 unfoldable pub named_form : Form Named

@@ -1,5 +1,5 @@
 -- Options and lists as bytes.
-use Rattle.std.specs.Prelude.{◌≡◌, ℕ, zero, suc, Option, Some, None, List, [], ◌∷◌, ◌++◌, length, refl}
+use Rattle.std.specs.Prelude.{◌≡◌, ℕ, zero, suc, Bool, true, false, Option, Some, None, List, [], ◌∷◌, ◌++◌, length, refl}
 use Rattle.std.specs.List.{flat_map}
 use Rattle.std.proofs.Common.{append_assoc}
 use Rattle.am_packed.specs.Forms.{Form}
@@ -22,9 +22,19 @@ module _ {A : Type 0} where
   option_again f None rest = refl
   option_again f (Some x) rest = rw (f.again x rest) refl
 
+  -- none is light, and so is a light value
+  abbrev pub option_light : (A → Bool) → Option A → Bool
+  option_light light None = true
+  option_light light (Some x) = light x
+
   -- a value, if there is one
   abbrev pub option_of : Form A → Form (Option A)
-  option_of f = record { bytes = option_bytes f.bytes; read = option_at f.read; again = option_again f }
+  option_of f = record {
+    bytes = option_bytes f.bytes;
+    read = option_at f.read;
+    light = option_light f.light;
+    again = option_again f;
+  }
 
   -- so many values that bytes begin with, and what follows them
   abbrev pub items_at : (List ℕ → A × List ℕ) → ℕ → List ℕ → List A × List ℕ
@@ -55,10 +65,16 @@ module _ {A : Type 0} where
         items_again f xs rest,
       ) refl
 
-  -- a list: how many values it has, then these
+  -- whether there are no values
+  abbrev pub is_empty : List A → Bool
+  is_empty [] = true
+  is_empty (x ∷ xs) = false
+
+  -- a list: how many values it has, then these; it is light if it has none
   abbrev pub list_of : Form A → Form (List A)
   list_of f = record {
     bytes = λ xs. number.bytes (length xs) ++ flat_map f.bytes xs;
     read = λ s. counted_at f.read (number.read s);
+    light = is_empty;
     again = list_again f;
   }

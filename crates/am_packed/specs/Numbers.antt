@@ -9,6 +9,7 @@ use Rattle.std.specs.Prelude.{
   ◌*◌,
   ◌/◌,
   ◌%◌,
+  ◌^◌,
   ◌≤◌,
   Bool,
   true,
@@ -52,13 +53,22 @@ digits_again (suc more) n rest le =
           rw (le-ltb n 128 large, le-ltb (n % 128 + 128) 128 (omega arith), goes_on) (ap (λ k. (k, rest)) front)
     ]
 
--- a number, which ranges over all of them
-unfoldable pub number : Form ℕ
-number = record {
+-- a number, which is light below that limit
+abbrev pub number_below : ℕ → Form ℕ
+number_below limit = record {
   bytes = λ n. digits n n;
   read = number_at;
+  light = λ n. nat_lt n limit;
   again = λ n rest. digits_again n n rest (omega arith);
 }
+
+-- a number of 64 bits
+unfoldable pub number : Form ℕ
+number = number_below (2 ^ 64)
+
+-- a number of 32 bits
+unfoldable pub short_number : Form ℕ
+short_number = number_below (2 ^ 32)
 
 -- whether so, as a byte that is 1 if it is
 abbrev pub flag_bytes : Bool → List ℕ
@@ -76,7 +86,7 @@ flag_again false rest = refl
 
 -- whether so
 unfoldable pub flag : Form Bool
-flag = record { bytes = flag_bytes; read = flag_at; again = flag_again }
+flag = record { bytes = flag_bytes; read = flag_at; light = λ so. true; again = flag_again }
 
 -- a whole number: a byte that is 0 if it isn't negative, then how far it is from 0, or from -1
 abbrev pub whole_bytes : ℤ → List ℕ
@@ -87,15 +97,32 @@ whole_bytes (negsuc n) = 1 ∷ number.bytes n
 abbrev pub signed : ℕ → ℕ → ℤ
 signed sign n = if nat_eq sign 0 then pos n else negsuc n
 
+-- the whole number of that sign, so far from 0, or from -1, as was read, and what follows it
+abbrev pub signed_read : ℕ → ℕ × List ℕ → ℤ × List ℕ
+signed_read sign far = (signed sign far.0, far.1)
+
 -- the whole number that bytes begin with, and what follows it
 abbrev pub whole_at : List ℕ → ℤ × List ℕ
 whole_at [] = (pos 0, [])
-whole_at (sign ∷ others) = (signed sign (number.read others).0, (number.read others).1)
+whole_at (sign ∷ others) = signed_read sign (number.read others)
 
 pub whole_again : (x : ℤ) (rest : List ℕ) → whole_at (whole_bytes x ++ rest) ≡ (x, rest)
 whole_again (pos n) rest = rw (number.again n rest) refl
 whole_again (negsuc n) rest = rw (number.again n rest) refl
 
--- a whole number, which ranges over all of them
+-- whether a whole number is less than so far from 0, or from -1
+abbrev pub is_near : ℕ → ℤ → Bool
+is_near limit (pos n) = nat_lt n limit
+is_near limit (negsuc n) = nat_lt n limit
+
+-- a whole number, which is light within that limit
+abbrev pub whole_within : ℕ → Form ℤ
+whole_within limit = record { bytes = whole_bytes; read = whole_at; light = is_near limit; again = whole_again }
+
+-- a whole number of 64 bits
 unfoldable pub whole : Form ℤ
-whole = record { bytes = whole_bytes; read = whole_at; again = whole_again }
+whole = whole_within (2 ^ 63)
+
+-- a whole number of 32 bits
+unfoldable pub short_whole : Form ℤ
+short_whole = whole_within (2 ^ 31)

@@ -1,5 +1,5 @@
 -- Texts as bytes.
-use Rattle.std.specs.Prelude.{◌≡◌, ℕ, List, ◌++◌, length, take, drop, refl}
+use Rattle.std.specs.Prelude.{◌≡◌, ℕ, false, List, ◌++◌, length, take, drop, refl}
 use Rattle.std.proofs.Common.{append_assoc}
 use Rattle.std.proofs.lemmas.List.{take_at, drop_at}
 use Rattle.am_packed.specs.Forms.{Form}
@@ -23,5 +23,6 @@ unfoldable pub text : Form (List ℕ)
 text = record {
   bytes = λ t. number.bytes (length t) ++ t;
   read = λ s. parted (number.read s);
+  light = λ t. false;
   again = text_again;
 }

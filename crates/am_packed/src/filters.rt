@@ -1,5 +1,5 @@
 //! Filters and their parts.
-ghost use Rattle.std.specs.Prelude.{◌≡◌, ◌++◌, OnOk, IfOk};
+ghost use Rattle.std.specs.Prelude.{◌≡◌, ◌++◌, OnOk, IfOk, IsOk, IsTrue};
 ghost use Rattle.am_packed.specs.Filters.{authority_form, path_form, rule_number, rule_of, rule_text, filter_form};
 
 use crate::form::{Pack, Parts, pack_parts, parts, unpack_parts};

@@ -1,5 +1,5 @@
 //! Values that can be packed, whole or part by part.
-ghost use Rattle.std.specs.Prelude.{◌≡◌, ◌++◌, OnOk, IfOk};
+ghost use Rattle.std.specs.Prelude.{◌≡◌, ◌++◌, OnOk, IfOk, IsOk, IsTrue};
 ghost use Rattle.am_packed.specs.Forms.{Form, both};
 
 use am_types::NoMemory;
@@ -14,9 +14,11 @@ pub trait Pack: Drop {
     fn pack(&self, out: &mut Vec<u8>) -> Result<(), NoMemory>
         ensures { OnOk result (out.new.items ≡ out.old.items ++ form.bytes self.now) };
 
-    /// The value that the bytes begin with, and what follows it. What was packed is unpacked unless memory runs out.
+    /// The value that the bytes begin with, and what follows it. What was packed is unpacked unless memory runs out,
+    /// and a light value always.
     fn unpack(alloc: Global, bytes: &[u8]) -> Result<(Self, &[u8]), NoMemory>
-        ensures { IfOk result (λ read. (read.0, read.1.now) ≡ form.read bytes.now) };
+        ensures read { IfOk result (λ read. (read.0, read.1.now) ≡ form.read bytes.now) }
+        ensures light { IsTrue (form.light (form.read bytes.now).0) → IsOk result };
 }
 
 #[tactic(auto, unfolding(crate::specs::Forms::both))]

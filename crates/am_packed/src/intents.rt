@@ -1,5 +1,5 @@
 //! Intents and their parts, and the outcomes of broadcasts, which carry extras too.
-ghost use Rattle.std.specs.Prelude.{◌≡◌, ◌++◌, OnOk, IfOk};
+ghost use Rattle.std.specs.Prelude.{◌≡◌, ◌++◌, OnOk, IfOk, IsOk, IsTrue};
 ghost use Rattle.am_packed.specs.Outcomes.{outcome_form, ordered_form};
 ghost use Rattle.am_packed.specs.Intents.{kind_form, component_form, uri_form, mime_form, extra_form, named_form, flags_form, intent_form, pending_flags_form};
 
@@ -15,20 +15,21 @@ impl Pack for Kind {
     ghost form = { kind_form };
 
     fn pack(&self, out: &mut Vec<u8>) -> Result<(), NoMemory> {
-        let number: u64 = match self {
+        out.push(match self {
             Kind::Activity => 0,
             Kind::Service => 1,
             Kind::Receiver => 2,
-        };
-        number.pack(out)
+        })?;
+        Ok(())
     }
 
     fn unpack(alloc: Global, bytes: &[u8]) -> Result<(Kind, &[u8]), NoMemory> {
-        let (number, rest) = u64::unpack(alloc, bytes)?;
-        match number {
-            0 => Ok((Kind::Activity, rest)),
-            1 => Ok((Kind::Service, rest)),
-            _ => Ok((Kind::Receiver, rest)),
+        let _ = alloc;
+        match bytes {
+            [] => Ok((Kind::Activity, bytes)),
+            [0, rest @ ..] => Ok((Kind::Activity, rest)),
+            [1, rest @ ..] => Ok((Kind::Service, rest)),
+            [_, rest @ ..] => Ok((Kind::Receiver, rest)),
         }
     }
 }

@@ -1,5 +1,5 @@
 //! Options and lists.
-ghost use Rattle.std.specs.Prelude.{◌≡◌, ◌++◌, OnOk, IfOk};
+ghost use Rattle.std.specs.Prelude.{◌≡◌, ◌++◌, OnOk, IfOk, IsOk, IsTrue};
 ghost use Rattle.am_packed.specs.Lists.{option_of, list_of, items_at};
 
 use crate::form::Pack;
@@ -55,7 +55,8 @@ impl<T: Pack> Pack for List<T> {
 
 // So many values that the bytes begin with, and what follows them.
 fn items_at<T: Pack>(alloc: Global, count: u64, bytes: &[u8]) -> Result<(Vec<T>, &[u8]), NoMemory>
-    ensures { IfOk result (λ read. (read.0.items, read.1.now) ≡ items_at T.form.read count bytes.now) }
+    ensures read { IfOk result (λ read. (read.0.items, read.1.now) ≡ items_at T.form.read count bytes.now) }
+    ensures none { count ≡ 0 → IsOk result }
 {
     let mut items = Vec::new(alloc);
     let mut rest = bytes;

@@ -1,6 +1,6 @@
 //! Numbers.
-ghost use Rattle.std.specs.Prelude.{◌≡◌, ◌++◌, ◌*◌, OnOk, IfOk, IfSome};
-ghost use Rattle.am_packed.specs.Numbers.{number, number_at, flag, whole};
+ghost use Rattle.std.specs.Prelude.{◌≡◌, ◌++◌, ◌*◌, ◌^◌, ◌≤◌, OnOk, IfOk, IfSome, IfNone, IsOk, IsTrue};
+ghost use Rattle.am_packed.specs.Numbers.{number, short_number, number_at, flag, is_near, signed, signed_read, whole, short_whole};
 
 use crate::form::Pack;
 use am_types::NoMemory;
@@ -43,7 +43,8 @@ impl Pack for u64 {
 
 // The number that the bytes begin with, and what follows it; none if it has more than 64 bits.
 fn number_at(bytes: &[u8]) -> Option<(u64, &[u8])>
-    ensures { IfSome result (λ read. (read.0, read.1.now) ≡ number_at bytes.now) }
+    ensures read { IfSome result (λ read. (read.0, read.1.now) ≡ number_at bytes.now) }
+    ensures none { IfNone result (2 ^ 64 ≤ (number_at bytes.now).0) }
 {
     match bytes {
         [] => Some((0, bytes)),
@@ -58,8 +59,9 @@ fn number_at(bytes: &[u8]) -> Option<(u64, &[u8])>
     }
 }
 
+#[tactic(auto, unfolding(crate::specs::Numbers::number, crate::specs::Numbers::short_number))]
 impl Pack for u32 {
-    ghost form = { number };
+    ghost form = { short_number };
 
     fn pack(&self, out: &mut Vec<u8>) -> Result<(), NoMemory> {
         u64::from(*self).pack(out)
@@ -106,20 +108,28 @@ impl Pack for i64 {
     fn unpack(alloc: Global, bytes: &[u8]) -> Result<(i64, &[u8]), NoMemory> {
         match bytes {
             [] => Ok((0, bytes)),
-            [sign, others @ ..] => {
-                let (far, rest) = u64::unpack(alloc, others)?;
-                match i64::try_from(far) {
-                    Ok(far) if *sign == 0 => Ok((far, rest)),
-                    Ok(far) => Ok((-far - 1, rest)),
-                    Err(_) => Err(NoMemory),
-                }
-            }
+            [sign, others @ ..] => signed_at(alloc, *sign, others),
         }
     }
 }
 
+// The whole number of that sign, so far from 0, or from -1, as the bytes begin with, and what follows it.
+#[tactic(auto, using(crate::proofs::Light::far_fits))]
+fn signed_at(alloc: Global, sign: u8, bytes: &[u8]) -> Result<(i64, &[u8]), NoMemory>
+    ensures read { IfOk result (λ read. (read.0, read.1.now) ≡ signed_read sign (number.read bytes.now)) }
+    ensures light { IsTrue (is_near (2 ^ 63) (signed sign (number.read bytes.now).0)) → IsOk result }
+{
+    let (far, rest) = u64::unpack(alloc, bytes)?;
+    match i64::try_from(far) {
+        Ok(far) if sign == 0 => Ok((far, rest)),
+        Ok(far) => Ok((-far - 1, rest)),
+        Err(_) => Err(NoMemory),
+    }
+}
+
+#[tactic(auto, unfolding(crate::specs::Numbers::whole, crate::specs::Numbers::short_whole))]
 impl Pack for i32 {
-    ghost form = { whole };
+    ghost form = { short_whole };
 
     fn pack(&self, out: &mut Vec<u8>) -> Result<(), NoMemory> {
         i64::from(*self).pack(out)

@@ -1,5 +1,5 @@
 //! Bytes that hold one value and nothing else.
-ghost use Rattle.std.specs.Prelude.{◌≡◌, IfOk};
+ghost use Rattle.std.specs.Prelude.{◌≡◌, IfOk, IsOk, IsTrue};
 ghost use Rattle.am_packed.specs.Parts.{value_of};
 
 use crate::form::{Pack, Parts};
@@ -16,9 +16,10 @@ pub fn bytes_of<P: Parts>(alloc: Global, out: &mut Vec<u8>, parts: &P) -> Result
     Ok(Vec::from_slice(alloc, out)?)
 }
 
-/// The value of these bytes.
+/// The value of these bytes. A light value takes no memory.
 pub fn value_of<A: Pack>(alloc: Global, bytes: &[u8]) -> Result<A, NoMemory>
-    ensures { IfOk result (λ value. value ≡ value_of A.form bytes.now) }
+    ensures read { IfOk result (λ value. value ≡ value_of A.form bytes.now) }
+    ensures light { IsTrue (A.form.light (value_of A.form bytes.now)) → IsOk result }
 {
     let (value, _) = A::unpack(alloc, bytes)?;
     Ok(value)

@@ -127,10 +127,10 @@ module _ (all : Pendings) (token uid : ℕ) (filled : Option Intent) where
         (Err NotHolder)) e ∙ ap (used_as kept) l
 
 -- if memory runs out for a fill-in, there is room for the extras
-pub wanting_fill : (kept other : Intent) (r : Result Intent FillFault) → r ≡ Err fault.NoMemory
+pub ran_out_filling : (kept other : Intent) (r : Result Intent FillFault) → r ≡ Err fault.NoMemory
     → (fill_in kept other ≡ Err fault.ExtrasFull → r ≡ Err fault.ExtrasFull) → IsOk (fill_in kept other)
 unfolding fill_in
-wanting_fill kept other r e back =
+ran_out_filling kept other r e back =
     cond_both (nat_lt 64 (length (united_extras kept.extras other.extras))) (Err fault.ExtrasFull)
     (Ok (filled kept other)) IsOk
     (λ full. let both : r ≡ Err fault.ExtrasFull = back (rw full refl) in absurd cc) (λ _. refl)

@@ -67,7 +67,7 @@ fn lent(alloc: Global, kept: &Record, fill: Option<&Intent>) -> Result<Intent, F
     ensures ok { IfOk result (λ intent. lent_by kept.now (option_copied fill.entry) ≡ Ok intent) }
     ensures full { (result ≡ Err FillFault.ExtrasFull)
         → (lent_by kept.now (option_copied fill.entry) ≡ Err FillFault.ExtrasFull) }
-    ensures wanting { result ≡ Err FillFault.NoMemory → IsOk (lent_by kept.now (option_copied fill.entry)) }
+    ensures ran_out { result ≡ Err FillFault.NoMemory → IsOk (lent_by kept.now (option_copied fill.entry)) }
 {
     let key = kept.key();
     match fill {
@@ -119,7 +119,7 @@ impl Pending {
         requires { self.old.next ≤ greatest_number }
         ensures answer { IsAnswer result self.old self.new (get self.old
             (record { creator = creator; kind = kind; code = code; intent = intent; flags = flags })) }
-        ensures wanting { result ≡ Err PendingFault.NoMemory
+        ensures ran_out { result ≡ Err PendingFault.NoMemory
             → IsOk (get self.old
             (record { creator = creator; kind = kind; code = code; intent = intent; flags = flags })) }
         ensures next { self.new.next ≤ self.old.next + 1 }
@@ -166,7 +166,7 @@ impl Pending {
         requires next { self.old.next ≤ greatest_number }
         requires absent { token_in key self.old.records ≡ None }
         ensures answer { IsAnswer result self.old self.new (made_for self.old no_create key) }
-        ensures wanting { result ≡ Err PendingFault.NoMemory → IsOk (made_for self.old no_create key) }
+        ensures ran_out { result ≡ Err PendingFault.NoMemory → IsOk (made_for self.old no_create key) }
         ensures next { self.new.next ≤ self.old.next + 1 }
     {
         if no_create {
@@ -194,7 +194,7 @@ impl Pending {
         requires next { self.old.next ≤ greatest_number }
         requires found { token_in key self.old.records ≡ Some old }
         ensures answer { IsAnswer result self.old self.new (renewed_for self.old old no_create key) }
-        ensures wanting { result ≡ Err PendingFault.NoMemory → IsOk (renewed_for self.old old no_create key) }
+        ensures ran_out { result ≡ Err PendingFault.NoMemory → IsOk (renewed_for self.old old no_create key) }
         ensures next { self.new.next ≤ self.old.next + 1 }
         ensures steps { steps.new ≤ steps.old + 1 }
     {
@@ -347,7 +347,7 @@ impl Pending {
         steps: &mut Steps<L>,
     ) -> Result<(), PendingFault>
         ensures answer { IsChange result self.old self.new (give self.old token uid to) }
-        ensures wanting { result ≡ Err PendingFault.NoMemory → IsOk (give self.old token uid to) }
+        ensures ran_out { result ≡ Err PendingFault.NoMemory → IsOk (give self.old token uid to) }
         ensures next { self.new.next ≡ self.old.next }
         ensures steps { steps.new ≤ steps.old + 1 }
     {
@@ -367,7 +367,7 @@ impl Pending {
         steps: &mut Steps<L>,
     ) -> Result<Used, PendingFault>
         ensures answer { IsUse result (use_token self.now token uid (option_copied fill.entry)) }
-        ensures wanting { result ≡ Err PendingFault.NoMemory
+        ensures ran_out { result ≡ Err PendingFault.NoMemory
             → IsOk (use_token self.now token uid (option_copied fill.entry)) }
         ensures steps { steps.new ≤ steps.old + 1 }
     {

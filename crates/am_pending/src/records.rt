@@ -120,7 +120,7 @@ impl Records {
     pub fn give(&mut self, token: u64, uid: u32, to: u32) -> Result<(), PendingFault>
         ensures answer { (next : ℕ) → IsChange result (before self.old next) (before self.new next)
             (give (before self.old next) token uid to) }
-        ensures wanting { result ≡ Err PendingFault.NoMemory
+        ensures ran_out { result ≡ Err PendingFault.NoMemory
             → (next : ℕ) → IsOk (give (before self.old next) token uid to) }
     {
         let Some(kept) = self.by_token.get_mut(&token) else {

@@ -3,6 +3,7 @@ use Rattle.std.proofs.Common.{◌≡◌, ℕ, Bool, true, false, not, ◌&&◌, 
 use Rattle.std.specs.Prelude.{Option, Some, None, is_some, ◌==◌, Ok, Err}
 use Rattle.std.specs.Option.{option_map}
 use Rattle.std.specs.List.{filter, list_all}
+use Rattle.std.proofs.lemmas.Bool.{and_parts, false_from_ne_true}
 use Rattle.am_types.specs.declared.broadcast.Answer.{Answer}
 use Rattle.am_types.specs.declared.broadcast.FinishFault.{FinishFault}
 use Rattle.am_types.specs.declared.broadcast.FinishFault.TheVariants.{NotYours, NotOrdered}
@@ -32,17 +33,13 @@ neither : (a b : Option Held) → or_held a b ≡ None → (a ≡ None) × (b �
 neither None b none = (refl, none)
 neither (Some held) b none = absurd cc
 
-both : (a b : Bool) → a && b ≡ true → (a ≡ true) × (b ≡ true)
-both true b pass = (refl, pass)
-both false b pass = cc
-
 -- if a delivery isn't held, all stay without it
 pub unheld : (number : ℕ) (normal : List Normal) → held_in_normals number normal ≡ None → AllLive normal
     → normals_keeping (is_other number) normal ≡ normal
 unheld number [] none live = refl
 unheld number (n ∷ others) none live =
     let parts = neither (held_in_deliveries number n.deliveries) (held_in_normals number others) none in
-    let tests = both (not (is_empty n.deliveries)) (list_all (λ (n : Normal). not (is_empty n.deliveries)) others) live
+    let tests = and_parts (not (is_empty n.deliveries)) (list_all (λ (n : Normal). not (is_empty n.deliveries)) others) live
     in
     rw (unheld_in number n.deliveries parts.0, tests.0, unheld number others parts.1 tests.1) refl
 
@@ -73,13 +70,9 @@ head_current number (head ∷ others) is = rw is refl
 pub heads_differ : (number : ℕ) (all : Broadcasts) → IsSound all → is_head number all.foreground ≡ true
     → is_head number all.background ≡ false
 heads_differ number all sound is =
-    false_unless (is_head number all.background)
+    false_from_ne_true (is_head number all.background)
     (λ other. sound.queues.differ number (head_current number all.foreground is)
     (head_current number all.background other))
-  where
-    false_unless : (b : Bool) → (b ≡ true → ⊥) → b ≡ false
-    false_unless true never = absurd (never refl)
-    false_unless false never = refl
 
 -- a fault is the refusal; without one it is finished
 pub finished_unless : (all : Broadcasts) (number uid : ℕ) (answer : Answer) (now : ℕ) (held : Option Held)

@@ -3,7 +3,7 @@ use Rattle.std.proofs.Common.{◌≡◌, ℕ, ◌+◌, ◌<◌, ◌≤◌, Bool,
 use Rattle.std.proofs.lemmas.Bool.Decides.{nat_tests}
 use Rattle.std.proofs.lemmas.List.Sums.{sum_by-cons}
 use Rattle.std.specs.Prelude.{Option, Some, None, ◌==◌}
-use Rattle.std.specs.List.{filter}
+use Rattle.std.proofs.lemmas.Bool.{or_parts, or_right}
 use Rattle.am_types.specs.declared.broadcast.Spot.{Spot}
 use Rattle.am_model.specs.Broadcasts.{InTurn, Current, Doing, Gone, Settled, turn, turned, settled, is_over, result_of, with_results, dispatched}
 use Rattle.am_model.specs.Filters.{is_empty}
@@ -13,6 +13,7 @@ use Rattle.am_queue_ordered.proofs.Settling.{one_result}
 use Rattle.am_queue_ordered.specs.Heads.{head_turned}
 use Rattle.am_queue_ordered.specs.Counts.{queued_of}
 use Rattle.am_queue.specs.Sound.{undelivered, owed, owed_in, has_current}
+use Rattle.am_model.proofs.Lists.{length_left}
 
 -- a change of ordered broadcasts that takes no number, gives no delivery and changes no sender
 pub record IsMild (before after : InTurn) : Type 0 where
@@ -44,16 +45,6 @@ turn_mild doing b = record {
     same [] = refl
     same (spot ∷ rest) = refl
 
--- a filter doesn't keep more
-fewer : {X : Type 0} (test : X → Bool) (xs : List X) → length (filter test xs) ≤ length xs
-fewer test [] = omega arith
-fewer test (x ∷ xs) = by (test x) (fewer test xs)
-  where
-    by : (b : Bool) → length (filter test xs) ≤ length xs → length (cond b (x ∷ filter test xs) (filter test xs)) ≤
-        length (x ∷ xs)
-    by true less = omega (arith, less)
-    by false less = omega (arith, less)
-
 -- a strike
 pub strike_mild : (struck : Spot → Bool) (b : InTurn) → IsMild b (strike struck b)
 strike_mild struck b = record {
@@ -71,14 +62,14 @@ strike_mild struck b = record {
 
     less : (rest : List Spot) (current : Option Current) → b.rest ≡ rest → b.current ≡ current
         → owed (strike_from struck b rest current) ≤ length (undelivered rest current) + 1
-    less rest None is now = rw (now, is) (omega (arith, fewer keeps rest))
+    less rest None is now = rw (now, is) (omega (arith, length_left keeps rest))
     less [] (Some current) is now = rw (shown [] (Some current) is now) (omega arith)
     less (spot ∷ rest) (Some current) is now = either (struck spot) refl
       where
         either : (gone : Bool) → struck spot ≡ gone → owed (cond gone (strike_rest struck (turn Gone b))
             (strike_rest struck b)) ≤ length rest + 1
-        either true on = rw is (omega (arith, fewer keeps rest))
-        either false on = rw (now, is, on) (omega (arith, fewer keeps rest))
+        either true on = rw is (omega (arith, length_left keeps rest))
+        either false on = rw (now, is, on) (omega (arith, length_left keeps rest))
 
     still : (rest : List Spot) (current : Option Current) → b.rest ≡ rest → b.current ≡ current → (number : ℕ)
         → is_current number (strike_from struck b rest current).current ≡ true → is_current number b.current ≡ true
@@ -188,16 +179,12 @@ settled_owes next deadline (head ∷ others) =
     begun [] number some = cc
     begun (spot ∷ rest) number some = omega arith
 
-    left : (a b : Bool) → a || b ≡ false → a ≡ false
-    left true b none = cc
-    left false b none = refl
-
     current : (c : Option Current) → head.current ≡ c → is_over head ≡ false
         → (dispatched next deadline head others c).next + owed_in (dispatched next deadline head others c).queue ≤ next
         + owed_in (head ∷ others)
     current (Some c) is on = omega arith
     current None is on =
-        let some : is_empty head.rest ≡ false = left _ _ on in
+        let some : is_empty head.rest ≡ false = (or_parts _ _ on).0 in
         let had : owed head ≡ length head.rest + 1 = rw is refl in
         rw (sum_by-cons, sum_by-cons) (omega (arith, had, begun head.rest next some))
 
@@ -241,13 +228,9 @@ settled_current next deadline (head ∷ others) number is =
     rest : Settled
     rest = settled (next + length (result_of next head)) deadline others
 
-    more : (x y : Bool) → y ≡ true → x || y ≡ true
-    more true y is = refl
-    more false y is = is
-
     later : (has_current number others ≡ true) ⊎ ((next + length (result_of next head) ≤ number) × (number < rest.next))
         → (has_current number (head ∷ others) ≡ true) ⊎ ((next ≤ number) × (number < rest.next))
-    later (inl old) = inl (more (is_current number head.current) (has_current number others) old)
+    later (inl old) = inl (or_right (is_current number head.current) (has_current number others) old)
     later (inr new) = inr (omega (arith, new.0), new.1)
 
     fresh : (same : Bool) → next == number ≡ same → same || has_current number others ≡ true
@@ -256,7 +239,7 @@ settled_current next deadline (head ∷ others) number is =
       where
         number_of : (a b : ℕ) → a == b ≡ true → a ≡ b
         number_of a b same = grind (arith, nat_tests)
-    fresh false same is = inl (more (is_current number head.current) (has_current number others) is)
+    fresh false same is = inl (or_right (is_current number head.current) (has_current number others) is)
 
     current : (c : Option Current) → head.current ≡ c → has_current number
         (dispatched next deadline head others c).queue ≡ true

@@ -8,14 +8,14 @@ use Rattle.am_types.specs.declared.broadcast.Spot.{Spot}
 use Rattle.am_model.specs.Filters.{is_empty}
 use Rattle.am_model.specs.Broadcasts.{Normal}
 use Rattle.am_model.specs.Sending.{deliveries_from}
-use Rattle.am_queue_normal.specs.declared.delivery.Sent.{Sent}
+use Rattle.am_queue_normal.specs.declared.delivery.Broadcast.{Broadcast}
 use Rattle.am_queue_normal.specs.declared.normals.Begin.{Begin}
 use Rattle.am_queue_normal.specs.Posted.{AreInOrder, IsBefore, IsWithin, begin_with, broadcast_of, delivery_of, grouped, joined, posted_as, posted_to}
 use Rattle.am_queue_normal.proofs.Ordered.{Entry, all_of_both, all_so}
 use Rattle.am_queue_normal.proofs.Grouping.{joined_first}
 
 -- what is kept of a broadcast that is sent, if its deliveries end before a number
-abbrev pub sent_with : Begin → Sending → ℕ → Sent
+abbrev pub sent_with : Begin → Sending → ℕ → Broadcast
 sent_with begin sending end = record {
   number = begin.number;
   sender = sending.sender;
@@ -62,7 +62,7 @@ grouped_both (e ∷ e' ∷ es) fs other =
         absurd cc
     by true (first ∷ others) is = refl
 
-module _ (sent : Sent) (deadline : ℕ) where
+module _ (sent : Broadcast) (deadline : ℕ) where
   -- the deliveries are of that broadcast, with numbers from one on
   posted_all : (n : ℕ) (xs : List Spot) → AllByRecursion (λ (f : Entry). (n ≤ f.0) × (f.1.sent ≡ sent))
       (posted_to sent deadline n xs)
@@ -105,7 +105,7 @@ module _ (sent : Sent) (deadline : ℕ) where
         before : (e : Entry) → IsWithin end e → (f : Entry) → (sent.first ≤ f.0) × (f.1.sent ≡ sent) → IsBefore e f
         before e within f is = record {
           number = omega (arith, within.below, within.ended, low, is.0);
-          sent = inr (omega (arith, within.ended, low, ap (λ (s : Sent). s.first) is.1));
+          sent = inr (omega (arith, within.ended, low, ap (λ (s : Broadcast). s.first) is.1));
         }
 
         all_before : (fs : List Entry) → AreInOrder end fs → AllByRecursion

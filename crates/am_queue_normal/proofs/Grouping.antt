@@ -11,7 +11,7 @@ use Rattle.am_model.specs.Filters.{is_empty}
 use Rattle.am_model.specs.Broadcasts.{Normal, Delivery, is_delivery_due, normals_keeping}
 use Rattle.am_model.specs.Sending.{or_held, held_in_deliveries, held_in_normals, normal_items}
 use Rattle.am_model.proofs.Lists.{all_left}
-use Rattle.am_queue_normal.specs.declared.delivery.Sent.{Sent}
+use Rattle.am_queue_normal.specs.declared.delivery.Broadcast.{Broadcast}
 use Rattle.am_queue_normal.specs.Posted.{AreInOrder, IsBefore, IsWithin, Posted, begin_with, broadcast_of, delivery_of, grouped, is_late, is_to, item_of, joined, posted_at}
 use Rattle.am_queue_normal.specs.Kept.{AllLive, Rise, at_once_by, deliveries_in, items_of, some_due}
 use Rattle.am_queue_normal.proofs.Keys.{same_from, same_number}
@@ -64,7 +64,7 @@ all_later end e (f ∷ es) order other = (
     beyond g before = by before.sent
       where
         by : (f.1.sent ≡ g.1.sent) ⊎ (f.1.sent.end ≤ g.1.sent.first) → e.1.sent.first < g.1.sent.first
-        by (inl is) = omega (arith, later, ap (λ (s : Sent). s.first) is)
+        by (inl is) = omega (arith, later, ap (λ (s : Broadcast). s.first) is)
         by (inr past) = omega (arith, later, past, order.2.0.from, order.2.0.below)
 
 -- so none of them begins those that a test keeps with the same broadcast

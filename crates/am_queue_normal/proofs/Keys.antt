@@ -4,6 +4,7 @@ use Rattle.std.proofs.lemmas.Bool.Decides.{nat_tests}
 use Rattle.std.specs.Prelude.{◌==◌}
 use Rattle.std.specs.Ordering.{is_gt}
 use Rattle.std.specs.BTreeMap.{is_at}
+use Rattle.std.proofs.lemmas.Bool.{false_from_ne_true}
 use Rattle.am_queue_normal.specs.Pairs.{by_both, has, is_same, IsNext, NoneFrom}
 
 -- two numbers that are the same are one
@@ -36,11 +37,6 @@ pub removed : (a b : Bool) → cond a false b ≡ not a && b
 removed true b = refl
 removed false b = refl
 
--- a test that isn't true is false
-pub false_unless : (b : Bool) → (b ≡ true → ⊥) → b ≡ false
-false_unless true never = absurd (never refl)
-false_unless false never = refl
-
 -- the pairs of a key from a number on aren't less than that pair
 pub from_pair : (key from number : ℕ) → from ≤ number → is_gt (by_both (key, from) (key, number)) ≡ false
 from_pair key from number up = grind (arith, nat_tests)
@@ -54,7 +50,7 @@ module _ (pairs : List (ℕ × ℕ)) (key from first second : ℕ)
   next_there there same = (
     higher,
     rw (← same) there,
-    λ number low less. false_unless (has pairs key number) (λ is. lower number less
+    λ number low less. false_from_ne_true (has pairs key number) (λ is. lower number less
         (least (key, number) (from_pair key from number low) is)),
   )
     where
@@ -67,7 +63,7 @@ module _ (pairs : List (ℕ × ℕ)) (key from first second : ℕ)
 
   -- if it has another key, the key has no number from there on
   pub next_other : (first ≡ key → ⊥) → NoneFrom (has pairs key) from
-  next_other differs number low = false_unless (has pairs key number)
+  next_other differs number low = false_from_ne_true (has pairs key number)
       (λ is. differs (same number (least (key, number) (from_pair key from number low) is)))
     where
       same : (number : ℕ) → is_gt (by_both (first, second) (key, number)) ≡ false → first ≡ key

@@ -8,7 +8,7 @@ use Rattle.std.specs.Map.{remove_entry}
 use Rattle.std.specs.BTreeMap.{insert_entry, is_at}
 use Rattle.am_types.specs.declared.broadcast.Spot.{Spot}
 use Rattle.am_model.proofs.Lists.{all_left}
-use Rattle.am_queue_normal.specs.declared.delivery.Sent.{Sent}
+use Rattle.am_queue_normal.specs.declared.delivery.Broadcast.{Broadcast}
 use Rattle.am_queue_normal.specs.Posted.{AreInOrder, IsBefore, IsWithin, Posted, posted_as, posted_at, posted_to, without}
 use Rattle.am_queue_normal.proofs.Keys.{is_same_as_itself, same_from, same_number}
 
@@ -222,7 +222,7 @@ past_others n [] fs below = refl
 past_others n (e ∷ es) fs below = rw (same_number n e.0, higher_differs n e.0 below.0)
     (ap (λ l. e ∷ l) (past_others n es fs below.1))
 
-module _ (sent : Sent) (deadline : ℕ) where
+module _ (sent : Broadcast) (deadline : ℕ) where
   -- the numbers of the deliveries to some receivers are below the next one
   posted_below : (n : ℕ) (xs : List Spot) → AllByRecursion (λ (e : Entry). e.0 < n + length xs)
       (posted_to sent deadline n xs)

@@ -12,7 +12,7 @@ use Rattle.am_model.specs.Sending.{Held, held_in_normals}
 use Rattle.am_model.proofs.Lists.{all_left}
 use Rattle.am_queue_ordered.proofs.Counting.{count_by-cons}
 use Rattle.am_queue_ordered.specs.Counts.{one_for}
-use Rattle.am_queue_normal.specs.declared.delivery.Sent.{Sent}
+use Rattle.am_queue_normal.specs.declared.delivery.Broadcast.{Broadcast}
 use Rattle.am_queue_normal.specs.Posted.{AreInOrder, IsBefore, IsWithin, Posted, begin_with, broadcast_of, delivery_of, grouped, is_between, is_late, joined, passes, posted_at}
 use Rattle.am_queue_normal.specs.Kept.{AllPass, Fails, Kept, PassBelow, at_once_by, is_early, is_other, normals_of, or_below, some_due}
 use Rattle.am_queue_normal.specs.Pairs.{IsNext, NoneFrom}
@@ -104,8 +104,8 @@ all_related end n posted (e ∷ es) order is = by (n == e.0) refl (all_related e
 of_broadcast : (end : ℕ) (posted : Posted) (e : Entry) → posted.sent.first < posted.sent.end → IsWithin end e
     → Related posted e → is_between posted.sent.first posted.sent.end e ≡ (e.1.sent.first == posted.sent.first)
 of_broadcast end posted e some within (inl same) =
-    let firsts : posted.sent.first ≡ e.1.sent.first = ap (λ (s : Sent). s.first) same in
-    let ends : posted.sent.end ≡ e.1.sent.end = ap (λ (s : Sent). s.end) same in
+    let firsts : posted.sent.first ≡ e.1.sent.first = ap (λ (s : Broadcast). s.first) same in
+    let ends : posted.sent.end ≡ e.1.sent.end = ap (λ (s : Broadcast). s.end) same in
     let from = within.from in
     let below = within.below in
     let low : nat_le posted.sent.first e.0 ≡ true = grind (arith, nat_tests) in
@@ -258,7 +258,7 @@ counted_left uid end n posted (e ∷ es) order is = by (e.0 == n) refl (counted_
         let tie : cond (begin_with e.1.sent.first left) 0 (one e) ≡ cond (list_any (is_of posted.sent.first) left) 0
         (cond (posted.sent.sender == uid) 1 0) =
         ap (λ b. cond b 0 (one e)) (begins_any end e left order_left)
-        ∙ ap (λ (s : Sent). cond (list_any (is_of s.first) left) 0 (cond (s.sender == uid) 1 0)) sent_is in
+        ∙ ap (λ (s : Broadcast). cond (list_any (is_of s.first) left) 0 (cond (s.sender == uid) 1 0)) sent_is in
         omega (arith, whole, ap (λ b. cond b 0 (one e)) more, part, tie, rest)
 
     -- it is of another

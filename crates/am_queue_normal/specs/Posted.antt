@@ -8,17 +8,17 @@ use Rattle.am_types.specs.declared.broadcast.Spot.{Spot}
 use Rattle.am_types.specs.declared.broadcast.Item.{Item}
 use Rattle.am_types.specs.declared.broadcast.ItemKind.TheVariants as kinds
 use Rattle.am_model.specs.Broadcasts.{Normal, Delivery}
-use Rattle.am_queue_normal.specs.declared.delivery.Sent.{Sent}
+use Rattle.am_queue_normal.specs.declared.delivery.Broadcast.{Broadcast}
 use Rattle.am_queue_normal.specs.Pairs.{has}
 
 -- a delivery with what was sent
 pub record Posted : Type 0 where
-  pub sent : Sent
+  pub sent : Broadcast
   pub spot : Spot
   pub deadline : ℕ
 
 -- the delivery of what was sent to a receiver, with a deadline
-abbrev pub posted_as : Sent → ℕ → Spot → Posted
+abbrev pub posted_as : Broadcast → ℕ → Spot → Posted
 posted_as sent deadline spot = record { sent = sent; spot = spot; deadline = deadline }
 
 -- the delivery under its number
@@ -26,7 +26,7 @@ abbrev pub delivery_of : ℕ × Posted → Delivery
 delivery_of entry = record { number = entry.0; spot = entry.1.spot; deadline = entry.1.deadline }
 
 -- the broadcast with these deliveries
-abbrev pub broadcast_of : Sent → List Delivery → Normal
+abbrev pub broadcast_of : Broadcast → List Delivery → Normal
 broadcast_of sent deliveries =
     record { number = sent.number; sender = sent.sender; intent = sent.intent; deliveries = deliveries }
 
@@ -112,7 +112,7 @@ abbrev pub is_between : ℕ → ℕ → ℕ × Posted → Bool
 is_between first end entry = nat_le first entry.0 && nat_lt entry.0 end
 
 -- the deliveries of what was sent to some receivers, with rising numbers
-abbrev pub posted_to : Sent → ℕ → ℕ → List Spot → List (ℕ × Posted)
+abbrev pub posted_to : Broadcast → ℕ → ℕ → List Spot → List (ℕ × Posted)
 posted_to sent deadline number [] = []
 posted_to sent deadline number (spot ∷ others) =
     (number, posted_as sent deadline spot) ∷ posted_to sent deadline (number + 1) others

@@ -9,7 +9,7 @@ ghost use Rattle.am_queue_ordered.specs.Struck.{strikes};
 ghost use Rattle.am_queue_normal.specs.Pairs.{IsNext, NoneFrom, has, is_same};
 ghost use Rattle.am_queue_normal.specs.Posted.{AreInOrder, IsSoonest, NoneLate, is_between, is_late, is_struck, is_to, item_of, items_at, passes_at, posted_as, posted_at, posted_to, without};
 
-use crate::delivery::{Delivery, Sent};
+use crate::delivery::{Broadcast, Delivery};
 use crate::pairs::Pairs;
 use am_queue_ordered::Struck;
 use am_types::{Item, Spot, Steps};
@@ -181,7 +181,7 @@ impl Deliveries {
     fn put_one(
         &mut self,
         number: u64,
-        sent: &Arc<Sent, Global>,
+        sent: &Arc<Broadcast, Global>,
         spot: &Spot,
         deadline: u64,
     ) -> Result<(), AllocError>
@@ -208,7 +208,7 @@ impl Deliveries {
     /// nothing changes.
     pub(crate) fn put_all(
         &mut self,
-        sent: &Arc<Sent, Global>,
+        sent: &Arc<Broadcast, Global>,
         deadline: u64,
         to: &[Spot],
     ) -> Result<(), AllocError>

@@ -9,7 +9,7 @@ use std::sync::Arc;
 
 /// What was sent, shared by all deliveries of a broadcast.
 #[derive(Drop)]
-pub(crate) struct Sent {
+pub(crate) struct Broadcast {
     pub number: u64,
     pub sender: u32,
     pub intent: Intent,
@@ -22,7 +22,7 @@ pub(crate) struct Sent {
 /// A delivery that isn't finished.
 #[derive(Drop)]
 pub(crate) struct Delivery {
-    pub sent: Arc<Sent, Global>,
+    pub sent: Arc<Broadcast, Global>,
     pub spot: Spot,
     /// The moment at which it becomes late, in milliseconds.
     pub deadline: u64,
@@ -39,7 +39,7 @@ impl Model for Delivery {
 impl Delivery {
     /// The delivery of what was sent to a receiver.
     pub(crate) fn new(
-        sent: &Arc<Sent, Global>,
+        sent: &Arc<Broadcast, Global>,
         spot: &Spot,
         deadline: u64,
     ) -> Result<Self, AllocError>

@@ -9,7 +9,7 @@ ghost use Rattle.am_queue_ordered.specs.Struck.{strikes};
 ghost use Rattle.am_queue_normal.specs.Kept.{AllLive, AllPass, Fails, PassBelow, Rise, at_once_by, deliveries_in, is_early, is_other, is_spared, items_of, normals_of, some_due};
 
 use crate::deliveries::Deliveries;
-use crate::delivery::Sent;
+use crate::delivery::Broadcast;
 use am_queue_ordered::{Counts, Struck};
 use am_types::{Item, Sending, Steps};
 use std::alloc::{AllocError, Global};
@@ -180,7 +180,7 @@ impl Normals {
         } = sending;
         drop(ordered);
         let end = begin.first + to.as_slice().len() as u64;
-        let sent = Sent {
+        let sent = Broadcast {
             number: begin.number,
             sender,
             intent,

@@ -14,7 +14,7 @@ use Rattle.am_model.specs.Candidates.{hits}
 use Rattle.am_model.specs.Lists.{place_by}
 use Rattle.am_model.specs.Receivers.{Offer, declared, declared_offer, declared_offers, finds_registered, in_order, receivers, registered_offer, skip_of}
 use Rattle.am_resolve.specs.declared.offers.Ranked.{Ranked}
-use Rattle.am_resolve.specs.declared.offers.Sent.{Sent}
+use Rattle.am_resolve.specs.declared.offers.Broadcast.{Broadcast}
 use Rattle.am_resolve.specs.Ranking.{in_rank, place_ranked, ranked_of, ranked_of_hits, ranked_of_registered, receiving_of}
 use Rattle.am_resolve.proofs.Owners.{IsFoundByUid}
 use Rattle.am_index.proofs.Priorities.{before, sorted_is_order}
@@ -29,7 +29,7 @@ pub sorted_is_in_rank : (found sorted : List Ranked) → IsSortedBy (before (λ 
 sorted_is_in_rank = sorted_is_order (λ (one : Ranked). one.priority) place_ranked in_rank (λ one. refl)
     (λ one first others. refl) refl (λ first others. refl)
 
-module _ (sent : Sent) where
+module _ (sent : Broadcast) where
   abbrev board : Board
   board = sent.installed.now
 

@@ -1,16 +1,14 @@
 -- An index represents packages whether they are stopped or not, and after an added one is removed again.
-use Rattle.std.proofs.Common.{◌≡◌, ℕ, ◌+◌, Bool, true, false, not, cond, eqb, List, [], ◌∷◌, ◌++◌, refl, sym, ap, ◌∙◌, subst, arith, Some, None, length, ◌==◌, suc}
-use Rattle.std.specs.List.{IsDistinct, slice_get}
+use Rattle.std.proofs.Common.{◌≡◌, ℕ, ◌+◌, Bool, true, false, not, cond, eqb, List, [], ◌∷◌, ◌++◌, refl, sym, ap, ◌∙◌, subst}
 use Rattle.std.specs.List.Sorted.{IsStrictlyIncreasing}
-use Rattle.std.proofs.lemmas.Bool.{eq-eqb, eqb-true}
+use Rattle.std.proofs.lemmas.Bool.{eq-eqb}
 use Rattle.std.proofs.lemmas.List.{append-nil}
-use Rattle.std.proofs.lemmas.List.Elements.{All-from_recursion, filter-append}
+use Rattle.std.proofs.lemmas.List.Elements.{filter-append}
 use Rattle.am_types.specs.declared.device.Package.{Package}
 use Rattle.am_types.specs.declared.manifest.Decl.{Decl}
 use Rattle.am_model.specs.Boards.{with_stopped, without_package}
 use Rattle.am_model.specs.Candidates.{is_kind}
-use Rattle.am_model.specs.Sound.{AreSoundPackages, IsSoundPackage}
-use Rattle.am_installed.specs.Installed.{AreInstalled, IsInstalled}
+use Rattle.am_installed.specs.Installed.{AreInstalled}
 use Rattle.am_installed.proofs.Changed.{uids_stopped}
 use Rattle.am_installed.proofs.Rising.{below_last, rises, without_new}
 use Rattle.am_index.specs.declared.index.FilterIndex.{FilterIndex}
@@ -83,29 +81,3 @@ stands_stopped index ps uid stopped stands = record {
   rising = subst (λ (l : List ℕ). IsStrictlyIncreasing l) (sym (uids_stopped ps uid stopped)) stands.rising;
   lists = λ key. stands.lists key ∙ sym (under_stopped key ps uid stopped);
 }
-
--- a package of a sound device may be the only one
-pub installed_alone : (p : Package) → IsSoundPackage p → AreInstalled (p ∷ [])
-unfolding IsDistinct
-installed_alone p sound = record {
-  rising = λ k h. absurd (omega (arith, h));
-  names = (tt, tt);
-  each = All-from_recursion IsInstalled (p ∷ []) (record { few = sound.few; classes = sound.classes }, tt);
-}
-
--- the first package of a sound device may be the only one
-pub first_alone : (ps own : List Package) (p : Package) → AreSoundPackages own → Some p ≡ slice_get own 0 → ps ≡ []
-    → AreInstalled (ps ++ p ∷ [])
-first_alone ps own p sound first none = subst (λ (l : List Package). AreInstalled (l ++ p ∷ [])) (sym none)
-    (by own sound first)
-  where
-    by : (own : List Package) → AreSoundPackages own → Some p ≡ slice_get own 0 → AreInstalled (p ∷ [])
-    by [] s e = absurd (let same : Some p ≡ None = e in cc)
-    by (q ∷ qs) s e = let same : p ≡ q = cc in subst (λ (x : Package). AreInstalled (x ∷ [])) (sym same)
-        (installed_alone q (s.each 0 q (omega arith)))
-
--- packages of which there are none
-pub none_there : (ps : List Package) (b : Bool) → b ≡ (length ps == 0) → b ≡ true → ps ≡ []
-none_there [] b e n = refl
-none_there (p ∷ ps) b e n = absurd (let same : suc (length ps) ≡ 0 = eqb-true (length (p ∷ ps)) 0 (sym e ∙ n) in omega
-    (arith, same))

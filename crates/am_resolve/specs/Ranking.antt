@@ -11,7 +11,7 @@ use Rattle.am_model.specs.Receivers as model
 use Rattle.am_model.specs.Receivers.{decl_in, declared_offer, finds_registered, registered_offer, skip_of, with_uid}
 use Rattle.am_resolve.specs.declared.offers.Offer.{Offer}
 use Rattle.am_resolve.specs.declared.offers.Ranked.{Ranked}
-use Rattle.am_resolve.specs.declared.offers.Sent.{Sent}
+use Rattle.am_resolve.specs.declared.offers.Broadcast.{Broadcast}
 
 -- an offer of the code, as the model's offer
 abbrev pub offer_of : Offer → model.Offer
@@ -24,7 +24,7 @@ offer_of offer = record {
 }
 
 -- what becomes of an offer of what is broadcast
-abbrev pub ranked_of : Sent → model.Offer → Ranked
+abbrev pub ranked_of : Broadcast → model.Offer → Ranked
 ranked_of sent offer = record {
   priority = offer.priority;
   receiving = record {
@@ -35,13 +35,13 @@ ranked_of sent offer = record {
 }
 
 -- what becomes of the offer to a registered receiver, if the intent finds it
-abbrev pub ranked_of_registration : Sent → Registration → List Ranked
+abbrev pub ranked_of_registration : Broadcast → Registration → List Ranked
 ranked_of_registration sent r =
     if finds_registered sent.installed.now.packages sent.intent.now r then ranked_of sent (registered_offer r) ∷ []
     else []
 
 -- what becomes of the offers to several
-abbrev pub ranked_of_registered : Sent → List Registration → List Ranked
+abbrev pub ranked_of_registered : Broadcast → List Registration → List Ranked
 ranked_of_registered sent [] = []
 ranked_of_registered sent (first ∷ others) = ranked_of_registration sent first ++ ranked_of_registered sent others
 
@@ -55,12 +55,12 @@ abbrev pub decl_at : List Package → Hit → Option Decl
 decl_at packages hit = receiver_in hit.component.class (package_at packages hit.uid)
 
 -- what becomes of the offer to a manifest's receiver
-abbrev pub ranked_of_hit : Sent → List Package → Hit → List Ranked
+abbrev pub ranked_of_hit : Broadcast → List Package → Hit → List Ranked
 ranked_of_hit sent packages hit =
     map (ranked_of sent) (declared_offer hit (with_uid hit.uid (decl_at packages hit)))
 
 -- what becomes of the offers to several
-abbrev pub ranked_of_hits : Sent → List Package → List Hit → List Ranked
+abbrev pub ranked_of_hits : Broadcast → List Package → List Hit → List Ranked
 ranked_of_hits sent packages [] = []
 ranked_of_hits sent packages (first ∷ others) = ranked_of_hit sent packages first ++ ranked_of_hits sent packages others
 

@@ -13,7 +13,7 @@ ghost use Rattle.am_installed.specs.Places.{AreByNumber, place_registered};
 ghost use Rattle.am_index.specs.Groups.{group_size};
 
 use crate::narrow::{host_to_view, web_hits};
-use crate::offers::Sent;
+use crate::offers::Broadcast;
 use crate::receivers::receivers;
 use crate::top::choose;
 use am_index::FilterIndex;
@@ -128,7 +128,7 @@ impl Board {
         ensures explicit { IsSome intent.now.component → steps.new ≡ steps.old }
     {
         let found = self.query(alloc, Kind::Receiver, intent, false, steps)?;
-        let sent = Sent {
+        let sent = Broadcast {
             installed: &self.installed,
             intent,
             sender,

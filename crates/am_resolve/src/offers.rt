@@ -8,7 +8,7 @@ use am_types::{Aim, Intent, Receiving, Registration, Text};
 
 /// What is broadcast on a device: the intent of a sender, and what a receiver must hold.
 #[derive(Clone, Copy)]
-pub(crate) struct Sent<'a> {
+pub(crate) struct Broadcast<'a> {
     pub(crate) installed: &'a Installed,
     pub(crate) intent: &'a Intent,
     pub(crate) sender: u32,

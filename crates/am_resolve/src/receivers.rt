@@ -8,7 +8,7 @@ ghost use Rattle.am_model.specs.Sound.{uids_of};
 ghost use Rattle.am_resolve.specs.Ranking.{decl_at, offer_of, ranked_of, ranked_of_hit, ranked_of_registered};
 
 use crate::names::is_for;
-use crate::offers::{Offer, Ranked, Sent, registered_offer};
+use crate::offers::{Broadcast, Offer, Ranked, registered_offer};
 use crate::order::in_order;
 use crate::skips::skip_of;
 use am_index::is_passed;
@@ -25,7 +25,7 @@ use std::sync::ledger::Ledger;
 /// receiver's filter.
 pub(crate) fn receivers<L: Ledger>(
     alloc: Global,
-    sent: &Sent,
+    sent: &Broadcast,
     found: &List<Hit>,
     steps: &mut Steps<L>,
 ) -> Result<List<Receiving>, NoMemory>
@@ -44,7 +44,7 @@ pub(crate) fn receivers<L: Ledger>(
 /// Adds the registered receivers that the intent finds, in their order.
 fn add_registered<L: Ledger>(
     ranked: &mut Vec<Ranked>,
-    sent: &Sent,
+    sent: &Broadcast,
     steps: &mut Steps<L>,
 ) -> Result<(), NoMemory>
     ensures added { OnOk result (ranked.new.items
@@ -78,7 +78,11 @@ fn finds_registered<L: Ledger>(
 }
 
 /// Adds the manifests' receivers that were found, in their order.
-fn add_declared(ranked: &mut Vec<Ranked>, sent: &Sent, found: &List<Hit>) -> Result<(), NoMemory>
+fn add_declared(
+    ranked: &mut Vec<Ranked>,
+    sent: &Broadcast,
+    found: &List<Hit>,
+) -> Result<(), NoMemory>
     requires { found.now ≡ hits sent.now.installed.now.packages Receiver sent.now.intent.now false }
     ensures { OnOk result (ranked.new.items
         ≡ ranked.old.items ++ map (ranked_of sent.now)
@@ -94,7 +98,7 @@ fn add_declared(ranked: &mut Vec<Ranked>, sent: &Sent, found: &List<Hit>) -> Res
 /// Adds a manifest's receiver that was found.
 fn add_hit(
     ranked: &mut Vec<Ranked>,
-    sent: &Sent,
+    sent: &Broadcast,
     packages: &List<Package>,
     hit: &Hit,
 ) -> Result<(), NoMemory>
@@ -142,7 +146,7 @@ fn declared_offer<'a>(hit: &Hit, aim: Aim, decl: &'a Decl) -> Offer<'a>
 }
 
 /// Adds what becomes of an offer.
-fn add_offer(ranked: &mut Vec<Ranked>, sent: &Sent, offer: Offer) -> Result<(), NoMemory>
+fn add_offer(ranked: &mut Vec<Ranked>, sent: &Broadcast, offer: Offer) -> Result<(), NoMemory>
     ensures { OnOk result (ranked.new.items
         ≡ ranked.old.items ++ ranked_of sent.now (offer_of offer.entry) ∷ []) }
 {

@@ -1,6 +1,6 @@
 -- Rows and their cells are told from each other.
-use Rattle.std.proofs.Common.{◌≡◌, ℕ, zero, suc, ◌+◌, ◌<◌, ◌==◌, ◌&&◌, Bool, true, false, nat_lt, cond, if◌then◌else◌, IsTrue, List, [], ◌∷◌, length, Option, Some, None, pos, negsuc, ℤ, slice_get, Result, Ok, Err, IfOk, refl, sym, ap, ◌∙◌, subst, arith, inl, inr, rules}
-use Rattle.std.proofs.lemmas.Bool.{cases_Bool, eqb-true}
+use Rattle.std.proofs.Common.{◌≡◌, ℕ, zero, suc, ◌+◌, ◌<◌, ◌==◌, Bool, true, false, nat_lt, cond, if◌then◌else◌, IsTrue, List, [], ◌∷◌, length, Option, Some, None, pos, negsuc, ℤ, slice_get, Result, Ok, Err, IfOk, refl, sym, ap, ◌∙◌, subst, arith, inl, inr, rules}
+use Rattle.std.proofs.lemmas.Bool.{cases_Bool, eqb-true, and_parts}
 use Rattle.std.proofs.lemmas.Bool.Decides.{nat_tests}
 use Rattle.am_keeper.specs.declared.rows.PackageRow.{PackageRow}
 use Rattle.am_keeper.specs.declared.rows.Row.{Row}
@@ -55,10 +55,6 @@ empty_is : (t : List ℕ) → is_empty t ≡ true → t ≡ []
 empty_is [] h = refl
 empty_is (x ∷ xs) h = absurd (let e = h in cc)
 
-both : (a b : Bool) → (a && b) ≡ true → (a ≡ true) × (b ≡ true)
-both true b h = (refl, h)
-both false b h = absurd (let e = h in cc)
-
 -- the cells that numbers and texts come from
 abbrev laid : ℤ → ℕ → Bool → Texts → List Cell
 laid k uid truth t = Whole k ∷ Whole (pos uid) ∷ Words t.word ∷ Words t.name ∷ Words t.access ∷ Words t.manifest
@@ -82,8 +78,8 @@ package_from-some uid truth t row h =
 -- a word alone stands beside no other text
 word_alone : (t : Texts) → has_word_alone t ≡ true → (t.name ≡ []) × (t.access ≡ []) × (t.manifest ≡ [])
 word_alone t alone =
-    let name = both (is_empty t.name) _ alone in
-    let other = both (is_empty t.access) (is_empty t.manifest) name.1 in
+    let name = and_parts (is_empty t.name) _ alone in
+    let other = and_parts (is_empty t.access) (is_empty t.manifest) name.1 in
     (empty_is t.name name.0, empty_is t.access other.0, empty_is t.manifest other.1)
 
 -- a row of a kind with a word alone

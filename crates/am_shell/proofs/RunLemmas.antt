@@ -19,7 +19,7 @@ use Rattle.am_shell.specs.declared.undone.Undone.TheVariants as undone
 use Rattle.am_shell.specs.Devices.{IsRefused, IsUnread}
 use Rattle.am_shell.specs.Kept.{RefusesRows}
 use Rattle.am_console.specs.Telling.{Tells}
-use Rattle.am_shell.specs.Lines.{end_status, session_line, session_status, status_of, want_line}
+use Rattle.am_shell.specs.Lines.{end_status, session_line, session_status, status_of, no_memory_line}
 use Rattle.am_words.specs.declared.command.SessionWords.{SessionWords}
 use Rattle.am_shell.specs.Sessions.{Happens, Worked, Works, Unattached, Unopened}
 use Rattle.am_shell.specs.World.{World}
@@ -178,7 +178,7 @@ unread_fault files name name' bytes before after (inr missing) t n b =
     absurd (not_missing before.files.files files name name' bytes missing t n b)
 
 -- memory ran out, or also the errors failed
-wanted : (errors errors' : SinkView) (status : ℕ) → Tells want_line 8 errors errors' status
+wanted : (errors errors' : SinkView) (status : ℕ) → Tells no_memory_line 8 errors errors' status
     → HasRisen errors.faults errors'.faults ⊎ (status ≡ 8)
 wanted errors errors' status (inl (s, a)) = inr s
 wanted errors errors' status (inr (s, f, p)) = inl f

@@ -1,5 +1,5 @@
 -- What a serving is, and how it is told.
-use Rattle.std.proofs.Common.{◌≡◌, ℕ, List, [], ◌++◌, length, Option, Some, None, Result, Ok, Err, IsTrue, refl, sym, ap, ◌∙◌, subst, inr, arith, append_assoc, length-append}
+use Rattle.std.proofs.Common.{◌≡◌, ℕ, List, [], ◌++◌, length, Option, Result, Ok, Err, refl, sym, ap, ◌∙◌, subst, arith, append_assoc, length-append}
 use Rattle.std.specs.Prelude.{All}
 use Rattle.am_types.specs.declared.device.Device.{Device}
 use Rattle.am_types.specs.declared.history.Entry.{Entry}
@@ -7,11 +7,11 @@ use Rattle.am_model.specs.Sound.{IsSound}
 use Rattle.std.specs.Io.KnownBytes.{Appends}
 use Rattle.am_outside.specs.declared.failure.Failed.{Failed}
 use Rattle.am_outside.specs.Memory.{one_more}
-use Rattle.am_network.specs.Links.{Listening, listening_at}
+use Rattle.am_network.specs.Links.{listening_at}
 use Rattle.am_history.specs.Desks.{Origin}
 use Rattle.am_laws_kept.specs.Laws.{KeptIsFound}
 use Rattle.am_machine.specs.Managed as machine
-use Rattle.am_workers.specs.Serving.{Ended, IsFormed, IsUnserved, MayReleaseAll, NetworkView, ServesAll}
+use Rattle.am_workers.specs.Serving.{Ended, IsFormed, NetworkView, ServesAll}
 use Rattle.am_shell.specs.declared.serving.Done.{Done}
 use Rattle.am_words.specs.declared.command.ServingWords.{ServingWords}
 use Rattle.am_http.specs.Links.{Moments}
@@ -22,21 +22,11 @@ use Rattle.am_shell.specs.Kept.{IsOrigin, IsUnchanged, Leaves}
 use Rattle.am_shell.specs.World.{StoreView, World, voices_in}
 use Rattle.am_console.specs.declared.setback.Setback.TheVariants as setbacks
 use Rattle.am_shell.specs.declared.undone.Undone.TheVariants as undone
-use Rattle.am_shell.specs.Servings.{Happens, IsLeft, RunsServing, ServesOr, TellsServing, Works, listened, unheard}
+use Rattle.am_shell.specs.Servings.{Happens, IsLeft, RunsServing, TellsServing, Works, listened, unheard}
 use Rattle.am_shell.specs.declared.undone.Undone.{Undone}
 use Rattle.am_workers.proofs.ServingLemmas.{serves_timed}
 use Rattle.am_shell.proofs.ServeLemmas.{found}
 use Rattle.am_shell.proofs.StoreLemmas.{leaves_asked}
-
--- as many gates may be released as were answered
-pub may_release : (told now : Option Listening) (port gates count : ℕ) → now ≡ listening_at told port gates → count
-    ≡ gates → MayReleaseAll now count
-may_release None now port gates count is all =
-    let P : Option Listening → Type 0 = λ (l : Option Listening). MayReleaseAll l count in
-    subst P (sym is) tt
-may_release (Some before) now port gates count is all =
-    let P : Option Listening → Type 0 = λ (l : Option Listening). MayReleaseAll l count in
-    subst P (sym is) (omega (arith, all))
 
 -- the network as it listened
 pub listened_so : (before mid after : NetworkView) (port gates : ℕ) → mid.listening
@@ -85,24 +75,6 @@ unheard_so before after told listens gate_faults =
       faults = after.faults;
       gate_faults = n;
     }) gate_faults
-
--- memory ran out once the network had listened
-pub lacks_workers : (asked : ServingWords) (device : Device) (before after : World) (mid : NetworkView) (count : ℕ)
-    (why : Undone) → why ≡ undone.Setback setbacks.NoMemory
-    → count ≡ asked.workers → IsUnchanged before.store after.store
-    → mid.listening ≡ listening_at before.network.listening asked.port asked.workers → mid.listens
-    ≡ one_more before.network.listens
-    → mid.gate_faults ≡ before.network.gate_faults → IsUnserved count mid after.network
-    → ServesOr (Err why) asked device before after
-lacks_workers asked device before after mid count why is many same told listens gate_faults unserved =
-    let there = listened_so before.network mid after.network asked.port asked.workers told listens gate_faults
-    unserved.faults in
-    inr (inr (record {
-      is = is;
-      network = subst (λ (n : NetworkView). IsUnserved asked.workers n after.network) there
-          (subst (λ (n : ℕ). IsUnserved n mid after.network) many unserved);
-      store = same;
-    }))
 
 -- a serving that ended
 pub works_serving : {K : Type 0} (asked : ServingWords) (device : Device) (before after : World) (now : StoreView)
@@ -167,16 +139,6 @@ works_serving {K} asked device before after now mid done place count clock manag
       length = counted;
       totals = refl;
     }
-
--- the store has attached the place of the keeper that comes back
-pub attached_again : {K : Type 0} (old now : StoreView) (place : Option (List ℕ)) (Attached : List ℕ → Type 0)
-    (manager out : machine.Managed K)
-    → (IsTrue old.tells → (at : List ℕ) → place ≡ Some at → Attached at) → IsUnchanged old now → manager.origin.place
-    ≡ place
-    → out.origin ≡ manager.origin → IsTrue now.tells → (at : List ℕ) → out.origin.place ≡ Some at → Attached at
-attached_again {K} old now place Attached manager out attached same at_place one tells at stands =
-    let told : IsTrue old.tells = sym same.tells ∙ tells in
-    attached told at (sym at_place ∙ (sym (ap (λ (o : Origin). o.place) one) ∙ stands))
 
 -- a keeper that comes back without a call leaves the rows
 pub left_again : {K : Type 0} (asked : ServingWords) (device : Device) (before now after : StoreView)

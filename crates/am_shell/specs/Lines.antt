@@ -15,8 +15,8 @@ write_line = codes "am: write fault\n"
 abbrev pub usage_line : List ℕ
 usage_line = codes "am: usage\n"
 
-abbrev pub want_line : List ℕ
-want_line = codes "am: out of memory\n"
+abbrev pub no_memory_line : List ℕ
+no_memory_line = codes "am: out of memory\n"
 
 -- the line for a kept row that is refused, with the name of its package
 abbrev pub rows_line : List ℕ → List ℕ
@@ -30,7 +30,7 @@ network_line = codes "am: network fault\n"
 abbrev pub line_of : Undone → List ℕ
 line_of (undone.Setback (setbacks.DeviceRefused line)) = line
 line_of (undone.Setback setbacks.FileFault) = codes "am: file fault\n"
-line_of (undone.Setback setbacks.NoMemory) = want_line
+line_of (undone.Setback setbacks.NoMemory) = no_memory_line
 line_of undone.StoreFault = codes "am: store fault\n"
 line_of (undone.RowsRefused line) = line
 line_of undone.NetworkFault = network_line

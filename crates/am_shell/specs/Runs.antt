@@ -17,7 +17,7 @@ use Rattle.am_shell.specs.Devices.{IsRefused, IsUnread}
 use Rattle.am_shell.specs.Drillings.{RunsDrill}
 use Rattle.am_shell.specs.Kept.{RefusesRows}
 use Rattle.am_console.specs.Telling.{Tells}
-use Rattle.am_shell.specs.Lines.{session_line, session_status, usage_line, want_line}
+use Rattle.am_shell.specs.Lines.{session_line, session_status, usage_line, no_memory_line}
 use Rattle.am_shell.specs.Sessions.{Happens, Worked, Works, Unattached, Unopened}
 use Rattle.am_shell.specs.Questions.{RunsQuestion}
 use Rattle.am_shell.specs.Servings.{RunsServing}
@@ -88,4 +88,4 @@ RunsCommand (Some (Visible asked)) before after status =
 -- a whole run: that of its command, or memory ran out while the words were read
 abbrev pub Runs : List (List ℕ) → World → World → ℕ → Type 0
 Runs words before after status =
-    RunsCommand (read_command words) before after status ⊎ OnlyTells want_line 8 before after status
+    RunsCommand (read_command words) before after status ⊎ OnlyTells no_memory_line 8 before after status

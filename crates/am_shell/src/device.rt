@@ -14,7 +14,11 @@ use am_types::{Device, Text, Unmade};
 use std::alloc::Global;
 
 /// Reads the device file with this name. A device that was read is sound.
-pub fn open_device<F: Files>(alloc: Global, files: &mut F, name: &Text) -> Result<Device, Setback>
+pub fn read_device_file<F: Files>(
+    alloc: Global,
+    files: &mut F,
+    name: &Text,
+) -> Result<Device, Setback>
     ensures opens { Opens result device_of name.now (shelf_of F.Files files.old) (shelf_of F.Files files.new) }
     ensures sound { IfOk result (λ device. IsSound device) }
 {
@@ -23,7 +27,7 @@ pub fn open_device<F: Files>(alloc: Global, files: &mut F, name: &Text) -> Resul
 }
 
 /// Reads the device file with this name, with the queries of its packages. A device that was read is sound.
-pub fn open_described<F: Files>(
+pub fn read_described_file<F: Files>(
     alloc: Global,
     files: &mut F,
     name: &Text,

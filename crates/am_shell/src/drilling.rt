@@ -6,7 +6,7 @@ ghost use Rattle.am_drill.specs.Drills.{drilled};
 ghost use Rattle.am_drill.specs.Tallies.{printed};
 ghost use Rattle.am_shell.specs.Drillings.{RunsDrill};
 
-use crate::telling::{print, tell_want};
+use crate::telling::{print, tell_no_memory};
 use am_drill::drill;
 use am_outside::Sink;
 use am_types::{NoMemory, Text};
@@ -29,7 +29,7 @@ pub fn run_drill<W: Sink, E: Sink>(
 {
     match counts(alloc, asked) {
         Ok(text) => print(text.as_str().as_bytes(), output, errors),
-        Err(NoMemory) => tell_want(errors),
+        Err(NoMemory) => tell_no_memory(errors),
     }
 }
 

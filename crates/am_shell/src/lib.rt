@@ -13,5 +13,11 @@ mod session;
 mod telling;
 mod undone;
 
+pub use am_network::{Acceptor, GatePlan, LinkPlan, ListenFail, MemoryNetwork, Network};
+pub use am_outside::{
+    Clock, FileBytes, FileFail, Files, MemoryFiles, MemorySink, MemorySource, Sink, Source,
+    StepClock,
+};
+pub use am_workers::{Worked, work};
 pub use program::{run, run_keyed};
-pub use telling::tell_want;
+pub use telling::tell_no_memory;

@@ -6,7 +6,7 @@ use crate::drilling::run_drill;
 use crate::question::run_question;
 use crate::serving::run_serving;
 use crate::session::run_session;
-use crate::telling::tell_want;
+use crate::telling::tell_no_memory;
 use am_console::tell;
 use am_keeper::Store;
 use am_network::Network;
@@ -104,6 +104,6 @@ where
         Ok(Command::Drill(asked)) => run_drill(alloc, asked, output, errors),
         Ok(Command::Visible(asked)) => run_question(alloc, asked, files, input, output, errors),
         Err(WordsFault::Usage) => tell("am: usage\n", 2, errors),
-        Err(WordsFault::NoMemory) => tell_want(errors),
+        Err(WordsFault::NoMemory) => tell_no_memory(errors),
     }
 }

@@ -8,7 +8,7 @@ ghost use Rattle.am_console.specs.Telling.{voices_of};
 ghost use Rattle.am_shell.specs.Questions.{FailsToRead, Happens, IsNoReply, IsRead, ReadsMore, RunsQuestion, most_read, query_line};
 ghost use Rattle.am_shell.specs.World.{World, with_voices};
 
-use crate::device::open_described;
+use crate::device::read_described_file;
 use crate::telling::print;
 use crate::undone::Undone;
 use am_console::{Setback, tell};
@@ -66,7 +66,7 @@ fn answer_question<F: Files, S: Source>(
         (record before { files = shelf_of F.Files files.old; input = source_of S.Source input.old })
         (record after { files = shelf_of F.Files files.new; input = source_of S.Source input.new }) }
 {
-    let known = open_described(alloc, files, &asked.device)?;
+    let known = read_described_file(alloc, files, &asked.device)?;
     let Some(caller) = caller_named(&known.device.packages, &asked.package) else {
         return Err(Undone::NoPackage);
     };

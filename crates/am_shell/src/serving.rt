@@ -11,7 +11,7 @@ ghost use Rattle.am_shell.specs.World.{World, store_of, with_voices};
 ghost use Rattle.am_workers.specs.Serving.{network_of};
 
 use crate::clocks::clock_of;
-use crate::device::open_device;
+use crate::device::read_device_file;
 use crate::kept::{hand_back, open_manager};
 use crate::undone::Undone;
 use am_console::{Setback, tell};
@@ -107,7 +107,7 @@ where
           network = network_of N.Network network.new;
         }) }
 {
-    let device = open_device(alloc, files, &asked.device)?;
+    let device = read_device_file(alloc, files, &asked.device)?;
     serve_device(rt, alloc, drawn, device, asked, network, store, clock)
 }
 

@@ -9,7 +9,7 @@ ghost use Rattle.am_shell.specs.Lines.{end_line, end_status};
 ghost use Rattle.am_shell.specs.Runs.{RunsSession};
 ghost use Rattle.am_shell.specs.World.{World, store_of, with_streams};
 
-use crate::device::open_device;
+use crate::device::read_device_file;
 use crate::kept::{hand_back, open_manager};
 use crate::undone::Undone;
 use am_console::tell;
@@ -76,7 +76,7 @@ fn open_session<F: Files, S: Source, W: Sink, T: Store, C: Clock>(
           store = store_of T.Store store.new;
         }) }
 {
-    let device = open_device(alloc, files, &asked.device)?;
+    let device = read_device_file(alloc, files, &asked.device)?;
     let end = serve_session(alloc, device, asked, input, output, store, clock)?;
     Ok(end)
 }

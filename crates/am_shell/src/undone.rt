@@ -42,7 +42,7 @@ impl From<NoMemory> for Undone {
 
     ghost from_gives = { λ _ why. why ≡ undone.Setback setbacks.NoMemory };
 
-    fn from(_want: NoMemory) -> Undone {
+    fn from(_: NoMemory) -> Undone {
         Undone::Setback(Setback::NoMemory)
     }
 }

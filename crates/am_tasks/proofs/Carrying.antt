@@ -2,10 +2,10 @@
 use Rattle.std.proofs.Common.{◌≡◌, ℕ, suc, ◌+◌, ◌-◌, ◌<◌, ◌≤◌, Bool, true, false, cond, eqb, List, [], ◌∷◌, ◌++◌, length, get_or, set, take, drop, Some, refl, sym, ap, ◌∙◌, arith}
 use Rattle.std.specs.Prelude.{◌==◌}
 use Rattle.std.specs.List.{count_by, remove, slice_get}
-use Rattle.std.proofs.lemmas.List.{take_more, length-map, length-take-le, length_push, get_or-set_same, take-set, get_or_default, get_or_push, get_or-take}
-use Rattle.std.proofs.lemmas.List.{drop-set-lt}
+use Rattle.std.proofs.lemmas.List.{take_more, length-map, length-take-le, length_push, get_or-set_same, take-set, get_or_default, get_or_push, get_or-take, drop-set-lt}
 use Rattle.std.proofs.lemmas.List.Sums.{sum_by-cons, sum_by_push, sum_by-take-le, sum_by-remove}
 use Rattle.std.proofs.lemmas.Option.{slice_get-get_or}
+use Rattle.std.proofs.lemmas.List.Edits.{length-remove}
 use Rattle.am_types.specs.declared.intent.Intent.{Intent}
 use Rattle.am_types.specs.declared.task.StartCall.{StartCall}
 use Rattle.am_model.specs.Tasks.{Instance, Task, Tasks, is_number}
@@ -16,7 +16,7 @@ use Rattle.am_tasks.specs.Plans.{number_at, kept_by}
 use Rattle.am_tasks.specs.Sound.{IsSound, count_in}
 use Rattle.am_tasks.proofs.Finding.{at_there}
 use Rattle.am_tasks.proofs.Once.{IsOnce, tick, left_out, changed_at, stands_below}
-use Rattle.am_tasks.proofs.Soundness.{instance_number, task_number, tasks_stand_once, instances_stand_once, room_at, length_of_rest, one_at, one_next, sound_in_front}
+use Rattle.am_tasks.proofs.Soundness.{instance_number, task_number, tasks_stand_once, instances_stand_once, room_at, one_at, one_next, sound_in_front}
 
 -- the task at a place in front of the others, as the placement has it
 pub brought : (all : Tasks) (place : ℕ) (d : Task) (instances : List Instance) → IsSound all → place < length all.tasks
@@ -80,7 +80,7 @@ length_at_most Below place xs d low = let count = length-take-le (place + 1) xs 
     (omega arith, omega arith)
 length_at_most Others place xs d low =
     let count = length_push (remove xs place) (get_or xs place d) in
-    let rest = length_of_rest xs place low in
+    let rest = length-remove xs place low in
     (omega arith, omega arith)
 
 -- each number occurs once in what is kept
@@ -210,7 +210,7 @@ pub moved_length : {X : Type 0} (xs moved : List X) (place : ℕ) → place < le
     → ((d : X) → moved ≡ remove xs place ++ get_or xs place d ∷ []) → length moved ≡ length xs
 moved_length {X} xs moved place low is =
     let d : X = (at_there xs place low).0 in
-    ap length (is d) ∙ length_push (remove xs place) (get_or xs place d) ∙ length_of_rest xs place low
+    ap length (is d) ∙ length_push (remove xs place) (get_or xs place d) ∙ length-remove xs place low
 
 -- and has it on top
 pub moved_same : {X : Type 0} (xs moved : List X) (place top : ℕ) → place < length xs
@@ -219,7 +219,7 @@ pub moved_same : {X : Type 0} (xs moved : List X) (place top : ℕ) → place < 
 moved_same {X} xs moved place top low is last =
     let d : X = (at_there xs place low).0 in
     let whole = moved_length xs moved place low is in
-    let rest = length_of_rest xs place low in
+    let rest = length-remove xs place low in
     slice_get-get_or moved top d (omega arith)
     ∙ ap (λ l. Some (get_or l top d)) (is d)
     ∙ ap Some (get_or_push (remove xs place) (get_or xs place d) d top (omega arith))

@@ -2,8 +2,7 @@
 use Rattle.std.proofs.Common.{◌≡◌, ℕ, ◌<◌, ◌≤◌, Bool, true, false, not, List, length, get_or, take, cond, Option, Some, None, refl, ap, ◌∙◌, sym, arith, inl, inr, length-take}
 use Rattle.std.specs.Prelude.{◌==◌, nat_le}
 use Rattle.std.specs.List.{prefix_len}
-use Rattle.std.proofs.lemmas.Bool.{eq-eqb, cases_lt, lt-leb, leb-false, not_from_true}
-use Rattle.std.proofs.lemmas.Bool.{both_ways}
+use Rattle.std.proofs.lemmas.Bool.{eq-eqb, cases_lt, lt-leb, leb-false, not_from_true, both_ways}
 use Rattle.std.proofs.lemmas.List.Sums.{prefix_len_passes}
 use Rattle.am_model.specs.Tasks.{Instance, Task, Tasks}
 use Rattle.am_types.specs.declared.task.PlaceFault.{PlaceFault}

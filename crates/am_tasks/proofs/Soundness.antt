@@ -1,11 +1,12 @@
 -- What is kept stays sound.
-use Rattle.std.proofs.Common.{◌≡◌, ℕ, suc, ◌+◌, ◌<◌, ◌≤◌, Bool, true, false, not, cond, eqb, List, [], ◌∷◌, length, get_or, take, drop, map, refl, ap, ◌∙◌, arith, inl, inr, length-append, length-take, length-drop}
+use Rattle.std.proofs.Common.{◌≡◌, ℕ, suc, ◌+◌, ◌<◌, ◌≤◌, Bool, true, false, not, cond, eqb, List, [], ◌∷◌, length, get_or, take, drop, map, refl, ap, ◌∙◌, arith, inl, inr}
 use Rattle.std.specs.Prelude.{All}
 use Rattle.std.specs.List.{filter, count_by, sum_by, remove}
 use Rattle.std.proofs.lemmas.Bool.{eqb-true, cases_lt}
 use Rattle.std.proofs.lemmas.List.{length-map}
 use Rattle.std.proofs.lemmas.List.Elements.{All-nil, All-cons, All-head, All-tail, All-append, All-take, All-drop, All-get_or}
 use Rattle.std.proofs.lemmas.List.Sums.{sum_by-cons, sum_by-remove, get_or-le-sum_by, length-filter, count_by-le-length}
+use Rattle.std.proofs.lemmas.List.Edits.{length-remove}
 use Rattle.am_model.specs.Filters.{is_empty}
 use Rattle.am_types.specs.declared.task.StartCall.{StartCall}
 use Rattle.am_model.specs.Tasks.{Instance, Task, Tasks, is_number, keeping, tasks_keeping}
@@ -43,16 +44,6 @@ pub room_at : (all : Tasks) (place : ℕ) (d : Task) → IsSound all → place <
     → IsFilled (get_or all.tasks place d)
 room_at all place d sound low = All-get_or IsFilled all.tasks place d low sound.filled
 
--- one less after one was removed
-pub length_of_rest : {X : Type 0} (xs : List X) (place : ℕ) → place < length xs → length (remove xs place) + 1
-    ≡ length xs
-length_of_rest xs place low = omega (
-  arith,
-  length-append (take place xs) (drop (suc place) xs),
-  length-take place xs,
-  length-drop (suc place) xs,
-)
-
 -- what holds of all holds of the rest
 All_rest : {X : Type 0} (P : X → Type 0) (xs : List X) (place : ℕ) → All P xs → All P (remove xs place)
 All_rest P xs place all = All-append P (take place xs) (drop (suc place) xs) (All-take P place xs all)
@@ -87,7 +78,7 @@ pub sound_in_front : (all : Tasks) (place : ℕ) (d : Task) (kept : List Instanc
       next_instance = next;
     })
 sound_in_front all place d kept next more sound low some few later count extra = record {
-  few = omega (arith, length_of_rest all.tasks place low, sound.few);
+  few = omega (arith, length-remove all.tasks place low, sound.few);
   filled = All-cons IsFilled front (remove all.tasks place) (some, few)
       (All_rest IsFilled all.tasks place sound.filled);
   tasks_once = λ (n : ℕ). omega (arith, tasks n, sound.tasks_once n);

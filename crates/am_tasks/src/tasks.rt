@@ -111,7 +111,7 @@ impl Tasks {
         ensures placed { IfOk result (λ landed. place self.old start ≡ Ok (landed, self.new)) }
         ensures refused { IfErr result
             (λ fault. fault ≢ PlaceFault.NoMemory → place self.old start ≡ Err fault) }
-        ensures wanting { result ≡ Err PlaceFault.NoMemory → IsOk (place self.old start) }
+        ensures ran_out { result ≡ Err PlaceFault.NoMemory → IsOk (place self.old start) }
         ensures unchanged { OnErr result (self.new ≡ self.old) }
 
         // An activity of the mode singleInstancePerTask stays at the root of its task.

@@ -36,14 +36,14 @@ impl<R: Time + Wait + Copy + Drop> TcpGate<R> {
         }
     }
 
-    // How many calls of `accept` and `next_link` failed.
+    // How many calls for a link failed, and how many links weren't parked that were to be.
     pub(crate) fn faults(&self) -> u64
         ensures { result ≡ self.now.faults }
     {
         self.faults
     }
 
-    // Counts a call that failed.
+    // Counts a call that failed, or a link that isn't parked.
     fn failed(&mut self) -> Failed
         ensures counted { self.new.faults ≡ one_more self.old.faults }
         ensures never_falls { self.old.faults ≤ self.new.faults }
@@ -81,21 +81,29 @@ impl<R: Time + Wait + Copy + Drop + Send> Acceptor for TcpGate<R> {
         self.port.finish(self.rt, reader, writer);
     }
 
-    fn next_link(&mut self) -> Result<Option<(TcpReader<R>, TcpWriter<R>, u32)>, Failed> {
-        match self.port.next(self.rt) {
-            Ok(
-                Link {
-                    reader,
-                    writer,
-                    answered,
-                    ..
-                },
-            ) => Ok(Some((reader, writer, answered))),
+    fn next_link(
+        &mut self,
+        takes_new: bool,
+    ) -> Result<Option<(TcpReader<R>, TcpWriter<R>, Option<u32>)>, Failed> {
+        match self.port.next(self.rt, takes_new) {
+            Ok(None) => Ok(None),
+            Ok(Some(link)) => {
+                let before = if link.is_new {
+                    None
+                } else {
+                    Some(link.answered)
+                };
+                Ok(Some((link.reader, link.writer, before)))
+            }
             Err(_) => Err(self.failed()),
         }
     }
 
     fn park(&mut self, reader: TcpReader<R>, writer: TcpWriter<R>, answered: u32) -> bool {
-        self.port.park(self.rt, reader, writer, answered)
+        let is_parked = self.port.park(self.rt, reader, writer, answered);
+        if !is_parked {
+            let _ = self.failed();
+        }
+        is_parked
     }
 }

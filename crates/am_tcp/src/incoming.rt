@@ -1,16 +1,14 @@
 //! The bytes of a connection that came and weren't read yet.
 ghost use Rattle.std.specs.Prelude.{◌≡◌, ◌+◌, ◌≤◌, IfOk, length, vec_len};
 
-use crate::requests::{Length, request_length};
+use am_frames::frame::MAX_FRAME;
+use am_frames::{Announced, announced_length};
 use std::alloc::{AllocError, Global};
 use std::io::{self, Read};
 use std::mem::replace;
 
 /// The bytes that a request takes first, and those that a connection keeps between requests.
 const FIRST: usize = 1_024;
-
-/// The most bytes that are kept: a head and a body of the greatest length.
-const MOST: usize = 73_728;
 
 /// How many requests are looked for at once.
 const MOST_FOUND: u32 = 64;
@@ -68,20 +66,20 @@ impl Incoming {
             return false;
         }
         let found = match self.length {
-            Some(length) => Length::Known(length),
-            None => request_length(&self.bytes[self.ready..self.end]),
+            Some(length) => Announced::Known(length),
+            None => announced_length(&self.bytes[self.ready..self.end]),
         };
         match found {
-            Length::Known(length) if length <= self.end - self.ready => {
+            Announced::Known(length) if length <= self.end - self.ready => {
                 self.open_to(self.ready + length);
                 true
             }
-            Length::Known(length) => {
+            Announced::Known(length) => {
                 self.length = Some(length);
                 false
             }
-            Length::Unknown => false,
-            Length::Refused => {
+            Announced::Unknown => false,
+            Announced::Refused => {
                 self.open_to(self.end);
                 false
             }
@@ -139,7 +137,11 @@ impl Incoming {
         self.end -= self.start;
         self.start = 0;
         if !has_room {
-            let wanted = length.saturating_mul(2).max(FIRST).min(MOST).max(length);
+            let wanted = length
+                .saturating_mul(2)
+                .max(FIRST)
+                .min(MAX_FRAME)
+                .max(length);
             self.bytes.reserve_exact(wanted - length)?;
             self.bytes.resize(wanted, 0)?;
         }

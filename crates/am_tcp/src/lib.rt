@@ -13,7 +13,6 @@ mod link;
 mod network;
 mod outgoing;
 mod port;
-mod requests;
 mod table;
 
 pub use gate::TcpGate;

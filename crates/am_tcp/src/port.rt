@@ -1,5 +1,5 @@
 //! A port, with its connections.
-ghost use Rattle.std.specs.Prelude.{◌≡◌, IfOk, IfSome};
+ghost use Rattle.std.specs.Prelude.{◌≡◌, false, IfOk, IfSome};
 ghost use Rattle.am_tcp.specs.Places.{IsLocal};
 
 use crate::faults::{is_of_peer, is_shortage};
@@ -90,7 +90,8 @@ impl<R: Time + Wait + Copy + Drop> Port<R> {
         ensures { IfOk result (λ link. (link.reader.faults ≡ 0) × (link.writer.faults ≡ 0)) }
     {
         let (reader, writer) = open(rt, self.alloc, &self.limits, stream)?;
-        let link = Link::new(reader, writer, Instant::now(&rt)?, self.limits.request);
+        let mut link = Link::new(reader, writer, Instant::now(&rt)?, self.limits.request);
+        link.is_new = true;
         self.table.lock(&rt).admit(link.key())?;
         Ok(link)
     }
@@ -102,6 +103,9 @@ impl<R: Time + Wait + Copy + Drop> Port<R> {
         match table.take_longest(now) {
             Some(link) => {
                 table.free(link.key());
+                if !link.is_new {
+                    table.count_end();
+                }
                 drop(link);
                 Ok(true)
             }
@@ -196,10 +200,11 @@ impl<R: Time + Wait + Copy + Drop> Port<R> {
         Ok(())
     }
 
-    // Waits for what comes next, and answers a link that is to be looked at.
-    fn next_seen(&self, rt: R) -> io::Result<Option<Link<R>>> {
+    // Waits for what comes next, and answers a link that is to be looked at. It looks for one that is due among those alone
+    // that aren't new, if new ones aren't taken.
+    fn next_seen(&self, rt: R, takes_new: bool) -> io::Result<Option<Link<R>>> {
         let now = Instant::now(&rt)?;
-        let turn = self.table.lock(&rt).turn(now);
+        let turn = self.table.lock(&rt).turn(now, takes_new);
         let millis = match turn {
             Turn::Look(link) => return Ok(Some(link)),
             Turn::Accept => {
@@ -224,13 +229,53 @@ impl<R: Time + Wait + Copy + Drop> Port<R> {
         }
     }
 
-    /// The next link whose request is there, whose peer ended it or whose time is over.
-    pub(crate) fn next(&self, rt: R) -> io::Result<Link<R>> {
+    // Leaves a new link to the workers that take one: to one that waits now, or to the next round.
+    fn leave_to_others(&self, rt: R, mut link: Link<R>, was_reported: bool) {
+        let descriptor = link.reader.descriptor();
+        link.is_reported = true;
+        self.keep(rt, link);
+        if !was_reported {
+            let _ = watch_again(&self.poll, descriptor);
+        }
+    }
+
+    // Waits for what comes next, and hands a link out whose request is there, whose peer ended it or whose time is over.
+    fn try_next(&self, rt: R, takes_new: bool) -> io::Result<Option<Link<R>>>
+        ensures { IfOk result (λ next. IfSome next (λ link. takes_new ≡ false → link.is_new ≡ false)) }
+    {
+        let Some(link) = self.next_seen(rt, takes_new)? else {
+            return Ok(None);
+        };
+        let was_reported = link.is_reported;
+        match self.look_at(rt, link)? {
+            Some(link) if takes_new || !link.is_new => Ok(Some(link)),
+            Some(link) => {
+                self.leave_to_others(rt, link, was_reported);
+                Ok(None)
+            }
+            None => Ok(None),
+        }
+    }
+
+    // Whether no link is to come for a worker that takes no new one.
+    fn is_done(&self, rt: R) -> bool {
+        !self.table.lock(&rt).has_any_in_course()
+    }
+
+    /// The next link whose request is there, whose peer ended it or whose time is over. If new ones aren't taken, none
+    /// comes once all that were handed out have ended.
+    pub(crate) fn next(&self, rt: R, takes_new: bool) -> io::Result<Option<Link<R>>>
+        ensures { IfOk result (λ next. IfSome next (λ link. takes_new ≡ false → link.is_new ≡ false)) }
+    {
         for _ in rt.forever() {
-            if let Some(link) = self.next_seen(rt)? {
-                if let Some(link) = self.look_at(rt, link)? {
-                    return Ok(link);
+            if !takes_new && self.is_done(rt) {
+                return Ok(None);
+            }
+            if let Some(link) = self.try_next(rt, takes_new)? {
+                if link.is_new {
+                    self.table.lock(&rt).count_new();
                 }
+                return Ok(Some(link));
             }
         }
         unreachable!()
@@ -238,7 +283,7 @@ impl<R: Time + Wait + Copy + Drop> Port<R> {
 
     // Waits for what comes next, for those alone whose peer was told the end. The others are looked at later.
     fn settle(&self, rt: R) -> io::Result<()> {
-        match self.next_seen(rt)? {
+        match self.next_seen(rt, true)? {
             Some(link) if link.is_leaving => self.look_at_leaving(rt, link),
             Some(mut link) => {
                 link.is_reported = true;
@@ -257,6 +302,7 @@ impl<R: Time + Wait + Copy + Drop> Port<R> {
             match self.accept(rt)? {
                 Some(link) => {
                     if watch(&self.poll, link.reader.descriptor()).is_ok() {
+                        self.table.lock(&rt).count_new();
                         return Ok(link);
                     }
                     self.free(rt, link.reader.descriptor());
@@ -276,6 +322,7 @@ impl<R: Time + Wait + Copy + Drop> Port<R> {
         answered: u32,
     ) -> bool {
         let Ok(now) = Instant::now(&rt) else {
+            self.table.lock(&rt).count_end();
             self.free(rt, reader.descriptor());
             return false;
         };
@@ -289,6 +336,7 @@ impl<R: Time + Wait + Copy + Drop> Port<R> {
 
     /// Ends a link. Its peer is told the end first, and has some time to end its own side.
     pub(crate) fn finish(&self, rt: R, mut reader: TcpReader<R>, writer: TcpWriter<R>) {
+        self.table.lock(&rt).count_end();
         let is_leaving = reader.leave();
         match Instant::now(&rt) {
             Ok(now) if is_leaving => {

@@ -22,6 +22,8 @@ pub(crate) struct Link<R> {
     pub(crate) reader: TcpReader<R>,
     pub(crate) writer: TcpWriter<R>,
     pub(crate) answered: u32,
+    /// Whether it was never handed out.
+    pub(crate) is_new: bool,
     /// Whether the peer was told the end.
     pub(crate) is_leaving: bool,
     /// Whether it was reported while none could look at it.
@@ -45,6 +47,7 @@ impl<R> Link<R> {
             reader,
             writer,
             answered: 0,
+            is_new: false,
             is_leaving: false,
             is_reported: false,
             since,
@@ -107,6 +110,10 @@ impl<R> Place<R> {
             .is_some_and(|link| link.is_reported || link.is_over(now))
     }
 
+    fn is_new(&self) -> bool {
+        self.kept().is_some_and(|link| link.is_new)
+    }
+
     fn is_leaving(&self) -> bool {
         self.kept().is_some_and(|link| link.is_leaving)
     }
@@ -136,6 +143,8 @@ pub(crate) struct Table<R> {
     began: Option<Instant>,
     // Since when the port lacks a place for a connection.
     lacks: Option<Instant>,
+    // How many links were handed out and have not ended.
+    in_course: u64,
 }
 
 impl<R> Table<R> {
@@ -146,6 +155,7 @@ impl<R> Table<R> {
             at: 0,
             began: None,
             lacks: None,
+            in_course: 0,
         }
     }
 }
@@ -154,6 +164,21 @@ impl<R: Drop> Table<R> {
     /// Whether the peer of a link is waited for that was told the end.
     pub(crate) fn has_leaving(&self) -> bool {
         self.places.iter().any(|place| place.is_leaving())
+    }
+
+    /// Whether a link that was handed out has not ended.
+    pub(crate) fn has_any_in_course(&self) -> bool {
+        self.in_course > 0
+    }
+
+    /// Counts a link that is handed out for the first time.
+    pub(crate) fn count_new(&mut self) {
+        self.in_course = self.in_course.saturating_add(1);
+    }
+
+    /// Counts a link that was handed out and ends.
+    pub(crate) fn count_end(&mut self) {
+        self.in_course = self.in_course.saturating_sub(1);
     }
 
     /// Lets the port accept again in a moment.
@@ -198,6 +223,16 @@ impl<R: Drop> Table<R> {
         None
     }
 
+    // The place of the first link that is due and not new.
+    fn due_again(&self, now: Instant) -> Option<usize> {
+        for at in 0..self.places.len() {
+            if self.places[at].is_due(now) && !self.places[at].is_new() {
+                return Some(at);
+            }
+        }
+        None
+    }
+
     // The place of the link that waits longest.
     fn longest_place(&self, now: Instant) -> Option<usize> {
         let mut longest = None;
@@ -212,8 +247,13 @@ impl<R: Drop> Table<R> {
         found
     }
 
-    // Takes the next link of the round out that is due.
-    fn take_due(&mut self, now: Instant) -> Option<Link<R>> {
+    // Takes the next link of the round out that is due. Outside of the rounds, which are for all links, it takes the first
+    // one that isn't new.
+    fn take_due(&mut self, now: Instant, takes_new: bool) -> Option<Link<R>> {
+        if !takes_new {
+            let due = self.due_again(now)?;
+            return self.take(due);
+        }
         if !self.has_round(now) {
             return None;
         }
@@ -222,9 +262,9 @@ impl<R: Drop> Table<R> {
         self.take(due?)
     }
 
-    /// What a worker that needs a link does next.
-    pub(crate) fn turn(&mut self, now: Instant) -> Turn<R> {
-        if let Some(link) = self.take_due(now) {
+    /// What a worker does next that needs a link, which may be a new one or not.
+    pub(crate) fn turn(&mut self, now: Instant, takes_new: bool) -> Turn<R> {
+        if let Some(link) = self.take_due(now, takes_new) {
             return Turn::Look(link);
         }
         if self.accepts_again(now) {

@@ -1,5 +1,5 @@
 //! Keys of frames that no package has, so that no answer shows them.
-use am_http::frame::{Framing, frame};
+use am_frames::frame::{Framing, frame};
 
 const WITH_A_BLANK: &[u8] = b"GET / HTTP/1.1\r\nam-key:\t a b \r\nAM-Key: c\r\n\r\n";
 

@@ -305,9 +305,9 @@ fn asked<R: Clock + Wait + Copy + Drop + Send>(
     gate: &mut TcpGate<R>,
     length: usize,
 ) -> Result<(Link<R>, String, u32), Fail> {
-    let (mut reader, writer, answered) = gate.next_link()?.ok_or("a link")?;
+    let (mut reader, writer, before) = gate.next_link(true)?.ok_or("a link")?;
     let text = received(alloc, &mut reader, length)?;
-    Ok((Link { reader, writer }, text, answered))
+    Ok((Link { reader, writer }, text, before.unwrap_or(0)))
 }
 
 #[test]

@@ -1,13 +1,13 @@
 //! Servings over gates that park links: several links of several frames, whose readers aren't ready now and then.
 ghost use Rattle.std.specs.Prelude.{◌≡◌, ◌<◌, IfOk};
-ghost use Rattle.am_network_resting.specs.Gates.{AreNew, AreUnused, HasUnusedEnds, IsNew};
+ghost use Rattle.am_trials_network.specs.Gates.{AreNew, AreUnused, HasUnusedEnds, IsNew};
 
 mod rows;
 
 use self::rows::{ALONE, INTERLEAVED};
 use crate::servings::{fault, gate_parts, try_gates, try_head};
 use crate::sessions::text_of;
-use am_network_resting::{RestingGate, RestingLink, RestingNetwork, RestingPlan};
+use am_trials_network::{RestingGate, RestingLink, RestingNetwork, RestingPlan};
 use am_trials_runs::{Outside, QUIET, Runtime, sink, source, store};
 use am_trials_words::try_sections;
 use am_types::List;
@@ -208,7 +208,7 @@ fn answers_as_one_link_at_a_time(rt: HostRuntime) -> Result<(), Fail> {
 
 #[test]
 fn serves_links_in_turns(rt: HostRuntime) -> Result<(), Fail> {
-    try_sections(INTERLEAVED, "\n# ", 6, |rows| {
+    try_sections(INTERLEAVED, "\n# ", 7, |rows| {
         try_rows(&rt, rt.alloc(), RESTING, rows)
     })
 }

@@ -1,6 +1,7 @@
 //! Two workers at the same time: the frame that comes to one is whole only once the other has answered its own.
-ghost use Rattle.std.specs.Prelude.{◌≡◌, ◌+◌, ◌<◌, ◌≤◌, [], length, vec_len, vec_capacity};
+ghost use Rattle.std.specs.Prelude.{◌≡◌, ◌+◌, ◌<◌, ◌≤◌, [], All, None, length, vec_len, vec_capacity};
 ghost use Rattle.std.specs.Io.{ReadsAtMost};
+ghost use Rattle.am_network.specs.Links.{IsNewGate};
 
 use crate::servings::try_head;
 use am_network::{Acceptor, ListenFail, Network};
@@ -176,6 +177,7 @@ fn ends_of(link: Link) -> (Reader, Writer)
 struct Gate {
     coming: Option<Link>,
     ended: Option<Writer>,
+    faults: u64,
 }
 
 impl Acceptor for Gate {
@@ -187,7 +189,7 @@ impl Acceptor for Gate {
 
     ghost links = { λ g. None };
 
-    ghost faults = { λ g. 0 };
+    ghost faults = { λ g. g.faults };
 
     fn accept(&mut self) -> Result<Option<(Reader, Writer)>, Failed> {
         match self.coming.take() {
@@ -200,6 +202,29 @@ impl Acceptor for Gate {
         drop(reader);
         self.ended = Some(writer);
     }
+
+    fn next_link(
+        &mut self,
+        takes_new: bool,
+    ) -> Result<Option<(Reader, Writer, Option<u32>)>, Failed> {
+        if !takes_new {
+            return Ok(None);
+        }
+        match self.coming.take() {
+            Some(link) => {
+                let (reader, writer) = ends_of(link);
+                Ok(Some((reader, writer, None)))
+            }
+            None => Ok(None),
+        }
+    }
+
+    fn park(&mut self, reader: Reader, writer: Writer, _answered: u32) -> bool {
+        drop(reader);
+        self.ended = Some(writer);
+        self.faults = self.faults.saturating_add(1);
+        false
+    }
 }
 
 /// A network whose gates have a link each. It tells nothing of them.
@@ -209,18 +234,21 @@ struct Pair {
     coming: VecDeque<Link>,
     released: Vec<Gate>,
     listens: u64,
+    gate_faults: u64,
 }
 
 /// Makes so many gates.
 fn gates_of(coming: &mut VecDeque<Link>, gates: u32, mut made: Vec<Gate>) -> Vec<Gate>
     requires empty { made.items ≡ [] }
     requires room { gates ≤ vec_capacity made }
-    ensures { length result.items ≡ gates }
+    ensures count { length result.items ≡ gates }
+    ensures new { All (λ (g : Gate). IsNewGate (record { links = None; faults = g.faults })) result.items }
 {
     for _number in 0..gates {
         made.push_reserved(Gate {
             coming: coming.pop_front(),
             ended: None,
+            faults: 0,
         });
     }
     made
@@ -233,7 +261,7 @@ impl Network for Pair {
 
     ghost faults = { λ n. 0 };
 
-    ghost gate_faults = { λ n. 0 };
+    ghost gate_faults = { λ n. n.gate_faults };
 
     fn listen(&mut self, _port: u16, gates: u32) -> Result<Vec<Gate>, ListenFail> {
         self.listens = self.listens.saturating_add(1);
@@ -242,6 +270,7 @@ impl Network for Pair {
     }
 
     fn release(&mut self, gate: Gate) {
+        self.gate_faults = self.gate_faults.saturating_add(gate.faults);
         drop(self.released.push(gate));
     }
 }
@@ -275,6 +304,7 @@ fn pair_of(alloc: Global, waiting: u32) -> Result<Pair, Fail> {
         coming,
         released: Vec::new(alloc),
         listens: 0,
+        gate_faults: 0,
     })
 }
 

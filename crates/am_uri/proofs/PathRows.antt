@@ -3,7 +3,7 @@ use Rattle.std.proofs.Common.{◌≡◌, ℕ, zero, suc, ◌<◌, ◌+◌, ◌*�
 use Rattle.std.proofs.Math.Nat.{div-eq_of_lt}
 use Rattle.std.proofs.lemmas.Nat.{shr-shr}
 use Rattle.am_model.specs.Paths.{Element}
-use Rattle.am_uri.specs.declared.words.Test.TheVariants.{Allows, Wild, Bit, Below}
+use Rattle.am_uri.specs.declared.bits.Test.TheVariants.{Allows, Wild, Bit, Below}
 use Rattle.am_uri.specs.PathElements.{allowed_at}
 use Rattle.am_uri.specs.PathRows.{test_of, both, without, either}
 use Rattle.am_uri.specs.PathWords.{word_where, words_where, passes}

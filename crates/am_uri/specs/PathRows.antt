@@ -1,8 +1,8 @@
 -- Rows of a pattern: the words of the tests that find the elements for a character.
 use Rattle.std.specs.Prelude.{ℕ, ◌<◌, ◌≤◌, ◌==◌, nat_lt, ◌-◌, ◌%◌, ◌≡◌, if◌then◌else◌, List, [], ◌∷◌, take, length, slice_index_or, bit_and, bit_or, bit_xor}
 use Rattle.am_model.specs.Paths.{Element}
-use Rattle.am_uri.specs.declared.words.Test.{Test}
-use Rattle.am_uri.specs.declared.words.Test.TheVariants.{Allows, Wild, Bit, Below}
+use Rattle.am_uri.specs.declared.bits.Test.{Test}
+use Rattle.am_uri.specs.declared.bits.Test.TheVariants.{Allows, Wild, Bit, Below}
 use Rattle.am_uri.specs.PathWords.{passes, words_where}
 
 -- the test of a row: that the character has a certain bit, that it has no bit from the 7th or from the 21st on, that

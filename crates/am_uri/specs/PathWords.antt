@@ -2,8 +2,8 @@
 use Rattle.std.specs.Prelude.{ℕ, zero, suc, ◌+◌, ◌*◌, ◌/◌, ◌^◌, ◌<◌, Bool, ◌==◌, ◌%◌, List, [], ◌∷◌, take, drop, cond, slice_index}
 use Rattle.am_model.specs.Paths.{Element, allows}
 use Rattle.am_uri.specs.PathElements.{is_wild}
-use Rattle.am_uri.specs.declared.words.Test.{Test}
-use Rattle.am_uri.specs.declared.words.Test.TheVariants.{Repeated, Allows, Wild, Bit, Below}
+use Rattle.am_uri.specs.declared.bits.Test.{Test}
+use Rattle.am_uri.specs.declared.bits.Test.TheVariants.{Repeated, Allows, Wild, Bit, Below}
 
 -- the element passes the test
 abbrev pub passes : Test → Element → Bool

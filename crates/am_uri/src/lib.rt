@@ -1,6 +1,7 @@
 //! URIs and MIME types, taken apart, rules on paths, and the forms of texts and names.
 #![tactic(auto)]
 
+mod bits;
 mod matching;
 mod mime;
 mod path;
@@ -10,7 +11,6 @@ mod rows;
 mod scheme;
 mod text;
 mod uri;
-mod words;
 
 pub use am_types::{MimeFault, UriFault};
 pub use mime::parse_mime;

@@ -6,10 +6,10 @@ ghost use Rattle.am_model.specs.Paths.{matches};
 ghost use Rattle.am_uri.specs.PathElements.{element_of};
 ghost use Rattle.am_uri.specs.PathRows.{AreRows};
 
+use crate::bits::{Test, WIDTH, WORDS, write_where};
 use crate::pattern::Element;
 use crate::places::{advance, is_empty, is_reached, skip};
 use crate::rows::{ASKED, ROWS, Row, write_allowed, write_rows};
-use crate::words::{Test, WIDTH, WORDS, write_where};
 
 /// Whether all the characters of the path are matched by the elements, one after the other.
 pub(crate) fn matches(elements: &[Element], path: &str) -> bool

@@ -2,9 +2,9 @@
 ghost use Rattle.std.specs.Prelude.{◌≡◌, ◌≤◌, length};
 ghost use Rattle.am_model.specs.Paths.{passes_path, passes_pattern};
 
+use crate::bits::WIDTH;
 use crate::matching::matches;
 use crate::pattern::{Element, MOST, next_element, read_elements};
-use crate::words::WIDTH;
 use am_types::{PathRule, Text};
 
 /// Whether the path passes the rule. In a pattern a backslash makes the next character literal, a

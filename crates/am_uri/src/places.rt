@@ -3,7 +3,7 @@ ghost use Rattle.std.specs.Prelude.{◌≡◌, ◌<◌, ◌*◌, ◌/◌, ◌%�
 ghost use Rattle.am_uri.specs.PathPlaces.{skipped, advanced};
 ghost use Rattle.am_uri.specs.PathWords.{AreWithin};
 
-use crate::words::WIDTH;
+use crate::bits::WIDTH;
 
 /// Reaches the places after repeated elements too. A carry runs up a word as far as elements are repeated.
 pub(crate) fn skip(repeated: &[u64], reached: &mut [u64])

@@ -5,8 +5,8 @@ ghost use Rattle.am_uri.specs.PathElements.{element_of, allowed_at};
 ghost use Rattle.am_uri.specs.PathWords.{IsShift, passes, words_where};
 ghost use Rattle.am_uri.specs.PathRows.{AreRows, test_of, both, without, either};
 
+use crate::bits::{Test, WIDTH, WORDS, write_where};
 use crate::pattern::Element;
-use crate::words::{Test, WIDTH, WORDS, write_where};
 
 /// The words of the elements that pass a test.
 pub(crate) type Row = [u64; WORDS];

@@ -6,7 +6,7 @@ ghost use Rattle.am_types.specs.Reading.{Gives};
 ghost use Rattle.am_wire.specs.Accounts.{is_receiver, asks_receivers, permission_for, asked_with, explain_in};
 
 use crate::activities::fields_where;
-use crate::words::kind_of;
+use crate::kinds::kind_of;
 use am_types::{Kind, Request, Text};
 use am_uri::Form;
 use am_wire_fields::{Unread, optional_text, or_drop};

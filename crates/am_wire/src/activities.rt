@@ -4,7 +4,7 @@ ghost use Rattle.serde_json.specs.View.{view};
 ghost use Rattle.am_types.specs.Reading.{Gives};
 ghost use Rattle.am_wire.specs.Activities.{fields_of, plain_in, number_in, advance_in, query_in, start_in, start_service_in, stop_service_in};
 
-use crate::words::kind_of;
+use crate::kinds::kind_of;
 use am_types::Request;
 use am_wire_fields::{
     Unread, only_fields, optional_natural, optional_truth, or_drop, required, required_natural,

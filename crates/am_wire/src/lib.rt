@@ -6,9 +6,9 @@
 mod accounts;
 mod activities;
 mod broadcasts;
+mod kinds;
 mod packages;
 mod pendings;
 mod requests;
-mod words;
 
 pub use requests::read_request;

@@ -4,7 +4,7 @@ ghost use Rattle.am_types.specs.Reading.{Gives};
 ghost use Rattle.am_wire.specs.Pendings.{pending_get_in, pending_send_in, pending_give_in};
 
 use crate::activities::fields_of;
-use crate::words::{pending_flags_of, pending_kind_of};
+use crate::kinds::{pending_flags_of, pending_kind_of};
 use am_types::Request;
 use am_uri::Form;
 use am_wire_fields::{Unread, or_drop, required_natural, required_text, required_whole};

@@ -4,6 +4,7 @@ use Rattle.std.specs.Prelude.{nat_lt, ◌==◌, codes}
 use Rattle.std.specs.List.{list_any, before_first, after_first, position_or_len}
 use Rattle.std.proofs.lemmas.List.Folds.{list_any-append}
 use Rattle.std.proofs.lemmas.Bool.Decides.{Decides-eqb}
+use Rattle.std.proofs.lemmas.Bool.{or_parts, not-true, not-false}
 use Rattle.serde_json.specs.Data.{Data, string, object}
 use Rattle.serde_json.specs.Find.{as_str}
 use Rattle.am_types.specs.declared.intent.Component.{Component}
@@ -69,10 +70,6 @@ split [] h = absurd (true≢false (sym h))
 split (x ∷ xs) h = split_cons (is_slash x) x xs (position_or_len is_slash xs) (λ e. (Decides-eqb x 47).0 e)
     (λ e. split xs (later_slash (is_slash x) (list_any is_slash xs) h e))
 
-not_true : (b : Bool) → not b ≡ false → b ≡ true
-not_true true h = refl
-not_true false h = absurd (true≢false h)
-
 mime_ok_or : Mime → Result Mime MimeFault → Mime
 unfolding mime_of
 mime_ok_or d (Ok m) = m
@@ -92,7 +89,7 @@ mime_text text mime h =
     let c = else_read (length (main_in text) == 0) EmptyPart three mime b.1 in
     let d = else_read (length (sub_in text) == 0) EmptyPart four mime c.1 in
     let is : parts ≡ mime = ap (mime_ok_or parts) d.1 in
-    ap (λ (m : Mime). (m.main ++ codes "/") ++ m.sub) (sym is) ∙ split text (not_true _ a.0)
+    ap (λ (m : Mime). (m.main ++ codes "/") ++ m.sub) (sym is) ∙ split text (not-false _ a.0)
 
 mime_is : (r : Result Mime MimeFault) (mime : Mime) → mime_or_fault r ≡ Ok mime → r ≡ Ok mime
 unfolding mime_or_fault
@@ -142,10 +139,6 @@ uri_field name = option_field (uri_in name) uri_data (uri_again name) (λ u. ref
 
 -- ---- components
 
-neither_is : (a b : Bool) → (a || b) ≡ false → (a ≡ false) × (b ≡ false)
-neither_is true b h = absurd (true≢false h)
-neither_is false b h = (refl, h)
-
 cut : (b : Bool) (x : ℕ) (rest : List ℕ) (o : Option (List ℕ × List ℕ)) (parts : List ℕ × List ℕ) → b ≡ false → o
     ≡ Some parts → cond b (Some ([], rest)) (with_first x o) ≡ Some (x ∷ parts.0, parts.1)
 cut true x rest o parts h e = absurd (true≢false h)
@@ -156,7 +149,7 @@ parts_again : (name class : List ℕ) → has_slash name ≡ false → parts_of 
     ≡ Some (name, class)
 parts_again [] class h = refl
 parts_again (x ∷ xs) class h =
-    let both = neither_is (x == 47) (has_slash xs) h in
+    let both = or_parts (x == 47) (has_slash xs) h in
     cut (x == 47) x ((xs ++ codes "/") ++ class) (parts_of ((xs ++ codes "/") ++ class)) (xs, class) both.0
     (parts_again xs class both.1)
 
@@ -168,12 +161,8 @@ named : (b c : Bool) → b ≡ false → c ≡ true → cond b false c ≡ true
 named true c h k = absurd (true≢false h)
 named false c h k = k
 
-not_false : (b : Bool) → not b ≡ true → b ≡ false
-not_false true h = absurd (true≢false (sym h))
-not_false false h = refl
-
 no_slash : (name : List ℕ) → is_name name ≡ true → has_slash name ≡ false
-no_slash name h = not_false (has_slash name) (unless (length name == 0) (not (has_slash name)) h).1
+no_slash name h = not-true (has_slash name) (unless (length name == 0) (not (has_slash name)) h).1
 
 -- a package's name and a class of it are a name without a dot at its start
 full_is_name : (b : Bool) (name class : List ℕ) → is_package_name name ≡ true → is_name class ≡ true

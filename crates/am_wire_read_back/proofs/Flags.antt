@@ -1,9 +1,10 @@
 -- Flags: the names of those that are set are read as the flags.
-use Rattle.std.proofs.Common.{◌≡◌, ℕ, ◌≤◌, Bool, true, false, not, ◌&&◌, ◌||◌, cond, List, [], ◌∷◌, length, map, Some, Ok, true≢false, refl, sym, ap, ◌∙◌, arith}
+use Rattle.std.proofs.Common.{◌≡◌, ℕ, ◌≤◌, Bool, true, false, not, ◌&&◌, ◌||◌, cond, List, [], ◌∷◌, length, map, Some, Ok, refl, sym, ap, ◌∙◌, arith}
 use Rattle.std.specs.Prelude.{nat_lt, codes}
 use Rattle.std.specs.List.{AllByRecursion}
 use Rattle.std.proofs.lemmas.Bool.Decides.{Decides-eqb}
 use Rattle.std.proofs.lemmas.Slice.Eq.{slice_eq-Decides}
+use Rattle.std.proofs.lemmas.Bool.{or_parts, and_parts, not-true}
 use Rattle.serde_json.specs.Data.{string, object}
 use Rattle.am_types.specs.declared.intent.Flags.{Flags}
 use Rattle.am_types.specs.declared.pending.PendingFlags.{PendingFlags}
@@ -16,7 +17,7 @@ use Rattle.am_wire.specs.Words.{pending_flag_names, pending_flags_by, pending_fl
 use Rattle.am_wire_values.specs.Fields.{some_texts, texts_data}
 use Rattle.am_wire_values.specs.Names.{names_set, flags_named, pending_named}
 use Rattle.am_wire_read_back.proofs.Lists.{list_again, list_if_again, within_again, mapped_length}
-use Rattle.am_wire_read_back.proofs.Objects.{both_hold, is_not, Entry, members_with, value_at, are_apart, field_at}
+use Rattle.am_wire_read_back.proofs.Objects.{Entry, members_with, value_at, are_apart, field_at}
 use Rattle.am_wire_read_back.proofs.Steps.{steps}
 use Rattle.am_wire_read_back.proofs.Texts.{required_at, words_again}
 
@@ -39,10 +40,6 @@ abbrev rows_apart : List Row → Bool
 rows_apart [] = true
 rows_apart (row ∷ rows) = not (has_row rows row.1) && rows_apart rows
 
-either_false : (a b : Bool) → (a || b) ≡ false → (a ≡ false) × (b ≡ false)
-either_false true b h = absurd (true≢false h)
-either_false false b h = (refl, h)
-
 not_listed : (set : Bool) (row name : List ℕ) (rows : List Row) → is_same row name ≡ false → lists (names_set rows) name
     ≡ false
     → lists (cond set (row ∷ names_set rows) (names_set rows)) name ≡ false
@@ -52,7 +49,7 @@ not_listed false row name rows h n = n
 -- a name that no row has isn't set
 none_set : (rows : List Row) (name : List ℕ) → has_row rows name ≡ false → lists (names_set rows) name ≡ false
 none_set [] name h = refl
-none_set (row ∷ rows) name h = let both = either_false (is_same row.1 name) (has_row rows name) h in not_listed row.0
+none_set (row ∷ rows) name h = let both = or_parts (is_same row.1 name) (has_row rows name) h in not_listed row.0
     row.1 name rows both.0 (none_set rows name both.1)
 
 same_name : (a b : List ℕ) → is_same a b ≡ true → a ≡ b
@@ -70,8 +67,8 @@ listed_by false false row name rows e h n = h
 set_listed : (rows : List Row) (name : List ℕ) → rows_apart rows ≡ true → lists (names_set rows) name ≡ is_set rows name
 set_listed [] name h = refl
 set_listed (row ∷ rows) name h =
-    let both = both_hold (not (has_row rows row.1)) (rows_apart rows) h in
-    let lacks = is_not (has_row rows row.1) both.0 in
+    let both = and_parts (not (has_row rows row.1)) (rows_apart rows) h in
+    let lacks = not-true (has_row rows row.1) both.0 in
     listed_by row.0 (is_same row.1 name) row.1 name rows refl (set_listed rows name both.1)
     (λ e. ap (lists (names_set rows)) (sym (same_name row.1 name e)) ∙ none_set rows row.1 lacks)
 
@@ -83,7 +80,7 @@ rows_listed words (row ∷ rows) = lists words row.1 && rows_listed words rows
 names_listed : (words : List (List ℕ)) (rows : List Row) → rows_listed words rows ≡ true
     → AllByRecursion (λ text. lists words text ≡ true) (names_set rows)
 names_listed words [] h = tt
-names_listed words (row ∷ rows) h = let both = both_hold (lists words row.1) (rows_listed words rows) h in by row.0
+names_listed words (row ∷ rows) h = let both = and_parts (lists words row.1) (rows_listed words rows) h in by row.0
     both.0 (names_listed words rows both.1)
   where
     by : (set : Bool) → lists words row.1 ≡ true → AllByRecursion (λ text. lists words text ≡ true) (names_set rows)

@@ -7,6 +7,7 @@ use Rattle.std.specs.List.Sorted.{IsStrictlySortedBy}
 use Rattle.std.specs.Ordering.{match_ordering}
 use Rattle.std.proofs.lemmas.Cmp.{nat_list_cmp_total}
 use Rattle.std.specs.Float.{binary64, float_is_finite}
+use Rattle.std.proofs.lemmas.Bool.{and_parts}
 use Rattle.fast_float.specs.Text.{minus, Parts, scan, digits_of, nearest, with_sign}
 use Rattle.json.specs.Lex.{tokens}
 use Rattle.json.specs.Json as json
@@ -15,7 +16,6 @@ use Rattle.serde_json.specs.Find.{get, get_member}
 use Rattle.serde_json.specs.Read.{is_integer, float_of, number_from, number_of, of_json, of_items, of_members, max_depth, read}
 use Rattle.am_uri.proofs.Order.{sorted_put}
 use Rattle.am_wire_fields.specs.Fields.{unless_null, field, keys_in}
-use Rattle.am_wire_read_back.proofs.Objects.{both_hold}
 
 -- a number below 0
 abbrev pub IsNegative : ℤ → Type 0
@@ -116,8 +116,8 @@ number_from_plain false p = for_cond IsPlainNumber _ (Some (unsigned (digits_of 
 number_from_plain true p =
     for_cond IsPlainNumber (is_integer p && nat_lt 0 (digits_of p) && nat_le (digits_of p) (2 ^ 63))
     (Some (negative (with_sign true (digits_of p)))) (float_of true p)
-    (λ e. is_negative (digits_of p) (both_hold (is_integer p) (nat_lt 0 (digits_of p))
-    (both_hold _ (nat_le (digits_of p) (2 ^ 63)) e).0).1) (λ _. float_plain true p)
+    (λ e. is_negative (digits_of p) (and_parts (is_integer p) (nat_lt 0 (digits_of p))
+    (and_parts _ (nat_le (digits_of p) (2 ^ 63)) e).0).1) (λ _. float_plain true p)
 
 number_plain : (s : List ℕ) → ForSome IsPlainNumber (number_of s)
 unfolding number_of

@@ -4,6 +4,7 @@ use Rattle.std.proofs.lemmas.Slice.Eq.{bytes_eq-Decides}
 use Rattle.std.specs.Cmp.Lexicographic.{slice_cmp}
 use Rattle.std.specs.List.{find}
 use Rattle.std.specs.Ordering.{match_ordering}
+use Rattle.std.proofs.lemmas.Bool.{and_parts, not-true}
 use Rattle.serde_json.specs.Data.{Data, object, Members, no_members, member, put, depth, members_depth}
 use Rattle.serde_json.specs.Find.{get_member}
 use Rattle.serde_json.proofs.Views.{get_member-put, get_member-put_other}
@@ -46,15 +47,6 @@ no_value name [] h = refl
 no_value name (e ∷ es) h = no_value_at (bytes_eq name e.0) e.1 (value_at name es) (has_entry name es) (no_value name es)
     h
 
--- what holds of both
-pub both_hold : (a b : Bool) → (a && b) ≡ true → (a ≡ true) × (b ≡ true)
-both_hold true b h = (refl, h)
-both_hold false b h = absurd (true≢false (sym h))
-
-pub is_not : (a : Bool) → not a ≡ true → a ≡ false
-is_not true h = absurd (true≢false (sym h))
-is_not false h = refl
-
 -- a value that is present
 given_here : (name : List ℕ) (value : Option Data) (ms : Members) → get_member name ms ≡ None
     → get_member name (put_given name value ms) ≡ value
@@ -82,8 +74,8 @@ pub found_at : (name : List ℕ) (es : List Entry) → are_apart es ≡ true →
     ≡ value_at name es
 found_at name [] h = refl
 found_at name (e ∷ es) h =
-    let both = both_hold (not (has_entry e.0 es)) (are_apart es) h in
-    let lacks : value_at e.0 es ≡ None = no_value e.0 es (is_not _ both.0) in
+    let both = and_parts (not (has_entry e.0 es)) (are_apart es) h in
+    let lacks : value_at e.0 es ≡ None = no_value e.0 es (not-true _ both.0) in
     found_by name e (members_with es) (value_at name es) (bytes_eq name e.0) refl (found_at name es both.1)
     (λ same. ap (λ n. value_at n es) same ∙ lacks)
 
@@ -135,7 +127,7 @@ none_unlisted : (fields : List (List ℕ)) (es : List Entry) → are_listed fiel
     → unlisted fields (members_with es) ≡ None
 none_unlisted fields [] h = refl
 none_unlisted fields (e ∷ es) h =
-    let both = both_hold (lists fields e.0) (are_listed fields es) h in
+    let both = and_parts (lists fields e.0) (are_listed fields es) h in
     find_given (λ key. not (lists fields key)) e.0 e.1 (members_with es) (ap not both.0)
     (none_unlisted fields es both.1)
 

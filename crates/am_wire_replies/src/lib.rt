@@ -5,13 +5,13 @@
 mod accounts;
 mod entries;
 mod items;
+mod names;
 mod printed;
 mod printer;
 mod replies;
 mod rules;
 mod trees;
 mod views;
-mod words;
 
 pub use replies::reply_text;
 pub use rules::error_text;

@@ -80,9 +80,6 @@ holds-next those e old new h l n =
           (λ t. let same : path_of e ≡ path = (bytes_decides (path_of e) path).0 t in rw (← same) l.absent));
     })
 
-pub holds-none : Holds [] []
-holds-none = record { literal = tt; found = λ path. refl }
-
 -- the routes of every request answer as the table does
 pub answers-table : (rows : Requests) → Holds endpoints rows → AnswersTable rows
 unfolding endpoint_at

@@ -97,9 +97,6 @@ placed-literal pattern route ((other, key) ∷ rest) t h = by (comes_before patt
     by true ih = (t, h)
     by false ih = (h.0, ih)
 
-same_text-self : (p : List ℕ) → same_text p p ≡ true
-same_text-self p = (bytes_decides p p).1 refl
-
 -- a new route is found at its text, and the others are found as before
 pub lookup-placed : (path pattern : List ℕ) (route : Route) (rows : Requests) → lookup pattern rows ≡ None
     → lookup path (placed (pattern, route) rows) ≡ cond (same_text pattern path) (Some route) (lookup path rows)

@@ -99,12 +99,12 @@ fn add(router: &mut Router<Endpoint>, endpoint: Endpoint) -> Result<(), AllocErr
 {
     match router.insert(endpoint.path(), endpoint) {
         Ok(()) => Ok(()),
-        Err(error) => Err(want_of_memory(error)),
+        Err(error) => Err(out_of_memory(error)),
     }
 }
 
 // The only reason for which a new literal route is refused.
-fn want_of_memory(error: InsertError) -> AllocError
+fn out_of_memory(error: InsertError) -> AllocError
     requires { error ≡ InsertError.OutOfMemory }
 {
     match error {

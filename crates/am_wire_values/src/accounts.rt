@@ -4,16 +4,16 @@ ghost use Rattle.serde_json.specs.View.{view};
 ghost use Rattle.am_types.specs.declared.account.Standing.TheVariants.{Filters, Narrowed};
 ghost use Rattle.am_wire_values.specs.Replies.{account_data, reason_data, standing_data};
 
+use crate::as_value::{AsValue, put_shown};
 use crate::fields::put_word;
 use crate::names::{narrowing_name, why_name};
-use crate::shown::{Shown, put_shown};
 use crate::views::{put_judged, skipped_value, verdict_value};
 use am_types::{Account, Aim, List, Narrowing, Standing, Why};
 use serde_json::{Map, Value};
 use std::alloc::{AllocError, Global};
 
 /// Why a filter doesn't pass.
-impl Shown for Why {
+impl AsValue for Why {
     ghost as_data = { reason_data };
 
     fn value(&self, alloc: Global) -> Result<Value, AllocError> {
@@ -58,7 +58,7 @@ fn standing_value(alloc: Global, to: &Aim, standing: &Standing) -> Result<Value,
     }
 }
 
-impl Shown for Account {
+impl AsValue for Account {
     ghost as_data = { account_data };
 
     fn value(&self, alloc: Global) -> Result<Value, AllocError> {

@@ -5,7 +5,7 @@ ghost use Rattle.serde_json.specs.View.{view, members_view};
 ghost use Rattle.am_wire_values.specs.Fields.{listed, put_given, some_listed, some_texts, some_truth, some_whole, whole};
 ghost use Rattle.am_wire_values.specs.Names.{names_set};
 
-use crate::shown::values;
+use crate::as_value::values;
 use am_types::{List, Text};
 use serde_json::{Map, Value, put};
 use std::alloc::{AllocError, Global};

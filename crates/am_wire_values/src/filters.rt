@@ -4,15 +4,15 @@ ghost use Rattle.serde_json.specs.View.{view, members_view};
 ghost use Rattle.am_wire_values.specs.Fields.{put_given, some_listed};
 ghost use Rattle.am_wire_values.specs.Filters.{authority_row, filter_data, path_row, row_of, rows_of};
 
+use crate::as_value::{AsValue, one, put_shown, put_some};
 use crate::fields::{Members, put_given, put_some_texts, some_listed, some_whole};
-use crate::shown::{Shown, one, put_shown, put_some};
 use am_types::{Authority, Filter, PathRule};
 use serde_json::{Map, Value};
 use std::alloc::{AllocError, Global};
 
 /// A filter as a value, with a row for each scheme, authority, path and type. Empty lists and a
 /// priority of 0 are left out.
-impl Shown for Filter {
+impl AsValue for Filter {
     ghost as_data = { filter_data };
 
     #[tactic(auto, unfolding(crate::specs::Filters::filter_data))]
@@ -50,7 +50,7 @@ fn rows_of(alloc: Global, filter: &Filter) -> Result<Vec<Value>, AllocError>
 }
 
 /// Adds a row for each.
-fn add<T: Shown>(alloc: Global, rows: &mut Vec<Value>, shown: &[T]) -> Result<(), AllocError>
+fn add<T: AsValue>(alloc: Global, rows: &mut Vec<Value>, shown: &[T]) -> Result<(), AllocError>
     ensures { OnOk result (map view rows.new.items ≡ map view rows.old.items ++ map T.as_data shown.now) }
 {
     for one in shown {
@@ -60,7 +60,7 @@ fn add<T: Shown>(alloc: Global, rows: &mut Vec<Value>, shown: &[T]) -> Result<()
 }
 
 /// Adds a row for each, with the item under the key.
-fn add_keyed<T: Shown>(
+fn add_keyed<T: AsValue>(
     alloc: Global,
     rows: &mut Vec<Value>,
     key: &str,
@@ -76,7 +76,7 @@ fn add_keyed<T: Shown>(
 }
 
 /// The row of an authority.
-impl Shown for Authority {
+impl AsValue for Authority {
     ghost as_data = { authority_row };
 
     fn value(&self, alloc: Global) -> Result<Value, AllocError> {
@@ -88,7 +88,7 @@ impl Shown for Authority {
 }
 
 /// The row of a path rule.
-impl Shown for PathRule {
+impl AsValue for PathRule {
     ghost as_data = { path_row };
 
     fn value(&self, alloc: Global) -> Result<Value, AllocError> {

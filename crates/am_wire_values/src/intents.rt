@@ -5,9 +5,9 @@ ghost use Rattle.serde_json.specs.View.{view, members_view};
 ghost use Rattle.am_wire_values.specs.Fields.{put_given};
 ghost use Rattle.am_wire_values.specs.Intents.{component_data, extra_data, extras_data, intent_data, mime_data, some_extras, uri_data, with_extras};
 
+use crate::as_value::{AsValue, object_with, put_shown, put_some};
 use crate::fields::{Members, put_given, put_some_texts, some_listed};
 use crate::names::flag_values;
-use crate::shown::{Shown, object_with, put_shown, put_some};
 use am_types::{Component, Extra, Intent, List, Mime, Named, Text, Uri};
 use serde_json::{Map, Value, put};
 use std::alloc::{AllocError, Global};
@@ -31,7 +31,7 @@ pub fn intent_value(alloc: Global, intent: &Intent) -> Result<Value, AllocError>
     Ok(Value::Object(members))
 }
 
-impl Shown for Intent {
+impl AsValue for Intent {
     ghost as_data = { intent_data };
 
     fn value(&self, alloc: Global) -> Result<Value, AllocError> {
@@ -56,7 +56,7 @@ pub(crate) fn put_some_extras(
 }
 
 /// A URI, as it was written.
-impl Shown for Uri {
+impl AsValue for Uri {
     ghost as_data = { uri_data };
 
     fn value(&self, alloc: Global) -> Result<Value, AllocError> {
@@ -74,7 +74,7 @@ fn slashed(alloc: Global, first: &Text, second: &Text) -> Result<Value, AllocErr
 }
 
 /// A MIME type: main/sub.
-impl Shown for Mime {
+impl AsValue for Mime {
     ghost as_data = { mime_data };
 
     fn value(&self, alloc: Global) -> Result<Value, AllocError> {
@@ -83,7 +83,7 @@ impl Shown for Mime {
 }
 
 /// A component: package/class.
-impl Shown for Component {
+impl AsValue for Component {
     ghost as_data = { component_data };
 
     fn value(&self, alloc: Global) -> Result<Value, AllocError> {
@@ -112,7 +112,7 @@ fn put_extras(alloc: Global, members: &mut Members, extras: &[Named]) -> Result<
     Ok(())
 }
 
-impl Shown for Extra {
+impl AsValue for Extra {
     ghost as_data = { extra_data };
 
     fn value(&self, alloc: Global) -> Result<Value, AllocError> {

@@ -2,6 +2,7 @@
 #![tactic(auto)]
 
 mod accounts;
+mod as_value;
 mod fields;
 mod filters;
 mod intents;
@@ -9,7 +10,6 @@ mod names;
 mod replies;
 mod requests;
 mod rules;
-mod shown;
 mod views;
 
 pub use intents::{extras_value, intent_value};

@@ -5,9 +5,9 @@ ghost use Rattle.serde_json.specs.View.{view, members_view};
 ghost use Rattle.am_types.specs.declared.reply.Reply.TheVariants.{Entries};
 ghost use Rattle.am_wire_values.specs.Replies.{reply_data, status_of};
 
+use crate::as_value::{object_with, put_all, put_shown};
 use crate::fields::{Members, listed};
 use crate::rules::{put_refusal, rule_status};
-use crate::shown::{object_with, put_all, put_shown};
 use crate::views::{entry_values, put_landed};
 use am_types::{Entry, NoMemory, Reply, Shown};
 use serde_json::{Value, put};

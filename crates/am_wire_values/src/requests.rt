@@ -4,10 +4,10 @@ ghost use Rattle.serde_json.specs.Data.{object, no_members};
 ghost use Rattle.serde_json.specs.View.{view, members_view};
 ghost use Rattle.am_wire_values.specs.Requests.{explain_data, finish_data, get_data, query_data, request_data, send_data, with_outcome};
 
+use crate::as_value::{AsValue, object_with, put_all, put_shown, put_some};
 use crate::fields::{Members, listed, put_word, some_truth, some_whole};
 use crate::intents::put_some_extras;
 use crate::names::{kind_name, pending_flag_values, pending_name};
-use crate::shown::{Shown, object_with, put_all, put_shown, put_some};
 use am_types::{Answer, Intent, Kind, NoMemory, Ordered, Outcome, PendingFlags, Request, Text};
 use serde_json::{Value, put};
 use std::alloc::{AllocError, Global};
@@ -26,7 +26,7 @@ fn value_of(alloc: Global, request: &Request) -> Result<Value, AllocError>
     object_with!(alloc, |members| put_request(alloc, &mut members, request))
 }
 
-impl Shown for Request {
+impl AsValue for Request {
     ghost as_data = { request_data };
 
     fn value(&self, alloc: Global) -> Result<Value, AllocError> {

@@ -8,11 +8,11 @@ ghost use Rattle.am_wire_values.specs.Intents.{extras_data};
 ghost use Rattle.am_wire_values.specs.Replies.{aim_data, entries_data, entry_data, instance_data, item_data, judged, landed_data, number_after, receiving_data, service_data, skipped_data, task_data, waiting_data};
 ghost use Rattle.am_wire_values.specs.Rules.{named_by, rule_name};
 
+use crate::as_value::{AsValue, object_of, object_with, put_shown};
 use crate::fields::{Members, put_word};
 use crate::intents::extras_value;
 use crate::names::placed_name;
 use crate::rules::{named_by, rule_name};
-use crate::shown::{Shown, object_of, object_with, put_shown};
 use am_types::{
     Aim, Entry, InstanceView, Intent, Item, ItemKind, Landed, Outcome, Receiving, Rule,
     ServiceView, TaskView,
@@ -35,7 +35,7 @@ pub(crate) fn put_landed(
     put_shown(alloc, members, "task", &landed.task)
 }
 
-impl Shown for InstanceView {
+impl AsValue for InstanceView {
     ghost as_data = { instance_data };
 
     fn value(&self, alloc: Global) -> Result<Value, AllocError> {
@@ -43,7 +43,7 @@ impl Shown for InstanceView {
     }
 }
 
-impl Shown for TaskView {
+impl AsValue for TaskView {
     ghost as_data = { task_data };
 
     fn value(&self, alloc: Global) -> Result<Value, AllocError> {
@@ -51,7 +51,7 @@ impl Shown for TaskView {
     }
 }
 
-impl Shown for ServiceView {
+impl AsValue for ServiceView {
     ghost as_data = { service_data };
 
     fn value(&self, alloc: Global) -> Result<Value, AllocError> {
@@ -60,7 +60,7 @@ impl Shown for ServiceView {
 }
 
 /// A receiver: a component, or the number of a registered one.
-impl Shown for Aim {
+impl AsValue for Aim {
     ghost as_data = { aim_data };
 
     fn value(&self, alloc: Global) -> Result<Value, AllocError> {
@@ -124,7 +124,7 @@ fn put_skipped(
 }
 
 /// A receiver with what became of it.
-impl Shown for Receiving {
+impl AsValue for Receiving {
     ghost as_data = { receiving_data };
 
     fn value(&self, alloc: Global) -> Result<Value, AllocError> {
@@ -201,7 +201,7 @@ fn final_value(alloc: Global, item: &Item, outcome: &Outcome) -> Result<Value, A
 }
 
 /// An item of an inbox.
-impl Shown for Item {
+impl AsValue for Item {
     ghost as_data = { waiting_data };
 
     fn value(&self, alloc: Global) -> Result<Value, AllocError> {

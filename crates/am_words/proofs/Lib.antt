@@ -1,4 +1,3 @@
 pub mod OptionLemmas
 pub mod ParsedLemmas
 pub mod NumberLemmas
-pub mod Examples

@@ -74,9 +74,6 @@ free_named names = and_from _ _ (simple_named names)
     (ap is_free_app (built_named names) ∙ and_from _ _ (all_named (λ a. a.is_free) option_rule (λ name. refl) names)
     refl)
 
-pub is_simple_named : (names : List Text) → is_simple (app_named names) ≡ true
-is_simple_named names = simple_named names
-
 -- ---- its options by their names
 
 or_false : (b : Bool) → (b || false) ≡ b

@@ -41,8 +41,8 @@ of_exchange : (start : State) (desk : ℕ) (history : List Entry) (e : Exchange)
     → All IsFormed (entry_at history e.point)
 of_exchange start desk history e (IsAnswer.by_refusal refused asks now point bytes) = no_point history e.point point
 of_exchange start desk history e (IsAnswer.by_reply c bytes) = of_call start desk history e c
-of_exchange start desk history e (IsAnswer.by_want point bytes) = no_point history e.point point
-of_exchange start desk history e (IsAnswer.by_late_want c bytes) = of_call start desk history e c
+of_exchange start desk history e (IsAnswer.by_no_memory point bytes) = no_point history e.point point
+of_exchange start desk history e (IsAnswer.by_late_no_memory c bytes) = of_call start desk history e c
 
 -- what the stored calls became is formed
 pub all_formed : (start : State) (desk : ℕ) (history : List Entry) (es : List Exchange)

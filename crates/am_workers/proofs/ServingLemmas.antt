@@ -8,7 +8,7 @@ use Rattle.std.proofs.lemmas.Option.{slice_get-get_or}
 use Rattle.std.proofs.lemmas.List.Elements.{All-nil, All-cons, All-head, All-tail}
 use Rattle.am_types.specs.declared.history.Entry.{Entry}
 use Rattle.am_outside.specs.Counts.{HasRisen}
-use Rattle.am_network.specs.Links.{AreUntouched, GateView, HandsOn, IsNewGate, LinkView, Links, Listening, Stand, raised_by, released}
+use Rattle.am_network.specs.Links.{AreUntouched, GateView, Handed, HandsOn, IsNewGate, LinkView, Links, Listening, raised_by, released}
 use Rattle.am_history.specs.State.{State}
 use Rattle.am_history.specs.Desks.{DeskView, IsSameDesk, Origin, Sharing, opening_of, start_of}
 use Rattle.am_history.specs.History.{Extends, IsLegal, entries_of}
@@ -16,11 +16,11 @@ use Rattle.am_baton.specs.Shared.{IsNumbered, new_desk}
 use Rattle.am_workers.specs.declared.working.Worked.{Worked}
 use Rattle.am_http.specs.Exchanges.{Exchange}
 use Rattle.am_http.specs.Links.{Moments}
-use Rattle.am_workers.specs.Work.{AreOfGate, EndsSo, IsWorked, Service, WorkerView, Works, ended_in, exchanges_of, given_back, moments_of_all}
+use Rattle.am_workers.specs.Work.{AreOfGate, EndsSo, IsWorked, Service, WorkerView, Works, ended_in, exchanges_of, faults_after, given_back, moments_of_all, new_in}
 use Rattle.am_workers.specs.Serving.{AreAllLinks, AreServed, Begun, Ended, Gatework, IsFormed, IsGateServed, MayReleaseAll, NetworkView, ServesAll, all_released, faults_raised, gates_of}
 use Rattle.am_workers.proofs.ClockLemmas.{gives_as}
 use Rattle.am_workers.proofs.FormedLemmas.{all_formed}
-use Rattle.am_workers.proofs.WorkLemmas.{drop_behind, extends_length, worked_stays}
+use Rattle.am_workers.proofs.WorkLemmas.{drop_behind, extends_length, faults_stay, worked_stays}
 
 -- the bytes that come over a gate's links
 abbrev sent_of : Option Links → Option (List (List ℕ))
@@ -28,25 +28,25 @@ sent_of None = None
 sent_of (Some links) = Some links.sent
 
 -- they are the same once a link was handed out
-sent_out : (old out : Option Links) (stand : Stand) → HandsOn old out (Some stand) → sent_of out ≡ sent_of old
-sent_out None out stand handed = ap sent_of handed
-sent_out (Some links) out stand (inl new) = ap sent_of new.0.3
-sent_out (Some links) out stand (inr again) = ap sent_of again.3
+sent_out : (old out : Option Links) (first : Handed) → HandsOn old out first → sent_of out ≡ sent_of old
+sent_out None out first handed = ap sent_of handed
+sent_out (Some links) out first (inl new) = ap sent_of new.0.3
+sent_out (Some links) out first (inr again) = ap sent_of again.4
 
 -- and is back
-sent_back : (out : Option Links) (first : Stand) (last : LinkView) (exchanges : List Exchange) (parked : Bool)
-    → sent_of (given_back out (record { first = first; last = last; exchanges = exchanges; parked = parked }))
-    ≡ sent_of out
-sent_back None first last exchanges true = refl
-sent_back None first last exchanges false = refl
-sent_back (Some links) first last exchanges true = refl
-sent_back (Some links) first last exchanges false = refl
+sent_back : (out : Option Links) (first : Handed) (last : LinkView) (exchanges : List Exchange) (parked refused : Bool)
+    → sent_of (given_back out
+    (record { first = first; last = last; exchanges = exchanges; parked = parked; refused = refused })) ≡ sent_of out
+sent_back None first last exchanges true refused = refl
+sent_back None first last exchanges false refused = refl
+sent_back (Some links) first last exchanges true refused = refl
+sent_back (Some links) first last exchanges false refused = refl
 
 same_sent : (old new : Option Links) (services : List Service) → AreOfGate old new services → sent_of new ≡ sent_of old
 same_sent old new [] its = ap sent_of its
 same_sent old new (s ∷ ss) its =
     same_sent (given_back its.0 s) new ss its.2
-    ∙ (sent_back its.0 s.first s.last s.exchanges s.parked ∙ sent_out old its.0 s.first its.1)
+    ∙ (sent_back its.0 s.first s.last s.exchanges s.parked s.refused ∙ sent_out old its.0 s.first its.1)
 
 -- a gate that was new has handed out these links alone
 all_links : (old new : Links) (services : List Service) → AreUntouched old
@@ -85,10 +85,12 @@ whole_gate (Some old) None services is its = tt
 whole_gate (Some old) (Some new) services is its = all_links old new services is its
 
 -- a worker that failed raised its gate's count
-risen_by : (failed : Bool) (most : Option ℕ) (faults count : ℕ) (links : Option Links) (gate : GateView)
-    → EndsSo failed most faults links gate count → failed ≡ true → HasRisen faults gate.faults
-risen_by true most faults count links gate ends is = let e = ends.0 in omega (arith, e)
-risen_by false most faults count links gate ends is = absurd (let x = is in cc)
+risen_by : (failed : Bool) (most : Option ℕ) (faults count : ℕ) (services : List Service) (links : Option Links)
+    (gate : GateView) → EndsSo failed most (faults_after faults services) links gate count → failed ≡ true
+    → HasRisen faults gate.faults
+risen_by true most faults count services links gate ends is =
+    let e = ends.0 in let more = faults_stay faults services in omega (arith, e, more)
+risen_by false most faults count services links gate ends is = absurd (let x = is in cc)
 
 -- what a worker begins with: the desk that was made with that number, a new gate, and a clock that tells what this one
 -- tells
@@ -124,7 +126,8 @@ gate_served most origin sharing clock k ended old new worked begins w grows own 
       few = w.few;
       told = new.clock;
       moments = gives_as clock old.clock (moments_of_all w.services) new.clock begins.2 w.has.moments;
-      ends = subst (λ n. EndsSo worked.failed most n w.links new.gate (ended_in w.services)) is_new.0 w.ends;
+      ends = subst (λ n. EndsSo worked.failed most (faults_after n w.services) w.links new.gate (new_in w.services))
+          is_new.0 w.ends;
     }
 
 -- a clock that tells the same will do
@@ -319,7 +322,7 @@ module _ {W : Type 0} (view : W → WorkerView) (did : W → Worked) where
           → HasRisen count (faults_raised (raised_by (view y).gate.faults count) gates)
       by true is any later =
           let once = raised_once (view x).gate.faults (view y).gate.faults count
-          (risen_by (did y).failed most (view x).gate.faults (ended_in all.0.services) all.0.links
+          (risen_by (did y).failed most (view x).gate.faults (new_in all.0.services) all.0.services all.0.links
           (view y).gate all.0.ends is) in
           let rest = not_lower (raised_by (view y).gate.faults count) gates in
           omega (arith, once, rest)

@@ -1,6 +1,6 @@
 -- How a worker serves one more link, and what holds of its links over a longer history.
 use Rattle.std.proofs.Common.{◌≡◌, ℕ, zero, suc, ◌+◌, ◌≤◌, ◌<◌, Bool, true, false, List, [], ◌∷◌, ◌++◌, length, drop, Option, Some, None, Ok, Err, refl, sym, ap, ◌∙◌, subst, inl, inr, arith, length-append, append-nil}
-use Rattle.std.specs.Prelude.{IfSome, ◌-◌, min, if◌then◌else◌}
+use Rattle.std.specs.Prelude.{IfSome, ◌-◌, ◌↔◌, min, if◌then◌else◌}
 use Rattle.std.specs.List.{AllByRecursion}
 use Rattle.std.specs.Option.{option_to_list}
 use Rattle.std.proofs.lemmas.Grind.{flat_map-append}
@@ -8,7 +8,7 @@ use Rattle.am_types.specs.declared.history.Entry.{Entry}
 use Rattle.am_outside.specs.declared.failure.Failed.{Failed}
 use Rattle.am_outside.specs.Counts.{HasRisen}
 use Rattle.am_outside.specs.Memory.{one_more}
-use Rattle.am_network.specs.Links.{AreBack, HandsOn, HasOneMark, IsClosed, LinkView, Links, MayTakeBack, Parks, Stand, failed, set_aside}
+use Rattle.am_network.specs.Links.{AreBack, GateView, Handed, HandsNext, HandsOn, HasOneMark, IsDone, LinkView, Links, MayTakeBack, Parks, Stand, failed, firsts, parking_counted, set_aside, taken_back}
 use Rattle.am_history.specs.State.{State}
 use Rattle.am_history.specs.Desks.{DeskView, IsSameDesk, opening_of, start_of}
 use Rattle.am_history.specs.History.{Extends, IsLegal, entries_of}
@@ -20,7 +20,8 @@ use Rattle.am_http.specs.declared.end.Served.{Served}
 use Rattle.am_http.specs.Links.{Gives, GoesOn, Link}
 use Rattle.am_http.specs.Sessions.{GivesAtMost, HasFault, Visit, VisitEnds, Writes, most_frames, most_taken}
 use Rattle.am_http.proofs.ExchangeLemmas.{all_more, answers_stay, entries_of-append, extends_refl, extends_trans, same_view, stored_entries_stay}
-use Rattle.am_workers.specs.Work.{AreOfGate, HasCause, HasServed, IsServed, IsWorked, Service, ServesNext, TellsEnough, TriesNext, WorkerView, Works, ended_in, exchanges_of, frames_left, given_back, moments_of_all}
+use Rattle.am_workers.specs.Work.{AreOfGate, HasCause, HasServed, IsBack, IsCounted, IsServed, IsWorked, Service, ServesNext, TakesNew, TellsShort, TriesNext, WorkerView, Works, answered_before, ended_in, exchanges_of, faults_after, frames_left, given_back, moments_of_all, new_in}
+use Rattle.am_workers.specs.declared.working.Turn.{Turn}
 use Rattle.am_workers.proofs.ClockLemmas.{gives_trans, gives_still}
 
 -- a point above a floor is above a lower one
@@ -194,9 +195,35 @@ ended_more : (services : List Service) (service : Service)
 ended_more [] service = omega arith
 ended_more (s ∷ ss) service = omega (arith, ended_more ss service)
 
-one_at_most : (parked : Bool) → (if parked then 0 else 1) + 0 ≤ 1
-one_at_most true = omega arith
-one_at_most false = omega arith
+-- how many were handed out for the first time
+new_more : (services : List Service) (service : Service)
+    → new_in (services ++ service ∷ []) ≡ new_in services + new_in (service ∷ [])
+new_more [] service = omega arith
+new_more (s ∷ ss) service = omega (arith, new_more ss service)
+
+-- the faults of their gate
+faults_more : (faults : ℕ) (services : List Service) (service : Service)
+    → faults_after faults (services ++ service ∷ []) ≡ faults_after (faults_after faults services) (service ∷ [])
+faults_more faults [] service = refl
+faults_more faults (s ∷ ss) service = faults_more (if s.refused then one_more faults else faults) ss service
+
+-- they are no fewer
+pub faults_stay : (faults : ℕ) (services : List Service)
+    → min faults 18446744073709551615 ≤ faults_after faults services
+faults_stay faults [] = omega arith
+faults_stay faults (s ∷ ss) = by s.refused (faults_stay (if s.refused then one_more faults else faults) ss)
+  where
+    by : (refused : Bool)
+        → min (if refused then one_more faults else faults) 18446744073709551615
+        ≤ faults_after (if refused then one_more faults else faults) ss
+        → min faults 18446744073709551615 ≤ faults_after (if refused then one_more faults else faults) ss
+    by true rest = omega (arith, rest)
+    by false rest = rest
+
+-- of one link at most one is new
+firsts_few : (before : Option ℕ) → firsts before ≤ 1
+firsts_few None = omega arith
+firsts_few (Some count) = omega arith
 
 -- a worker that served no link yet
 pub served_none : (worker : WorkerView) → HasServed worker worker []
@@ -284,23 +311,19 @@ served_more first old new services service has goes answers served links moments
       faults = omega (arith, has.faults, faults);
     }
 
--- no link was to come
-pub none_to_come : (old new : Option Links) → HandsOn old new None → (new ≡ old) × IfSome old IsClosed
-none_to_come None new handed = (handed, tt)
-none_to_come (Some links) new handed = (handed.1, handed.0)
-
--- so nothing was served
-pub tries_none : (old new : WorkerView) → new.desk ≡ old.desk → HandsOn old.gate.links new.gate.links None
+-- no link was to come, so nothing was served
+pub tries_none : (takes_new : Bool) (old new : WorkerView) → new.desk ≡ old.desk
+    → HandsNext takes_new old.gate.links new.gate.links None
     → new.gate.faults ≡ old.gate.faults
-    → Gives old.clock [] new.clock → TriesNext old new (Ok None)
-tries_none old new desk handed faults clock =
-    let none = none_to_come old.gate.links new.gate.links handed in ((desk, none.0, none.1, clock), faults)
+    → Gives old.clock [] new.clock → TriesNext takes_new old new (Ok None)
+tries_none takes_new old new desk handed faults clock = (desk, handed.0, handed.1, clock, faults)
 
 -- nor if the gate failed
-pub tries_failed : (old new : WorkerView) (e : Failed) → new.desk ≡ old.desk → new.gate.links ≡ failed old.gate.links
+pub tries_failed : (takes_new : Bool) (old new : WorkerView) (e : Failed) → new.desk ≡ old.desk
+    → new.gate.links ≡ failed old.gate.links
     → new.gate.faults ≡ one_more old.gate.faults
-    → Gives old.clock [] new.clock → TriesNext old new (Err e)
-tries_failed old new e desk links faults clock = (desk, links, faults, clock)
+    → Gives old.clock [] new.clock → TriesNext takes_new old new (Err e)
+tries_failed takes_new old new e desk links faults clock = (desk, links, faults, clock)
 
 -- a connection's link, as its gate sees it, with the count of its reader's waits
 abbrev pub view_of : Link → ℕ → LinkView
@@ -339,18 +362,25 @@ few_frames before first last served visit idle =
     let below = (idle_below (most_frames - before) first last served visit idle).1 in omega (arith, below)
 
 -- a link that was handed out so, and served by a connection
-abbrev pub served_as : (stand : Stand) (first last : Link) (after : ℕ) (served : Served)
-    → Visit (frames_left stand) first last served → Bool → Service
-served_as stand first last after served visit parked =
-    record { first = stand; last = view_of last after; exchanges = visit.exchanges; parked = parked }
+abbrev pub served_as : (handed : Handed) (first last : Link) (after : ℕ) (served : Served)
+    → Visit (frames_left handed) first last served → Bool → Bool → Service
+served_as handed first last after served visit parked refused =
+    record {
+      first = handed;
+      last = view_of last after;
+      exchanges = visit.exchanges;
+      parked = parked;
+      refused = refused;
+    }
 
 -- it was served as it should be
-link_served : (stand : Stand) (first last : Link) (before after : ℕ) (served : Served) (parked : Bool)
-    (visit : Visit (frames_left stand) first last served) → stand.link ≡ view_of first before
+link_served : (handed : Handed) (first last : Link) (before after : ℕ) (served : Served) (parked refused : Bool)
+    (visit : Visit (frames_left handed) first last served) → handed.link ≡ view_of first before
     → HasFault served.end first last → (served.end ≡ Idle → HasRisen before after)
-    → (parked ≡ true → served.end ≡ Idle) → IsServed (served_as stand first last after served visit parked)
-link_served stand first last before after served parked visit is fault rests idle =
-    let limit = frames_left stand in
+    → (parked ≡ true → served.end ≡ Idle) → ((refused ≡ true) ↔ ((served.end ≡ Idle) × (parked ≡ false)))
+    → IsServed (served_as handed first last after served visit parked refused)
+link_served handed first last before after served parked refused visit is fault rests idle refuses =
+    let limit = frames_left handed in
     let F : LinkView → Type 0 = λ (v : LinkView). Leaves v.left (frames_of visit.exchanges) visit.rest in
     let G : LinkView → Type 0 = λ (v : LinkView). GivesAtMost (most_taken limit) v.left last.source.left in
     let O : LinkView → Type 0 = λ (v : LinkView). Writes served v.taken last.sink.taken visit.exchanges visit.last in
@@ -366,41 +396,132 @@ link_served stand first last before after served parked visit is fault rests idl
       output = subst O (sym is) visit.output;
       cause = subst C (sym is) (cause_of served.end first last before after fault rests);
       parked = idle;
+      refused = refuses;
     }
 
 -- its gate has it back: parked, with the count of its frames, or ended
-given : (stand : Stand) (mid new : Option Links) (first last : Link) (after : ℕ) (served : Served) (parked : Bool)
-    (visit : Visit (frames_left stand) first last served) → (parked ≡ true → served.end ≡ Idle)
-    → Parks parked mid new (record { link = view_of last after; answered = stand.answered + served.answered })
-    → new ≡ given_back mid (served_as stand first last after served visit parked)
-given stand mid new first last after served true visit idle back =
-    let count = (idle_below (frames_left stand) first last served visit (idle refl)).0 in
-    back ∙ ap (λ n. set_aside mid (record { link = view_of last after; answered = stand.answered + n })) count
-given stand mid new first last after served false visit idle back = back
+given : (handed : Handed) (mid new : Option Links) (first last : Link) (after : ℕ) (served : Served)
+    (parked refused : Bool) (visit : Visit (frames_left handed) first last served)
+    → (parked ≡ true → served.end ≡ Idle)
+    → Parks parked mid new
+    (record { link = view_of last after; answered = answered_before handed + served.answered })
+    → new ≡ given_back mid (served_as handed first last after served visit parked refused)
+given handed mid new first last after served true refused visit idle back =
+    let count = (idle_below (frames_left handed) first last served visit (idle refl)).0 in
+    back ∙ ap (λ n. set_aside mid (record { link = view_of last after; answered = answered_before handed + n })) count
+given handed mid new first last after served false refused visit idle back = back
 
 -- so many links ended by that
 ended_one : (parked : Bool) (ended : ℕ) → ended ≡ (if parked then 0 else 1) → ended ≡ (if parked then 0 else 1) + 0
 ended_one true ended is = is
 ended_one false ended is = is
 
+-- what the turn over it counts
+counted : (takes_new : Bool) (old new : ℕ) (turn : Turn) (service : Service)
+    → new ≡ (if service.refused then one_more old else old) → turn.taken ≡ firsts service.first.before
+    → (takes_new ≡ false → firsts service.first.before ≡ 0) → turn.ended ≡ (if service.parked then 0 else 1)
+    → IsCounted takes_new old new turn service
+counted takes_new old new turn service faults taken asked many =
+    record {
+      faults = faults;
+      taken = omega (arith, taken);
+      asked = λ no. taken ∙ asked no;
+      ended = ended_one service.parked turn.ended many;
+    }
+
+-- a link that was to be parked since it was idle is back
+pub back_by_park : (end : End) (old new : GateView) (stand : Stand) (ended : ℕ) (parked : Bool) → end ≡ Idle
+    → Parks parked old.links new.links stand → new.faults ≡ parking_counted parked old.faults
+    → ended ≡ (if parked then 0 else 1) → IsBack end old new stand ended
+back_by_park end old new stand ended true idle links faults many =
+    record {
+      parked = true;
+      refused = false;
+      rests = λ is. idle;
+      refuses = (λ is. absurd (let e = is in cc), λ both. absurd (let e = both.1 in cc));
+      links = links;
+      faults = faults;
+      many = many;
+    }
+back_by_park end old new stand ended false idle links faults many =
+    record {
+      parked = false;
+      refused = true;
+      rests = λ is. idle;
+      refuses = (λ is. (idle, refl), λ both. refl);
+      links = links;
+      faults = faults;
+      many = many;
+    }
+
+-- one that was ended since it wasn't idle is back
+pub back_by_finish : (end : End) (old new : GateView) (stand : Stand) (ended : ℕ) → (end ≡ Idle → ⊥)
+    → new.links ≡ taken_back old.links stand.link → new.faults ≡ old.faults → ended ≡ 1
+    → IsBack end old new stand ended
+back_by_finish end old new stand ended other links faults many =
+    record {
+      parked = false;
+      refused = false;
+      rests = λ is. absurd (let e = is in cc);
+      refuses = (λ is. absurd (let e = is in cc), λ both. absurd (other both.0));
+      links = links;
+      faults = faults;
+      many = many;
+    }
+
 -- a connection over a link that was handed out and is back
-pub serves_link : (stand : Stand) (old mid new : Option Links) (first last : Link) (before after : ℕ) (served : Served)
-    (parked : Bool) (ended : ℕ) (visit : Visit (frames_left stand) first last served)
-    → stand.link ≡ view_of first before → HasFault served.end first last → (served.end ≡ Idle → HasRisen before after)
-    → (parked ≡ true → served.end ≡ Idle) → HandsOn old mid (Some stand)
-    → Parks parked mid new (record { link = view_of last after; answered = stand.answered + served.answered })
-    → ended ≡ (if parked then 0 else 1)
+pub serves_link : (takes_new : Bool) (handed : Handed) (old : Option Links) (mid new : GateView) (first last : Link)
+    (before after : ℕ) (served : Served) (turn : Turn) (visit : Visit (frames_left handed) first last served)
+    → handed.link ≡ view_of first before → HasFault served.end first last → (served.end ≡ Idle → HasRisen before after)
+    → HandsNext takes_new old mid.links (Some handed)
+    → IsBack served.end mid new
+    (record { link = view_of last after; answered = answered_before handed + served.answered }) turn.ended
+    → turn.taken ≡ firsts handed.before
     → (service : Service) × AreAnswered first.server.desk last.server.desk service.exchanges × IsServed service
-    × AreOfGate old new (service ∷ [])
-    × Gives first.server.clock (moments_of service.exchanges) last.server.clock × (ended ≡ ended_in (service ∷ []))
-serves_link stand old mid new first last before after served parked ended visit is fault rests idle handed back many = (
-  served_as stand first last after served visit parked,
-  visit.answers,
-  link_served stand first last before after served parked visit is fault rests idle,
-  (mid, handed, given stand mid new first last after served parked visit idle back),
-  visit.moments,
-  ended_one parked ended many,
-)
+    × AreOfGate old new.links (service ∷ [])
+    × Gives first.server.clock (moments_of service.exchanges) last.server.clock
+    × IsCounted takes_new mid.faults new.faults turn service
+serves_link takes_new handed old mid new first last before after served turn visit is fault rests out back taken =
+    let service = served_as handed first last after served visit back.parked back.refused in (
+      service,
+      visit.answers,
+      link_served handed first last before after served back.parked back.refused visit is fault rests back.rests
+          back.refuses,
+      (
+        mid.links,
+        out.0,
+        given handed mid.links new.links first last after served back.parked back.refused visit back.rests back.links,
+      ),
+      visit.moments,
+      counted takes_new mid.faults new.faults turn service back.faults taken out.1 back.many,
+    )
+
+-- the same, where the frames before were counted, and the gate was so before it handed the link out
+pub serves_counted : (takes_new : Bool) (handed : Handed) (old mid new : GateView) (first last : Link)
+    (before after count : ℕ) (served : Served) (turn : Turn) → count ≡ answered_before handed
+    → Visit (most_frames - count) first last served
+    → handed.link ≡ view_of first before → HasFault served.end first last → (served.end ≡ Idle → HasRisen before after)
+    → HandsNext takes_new old.links mid.links (Some handed) → mid.faults ≡ old.faults
+    → IsBack served.end mid new (record { link = view_of last after; answered = count + served.answered }) turn.ended
+    → turn.taken ≡ firsts handed.before
+    → (service : Service) × AreAnswered first.server.desk last.server.desk service.exchanges × IsServed service
+    × AreOfGate old.links new.links (service ∷ [])
+    × Gives first.server.clock (moments_of service.exchanges) last.server.clock
+    × IsCounted takes_new old.faults new.faults turn service
+serves_counted takes_new handed old mid new first last before after count served turn same visit is fault rests out
+    calm back taken =
+    let V : ℕ → Type 0 = λ (n : ℕ). Visit (most_frames - n) first last served in
+    let B : ℕ → Type 0 = λ (n : ℕ). IsBack served.end mid new
+    (record { link = view_of last after; answered = n + served.answered }) turn.ended in
+    let all = serves_link takes_new handed old.links mid new first last before after served turn (subst V same visit) is
+    fault rests out (subst B same back) taken in (
+      all.0,
+      all.1,
+      all.2,
+      all.3,
+      all.4,
+      subst (λ (n : ℕ). IsCounted takes_new n new.faults turn all.0) calm all.5,
+    )
 
 -- while a link is out, all others are back
 abbrev pub IsOneOut : Links → Type 0
@@ -418,7 +539,7 @@ all_at : {X : Type 0} (P : X → Type 0) (before : List X) (x : X) (after : List
 all_at P [] x after all = all.0
 all_at P (y ∷ before) x after all = all_at P before x after all.1
 
-one_out : (links : Links) (mid : Option Links) (first : Stand) → HandsOn (Some links) mid (Some first) → AreBack links
+one_out : (links : Links) (mid : Option Links) (first : Handed) → HandsOn (Some links) mid first → AreBack links
     → (now : Links) × (mid ≡ Some now) × IsOneOut now × HasOneMark first.link
 one_out links mid first (inl new) back = (
   record links { handed = links.handed + 1 },
@@ -428,19 +549,20 @@ one_out links mid first (inl new) back = (
 )
 one_out links mid first (inr again) back =
     let P : Stand → Type 0 = λ (s : Stand). HasOneMark s.link in
-    let all = subst (λ (ss : List Stand). AllByRecursion P ss) again.2 back.1 in
-    let many = ap (λ (ss : List Stand). length ss) again.2 in (
-      record links { parked = again.0 ++ again.1 },
-      again.3,
+    let stand = again.1 in
+    let all = subst (λ (ss : List Stand). AllByRecursion P ss) again.3 back.1 in
+    let many = ap (λ (ss : List Stand). length ss) again.3 in (
+      record links { parked = again.0 ++ again.2 },
+      again.4,
       (
-        omega (arith, back.0, many, length-append again.0 (first ∷ again.1), length-append again.0 again.1),
-        all_left P again.0 first again.1 all,
+        omega (arith, back.0, many, length-append again.0 (stand ∷ again.2), length-append again.0 again.2),
+        all_left P again.0 stand again.2 all,
       ),
-      all_at P again.0 first again.1 all,
+      subst (λ (h : Handed). HasOneMark h.link) (sym again.5) (all_at P again.0 stand again.2 all),
     )
 
 -- it may be taken back or parked
-pub may_be_back : (old mid : Option Links) (first : Stand) (last : LinkView) → HandsOn old mid (Some first)
+pub may_be_back : (old mid : Option Links) (first : Handed) (last : LinkView) → HandsOn old mid first
     → IfSome old AreBack → last.read_mark ≡ first.link.read_mark → last.write_mark ≡ first.link.write_mark
     → MayTakeBack mid last
 may_be_back None mid first last handed all read write =
@@ -471,7 +593,7 @@ back_none true new stand back = let P : Option Links → Type 0 = λ (l : Option
 back_none false new stand back = let P : Option Links → Type 0 = λ (l : Option Links). IfSome l AreBack in subst P
     (sym back) tt
 
-pub back_again : (old mid new : Option Links) (first last : Stand) (parked : Bool) → HandsOn old mid (Some first)
+pub back_again : (old mid new : Option Links) (first : Handed) (last : Stand) (parked : Bool) → HandsOn old mid first
     → IfSome old AreBack → last.link.read_mark ≡ first.link.read_mark → last.link.write_mark ≡ first.link.write_mark
     → Parks parked mid new last → IfSome new AreBack
 back_again None mid new first last parked handed all read write back =
@@ -481,104 +603,99 @@ back_again (Some links) mid new first last parked handed all read write back =
     back_so out.0 parked new last out.2 (read ∙ out.3 ∙ sym write)
     (subst (λ (l : Option Links). Parks parked l new last) out.1 back)
 
+-- a worker that has served one link more, by such a turn
+pub record ServedMore (takes_new : Bool) (first new : WorkerView) (services : List Service) (turn : Turn) : Type 0
+  where
+    pub all : List Service
+    pub has : HasServed first new all
+    pub faults : new.gate.faults ≡ faults_after first.gate.faults all
+    pub taken : new_in all ≡ new_in services + turn.taken
+    pub asked : takes_new ≡ false → turn.taken ≡ 0
+    pub one : turn.taken ≤ 1
+    pub ended : ended_in all ≡ ended_in services + turn.ended
+
 -- one more link was served, if there was one
-pub one_more_served : (first old new : WorkerView) (services : List Service) (next : Option ℕ) (ended : ℕ)
-    → next ≡ Some ended → HasServed first old services → ServesNext old new next
-    → GoesOn old.desk new.desk → old.gate.faults ≤ new.gate.faults
-    → (all : List Service) × HasServed first new all × (ended_in all ≡ ended_in services + ended) × (ended ≤ 1)
-one_more_served first old new services next ended is has serves goes faults =
-    let P : Option ℕ → Type 0 = λ (o : Option ℕ). ServesNext old new o in
-    let there : ServesNext old new (Some ended) = subst P is serves in
-    let one = one_at_most there.0.parked in (
-      services ++ there.0 ∷ [],
-      served_more first old new services there.0 has goes there.1 there.2 there.3 there.4 faults,
-      omega (arith, ended_more services there.0, there.5),
-      omega (arith, one, there.5),
-    )
+pub one_more_served : (takes_new : Bool) (first old new : WorkerView) (services : List Service) (next : Option Turn)
+    (turn : Turn) → next ≡ Some turn → HasServed first old services
+    → old.gate.faults ≡ faults_after first.gate.faults services → ServesNext takes_new old new next
+    → GoesOn old.desk new.desk → old.gate.faults ≤ new.gate.faults → ServedMore takes_new first new services turn
+one_more_served takes_new first old new services next turn is has calm serves goes never_falls =
+    let P : Option Turn → Type 0 = λ (o : Option Turn). ServesNext takes_new old new o in
+    let there : ServesNext takes_new old new (Some turn) = subst P is serves in
+    let service = there.0 in
+    let counts = there.5 in
+    let taken = counts.taken in
+    record {
+      all = services ++ service ∷ [];
+      has = served_more first old new services service has goes there.1 there.2 there.3 there.4 never_falls;
+      faults = counts.faults ∙ ap (λ n. faults_after n (service ∷ [])) calm
+          ∙ sym (faults_more first.gate.faults services service);
+      taken = new_more services service ∙ ap (λ n. new_in services + n) (sym taken);
+      asked = counts.asked;
+      one = omega (arith, taken, firsts_few service.first.before);
+      ended = ended_more services service ∙ ap (λ n. ended_in services + n) (sym counts.ended);
+    }
 
 -- how many links were ended, with those that were counted now
 pub counted_more : (served count ended : ℕ) → served ≡ min 18446744073709551615 count
     → min (served + ended) 18446744073709551615 ≡ min 18446744073709551615 (count + ended)
 counted_more served count ended is = grind (arith, is)
 
--- fewer links were ended than are asked for
-abbrev pub IsShort : Option ℕ → ℕ → Type 0
-IsShort None count = Unit {0}
-IsShort (Some most) count = count < most
+-- at most so many links were new
+abbrev pub IsFew : Option ℕ → ℕ → Type 0
+IsFew most taken = IfSome most (λ m. taken ≤ m)
 
-pub short_none : (most : Option ℕ) → IfSome most (λ m. 1 ≤ m) → IsShort most 0
-short_none None some = tt
-short_none (Some most) some = omega (arith, some)
+pub few_none : (most : Option ℕ) → IsFew most 0
+few_none None = tt
+few_none (Some most) = omega arith
 
-short_few : (most : Option ℕ) (count : ℕ) → IsShort most count → IfSome most (λ m. count ≤ m)
-short_few None count short = tt
-short_few (Some most) count short = omega (arith, short)
+-- a worker takes a new link if it took fewer, as it has counted them
+pub takes_new_as : (most : Option ℕ) (count taken : ℕ) (short : Bool) → TellsShort most taken short
+    → taken ≡ min 18446744073709551615 count → TakesNew most count short
+takes_new_as None count taken short tells held = tells
+takes_new_as (Some most) count taken true tells held = let below = tells.0 in let bound = tells.1 in grind
+    (arith, below, bound, held)
+takes_new_as (Some most) count taken false tells held = let below = tells.0 in grind (arith, below, held)
 
-pub short_still : (most : Option ℕ) (count served : ℕ) (enough : Bool) → enough ≡ false → TellsEnough most served enough
-    → served ≡ min 18446744073709551615 count → IsShort most count
-short_still None count served enough is tells held = tt
-short_still (Some most) count served enough is tells held =
-    let P : Bool → Type 0 = λ (b : Bool). TellsEnough (Some most) served b in
-    let short = subst P is tells in
-    grind (arith, short.0, short.1, held)
-
-enough_is : (most : Option ℕ) (count ended served : ℕ) (enough : Bool) → ended ≤ 1 → enough ≡ true
-    → TellsEnough most served enough → served ≡ min 18446744073709551615 (count + ended)
-    → IsShort most count → most ≡ Some (count + ended)
-enough_is None count ended served enough one is tells held short = absurd (let e = sym is ∙ tells in cc)
-enough_is (Some most) count ended served enough one is tells held short =
-    let P : Bool → Type 0 = λ (b : Bool). TellsEnough (Some most) served b in
-    let reached : most ≤ served = subst P is tells in
-    ap Some (let e : most ≡ count + ended = grind (arith, reached, held, short, one) in e)
+-- one that takes another at most then still took few
+pub few_still : (most : Option ℕ) (count more all : ℕ) (takes_new : Bool) → TakesNew most count takes_new
+    → IsFew most count → more ≤ 1 → (takes_new ≡ false → more ≡ 0) → all ≡ count + more → IsFew most all
+few_still None count more all takes_new takes few one asked is = tt
+few_still (Some most) count more all true takes few one asked is = omega (arith, takes, one, is)
+few_still (Some most) count more all false takes few one asked is =
+    let none : more ≡ 0 = asked refl in omega (arith, few, none, is)
 
 -- a worker that stops since no link is to come
-pub works_closed : (most : Option ℕ) (first old new : WorkerView) (services : List Service) (served : ℕ)
-    → HasServed first old services
-    → old.gate.faults ≡ first.gate.faults → IsShort most (ended_in services)
+pub works_closed : (most : Option ℕ) (takes_new : Bool) (first old new : WorkerView) (services : List Service)
+    (served : ℕ) → HasServed first old services
+    → old.gate.faults ≡ faults_after first.gate.faults services → IsFew most (new_in services)
+    → TakesNew most (new_in services) takes_new
     → served ≡ min 18446744073709551615 (ended_in services)
-    → TriesNext old new (Ok None) → Works most first new (record { served = served; failed = false })
-works_closed most first old new services served has calm short held next =
-    let still = next.1 in
+    → TriesNext takes_new old new (Ok None) → Works most first new (record { served = served; failed = false })
+works_closed most takes_new first old new services served has calm few takes held next =
+    let still = next.4 in
     record {
       services = services;
       links = old.gate.links;
-      has = served_same first old new services has next.0.0 next.0.3 (omega (arith, still));
-      few = short_few most (ended_in services) short;
+      has = served_same first old new services has next.0 next.3 (omega (arith, still));
+      few = few;
       served = held;
-      ends = (still ∙ calm, next.0.1, inr next.0.2);
+      ends = (still ∙ calm, next.1, (takes_new, takes, next.2));
     }
 
 -- since its gate failed
-pub works_failed : (most : Option ℕ) (first old new : WorkerView) (services : List Service) (served : ℕ) (e : Failed)
-    → HasServed first old services
-    → old.gate.faults ≡ first.gate.faults → IsShort most (ended_in services)
+pub works_failed : (most : Option ℕ) (takes_new : Bool) (first old new : WorkerView) (services : List Service)
+    (served : ℕ) (e : Failed) → HasServed first old services
+    → old.gate.faults ≡ faults_after first.gate.faults services → IsFew most (new_in services)
     → served ≡ min 18446744073709551615 (ended_in services)
-    → TriesNext old new (Err e) → old.gate.faults ≤ new.gate.faults
+    → TriesNext takes_new old new (Err e) → old.gate.faults ≤ new.gate.faults
     → Works most first new (record { served = served; failed = true })
-works_failed most first old new services served e has calm short held next faults =
+works_failed most takes_new first old new services served e has calm few held next never_falls =
     record {
       services = services;
       links = old.gate.links;
-      has = served_same first old new services has next.0 next.3 faults;
-      few = short_few most (ended_in services) short;
+      has = served_same first old new services has next.0 next.3 never_falls;
+      few = few;
       served = held;
       ends = (next.2 ∙ ap one_more calm, next.1);
-    }
-
--- since it ended as many links as are asked for
-pub works_enough : (most : Option ℕ) (first new : WorkerView) (services : List Service) (served count ended : ℕ)
-    (enough : Bool) → ended ≤ 1 → HasServed first new services
-    → new.gate.faults ≡ first.gate.faults → ended_in services ≡ count + ended → IsShort most count
-    → served ≡ min 18446744073709551615 (count + ended) → enough ≡ true → TellsEnough most served enough
-    → Works most first new (record { served = served; failed = false })
-works_enough most first new services served count ended enough one has calm long short held is tells =
-    let reached : most ≡ Some (count + ended) = enough_is most count ended served enough one is tells held short in
-    let P : Option ℕ → Type 0 = λ (o : Option ℕ). IfSome o (λ m. ended_in services ≤ m) in
-    record {
-      services = services;
-      links = new.gate.links;
-      has = has;
-      few = subst P (sym reached) (omega (arith, long));
-      served = held ∙ ap (λ n. min 18446744073709551615 n) (sym long);
-      ends = (calm, refl, inl (reached ∙ ap Some (sym long)));
     }

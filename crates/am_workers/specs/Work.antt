@@ -1,5 +1,5 @@
 -- What a worker does: it serves the links of its gate, one after the other, on its desk, and parks those that are idle.
-use Rattle.std.specs.Prelude.{◌≡◌, ℕ, ◌+◌, ◌-◌, ◌≤◌, ◌<◌, ◌⊎◌, Bool, true, false, if◌then◌else◌, List, [], ◌∷◌, length, drop, min, Option, Some, None, IfSome, ⊤, Err, Ok, Result}
+use Rattle.std.specs.Prelude.{◌≡◌, ℕ, ◌+◌, ◌-◌, ◌≤◌, ◌<◌, ◌↔◌, Bool, true, false, if◌then◌else◌, List, [], ◌∷◌, length, drop, min, Option, Some, None, IfSome, unwrap_or, ⊤, Err, Ok, Result}
 use Rattle.std.specs.List.{flat_map, AllByRecursion}
 use Rattle.am_types.specs.declared.history.Entry.{Entry}
 use Rattle.am_outside.specs.Counts.{HasRisen}
@@ -7,7 +7,7 @@ use Rattle.am_outside.specs.Memory.{one_more}
 use Rattle.am_outside.specs.declared.clock.Clock.{Ghosts as ClockGhosts}
 use Rattle.am_outside.specs.declared.failure.Failed.{Failed}
 use Rattle.am_network.specs.declared.network.Acceptor.{Ghosts as AcceptorGhosts}
-use Rattle.am_network.specs.Links.{GateView, HandsOn, IsClosed, LinkView, Links, Parks, Stand, failed, set_aside, taken_back}
+use Rattle.am_network.specs.Links.{GateView, Handed, HandsOn, IsDone, LinkView, Links, Parks, Stand, failed, firsts, set_aside, taken_back}
 use Rattle.am_desk.specs.declared.Desk.{Ghosts as DeskGhosts}
 use Rattle.am_history.specs.State.{State}
 use Rattle.am_history.specs.Desks.{DeskView, start_of}
@@ -19,19 +19,25 @@ use Rattle.am_http.specs.Exchanges.{AreAnswered, AreInOrder, Exchange, IsAnswer,
 use Rattle.am_http.specs.Frames.{Leaves}
 use Rattle.am_http.specs.Links.{Gives, GoesOn, Moments}
 use Rattle.am_http.specs.Sessions.{GivesAtMost, VisitEnds, Writes, most_frames, most_taken}
+use Rattle.am_workers.specs.declared.working.Turn.{Turn}
 use Rattle.am_workers.specs.declared.working.Worked.{Worked}
 
 -- a link that was served for a while: as it was handed out, as it came back, the exchanges that went over it in
--- between, and whether it was then parked, and not ended
+-- between, whether it was then parked, and not ended, and whether its gate was to park it and didn't
 pub record Service : Type 0 where
-  pub first : Stand
+  pub first : Handed
   pub last : LinkView
   pub exchanges : List Exchange
   pub parked : Bool
+  pub refused : Bool
+
+-- how many frames of a link were answered before it was handed out
+abbrev pub answered_before : Handed → ℕ
+answered_before handed = unwrap_or handed.before 0
 
 -- how many frames of a link may still be answered
-abbrev pub frames_left : Stand → ℕ
-frames_left stand = most_frames - stand.answered
+abbrev pub frames_left : Handed → ℕ
+frames_left handed = most_frames - answered_before handed
 
 -- the cause of an end by a fault, or of a rest: a count of the link rose
 abbrev pub HasCause : End → LinkView → LinkView → Type 0
@@ -45,7 +51,7 @@ HasCause ReadFault old new = HasRisen old.read_faults new.read_faults
 HasCause WriteFault old new = HasRisen old.write_faults new.write_faults
 
 -- the link was served as a connection: its frames are those that came over it, no more than it may still have, it took
--- their responses, its end has its cause, and it was parked only if it was idle
+-- their responses, and its end has its cause. It was to be parked exactly if it was idle
 pub record IsServed (service : Service) : Type 0 where
   pub how : Served
   pub rest : Option (List ℕ)
@@ -58,6 +64,17 @@ pub record IsServed (service : Service) : Type 0 where
   pub output : Writes how service.first.link.taken service.last.taken service.exchanges last
   pub cause : HasCause how.end service.first.link service.last
   pub parked : service.parked ≡ true → how.end ≡ Idle
+  pub refused : (service.refused ≡ true) ↔ ((how.end ≡ Idle) × (service.parked ≡ false))
+
+-- how many of the links were handed out for the first time
+abbrev pub new_in : List Service → ℕ
+new_in [] = 0
+new_in (service ∷ others) = firsts service.first.before + new_in others
+
+-- a gate's count of faults after these links: one more for each that it was to park and didn't
+abbrev pub faults_after : ℕ → List Service → ℕ
+faults_after faults [] = faults
+faults_after faults (service ∷ others) = faults_after (if service.refused then one_more faults else faults) others
 
 -- how many of the links were ended
 abbrev pub ended_in : List Service → ℕ
@@ -82,7 +99,8 @@ pub record IsWorked (start : State) (floor number : ℕ) (history : List Entry) 
 abbrev pub given_back : Option Links → Service → Option Links
 given_back links service =
     if service.parked
-    then set_aside links (record { link = service.last; answered = service.first.answered + length service.exchanges })
+    then set_aside links
+    (record { link = service.last; answered = answered_before service.first + length service.exchanges })
     else taken_back links service.last
 
 -- a gate that was so handed out these links, one after the other, each for the first time or as it was parked, and had
@@ -90,7 +108,7 @@ given_back links service =
 abbrev pub AreOfGate : Option Links → Option Links → List Service → Type 0
 AreOfGate old new [] = new ≡ old
 AreOfGate old new (service ∷ others) =
-    (out : Option Links) × HandsOn old out (Some service.first) × AreOfGate (given_back out service) new others
+    (out : Option Links) × HandsOn old out service.first × AreOfGate (given_back out service) new others
 
 -- the moments of the calls of these links, one link after the other
 abbrev pub moments_of_all : List Service → List ℕ
@@ -119,54 +137,71 @@ pub record HasServed (old new : WorkerView) (services : List Service) : Type 0 w
   pub moments : Gives old.clock (moments_of_all services) new.clock
   pub faults : old.gate.faults ≤ new.gate.faults
 
--- it may stop once that many links were ended: that is the most that it was to serve, or no link is to come
+-- whether a worker that took so many new links takes further ones: until it took as many as it may
+abbrev pub TakesNew : Option ℕ → ℕ → Bool → Type 0
+TakesNew None taken takes_new = takes_new ≡ true
+TakesNew (Some most) taken true = taken < most
+TakesNew (Some most) taken false = most ≤ taken
+
+-- it may stop once no link is to come. If it takes no new one, none is parked
 abbrev pub MayStop : Option ℕ → Option Links → ℕ → Type 0
-MayStop most links count = (most ≡ Some count) ⊎ IfSome links IsClosed
+MayStop most links taken = (takes_new : Bool) × TakesNew most taken takes_new × IfSome links (IsDone takes_new)
 
--- how a worker ended once that many links were ended, whose gate had counted `faults` before, and had these links
--- behind the last that was served. If it failed, a call of its gate did, once, after that link; if it didn't, no call
--- of its gate failed, and it may stop
+-- how a worker ended that took so many new links, whose gate had counted `faults` and had these links behind the last
+-- that was served. If it failed, a call of its gate did, once, after that link; if it didn't, no call of its gate
+-- failed, and it may stop
 abbrev pub EndsSo : Bool → Option ℕ → ℕ → Option Links → GateView → ℕ → Type 0
-EndsSo true most faults links gate count = (gate.faults ≡ one_more faults) × (gate.links ≡ failed links)
-EndsSo false most faults links gate count =
-    (gate.faults ≡ faults) × (gate.links ≡ links) × MayStop most links count
+EndsSo true most faults links gate taken = (gate.faults ≡ one_more faults) × (gate.links ≡ failed links)
+EndsSo false most faults links gate taken =
+    (gate.faults ≡ faults) × (gate.links ≡ links) × MayStop most links taken
 
--- a worker served its links, of which at most so many were ended, until none was to come or its gate failed. `links`
--- are those of the gate behind the last that was served
+-- a worker served its links, of which at most so many were new, until none was to come or its gate failed. `links` are
+-- those of the gate behind the last that was served
 pub record Works (most : Option ℕ) (old new : WorkerView) (worked : Worked) : Type 0 where
   pub services : List Service
   pub links : Option Links
   pub has : HasServed old (record new { gate = record (new.gate) { links = links } }) services
-  pub few : IfSome most (λ m. ended_in services ≤ m)
+  pub few : IfSome most (λ m. new_in services ≤ m)
   pub served : worked.served ≡ min 18446744073709551615 (ended_in services)
-  pub ends : EndsSo worked.failed most old.gate.faults links new.gate (ended_in services)
+  pub ends : EndsSo worked.failed most (faults_after old.gate.faults services) links new.gate (new_in services)
 
--- whether that many links are as many as are asked for, which is a number of 32 bits
-abbrev pub TellsEnough : Option ℕ → ℕ → Bool → Type 0
-TellsEnough None served enough = enough ≡ false
-TellsEnough (Some most) served true = most ≤ served
-TellsEnough (Some most) served false = (served < most) × (most < 4294967296)
+-- whether a worker that took so many new links takes further ones, where the most is a number of 32 bits
+abbrev pub TellsShort : Option ℕ → ℕ → Bool → Type 0
+TellsShort None taken short = short ≡ true
+TellsShort (Some most) taken true = (taken < most) × (most < 4294967296)
+TellsShort (Some most) taken false = (most ≤ taken) × (most < 4294967296)
 
--- the gate has a link back, whose connection ended so: parked, which it is only if it was idle, or ended. So many links
+-- the gate has a link back, whose connection ended so: parked or not if it was idle, and ended if not. So many links
 -- were ended by that
-abbrev pub IsBack : End → Option Links → Option Links → Stand → ℕ → Type 0
-IsBack end old new stand ended =
-    (parked : Bool) × (parked ≡ true → end ≡ Idle) × Parks parked old new stand
-    × (ended ≡ (if parked then 0 else 1))
+pub record IsBack (end : End) (old new : GateView) (stand : Stand) (ended : ℕ) : Type 0 where
+  pub parked : Bool
+  pub refused : Bool
+  pub rests : parked ≡ true → end ≡ Idle
+  pub refuses : (refused ≡ true) ↔ ((end ≡ Idle) × (parked ≡ false))
+  pub links : Parks parked old.links new.links stand
+  pub faults : new.faults ≡ (if refused then one_more old.faults else old.faults)
+  pub many : ended ≡ (if parked then 0 else 1)
 
--- the next link was served, at moments of the clock, and so many were ended, one or none; or no link was to come
-abbrev pub ServesNext : WorkerView → WorkerView → Option ℕ → Type 0
-ServesNext old new (Some ended) =
+-- what a turn over this link counts, where new links are taken or aren't, and the gate's faults before and after it
+pub record IsCounted (takes_new : Bool) (old new : ℕ) (turn : Turn) (service : Service) : Type 0 where
+  pub faults : new ≡ faults_after old (service ∷ [])
+  pub taken : turn.taken ≡ new_in (service ∷ [])
+  pub asked : takes_new ≡ false → turn.taken ≡ 0
+  pub ended : turn.ended ≡ ended_in (service ∷ [])
+
+-- the next link was served, at moments of the clock; or no link was to come. No call for a link failed
+abbrev pub ServesNext : Bool → WorkerView → WorkerView → Option Turn → Type 0
+ServesNext takes_new old new (Some turn) =
     (service : Service) × AreAnswered old.desk new.desk service.exchanges × IsServed service
     × AreOfGate old.gate.links new.gate.links (service ∷ []) × Gives old.clock (moments_of service.exchanges) new.clock
-    × (ended ≡ ended_in (service ∷ []))
-ServesNext old new None =
-    (new.desk ≡ old.desk) × (new.gate.links ≡ old.gate.links) × IfSome old.gate.links IsClosed
-    × Gives old.clock [] new.clock
+    × IsCounted takes_new old.gate.faults new.gate.faults turn service
+ServesNext takes_new old new None =
+    (new.desk ≡ old.desk) × (new.gate.links ≡ old.gate.links) × IfSome old.gate.links (IsDone takes_new)
+    × Gives old.clock [] new.clock × (new.gate.faults ≡ old.gate.faults)
 
--- the same, and no call of the gate failed; or one did, and nothing else was done
-abbrev pub TriesNext : WorkerView → WorkerView → Result (Option ℕ) Failed → Type 0
-TriesNext old new (Ok next) = ServesNext old new next × (new.gate.faults ≡ old.gate.faults)
-TriesNext old new (Err e) =
+-- the same; or a call for a link failed, and nothing else was done
+abbrev pub TriesNext : Bool → WorkerView → WorkerView → Result (Option Turn) Failed → Type 0
+TriesNext takes_new old new (Ok next) = ServesNext takes_new old new next
+TriesNext takes_new old new (Err e) =
     (new.desk ≡ old.desk) × (new.gate.links ≡ failed old.gate.links) × (new.gate.faults ≡ one_more old.gate.faults)
     × Gives old.clock [] new.clock

@@ -18,9 +18,9 @@ use std::sync::Wait;
 use std::thread::Threads;
 
 /// Serves a manager by as many workers as a network answered gates, 1 to 64, each of which serves the links of its gate
-/// on a desk of its own, at most `most` of them if that is given, which is at least 1. They work at the same time, each
-/// in a thread of its own if there are threads, and with a clock of its own that tells what the given one tells. Once
-/// all have ended, the gates are handed back to the network, in their order, and the manager comes back with what the
+/// on a desk of its own, of which it takes at most `most` if that is given, which is at least 1. They work at the same
+/// time, each in a thread of its own if there are threads, and with a clock of its own that tells what the given one
+/// tells. Once all have ended, the gates are handed back to the network, in their order, and the manager comes back with what the
 /// workers did.
 ///
 /// # Errors

@@ -1,9 +1,9 @@
 //! One worker.
 ghost use Rattle.std.specs.Prelude.{◌≡◌, ◌+◌, ◌≤◌, IfSome};
-ghost use Rattle.am_network.specs.Links.{AreBack, MayTakeBack, link_of};
+ghost use Rattle.am_network.specs.Links.{AreBack, MayTakeBack, firsts, link_of};
 ghost use Rattle.am_http.specs.Sessions.{most_frames};
 ghost use Rattle.am_http.specs.Links.{GoesOn};
-ghost use Rattle.am_workers.specs.Work.{IsBack, TellsEnough, TriesNext, Works, worker_of};
+ghost use Rattle.am_workers.specs.Work.{IsBack, TellsShort, TriesNext, Works, gate_of, worker_of};
 
 use am_desk::Desk;
 use am_http::{Buffers, End, Served, serve_link};
@@ -21,6 +21,13 @@ pub struct Worked {
     pub failed: bool,
 }
 
+/// What one turn of a worker did: how many links it took for the first time, and how many it ended, none or one.
+#[derive(Clone, Copy)]
+pub struct Turn {
+    pub taken: u64,
+    pub ended: u64,
+}
+
 // Hands a link back to the gate, of which so many frames were answered before it was served so: parked if it is idle and
 // the gate parks it, else ended. Answers how many links ended by that, which is none or one.
 fn hand_back<A: Acceptor>(
@@ -32,13 +39,13 @@ fn hand_back<A: Acceptor>(
 ) -> u64
     requires may { MayTakeBack (A.links gate.old) (link_of A.Reader.Source A.Writer.Sink reader writer) }
     requires few { served.end ≡ End.Idle → before + served.answered ≤ most_frames }
-    ensures back { IsBack served.end (A.links gate.old) (A.links gate.new)
+    ensures back { IsBack served.end (gate_of A.Acceptor gate.old) (gate_of A.Acceptor gate.new)
         (record {
           link = link_of A.Reader.Source A.Writer.Sink reader writer;
           answered = before + served.answered;
         })
         result }
-    ensures faults { A.faults gate.new ≡ A.faults gate.old }
+    ensures never_falls { A.faults gate.old ≤ A.faults gate.new }
 {
     match served.end {
         End::Idle => {
@@ -55,17 +62,27 @@ fn hand_back<A: Acceptor>(
     }
 }
 
-// Serves the next link, and answers how many links ended by that, which is one, or none where it is parked; or that
-// there was no link.
+// How many links are taken for the first time by one of which so many frames were answered before.
+fn count_first(before: Option<u32>) -> u64
+    ensures { result ≡ firsts before }
+{
+    match before {
+        None => 1,
+        Some(_) => 0,
+    }
+}
+
+// Serves the next link, which is a new one only if those are taken; or answers that there was none.
 fn serve_next<D: Desk, A: Acceptor, C: Clock>(
     alloc: Global,
     desk: &mut D,
     gate: &mut A,
     clock: &mut C,
     buffers: &mut Buffers,
-) -> Result<Option<u64>, Failed>
+    takes_new: bool,
+) -> Result<Option<Turn>, Failed>
     requires back { IfSome (A.links gate.old) AreBack }
-    ensures next { TriesNext
+    ensures next { TriesNext takes_new
         (worker_of D.Desk A.Acceptor C.Clock desk.old gate.old clock.old)
         (worker_of D.Desk A.Acceptor C.Clock desk.new gate.new clock.new)
         result }
@@ -73,9 +90,11 @@ fn serve_next<D: Desk, A: Acceptor, C: Clock>(
     ensures never_falls { A.faults gate.old ≤ A.faults gate.new }
     ensures back { IfSome (A.links gate.new) AreBack }
 {
-    let Some((mut reader, mut writer, before)) = gate.next_link()? else {
+    let Some((mut reader, mut writer, before)) = gate.next_link(takes_new)? else {
         return Ok(None);
     };
+    let taken = count_first(before);
+    let answered = before.unwrap_or(0);
     let served = serve_link(
         alloc,
         desk,
@@ -83,16 +102,17 @@ fn serve_next<D: Desk, A: Acceptor, C: Clock>(
         &mut writer,
         clock,
         buffers,
-        before,
+        answered,
         true,
     );
-    Ok(Some(hand_back(gate, reader, writer, before, served)))
+    let ended = hand_back(gate, reader, writer, answered, served);
+    Ok(Some(Turn { taken, ended }))
 }
 
 /// Serves the links of a gate on a desk, one after the other, and hands each back to the gate once its connection has
-/// ended, or parks it while it is idle, until no link is to come, the gate fails, or as many links were ended as are
-/// asked for, which are at least 1. A link that was parked is served further when the gate hands it out again. It waits
-/// for the links, and its calls for those of other desks.
+/// ended, or parks it while it is idle, until no link is to come or the gate fails. A link that was parked is served
+/// further when the gate hands it out again. Once it took as many links as are asked for, which are at least 1, it takes
+/// no new one, and works until those have ended. It waits for the links, and its calls for those of other desks.
 pub fn work<R: Wait, D: Desk, A: Acceptor, C: Clock>(
     rt: &R,
     alloc: Global,
@@ -110,10 +130,15 @@ pub fn work<R: Wait, D: Desk, A: Acceptor, C: Clock>(
         result }
     ensures back { IfSome (A.links gate.new) AreBack }
 {
+    let mut taken: u64 = 0;
     let mut served: u64 = 0;
     for _ in rt.forever() {
-        match serve_next(alloc, desk, gate, clock, buffers) {
-            Ok(Some(ended)) => served = served.saturating_add(ended),
+        let takes_new = is_short(taken, most);
+        match serve_next(alloc, desk, gate, clock, buffers, takes_new) {
+            Ok(Some(turn)) => {
+                taken = taken.saturating_add(turn.taken);
+                served = served.saturating_add(turn.ended);
+            }
             Ok(None) => {
                 return Worked {
                     served,
@@ -127,22 +152,16 @@ pub fn work<R: Wait, D: Desk, A: Acceptor, C: Clock>(
                 };
             }
         }
-        if is_enough(served, most) {
-            return Worked {
-                served,
-                failed: false,
-            };
-        }
     }
     unreachable!()
 }
 
-// Whether that many links are as many as are asked for.
-fn is_enough(served: u64, most: Option<u32>) -> bool
-    ensures { TellsEnough most served result }
+// Whether that many links are fewer than are asked for.
+fn is_short(taken: u64, most: Option<u32>) -> bool
+    ensures { TellsShort most taken result }
 {
     match most {
-        None => false,
-        Some(most) => served >= u64::from(most),
+        None => true,
+        Some(most) => taken < u64::from(most),
     }
 }

@@ -51,11 +51,16 @@ empty serve --device d --port 8080 --workers 1 | 0 - | history 6 served 3\n
 2 4 | none | POST /v1/tick HTTP/1.1\r\nAM-Key: sys\r\nContent-Length: 2\r\n\r\n{}POST /v1/tick HTTP/1.1\r\nAM-Key: sys\r\nContent-Length: 2\r\n\r\n{}POST /v1/tick HTTP/1.1\r\nAM-Key: sys\r\nContent-Length: 2\r\n\r\n{} -> HTTP/1.1 200 OK\r\nContent-Type: application/json\r\nContent-Length: 2\r\nAM-At: 0\r\nAM-Stored: 1\r\n\r\n{}HTTP/1.1 200 OK\r\nContent-Type: application/json\r\nContent-Length: 2\r\nAM-At: 3\r\nAM-Stored: 1\r\n\r\n{}HTTP/1.1 200 OK\r\nContent-Type: application/json\r\nContent-Length: 2\r\nAM-At: 5\r\nAM-Stored: 1\r\n\r\n{}
 - | none | POST /v1/tick HTTP/1.1\r\nAM-Key: sys\r\nContent-Length: 2\r\n\r\n{}POST /v1/tick HTTP/1.1\r\nAM-Key: sys\r\nContent-Length: 2\r\n\r\n{} -> HTTP/1.1 200 OK\r\nContent-Type: application/json\r\nContent-Length: 2\r\nAM-At: 1\r\nAM-Stored: 1\r\n\r\n{}HTTP/1.1 200 OK\r\nContent-Type: application/json\r\nContent-Length: 2\r\nAM-At: 2\r\nAM-Stored: 1\r\n\r\n{}
 1 | none | POST /v1/tick HTTP/1.1\r\nAM-Key: sys\r\nContent-Length: 2\r\n\r\n{} -> HTTP/1.1 200 OK\r\nContent-Type: application/json\r\nContent-Length: 2\r\nAM-At: 4\r\nAM-Stored: 1\r\n\r\n{}
-# As many links as a worker may serve have ended, and one is parked.
+# A worker takes no new link once it took as many as it may, and serves those until they end.
+empty serve --device d --port 8080 --workers 1 --connections 2 | 0 - | history 4 served 2\n
+: -
+2 | none | POST /v1/tick HTTP/1.1\r\nAM-Key: sys\r\nContent-Length: 2\r\n\r\n{}POST /v1/tick HTTP/1.1\r\nAM-Key: sys\r\nContent-Length: 2\r\n\r\n{} -> HTTP/1.1 200 OK\r\nContent-Type: application/json\r\nContent-Length: 2\r\nAM-At: 0\r\nAM-Stored: 1\r\n\r\n{}HTTP/1.1 200 OK\r\nContent-Type: application/json\r\nContent-Length: 2\r\nAM-At: 2\r\nAM-Stored: 1\r\n\r\n{}
+2 | none | POST /v1/tick HTTP/1.1\r\nAM-Key: sys\r\nContent-Length: 2\r\n\r\n{}POST /v1/tick HTTP/1.1\r\nAM-Key: sys\r\nContent-Length: 2\r\n\r\n{} -> HTTP/1.1 200 OK\r\nContent-Type: application/json\r\nContent-Length: 2\r\nAM-At: 1\r\nAM-Stored: 1\r\n\r\n{}HTTP/1.1 200 OK\r\nContent-Type: application/json\r\nContent-Length: 2\r\nAM-At: 3\r\nAM-Stored: 1\r\n\r\n{}
+- | left | POST /v1/tick HTTP/1.1\r\nAM-Key: sys\r\nContent-Length: 2\r\n\r\n{} -> -
+# One that rests when the last is taken isn't ended for it.
 empty serve --device d --port 8080 --workers 1 --connections 1 | 0 - | history 2 served 1\n
 : -
-2 | parked | POST /v1/tick HTTP/1.1\r\nAM-Key: sys\r\nContent-Length: 2\r\n\r\n{}POST /v1/tick HTTP/1.1\r\nAM-Key: sys\r\nContent-Length: 2\r\n\r\n{} -> -
-- | none | POST /v1/tick HTTP/1.1\r\nAM-Key: sys\r\nContent-Length: 2\r\n\r\n{} -> HTTP/1.1 200 OK\r\nContent-Type: application/json\r\nContent-Length: 2\r\nAM-At: 1\r\nAM-Stored: 1\r\n\r\n{}
+2 | none | POST /v1/tick HTTP/1.1\r\nAM-Key: sys\r\nContent-Length: 2\r\n\r\n{}POST /v1/tick HTTP/1.1\r\nAM-Key: sys\r\nContent-Length: 2\r\n\r\n{} -> HTTP/1.1 200 OK\r\nContent-Type: application/json\r\nContent-Length: 2\r\nAM-At: 0\r\nAM-Stored: 1\r\n\r\n{}HTTP/1.1 200 OK\r\nContent-Type: application/json\r\nContent-Length: 2\r\nAM-At: 1\r\nAM-Stored: 1\r\n\r\n{}
 - | left | POST /v1/tick HTTP/1.1\r\nAM-Key: sys\r\nContent-Length: 2\r\n\r\n{} -> -
 # The gate fails while its links are parked.
 empty serve --device d --port 8080 --workers 1 | 9 am: network fault | -

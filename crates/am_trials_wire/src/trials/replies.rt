@@ -1,10 +1,10 @@
 //! Replies that no call of a session causes.
 use am_trials_words::lent;
 use am_types::{
-    Account, Aim, Entry, List, Narrowing, Reply, Request, Rule, Standing, TaskView, Why,
+    Account, Aim, Entry, List, Narrowing, Reply, Request, Rule, Shown, Standing, TaskView, Why,
 };
 use am_wire_replies::reply_text;
-use am_wire_values::reply_status;
+use am_wire_values::{reply_status, reply_value};
 use std::alloc::{AllocError, Global};
 use std::process::Abort;
 use std::test::Fail;
@@ -118,6 +118,19 @@ fn reply_line(alloc: Global, reply: Reply) -> Result<String, Fail> {
     Ok(format!(in alloc; "{status} {text}")?)
 }
 
+/// The status and the text of the value of a reply.
+fn value_line(alloc: Global, reply: Reply) -> Result<String, Fail> {
+    let status = reply_status(&reply);
+    let shown = Shown {
+        at: 0,
+        stored: false,
+        reply,
+    };
+    let value = lent(shown, |shown| reply_value(alloc, shown))?;
+    let text = value.to_string(alloc)?;
+    Ok(format!(in alloc; "{status} {text}")?)
+}
+
 /// What is written for the numbers from 0 on is what the lines of the table have, of which there must be so many.
 fn try_lines<F: Fn(u32) -> Result<String, Fail>>(
     rt: &impl Abort,
@@ -150,4 +163,11 @@ fn other_accounts_are_written(rt: HostRuntime) -> Result<(), Fail> {
     try_lines(&rt, ACCOUNTS, 12, |n| {
         reply_line(alloc, Reply::Accounts(accounts(n, alloc)?))
     })
+}
+
+/// What is printed of a reply is the text of its value.
+#[test]
+fn other_replies_have_values(rt: HostRuntime) -> Result<(), Fail> {
+    let alloc = rt.alloc();
+    try_lines(&rt, ROWS, 5, |n| value_line(alloc, answered(n, alloc)?))
 }

@@ -1,5 +1,5 @@
 use Rattle.std.proofs.Common.{ℕ, Err, List, sym, subst}
-use Rattle.am_http.specs.FrameSpans.{frame_held}
+use Rattle.am_frames.specs.FrameSpans.{frame_held}
 use Rattle.am_audit_answers.specs.Judging.{Asks}
 use Rattle.am_audit_answers.proofs.judging.judge.Goals as goal
 

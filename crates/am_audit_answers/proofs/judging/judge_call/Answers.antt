@@ -1,5 +1,5 @@
 use Rattle.std.proofs.Common.{◌<◌, ◌^◌, Some, None, length, arith}
-use Rattle.am_http.specs.FrameSpans.{frame_held}
+use Rattle.am_frames.specs.FrameSpans.{frame_held}
 use Rattle.am_audit_answers.specs.Judged.{IsMakingOf}
 use Rattle.am_audit_answers.proofs.Made.{made_judged_if, unmade_refused}
 use Rattle.am_audit_answers.proofs.judging.judge_call.Goals as goal

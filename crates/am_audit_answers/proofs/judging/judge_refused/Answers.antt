@@ -1,6 +1,6 @@
 use Rattle.std.proofs.Common.{length, refl}
 use Rattle.am_audit_answers.specs.Judged.{case_of}
-use Rattle.am_audit_answers.proofs.Wanted.{accepts_refused, not_both, refused_wants}
+use Rattle.am_audit_answers.proofs.RunsOut.{accepts_refused, not_both, refused_wants}
 use Rattle.am_audit_answers.proofs.judging.judge_refused.Goals as goal
 
 pub returns-then-begins : goal.returns-then-begins
@@ -11,6 +11,6 @@ returns-then-begins c = λ history frame first asked.
 
 pub returns-else-begins : goal.returns-else-begins
 returns-else-begins c = λ history frame first asked.
-    c.judge_want.ensures history frame first
+    c.judge_no_memory.ensures history frame first
     (refused_wants (case_of history c.args.replayed frame c.args.left.now) c.args.text.now asked
     (λ rest is. not_both c.begins.result (c.begins.ensures.none rest is) c.if-begins.false))

@@ -1,7 +1,7 @@
 use Rattle.std.proofs.Common.{◌≡◌, ℕ, ◌<◌, ◌^◌, Some, None, Bool, List, length, sym, ap, subst, arith}
 use Rattle.std.specs.Prelude.{Option}
 use Rattle.std.proofs.lemmas.Option.{none-some, same_Some}
-use Rattle.am_http.specs.FrameSpans.{frame_held}
+use Rattle.am_frames.specs.FrameSpans.{frame_held}
 use Rattle.am_audit_answers.specs.declared.marks.Mark.{Mark}
 use Rattle.am_audit_answers.specs.Judged.{case_of, ground_of}
 use Rattle.am_audit_answers.specs.Marks.{HasMark, HasNoMark, SaysOnly}
@@ -27,7 +27,7 @@ returns-in-None c =
     let short : length c.args.history.now < 2 ^ 64 = omega arith in
     let few : length c.args.left.now < 2 ^ 64 = omega arith in
     let here = case_of c.args.history.now c.args.replayed (frame_held c.args.frame.now) c.args.left.now in
-    c.judge_want.ensures c.args.history.now (frame_held c.args.frame.now) c.requires.stands.first
+    c.judge_no_memory.ensures c.args.history.now (frame_held c.args.frame.now) c.requires.stands.first
     (unmarked_wants here c.args.request c.requires.makes.asks (λ at stored has. none-some _
     (c.in-None.ensures.marked at stored has)) short few)
 

@@ -3,13 +3,13 @@ use Rattle.std.specs.Prelude.{Some, slice_get}
 use Rattle.std.proofs.lemmas.Option.{none-some, same_Some}
 use Rattle.am_types.specs.declared.history.Entry.{Entry}
 use Rattle.am_types.specs.declared.request.Request.{Request}
-use Rattle.am_http.specs.Head.{Frame}
-use Rattle.am_http.specs.FrameSpans.{frame_held}
+use Rattle.am_frames.specs.Head.{Frame}
+use Rattle.am_frames.specs.FrameSpans.{frame_held}
 use Rattle.am_audit_history.specs.Replays.{Replay, state_of}
 use Rattle.am_audit_answers.specs.Judged.{IsNext}
 use Rattle.am_audit_answers.specs.Matching.{IsItsCall}
 use Rattle.am_audit_answers.proofs.Going.{next_is_whole}
-use Rattle.am_audit_answers.proofs.Wanted.{not_both}
+use Rattle.am_audit_answers.proofs.RunsOut.{not_both}
 use Rattle.am_audit_answers.proofs.judging.next_making.Goals as goal
 
 -- if the entry there isn't the frame's call, no next entry is

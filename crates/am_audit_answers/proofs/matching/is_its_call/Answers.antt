@@ -1,6 +1,6 @@
 use Rattle.serde_json.specs.Written.{compact_text}
 use Rattle.am_wire_values.specs.Requests.{request_data}
-use Rattle.am_http.specs.FrameSpans.{frame_held}
+use Rattle.am_frames.specs.FrameSpans.{frame_held}
 use Rattle.am_audit_answers.proofs.Asked.{readable}
 use Rattle.am_audit_answers.proofs.matching.is_its_call.Goals as goal
 

@@ -1,13 +1,13 @@
 use Rattle.std.proofs.Common.{◌≡◌, ℕ, ◌-◌, ◌==◌, Bool, true, List, [], ◌++◌, ◌∷◌, length, take, drop, refl, sym, ap, ◌∙◌, subst}
 use Rattle.std.proofs.lemmas.Bool.{eq-eqb, eqb-true}
 use Rattle.std.proofs.lemmas.List.{nil_from_length, take_rest}
-use Rattle.am_http.specs.declared.frame.Framing.{Framing}
-use Rattle.am_http.specs.declared.frame.Framing.TheVariants as found
-use Rattle.am_http.specs.declared.frame.WholeFrame.{WholeFrame}
-use Rattle.am_http.specs.Head.{Frame, whole}
-use Rattle.am_http.specs.FrameSpans.{frame_held, outcome_held}
+use Rattle.am_frames.specs.declared.frame.Framing.{Framing}
+use Rattle.am_frames.specs.declared.frame.Framing.TheVariants as found
+use Rattle.am_frames.specs.declared.frame.WholeFrame.{WholeFrame}
+use Rattle.am_frames.specs.Head.{Frame, whole}
+use Rattle.am_frames.specs.FrameSpans.{frame_held, outcome_held}
 use Rattle.am_http.specs.Sessions.{most_frames}
-use Rattle.am_http.proofs.FramingLemmas.{whole_body, whole_fits, whole_key}
+use Rattle.am_frames.proofs.FramingLemmas.{whole_body, whole_fits, whole_key}
 use Rattle.am_audit_answers.specs.Audits.{Ground}
 use Rattle.am_audit_answers.specs.Judged.{IsAccepted, Judges}
 use Rattle.am_audit_frames.specs.declared.audit.Walk.{Walk}

@@ -1,6 +1,6 @@
 use Rattle.std.proofs.Common.{sym, subst}
 use Rattle.std.proofs.lemmas.Bool.{both_ways}
-use Rattle.am_http.specs.Framing.{HasNoHead, MayOverlook}
+use Rattle.am_frames.specs.Framing.{HasNoHead, MayOverlook}
 use Rattle.am_audit_frames.proofs.endings.may_be_dead.Goals as goal
 
 pub returns-then-has_no_head : goal.returns-then-has_no_head

@@ -1,4 +1,4 @@
-use Rattle.am_http.specs.FrameSpans.{frame_held}
+use Rattle.am_frames.specs.FrameSpans.{frame_held}
 use Rattle.am_http.specs.Links.{Server}
 use Rattle.am_http.proofs.TurnLemmas.{answered_at}
 use Rattle.am_http.proofs.answer.answer_frame.Goals as goal

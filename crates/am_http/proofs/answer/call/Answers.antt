@@ -1,4 +1,4 @@
-use Rattle.am_http.specs.FrameSpans.{frame_held}
+use Rattle.am_frames.specs.FrameSpans.{frame_held}
 use Rattle.am_http.proofs.FormedLemmas.{a_read_request_is_formed}
 use Rattle.am_http.proofs.answer.call.Goals as goal
 

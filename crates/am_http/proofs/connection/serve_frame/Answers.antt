@@ -1,8 +1,8 @@
 use Rattle.std.proofs.Common.{refl, inl, inr}
-use Rattle.am_http.specs.FrameSpans.{frame_held}
+use Rattle.am_frames.specs.FrameSpans.{frame_held}
 use Rattle.am_http.specs.Links.{Server}
 use Rattle.am_http.specs.Sessions.{IsUnasked}
-use Rattle.am_http.proofs.FramingLemmas.{whole_key, whole_body}
+use Rattle.am_frames.proofs.FramingLemmas.{whole_key, whole_body}
 use Rattle.am_http.proofs.NextLemmas.{keeps_refl}
 use Rattle.am_http.proofs.TurnLemmas.{ends_input, ends_cut, ends_refused, gave_window, held_frame, sends_err, turn_failed, turn_held}
 use Rattle.am_http.proofs.connection.serve_frame.Goals as goal

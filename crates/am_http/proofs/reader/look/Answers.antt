@@ -1,7 +1,7 @@
 use Rattle.std.proofs.Common.{◌≡◌, ℕ, List, length, true, false, subst, sym, ◌∙◌}
-use Rattle.am_http.specs.declared.frame.Found.{Found}
-use Rattle.am_http.specs.Framing.{IsFraming}
-use Rattle.am_http.specs.FrameSpans.{outcome_at, IsFoundWithin}
+use Rattle.am_frames.specs.declared.frame.Found.{Found}
+use Rattle.am_frames.specs.Framing.{IsFraming}
+use Rattle.am_frames.specs.FrameSpans.{outcome_at, IsFoundWithin}
 use Rattle.am_http.specs.Sessions.{IsPartial}
 use Rattle.am_http.specs.Windows.{is_open}
 use Rattle.am_http.proofs.NextLemmas.{wanting_partial, partial_fits, finds_closed, finds_end, on_err}

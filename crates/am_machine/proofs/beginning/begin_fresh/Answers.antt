@@ -1,5 +1,5 @@
 use Rattle.std.proofs.Common.{◌∙◌}
-use Rattle.am_machine.proofs.Fresh.{begins_if, only_want}
+use Rattle.am_machine.proofs.Fresh.{begins_if, only_no_memory}
 use Rattle.am_machine.proofs.beginning.begin_fresh.Goals as goal
 
 pub begin_keyed-requires : goal.begin_keyed-requires
@@ -11,7 +11,7 @@ begin_keyed-requires g c = record {
 
 pub begun-requires : goal.begun-requires
 begun-requires g c =
-    only_want c.begin_keyed.result c.args.device c.finish-rows.result c.requires.sound
+    only_no_memory c.begin_keyed.result c.args.device c.finish-rows.result c.requires.sound
     (c.finish-rows.ensures.rows ∙ c.new.ensures) c.begin_keyed.ensures.refused
 
 pub returns : goal.returns

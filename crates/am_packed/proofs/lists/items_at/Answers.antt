@@ -7,11 +7,11 @@ loop-preserved g c =
     let read = g.T.Pack.form.read in
     rw c.in_ok-push.ensures.items
     (reads_on read c.loop.items.items c.args.count c.loop.counter c.loop.rest.now c.in_ok-item.item
-    c.in_ok-item.after.now (items_at read c.args.count c.args.bytes.now) c.loop-test.true c.in_ok-item.ensures
+    c.in_ok-item.after.now (items_at read c.args.count c.args.bytes.now) c.loop-test.true c.in_ok-item.ensures.read
     c.loop.invariant)
 
-pub returns : goal.returns
-returns g c =
+pub returns-clause-read : goal.returns-clause-read
+returns-clause-read g c =
     let read = g.T.Pack.form.read in
     is_read read c.loop.items.items c.args.count c.loop.counter c.loop.rest.now
     (items_at read c.args.count c.args.bytes.now) c.loop-test.false c.loop.invariant

@@ -1,6 +1,6 @@
 use Rattle.std.proofs.Common.{sym, subst}
 use Rattle.std.proofs.lemmas.List.Elements.{All-push}
-use Rattle.am_network_resting.specs.Gates.{AreUnused, HasUnusedEnds}
+use Rattle.am_trials_network.specs.Gates.{AreUnused, HasUnusedEnds}
 use Rattle.am_trials_program.proofs.resting.planned_links.Goals as goal
 
 pub loop-row-preserved : goal.loop-row-preserved

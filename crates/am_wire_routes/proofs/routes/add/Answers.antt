@@ -1,8 +1,8 @@
 use Rattle.am_wire_routes.proofs.Adding.{adds}
 use Rattle.am_wire_routes.proofs.routes.add.Goals as goal
 
-pub want_of_memory-requires : goal.want_of_memory-requires
-want_of_memory-requires c =
+pub out_of_memory-requires : goal.out_of_memory-requires
+out_of_memory-requires c =
     let read = rw c.path.ensures.path at c.insert.ensures in
     rw c.in-Err.is at (adds c.args.endpoint c.args.router.now c.insert.new.self c.insert.result c.requires read)
 

@@ -50,9 +50,9 @@ returns-in-None-clause-answer g c =
     subst (IsAnswer c.make.result c.args.self.now c.make.new.self)
     (made g (goal.at.returns-in-None-clause-answer g c).After-find c.in-None.is) c.make.ensures.answer
 
-pub returns-in-None-clause-wanting : goal.returns-in-None-clause-wanting
-returns-in-None-clause-wanting g c want =
-    subst IsOk (made g (goal.at.returns-in-None-clause-wanting g c).After-find c.in-None.is) (c.make.ensures.wanting want)
+pub returns-in-None-clause-ran_out : goal.returns-in-None-clause-ran_out
+returns-in-None-clause-ran_out g c want =
+    subst IsOk (made g (goal.at.returns-in-None-clause-ran_out g c).After-find c.in-None.is) (c.make.ensures.ran_out want)
 
 pub returns-in-Some-clause-answer : goal.returns-in-Some-clause-answer
 returns-in-Some-clause-answer g c =
@@ -60,11 +60,11 @@ returns-in-Some-clause-answer g c =
     (renewed g (goal.at.returns-in-Some-clause-answer g c).After-find c.in-Some.token c.in-Some.is c.if-flags.true)
     c.renew.ensures.answer
 
-pub returns-in-Some-clause-wanting : goal.returns-in-Some-clause-wanting
-returns-in-Some-clause-wanting g c want =
+pub returns-in-Some-clause-ran_out : goal.returns-in-Some-clause-ran_out
+returns-in-Some-clause-ran_out g c want =
     subst IsOk
-    (renewed g (goal.at.returns-in-Some-clause-wanting g c).After-find c.in-Some.token c.in-Some.is c.if-flags.true)
-    (c.renew.ensures.wanting want)
+    (renewed g (goal.at.returns-in-Some-clause-ran_out g c).After-find c.in-Some.token c.in-Some.is c.if-flags.true)
+    (c.renew.ensures.ran_out want)
 
 pub returns-in-Some-2-clause-answer : goal.returns-in-Some-2-clause-answer
 returns-in-Some-2-clause-answer g c =

@@ -61,13 +61,13 @@ returns-clause-answer g c =
       one_shot = (sym c.key-2.ensures i).one_shot;
     } in Ok used)
 
-pub returns-in-Err-NoMemory-clause-wanting : goal.returns-in-Err-NoMemory-clause-wanting
-returns-in-Err-NoMemory-clause-wanting g c want =
+pub returns-in-Err-NoMemory-clause-ran_out : goal.returns-in-Err-NoMemory-clause-ran_out
+returns-in-Err-NoMemory-clause-ran_out g c want =
     let kept : Pending = pending_of c.args.token c.in-Some.kept.now in
     let is = there c.args.token _ c.args.self.now _ (Some c.in-Some.kept.now) c.read.ensures.found
     (ap option_copied c.in-Some.is) (ap (λ (all : Pendings). all.records) c.self.view_is) in
     subst IsOk
     (sym (use_own c.args.self.now c.args.token c.args.uid (option_copied c.args.fill) kept is
     (lent kept (option_copied c.args.fill)) (sym c.is_holder.ensures ∙ c.if-not-is_holder.false) refl))
-    (used_ok kept (lent kept (option_copied c.args.fill)) (c.lent.ensures.wanting
+    (used_ok kept (lent kept (option_copied c.args.fill)) (c.lent.ensures.ran_out
     (c.in-Err-NoMemory.is ∙ ap Err c.in-Err-NoMemory.field-0-is)))

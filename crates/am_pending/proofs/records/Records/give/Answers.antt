@@ -85,9 +85,9 @@ returns-then-is_err-clause-answer c next =
           ∙ ap (set_value (is_at (nat_cmp c.args.token)) c.self.inside.by_token.entries) kept),
     )
 
-pub returns-then-is_err-clause-wanting : goal.returns-then-is_err-clause-wanting
-returns-then-is_err-clause-wanting c want next =
-    let at = goal.at.returns-then-is_err-clause-wanting c in
+pub returns-then-is_err-clause-ran_out : goal.returns-then-is_err-clause-ran_out
+returns-then-is_err-clause-ran_out c want next =
+    let at = goal.at.returns-then-is_err-clause-ran_out c in
     subst IsOk (sym (is_given at.After-hold next (is_there at.In-Some next))) refl
 
 pub returns-clause-answer : goal.returns-clause-answer

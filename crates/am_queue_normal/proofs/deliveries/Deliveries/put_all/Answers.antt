@@ -3,7 +3,7 @@ use Rattle.std.proofs.lemmas.List.{length-take-le, take_more}
 use Rattle.std.specs.Prelude.{None}
 use Rattle.std.specs.List.{AllByRecursion}
 use Rattle.std.specs.BTreeMap.{insert_entry}
-use Rattle.am_queue_normal.specs.declared.delivery.Sent.{Sent}
+use Rattle.am_queue_normal.specs.declared.delivery.Broadcast.{Broadcast}
 use Rattle.am_queue_normal.specs.Posted.{posted_as, posted_at, posted_to, without}
 use Rattle.am_queue_normal.proofs.Ordered.{Entry, below_end, next_free, one_more, taken_back}
 use Rattle.am_queue_normal.proofs.deliveries.Deliveries.put_all.Goals as goal
@@ -15,7 +15,7 @@ put_one-requires c =
     let as_many : length to ≡ c.loop-place.place = length-take-le c.loop-place.place c.args.to.now
     (omega (arith, c.loop-place-test.true)) in
     let below : AllByRecursion (λ (e : Entry). e.0 < first) c.args.self.now =
-    rw (ap (λ (s : Sent). s.first) c.deref.ensures) (below_end c.args.sent.now.value.first c.args.self.now
+    rw (ap (λ (s : Broadcast). s.first) c.deref.ensures) (below_end c.args.sent.now.value.first c.args.self.now
     c.requires.order) in
     rw c.loop-place.invariant
     (subst (λ n. posted_at (first + n) (c.args.self.now ++ posted_to c.args.sent.now.value c.args.deadline first to)
@@ -32,7 +32,7 @@ loop-place-preserved c =
     let as_many : length to ≡ c.loop-place.place = length-take-le c.loop-place.place c.args.to.now
     (omega (arith, c.loop-place-test.true)) in
     let below : AllByRecursion (λ (e : Entry). e.0 < first) old =
-    rw (ap (λ (s : Sent). s.first) c.deref.ensures) (below_end sent.first old c.requires.order) in
+    rw (ap (λ (s : Broadcast). s.first) c.deref.ensures) (below_end sent.first old c.requires.order) in
     c.in-Ok.ensures.ok
     ∙ ap (λ es. insert_entry nat_cmp es (first + c.loop-place.place) (posted_as sent c.args.deadline spot))
     c.loop-place.invariant
@@ -52,7 +52,7 @@ returns-in-Err-clause-err c =
     let as_many : length to ≡ c.loop-place.place = length-take-le c.loop-place.place c.args.to.now
     (omega (arith, c.loop-place-test.true)) in
     let below : AllByRecursion (λ (e : Entry). e.0 < first) old =
-    rw (ap (λ (s : Sent). s.first) c.deref.ensures) (below_end sent.first old c.requires.order) in
+    rw (ap (λ (s : Broadcast). s.first) c.deref.ensures) (below_end sent.first old c.requires.order) in
     c.take_back.ensures
     ∙ ap (without first c.loop-place.place) (c.in-Err.ensures.err ∙ c.loop-place.invariant)
     ∙ subst (λ n. without first n (old ++ posted_to sent c.args.deadline first to) ≡ old) as_many

@@ -1,0 +1,5 @@
+pub mod AnnouncedLemmas
+pub mod FieldLemmas
+pub mod FramingLemmas
+pub mod WaitLemmas
+pub mod WindowLemmas

@@ -1,8 +1,0 @@
-use Rattle.std.proofs.Common.{◌≡◌, drop}
-use Rattle.am_history.specs.State.{uid_of_package}
-use Rattle.am_live_gate.proofs.callers.uid_of_package.Given as goal
-
--- the packages that are left give what all of them give
-abbrev pub invariant-loop-installed : goal.invariant-loop-installed
-invariant-loop-installed l =
-    uid_of_package (drop l.installed-index l.installed-items) l.key ≡ uid_of_package l.installed-items l.key
